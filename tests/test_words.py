@@ -12,6 +12,8 @@ from program import PROGRAM, ROOT, SECONDS, ProgramTest, run
 MISTAKES = [
     ([], "Usage: flagops <COMMAND>"),
     (["buckets"], "unrecognized subcommand 'buckets'"),
+    (["chek"], "a similar subcommand exists: 'check'"),
+    (["verify-rmp"], "some similar subcommands exist: 'verify', 'verify-ramp'"),
     (["bucket"], "Usage: flagops bucket <RULE> <KEY>"),
     (["bucket", "f"], "<KEY>"),
     (["bucket", "f", "k", "l"], "unexpected argument 'l'"),
@@ -47,8 +49,10 @@ HELP = [
     (["--version"], "flagops 0.1.0\nproved with "),
 ]
 
-# The commands that read their words by themselves, which the help names below its list.
-OTHER_COMMANDS = ["book", "ramp", "verify-ramp", "picture", "record", "tally", "join", "ofrep", "serve", "follow"]
+# All commands, in the order of the help.
+COMMANDS = (
+    "bucket price resolve plan verify apply drive completions check book ramp verify-ramp picture record tally join ofrep serve follow help"
+).split()
 
 # A word that begins with `-` and is longer follows `--`; `-` alone is a plain word.
 WITH_A_MINUS = [
@@ -70,6 +74,12 @@ class Words(ProgramTest):
                 ran = run(words, {})
                 self.assertEqual((ran.status, ran.err), (0, ""))
                 self.assertIn(told, ran.out)
+
+    def test_help_lists_the_commands(self):
+        self.assertEqual(commands_of_help(), COMMANDS)
+        for name in COMMANDS[:-1]:
+            with self.subTest(name=name):
+                self.assertIn(f"Usage: flagops {name} ", run(["help", name], {}).out)
 
     def test_words_with_a_minus(self):
         for words in WITH_A_MINUS:
@@ -119,9 +129,14 @@ class Words(ProgramTest):
             self.assertIn(word, page)
 
 
+def commands_of_help():
+    """The commands of the program, as its help lists them."""
+    return re.findall(r"^  ([a-z-]+)  ", run(["--help"], {}).out, re.M)
+
+
 def words_of_help():
-    """The commands of the program, and the options of each, as its help lists them."""
-    commands = re.findall(r"^  ([a-z]+)  ", run(["--help"], {}).out, re.M) + OTHER_COMMANDS
+    """The commands of the program, and the options of each, as their helps list them."""
+    commands = commands_of_help()
     options = {word for name in commands for word in re.findall(r"--[a-z]+", run([name, "--help"], {}).out)}
     return commands + sorted(options)
 

@@ -6,6 +6,7 @@ use Rattle.std.specs.Map.{lookup, keys_of}
 use Rattle.std.specs.Str.{bytes_eq}
 use Rattle.std.specs.BTreeMap.{is_at, insert_entry}
 use Rattle.std.specs.BTreeSet.{insert_key}
+use Rattle.limits.specs.Limits.{page_inputs, input_bytes}
 use Rattle.book_core.specs.Page.{PageName, bytes_cmp, page_cmp}
 use Rattle.book_core.specs.declared.inputs.PageInputs.{PageInputs}
 use Rattle.book_core.specs.declared.inputs.PageInputs.TheVariants.{Listed, Gathered}
@@ -24,11 +25,11 @@ Contents = List (PageName × Inputs)
 
 -- the most inputs that a page takes
 abbrev pub most_inputs : ℕ
-most_inputs = 1000000
+most_inputs = page_inputs
 
 -- the most bytes that an input has
 abbrev pub most_bytes : ℕ
-most_bytes = 1024
+most_bytes = input_bytes
 
 -- whether the input is one of these
 abbrev pub is_among : List ℕ → Inputs → Bool

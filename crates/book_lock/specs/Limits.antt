@@ -1,5 +1,6 @@
 -- How many seats a book may have, and how refusals are printed.
 use Rattle.std.specs.Prelude.{ℕ, List, codes, Option, Some, None, ◌==◌, nat_lt, if◌then◌else◌}
+use Rattle.limits.specs.Limits.{seats}
 use Rattle.book_lock.specs.declared.fault.SealFault.{SealFault}
 use Rattle.book_lock.specs.declared.fault.SealFault.TheVariants as seal
 use Rattle.book_lock.specs.declared.fault.SeatsFault.{SeatsFault}
@@ -7,7 +8,7 @@ use Rattle.book_lock.specs.declared.fault.SeatsFault.TheVariants.{WantOfMemory, 
 
 -- the most seats of a book
 abbrev pub most_seats : ℕ
-most_seats = 64
+most_seats = seats
 
 -- why there are no blanks for so many seats
 abbrev pub seats_fault : ℕ → Option SeatsFault

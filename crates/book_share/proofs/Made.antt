@@ -16,7 +16,7 @@ use Rattle.logic_ast.specs.declared.fault.LogicFault.{LogicFault}
 use Rattle.book_core.specs.Page.{PageName}
 use Rattle.book_core.specs.Site.{page_at, with_by}
 use Rattle.site_pages.specs.Pages.{ArePages, or_no_site}
-use Rattle.book_share.specs.Asked.{page_of, targeting_of, text_in}
+use Rattle.site_pages.specs.Keyed.{page_of, targeting_of, text_in}
 use Rattle.book_share.specs.Known.{AreKnown, AreSitePages, Entry}
 
 key_is : (a b : List ℕ) → is_eq (slice_cmp nat_cmp a b) ≡ true → a ≡ b

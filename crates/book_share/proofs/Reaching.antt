@@ -15,7 +15,8 @@ use Rattle.flag_resolve.specs.Views.{resolution_view}
 use Rattle.flag_resolve.specs.declared.resolution.Resolution.{Resolution}
 use Rattle.book_core.specs.Book.{most_bytes}
 use Rattle.book_core.specs.Page.{PageName}
-use Rattle.book_share.specs.Asked.{Mention, mention, targeting_of, resolved, is_long, page_of, mentions_in, mentions_of}
+use Rattle.site_pages.specs.Keyed.{page_of, targeting_of}
+use Rattle.book_share.specs.Asked.{Mention, mention, resolved, is_long, mentions_in, mentions_of}
 use Rattle.book_core.specs.Calls.{Call, reply_after}
 use Rattle.book_core.specs.declared.fault.BookFault.TheVariants.{PageFull}
 use Rattle.book_core.specs.declared.noted.Noted.{Noted}

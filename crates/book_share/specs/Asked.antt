@@ -1,18 +1,15 @@
 -- What asks are answered, and what they reach.
-use Rattle.std.specs.Prelude.{ℕ, zero, suc, ◌-◌, List, [], ◌∷◌, ◌++◌, length, count_by, sum_by, Bool, ◌&&◌, nat_lt, if◌then◌else◌, Option, Some, None, Result, Ok, Err, option_and_then}
-use Rattle.std.specs.Map.{lookup}
+use Rattle.std.specs.Prelude.{ℕ, zero, suc, ◌-◌, List, [], ◌∷◌, ◌++◌, length, count_by, sum_by, Bool, ◌&&◌, nat_lt, if◌then◌else◌, Option, Some}
 use Rattle.std.specs.Str.{bytes_eq}
 use Rattle.flag_text.specs.View.{view}
 use Rattle.flag_defs.specs.Document.{Definitions}
-use Rattle.flag_defs.specs.Flag.{targeting_in}
 use Rattle.logic_ast.specs.Expression.{Expression}
-use Rattle.logic_ast.specs.Writing.{by_text_at}
-use Rattle.logic_ast.specs.declared.fault.LogicFault.{LogicFault}
 use Rattle.logic_eval.specs.Run.{Reach}
 use Rattle.flag_resolve.specs.Resolution.{resolution_of}
 use Rattle.flag_resolve.specs.Resolved.{Resolved}
 use Rattle.book_core.specs.Book.{most_bytes}
 use Rattle.book_core.specs.Page.{PageName, page_eq}
+use Rattle.site_pages.specs.Keyed.{page_of, targeting_of}
 use Rattle.book_share.specs.declared.ask.Ask.{Ask}
 
 -- what the flags resolve an ask to
@@ -28,24 +25,6 @@ pub record Mention : Type 0 where
 
 abbrev pub mention : PageName → List ℕ → Mention
 mention page input = record { page = page; input = input }
-
--- the targeting of the flag of a key
-abbrev pub targeting_of : Definitions → List ℕ → Option Expression
-targeting_of flags key = option_and_then targeting_in (lookup (bytes_eq key) flags)
-
--- the text of a bucketing expression, where there is one
-abbrev pub text_in : Result (Option (List ℕ)) LogicFault → Option (List ℕ)
-text_in (Ok by) = by
-text_in (Err fault) = None
-
--- the text of the bucketing expression at a site of a targeting
-abbrev pub by_at : Option Expression → ℕ → Option (List ℕ)
-by_at None site = None
-by_at (Some targeting) site = text_in (by_text_at site targeting)
-
--- the page of a site of the flag of this key
-abbrev pub page_of : List ℕ → Option Expression → ℕ → PageName
-page_of key targeting site = record { flag = key; site = site; by = by_at targeting site }
 
 -- whether a reached input is too long for a book
 abbrev pub is_long : Reach → Bool

@@ -3,7 +3,7 @@ use Rattle.std.specs.Prelude.{◌≡◌, ℕ, List, Some, slice_get, String, Vec
 use Rattle.std.specs.declared.alloc.Global.{Global}
 use Rattle.flag_defs.specs.Document.{Definitions}
 use Rattle.book_core.specs.Page.{PageName}
-use Rattle.book_share.specs.Asked.{page_of, targeting_of}
+use Rattle.site_pages.specs.Keyed.{page_of, targeting_of}
 
 -- these are pages of the flag of this key, each at the number of its site
 abbrev pub AreSitePages : Definitions → List ℕ → List PageName → Type 0

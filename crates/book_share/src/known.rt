@@ -1,15 +1,12 @@
 //! The pages of the sites of flags, made once for all notes.
-ghost use Rattle.std.specs.Prelude.{◌≡◌, IfOk, Ok, OnOk, option_map};
+ghost use Rattle.std.specs.Prelude.{IfOk, OnOk};
 ghost use Rattle.flag_defs.specs.Flags.{flags_view};
-ghost use Rattle.logic_ast.specs.Expr.{view};
-ghost use Rattle.book_share.specs.Asked.{targeting_of as targeting_named};
 ghost use Rattle.book_share.specs.Known.{AreKnown, AreSitePages};
 
 use crate::ask::Ask;
 use book_core::Page;
 use flag_defs::Flags;
-use logic_ast::Expr;
-use site_pages::pages_of;
+use site_pages::{pages_of, targeting_of};
 use std::alloc::{AllocError, Global};
 use std::collections::BTreeMap;
 
@@ -47,13 +44,6 @@ fn add_pages(
         known.insert(String::from_str(alloc, key)?, pages)?;
     }
     Ok(())
-}
-
-/// The targeting of the flag of a key.
-pub fn targeting_of<'a>(flags: &'a Flags, key: &str) -> Option<&'a Expr>
-    ensures { option_map (λ e. view e.now) result ≡ targeting_named (flags_view flags.now) key.now }
-{
-    flags.get(key)?.targeting()
 }
 
 /// The pages of the sites of a flag, none where they are not known.

@@ -30,5 +30,3 @@ pub use book_lock::{Blanks, BookName, SealFault, SealRefused, Seat, SeatsFault, 
 pub use drive_fault::DriveFault;
 pub use driving::{Driven, drive};
 pub use gate::{Attempt, Gate, OpenGate};
-pub use known::targeting_of;
-pub use reach::page_at;

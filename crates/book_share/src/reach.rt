@@ -1,21 +1,19 @@
 //! The inputs that an evaluation reached, noted on their pages.
-ghost use Rattle.std.specs.Prelude.{◌≡◌, ◌<◌, ◌≤◌, ◌+◌, ◌-◌, ◌^◌, [], ◌∷◌, map, nat_lt, length, if◌then◌else◌, Some, IfOk, IfSome, option_map, string_bytes};
+ghost use Rattle.std.specs.Prelude.{◌<◌, ◌≤◌, ◌+◌, ◌-◌, ◌^◌, [], ◌∷◌, map, nat_lt, length, if◌then◌else◌, IfOk};
 ghost use Rattle.flag_defs.specs.Flags.{flags_view};
-ghost use Rattle.logic_ast.specs.Expr.{view};
 ghost use Rattle.logic_eval.specs.Views.{reach_view};
 ghost use Rattle.book_core.specs.Book.{most_bytes};
 ghost use Rattle.book_lock.specs.Counts.{own};
-ghost use Rattle.book_share.specs.Asked.{by_at, mention, mention_by, mentions_by, page_of};
+ghost use Rattle.book_share.specs.Asked.{mention, mention_by, mentions_by};
 ghost use Rattle.book_share.specs.Driven.{Notes};
 ghost use Rattle.book_share.specs.Known.{AreSitePages};
 
-use crate::known::targeting_of;
 use book_core::{BookFault, Page};
 use book_lock::{BookName, Seat, SharedBook};
 use flag_defs::Flags;
 use limits::INPUT_BYTES;
-use logic_ast::{Expr, LogicFault, by_text};
 use logic_eval::Reached;
+use site_pages::{page_at, targeting_of};
 use std::alloc::{AllocError, Global};
 use std::sync::Wait;
 
@@ -85,35 +83,6 @@ fn note_unknown<L: BookName, R: Wait>(
     let targeting = targeting_of(sites.flags, sites.key);
     let page = page_at(alloc, sites.key, targeting, reach.site)?;
     note_one(rt, alloc, book, seat, refused, &page, reach.input.as_str())
-}
-
-/// The page of a site of the flag of a key with this targeting: that of the site's bucketing expression, where the targeting
-/// has such a site with one. It fails only where memory runs out.
-pub fn page_at(
-    alloc: Global,
-    key: &str,
-    targeting: Option<&Expr>,
-    site: u32,
-) -> Result<Page, AllocError>
-    ensures { IfOk result (λ page. page ≡ page_of key.now (option_map (λ e. view e.now) targeting.entry) site) }
-{
-    let by = match targeting {
-        Some(targeting) => text_at(alloc, targeting, site)?,
-        None => None,
-    };
-    let flag = String::from_str(alloc, key)?;
-    Ok(Page { flag, site, by })
-}
-
-/// The text of the bucketing expression at a site, where it has one.
-fn text_at(alloc: Global, targeting: &Expr, site: u32) -> Result<Option<String>, AllocError>
-    ensures { IfOk result (λ by. option_map string_bytes by ≡ by_at (Some (view targeting.now)) site) }
-{
-    match by_text(alloc, targeting, site) {
-        Ok(by) => Ok(by),
-        Err(LogicFault::WantOfMemory) => Err(AllocError),
-        Err(_) => Ok(None),
-    }
 }
 
 /// Notes an input, and counts it where its page is full. One that is too long is passed over.

@@ -2,6 +2,7 @@
 use Rattle.std.specs.Prelude.{◌≡◌, ℕ, suc, List, codes, Bool, true, false, not, ◌&&◌, ◌||◌, nat_le, is_some, Option, Some, None, option_map, if◌then◌else◌}
 use Rattle.std.specs.Result.{result_ok}
 use Rattle.std.specs.Str.{bytes_eq}
+use Rattle.limits.specs.Limits as limit
 use Rattle.flag_text.specs.Readers.{as_bool, as_text, as_whole, as_object, find_member}
 use Rattle.flag_text.specs.Shape.{Shape, null, text, object, Members, no_members, member, is_whole, levels}
 use Rattle.logic_ast.specs.Expression.{Expression}
@@ -48,7 +49,7 @@ are_of_one_kind ms =
 -- 1 to 64 members of one kind, all their numbers whole, at most 100 levels together
 abbrev pub are_variants : Members → Bool
 are_variants ms =
-    (nat_le 1 (member_count ms) && nat_le (member_count ms) 64) && (are_of_one_kind ms && (is_whole (object ms) && nat_le (levels (object ms)) 100))
+    (nat_le 1 (member_count ms) && nat_le (member_count ms) limit.variants) && (are_of_one_kind ms && (is_whole (object ms) && nat_le (levels (object ms)) limit.expression_levels))
 
 abbrev pub variants_of : Option Shape → Option Members
 variants_of (Some (object ms)) = if are_variants ms then Some ms else None

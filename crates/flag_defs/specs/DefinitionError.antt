@@ -1,5 +1,6 @@
 -- Why a flag is broken: the first rule of flag documents that its definition breaks (flagd: flag definitions).
 use Rattle.std.specs.Prelude.{◌≡◌, ◌⊎◌, List, [], ◌∷◌, codes, Bool, true, false, not, ◌&&◌, nat_le, is_none, Option, Some, None, if◌then◌else◌}
+use Rattle.limits.specs.Limits as limit
 use Rattle.flag_text.specs.Readers.{find_member}
 use Rattle.flag_text.specs.Shape.{Shape, null, object, Members, no_members, member, is_whole}
 use Rattle.logic_ast.specs.Expression.{Expression}
@@ -17,7 +18,7 @@ use Rattle.flag_references.specs.declared.measure.Measure.{Measure}
 -- The first rule that does not hold of what is no variants: an object of 1 to 64, of one kind, whole, of at most 100 levels.
 abbrev pub variants_rule : Option Shape → DefinitionError
 variants_rule (Some (object vs)) =
-    if not (nat_le 1 (member_count vs) && nat_le (member_count vs) 64) then definition_error.Variants
+    if not (nat_le 1 (member_count vs) && nat_le (member_count vs) limit.variants) then definition_error.Variants
     else (if not (are_of_one_kind vs) then definition_error.Kinds else (if not (is_whole (object vs)) then definition_error.VariantNumber else definition_error.VariantLevels))
 variants_rule o = definition_error.Variants
 

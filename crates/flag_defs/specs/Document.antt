@@ -1,5 +1,6 @@
 -- What a flag document is, as bytes (flagd: flag configuration), and how flags are printed as one.
 use Rattle.std.specs.Prelude.{◌≡◌, ℕ, List, [], ◌∷◌, codes, length, nat_lt, ◌||◌, if◌then◌else◌, Option, Some, None, option_and_then, Result, Ok, Err}
+use Rattle.limits.specs.Limits.{flags, text_bytes}
 use Rattle.flag_text.specs.Printing.{text_of}
 use Rattle.flag_text.specs.Reading.{doc_of}
 use Rattle.flag_text.specs.Readers.{as_object, member_of}
@@ -45,10 +46,10 @@ printed fs = text_of (object (member (codes "flags") (object (definitions_writte
 -- ---- limits
 
 abbrev pub max_flags : ℕ
-max_flags = 10000
+max_flags = flags
 
 abbrev pub max_bytes : ℕ
-max_bytes = 4194304
+max_bytes = text_bytes
 
 -- too many flags, or too many bytes when they are printed
 abbrev pub limited : Definitions → Result Definitions DefFault

@@ -2,6 +2,7 @@
 -- whether nothing is wrong with it, and how many bytes it is printed in at least.
 use Rattle.std.specs.Prelude.{ℕ, suc, ◌+◌, ◌^◌, ◌==◌, min, max, pos, Bool, true, false, not, ◌&&◌, List, [], ◌∷◌, length, nat_lt, if◌then◌else◌, Option, Some, None, option_map, option_and_then}
 use Rattle.std.specs.Str.{bytes_eq}
+use Rattle.limits.specs.Limits.{text_bytes}
 use Rattle.flag_text.specs.Shape.{Shape, null, boolean, whole, other, text, list, object, Items, no_items, item, Members, no_members, member, is_in_range}
 use Rattle.logic_ast.specs.Operator.{operator_of, takes, is_fractional}
 use Rattle.logic_ast.specs.FirstFault.{item_count}
@@ -13,7 +14,7 @@ use Rattle.flag_references.specs.declared.measure.Parts.{Parts}
 
 -- above the limits of nodes, of levels and of printed bytes
 abbrev pub most : ℕ
-most = 4194305
+most = text_bytes + 1
 
 abbrev pub capped : ℕ → ℕ
 capped n = min n most

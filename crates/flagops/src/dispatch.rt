@@ -1,20 +1,21 @@
 //! The commands by their families: what the words ask for is done by the library of the family.
-ghost use Rattle.std.specs.Prelude.{◌≡◌, false, map, IfErr, IfOk};
+ghost use Rattle.std.specs.Prelude.{◌≡◌, ◌⊎◌, false, map, IfErr, IfOk};
 ghost use Rattle.std.specs.Process.{exit_status};
 ghost use Rattle.flagops.specs.Comes.{Comes};
 ghost use Rattle.flagops.specs.First.{family_of};
-ghost use Rattle.flagops_commands.specs.Ended.{ComplainsAt};
+ghost use Rattle.flagops_shell.specs.Console.{IsOpen};
+ghost use Rattle.flagops_shell.specs.Usage.{ShowsMistake, ShowsWordsWant};
 
 use crate::family::{Family, family_of};
 use flag_text::Outlet;
-use flagops_books::book;
-use flagops_checks::check;
-use flagops_commands::{complain, run};
-use flagops_files::{Call, FileSet, want};
-use flagops_filters::{Opening, join, record, tally};
-use flagops_pictures::{picture, picture_ramp, plan_picture};
-use flagops_ramps::{apply_step, ramp, verify_ramp};
+use flagops_books::Uniting;
+use flagops_checks::Checking;
+use flagops_commands::Listed;
+use flagops_filters::{Joining, Opening, record, tally};
+use flagops_pictures::{Picturing, PicturingRamp, Planning};
+use flagops_ramps::{Applying, Ramping, Verifying};
 use flagops_service::{Host, ofrep};
+use flagops_shell::{Console, FileSet, complain, run, want};
 use flagops_streams::{follow, serve};
 use line_batches::Inlet;
 use std::convert::AsStr;
@@ -28,8 +29,7 @@ pub fn flagops<R, S, I, F, O, E>(
     words: io::Result<Vec<S>>,
     input: &mut I,
     files: &mut F,
-    out: &mut O,
-    err: &mut E,
+    console: &mut Console<O, E>,
 ) -> ExitCode
 where
     R: Host,
@@ -39,20 +39,19 @@ where
     O: Outlet,
     E: Outlet + Drop,
     requires in_whole { I.is_broken input.old ≡ false }
-    requires out_whole { O.is_broken out.old ≡ false }
-    requires err_whole { E.is_broken err.old ≡ false }
+    requires open { IsOpen console.old }
     ensures comes { IfOk words (λ w.
-        Comes O.bytes O.is_broken out.old out.new E.bytes E.is_broken err.old err.new F.holding F.has_failed files.old files.new
+        Comes console.old console.new (F.holding files.old) (F.holding files.new) (F.has_failed files.old) (F.has_failed files.new)
         (exit_status result) (I.bytes input.old) (I.is_broken input.new) (family_of (map S.text w.items)) (map S.text w.items)) }
-    ensures no_words { IfErr words (λ _. ComplainsAt O.bytes O.is_broken out.old out.new E.bytes E.is_broken err.old err.new (exit_status result)) }
+    ensures no_words { IfErr words (λ _. ShowsMistake console.old console.new (exit_status result) ⊎ ShowsWordsWant console.old console.new (exit_status result)) }
     ensures no_words_kept { IfErr words (λ _. files.new ≡ files.old) }
 {
     match words {
-        Ok(words) => ExitCode::from(status_of(rt, words.as_slice(), input, files, out, err)),
+        Ok(words) => ExitCode::from(status_of(rt, words.as_slice(), input, files, console)),
         Err(e) if e.kind() == io::ErrorKind::OutOfMemory => {
-            ExitCode::from(want(out, err, Call::Flagops))
+            ExitCode::from(want(console, "flagops"))
         }
-        Err(_) => ExitCode::from(complain(err, "error: the words are not UTF-8\n")),
+        Err(_) => ExitCode::from(complain(&mut console.err, "error: the words are not UTF-8\n")),
     }
 }
 
@@ -62,8 +61,7 @@ fn status_of<R, S, I, F, O, E>(
     words: &[S],
     input: &mut I,
     files: &mut F,
-    out: &mut O,
-    err: &mut E,
+    console: &mut Console<O, E>,
 ) -> u8
 where
     R: Host,
@@ -73,26 +71,25 @@ where
     O: Outlet,
     E: Outlet + Drop,
     requires in_whole { I.is_broken input.old ≡ false }
-    requires out_whole { O.is_broken out.old ≡ false }
-    requires err_whole { E.is_broken err.old ≡ false }
-    ensures { Comes O.bytes O.is_broken out.old out.new E.bytes E.is_broken err.old err.new F.holding F.has_failed files.old files.new
+    requires open { IsOpen console.old }
+    ensures { Comes console.old console.new (F.holding files.old) (F.holding files.new) (F.has_failed files.old) (F.has_failed files.new)
         result (I.bytes input.old) (I.is_broken input.new) (family_of (map S.text words.now)) (map S.text words.now) }
 {
     match family_of(words) {
-        Family::Files => run(rt, words, files, out, err),
-        Family::Serve => serve(rt, words, files, out, err),
-        Family::Follow => follow(rt, words, out, err),
-        Family::Ramp => ramp(rt, words, files, out, err),
-        Family::VerifyRamp => verify_ramp(rt, words, files, out, err),
-        Family::Picture => picture(rt, words, files, out, err),
-        Family::PictureRamp => picture_ramp(rt, words, files, out, err),
-        Family::PlanPicture => plan_picture(rt, words, files, out, err),
-        Family::ApplyStep => apply_step(rt, words, files, out, err),
-        Family::Ofrep => ofrep(rt, words, files, out, err),
-        Family::Record => record(rt, words, input, files, out, err),
-        Family::Tally => tally(rt, words, input, files, out, err),
-        Family::Join => join(rt, words, files, out, err),
-        Family::Book => book(rt, words, files, out, err),
-        Family::Check => check(rt, words, files, out, err),
+        Family::Files => run::<R, S, F, Listed<'_>, O, E>(rt, words, files, console),
+        Family::Serve => serve(rt, words, files, console),
+        Family::Follow => follow(rt, words, console),
+        Family::Ramp => run::<R, S, F, Ramping<'_>, O, E>(rt, words, files, console),
+        Family::VerifyRamp => run::<R, S, F, Verifying<'_>, O, E>(rt, words, files, console),
+        Family::Picture => run::<R, S, F, Picturing<'_>, O, E>(rt, words, files, console),
+        Family::PictureRamp => run::<R, S, F, PicturingRamp<'_>, O, E>(rt, words, files, console),
+        Family::PlanPicture => run::<R, S, F, Planning<'_>, O, E>(rt, words, files, console),
+        Family::ApplyStep => run::<R, S, F, Applying<'_>, O, E>(rt, words, files, console),
+        Family::Ofrep => ofrep(rt, words, files, console),
+        Family::Record => record(rt, words, input, files, console),
+        Family::Tally => tally(rt, words, input, files, console),
+        Family::Join => run::<R, S, F, Joining<'_>, O, E>(rt, words, files, console),
+        Family::Book => run::<R, S, F, Uniting<'_>, O, E>(rt, words, files, console),
+        Family::Check => run::<R, S, F, Checking<'_>, O, E>(rt, words, files, console),
     }
 }

@@ -16,8 +16,9 @@ mod watching;
 mod words;
 
 use flag_text::WriteOutlet;
-use flagops_files::{Call, SystemFiles, want};
+use flagops_files::SystemFiles;
 use flagops_filters::OpenedInlet;
+use flagops_shell::{Console, want};
 use flagops_streams::open_standard;
 use line_batches::ReadInlet;
 use outputs::{StandardOutput, tell_failure};
@@ -55,9 +56,9 @@ fn main(rt: HostRuntime) -> ExitCode {
     let code = match on_stack(&rt, words, input, files, out, err, &watch) {
         Some(code) => code,
         None => {
-            let mut out = WriteOutlet::new(StandardOutput::new(rt.stdout(), &trouble));
-            let mut err = WriteOutlet::new(StandardOutput::new(rt.stderr(), &unread));
-            ExitCode::from(want(&mut out, &mut err, Call::Flagops))
+            let out = WriteOutlet::new(StandardOutput::new(rt.stdout(), &trouble));
+            let err = WriteOutlet::new(StandardOutput::new(rt.stderr(), &unread));
+            ExitCode::from(want(&mut Console::new(out, err), "flagops"))
         }
     };
     tell_failure(&rt, trouble.load(Ordering::SeqCst));

@@ -4,8 +4,8 @@ ghost use Rattle.std.specs.Prelude.{◌≡◌, false};
 use crate::dispatch::flagops;
 use crate::watching::Watcher;
 use flag_text::Outlet;
-use flagops_files::FileSet;
 use flagops_filters::Opening;
+use flagops_shell::{Console, FileSet};
 use limits::STACK_BYTES;
 use line_batches::Inlet;
 use std::convert::AsStr;
@@ -52,8 +52,9 @@ where
     let commands = move || -> ExitCode
         requires { (I.is_broken input ≡ false) × (O.is_broken out ≡ false) × (E.is_broken err ≡ false) }
     {
-        let (mut input, mut files, mut out, mut err) = (input, files, out, err);
-        let code = flagops(rt, words, &mut input, &mut files, &mut out, &mut err);
+        let (mut input, mut files) = (input, files);
+        let mut console = Console::new(out, err);
+        let code = flagops(rt, words, &mut input, &mut files, &mut console);
         watcher.end();
         code
     };

@@ -13,7 +13,10 @@ pub fn asked_words(
     alloc: Global,
     words: io::Result<Args>,
     is_terminal: bool,
-) -> io::Result<Vec<String>> {
+) -> io::Result<Vec<String>>
+    ensures asked { IfOk result (λ v. IfOk words (λ w. map string_bytes v.items ≡ explained is_terminal (helped (map string_bytes (drop 1 (into_iter_items w)))))) }
+    ensures unread { IfErr words (λ e. IsErrOf result e) }
+{
     let words = helped(alloc, behind_name(alloc, words)?)?;
     explained(alloc, words, is_terminal)
 }

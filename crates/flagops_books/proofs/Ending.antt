@@ -1,10 +1,10 @@
--- What the command came to, as its outlets show it.
-use Rattle.std.proofs.Common.{◌≡◌, ◌∙◌, ◌||◌, ℕ, suc, Bool, true, false, List, [], ◌∷◌, Option, Some, None, IfSome, IfOk, IfErr, is_some, length, map, inl, inr, refl, ap, sym, subst, string_bytes, String, Global}
+-- What the command comes to, and what a person is told of it.
+use Rattle.std.proofs.Common.{◌≡◌, ◌∙◌, ℕ, suc, Bool, true, false, List, [], ◌∷◌, Option, Some, None, IfSome, IfOk, IfErr, length, map, inl, inr, refl, ap, sym, subst, string_bytes, String, Global}
 use Rattle.std.specs.Prelude.{Result, Ok, Err, IsOk}
 use Rattle.book_core.specs.Book.{input_count}
 use Rattle.book_core.specs.Printing.{book_text}
-use Rattle.flagops_books.specs.Calls.{book_calls, can_want}
-use Rattle.flagops_books.specs.Report.{IsBookReport, IsRunOutcome, IsStored, IsUnitedFor, IsUnitedWhere, LeavesBook, LeavesUnited, counts_text, remark_of}
+use Rattle.flagops_books.specs.Calls.{book_calls}
+use Rattle.flagops_books.specs.Report.{IsBookReport, IsStored, IsUnitedFor, IsUnitedWhere, LeavesUnited, counts_text, remark_of}
 use Rattle.flagops_books.specs.Step.{GivesUnited, Said, SaysUnited}
 use Rattle.flagops_books.specs.Told.{NamesOneFile, book_subjects, is_told}
 use Rattle.flagops_books.specs.Union.{IsUnited, United, noted, stray}
@@ -12,18 +12,18 @@ use Rattle.flagops_books.specs.Words.{Uniting}
 use Rattle.flagops_books.specs.declared.uniting.Gathered.{Gathered}
 use Rattle.flagops_books.specs.declared.uniting.Step.{Step}
 use Rattle.flagops_books.specs.declared.uniting.Step.TheVariants.{Noted, Stopped}
-use Rattle.flagops_files.specs.Files.{Holding, KeepsOthers}
 use Rattle.flagops_files.specs.Question.{replaceable_at}
-use Rattle.flagops_files.specs.Refusal.{GivesOne, call_of, is_unread, is_want, unreadable, unwritable}
-use Rattle.flagops_files.specs.Report.{IsFileRefusal, Report, ReportsAll, outcome_view, report_of, want_report}
-use Rattle.flagops_files.specs.Told.{AnswersTold, NamesOne, PutsRemark, Remarks, RemarksOrWants, Says, TellsRemark}
-use Rattle.flagops_files.specs.declared.outcome.Outcome.{Outcome}
-use Rattle.flagops_files.specs.declared.refusal.Call.{Call}
-use Rattle.flagops_files.specs.declared.refusal.Call.TheVariants as call
+use Rattle.flagops_files.specs.Refusal.{ComesFrom, GivesOne, Refused, call_name, call_of, is_want}
+use Rattle.flagops_files.specs.Report.{IsCallOf}
+use Rattle.flagops_files.specs.Told.{TellsOfOne}
 use Rattle.flagops_files.specs.declared.refusal.Refusal.{Refusal}
-use Rattle.flagops_files.specs.Refusal.{Refused}
-use Rattle.flagops_files.specs.declared.refused.Remark.{Remark}
-use Rattle.flagops_files.specs.declared.refused.Remark.TheVariants.{Lines}
+use Rattle.flagops_shell.specs.Diagnostic.{Says}
+use Rattle.flagops_shell.specs.Ending.{Remarks}
+use Rattle.flagops_shell.specs.Files.{Holding, KeepsOthers}
+use Rattle.flagops_shell.specs.Report.{Report, outcome_view}
+use Rattle.flagops_shell.specs.declared.outcome.Outcome.{Outcome}
+use Rattle.flagops_shell.specs.declared.refused.Remark.{Remark}
+use Rattle.flagops_shell.specs.declared.refused.Remark.TheVariants.{Lines}
 use Rattle.note_books.specs.Notes.{Notes, no_notes}
 use Rattle.flagops_books.proofs.Following.{both_known, where_known}
 
@@ -111,94 +111,16 @@ told_ok paths told (Err e) said is = tt
 pub said_of : (paths : List (List ℕ)) (s : Step) (g : Gathered) → s ≡ Noted g → SaysUnited paths (Ok s) → Said paths (string_bytes g.told)
 said_of paths s g is says = subst (λ (x : Step). SaysUnited paths (Ok x)) is says
 
--- ---- a file that failed is told, and no other
+-- ---- what the command shows of it
 
-of_file : (r : Refusal) → IsFileRefusal (Err r) → is_unread r ≡ true
-of_file r (inl e) = let same : r ≡ unreadable = cc in ap is_unread same
-of_file r (inr e) = let same : r ≡ unwritable = cc in ap is_unread same
+-- of a report the first file with lines that were passed over, or refused, and of a refusal the name of what is refused
+pub remarks : (files : Option Holding) (u : Uniting) (r : Result Outcome Refused) → TellsOfOne (book_subjects u.out u.files) r → IfOk r (λ o. IfSome o.remark (Says (NamesOneFile u.files)))
+    → IfSome files (λ at. Remarks is_want (remark_of u) r)
+remarks None u r names notes = tt
+remarks (Some at) u (Ok o) names notes = λ remark is. subst (λ (m : Option Remark). IfSome m (Says (NamesOneFile u.files))) is notes
+remarks (Some at) u (Err e) names notes = names
 
-or_true : (b : Bool) → (b || true) ≡ true
-or_true true = refl
-or_true false = refl
-
-has_failed : (was failed : Bool) (r : Refusal) → failed ≡ (was || is_unread r) → IsFileRefusal (Err r) → failed ≡ true
-has_failed was failed r fails file = fails ∙ (ap (λ (b : Bool). was || b) (of_file r file) ∙ or_true was)
-
-not_of_file : {X : Type 0} (r : Report) → IsFileRefusal (Ok r) → X
-not_of_file r (inl e) = cc
-not_of_file r (inr e) = cc
-
-module _ (u : Uniting) (after : Option Holding) (failed : Bool) where
-  pub done : (files : Option Holding) (o : Outcome) → IfSome files (λ at. IsBookReport at after u (Ok (outcome_view o))) → IfSome o.remark (Says (NamesOneFile u.files))
-      → IfSome files (λ at. RemarksOrWants book_calls (remark_of u) (Ok o) (IsRunOutcome at after failed u))
-  done None o is says = tt
-  done (Some at) o is says = (Ok (outcome_view o), (is, not_of_file (outcome_view o)), refl, says)
-
-  pub refused : (files : Option Holding) (was : Bool) (e : Refused) (r : Result Outcome Call) → IfSome files (λ at. is_want e.refusal ≡ false → IsBookReport at after u (Err e.refusal)) → book_calls (call_of e.refusal) ≡ true
-      → failed ≡ (was || is_unread e.refusal) → (is_want e.refusal ≡ false → NamesOne (book_subjects u.out u.files) e.refusal e.remark)
-      → IfOk r (λ o. (is_want e.refusal ≡ false) × (outcome_view o ≡ report_of (Err e.refusal))) → IfErr r (λ c. c ≡ call_of e.refusal) → IfOk r (λ o. o.remark ≡ Some e.remark)
-      → IfSome files (λ at. RemarksOrWants book_calls (remark_of u) r (IsRunOutcome at after failed u))
-  refused None was e r is calls fails told line named kept = tt
-  refused (Some at) was e (Ok o) is calls fails told line named kept =
-      (Err e.refusal, (is line.0, has_failed was failed e.refusal fails), line.1, subst (λ (m : Option Remark). IfSome m (NamesOne (book_subjects u.out u.files) e.refusal)) (sym kept) (told line.0))
-  refused (Some at) was e (Err c) is calls fails told line named kept = ap book_calls named ∙ calls
-
--- ---- what is written
-
-may_want : (c : Call) → book_calls c ≡ true → can_want c ≡ true
-may_want call.Flagops e = refl
-may_want call.Load e = e
-may_want call.ReadTree e = e
-may_want call.ReadRule e = e
-may_want call.Bucket e = e
-may_want call.ReadRequest e = e
-may_want call.Note e = e
-may_want call.Price e = e
-may_want call.ReadFlags e = e
-may_want call.Check e = e
-may_want call.Resolve e = e
-may_want call.ReadBook e = e
-may_want call.ReadTally e = e
-may_want call.Book e = e
-may_want call.ReadPlanned e = e
-may_want call.Verify e = e
-may_want call.Apply e = e
-may_want call.Plan e = e
-may_want call.PrintPlanned e = e
-may_want call.Drive e = e
-may_want call.Store e = e
-
-module _ (out out_after : Option (List ℕ)) (is_broken : Bool) (err err_after : Option (List ℕ)) (is_err_broken : Bool) (status : ℕ) (words : Option Uniting) (u : Uniting) (asks : words ≡ Some u) (files after : Option Holding) (failed : Bool) where
-  abbrev Writes : Report → Type 0
-  Writes report = ReportsAll out out_after is_broken err err_after is_err_broken status report
-
-  abbrev Told : Uniting → Holding → Type 0
-  Told a at = AnswersTold can_want (remark_of a) out out_after is_broken err err_after is_err_broken status (IsRunOutcome at after failed a)
-
-  asked : IfSome files (Told u) → IfSome words (λ a. IfSome files (Told a))
-  asked told = subst (λ (w : Option Uniting). IfSome w (λ a. IfSome files (Told a))) (sym asks) told
-
-  -- the call that ran out of memory is reported
-  pub wanted : (c : Call) → IfSome files (λ at. book_calls c ≡ true) → Writes (want_report c) → IfSome words (λ a. IfSome files (Told a))
-  wanted c calls writes = asked (where_known files (λ at. book_calls c ≡ true) (Told u) (λ at is. inr (c, may_want c is, writes)) calls)
-
-  -- the remark is told
-  remarked : (IsRemark : Remarks) (r : Result Report Refusal) (o : Outcome) → IfSome o.remark (IsRemark r) → outcome_view o ≡ report_of r → PutsRemark err err_after is_err_broken o.remark → TellsRemark IsRemark err err_after is_err_broken r
-  remarked IsRemark r o has is puts = λ told. go o.remark (ap (λ (report : Report). report.is_told) is ∙ told) has puts
-    where
-      go : (m : Option Remark) → is_some m ≡ true → IfSome m (IsRemark r) → PutsRemark err err_after is_err_broken m → (remark : Remark) × IsRemark r remark × PutsRemark err err_after is_err_broken (Some remark)
-      go None none has puts = cc
-      go (Some remark) some has puts = (remark, has, puts)
-
-  pub reported : (o : Outcome) → IfSome files (λ at. RemarksOrWants book_calls (remark_of u) (Ok o) (IsRunOutcome at after failed u)) → Writes (outcome_view o) → PutsRemark err err_after is_err_broken o.remark → IfSome words (λ a. IfSome files (Told a))
-  reported o is writes puts =
-      asked
-      (where_known files (λ at. RemarksOrWants book_calls (remark_of u) (Ok o) (IsRunOutcome at after failed u)) (Told u)
-      (λ at came. inl (came.0, came.1, subst Writes came.2 writes, remarked (remark_of u) came.0 o came.3 came.2 puts)) is)
-
-pub left_by : (words : Option Uniting) (u : Uniting) (old new : Option Holding) → words ≡ Some u → LeavesUnited old new u → LeavesBook words old new
-left_by words u old new is left = subst (λ (o : Option Uniting). LeavesBook o old new) (sym is) left
-
-pub left_alone : (words : Option Uniting) (h : Option Holding) → LeavesBook words h h
-left_alone None h = refl
-left_alone (Some u) h = inl refl
+-- a call of the command ran out of memory
+pub wants : (r : Result Outcome Refused) → ComesFrom book_calls r → IfErr r (λ e. IsCallOf book_calls (call_name (call_of e.refusal)))
+wants (Ok o) comes = tt
+wants (Err e) comes = (call_of e.refusal, comes, refl)

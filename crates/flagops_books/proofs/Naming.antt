@@ -11,14 +11,15 @@ use Rattle.flagops_books.specs.declared.uniting.Gathered.{Gathered}
 use Rattle.flagops_books.specs.declared.uniting.Step.{Step}
 use Rattle.flagops_books.specs.declared.uniting.Step.TheVariants.{Noted, Stopped}
 use Rattle.flagops_files.specs.Refusal.{ComesFrom, call_of, is_file_fault, is_want}
-use Rattle.flagops_files.specs.Told.{NamesOne, NamesSubject, Says, TellsOf, by, file}
-use Rattle.flagops_files.specs.declared.outcome.Outcome.{Outcome}
+use Rattle.flagops_files.specs.Told.{NamesOne, NamesSubject, TellsOf, by, file}
+use Rattle.flagops_shell.specs.Diagnostic.{Says}
+use Rattle.flagops_shell.specs.declared.outcome.Outcome.{Outcome}
 use Rattle.flagops_files.specs.declared.refusal.Call.TheVariants as call
 use Rattle.flagops_files.specs.declared.refusal.Refusal.{Refusal}
 use Rattle.flagops_files.specs.declared.refusal.Refusal.TheVariants.{WantOfMemory}
 use Rattle.flagops_files.specs.Refusal.{Refused}
-use Rattle.flagops_files.specs.declared.refused.Remark.{Remark}
-use Rattle.flagops_files.specs.declared.refused.Remark.TheVariants.{Short, Lines}
+use Rattle.flagops_shell.specs.declared.refused.Remark.{Remark}
+use Rattle.flagops_shell.specs.declared.refused.Remark.TheVariants.{Short, Lines}
 use Rattle.note_books.specs.declared.taking.NotesTaken.{NotesTaken}
 
 -- ---- one of several files

@@ -12,8 +12,8 @@ use Rattle.flag_text.proofs.Bools.{left, right}
 use Rattle.flag_text.specs.Printing.{text_of}
 use Rattle.flagops_books.specs.Law.{file_bytes_at}
 use Rattle.flagops_books.specs.Union.{IsWithBook, IsWithBytes, IsWithFile, IsWithLines, Later, TakesBytes, United, is_one_line, noted, stray}
-use Rattle.flagops_files.specs.Beginning.{ends_line, is_feed, is_ink, may_begin_notes, may_begin_record, may_note}
-use Rattle.flagops_files.specs.Files.{Holding, front_of, front_of_notes, notes_piece}
+use Rattle.flagops_shell.specs.Beginning.{ends_line, is_feed, is_ink, may_begin_notes, may_begin_record, may_note}
+use Rattle.flagops_shell.specs.Files.{Holding, front_of, front_of_notes, notes_piece}
 use Rattle.flagops_files.specs.Loading.{◌>>=◌, refused_by}
 use Rattle.flagops_files.specs.Question.{if_readable, max_book, notes_bytes_at}
 use Rattle.flagops_files.specs.declared.refusal.Refusal.{Refusal}

@@ -12,7 +12,7 @@ use Rattle.flagops_books.specs.Union.{IsLast, IsWithBook, IsWithBytes, IsWithFil
 use Rattle.flagops_books.specs.declared.uniting.Gathered.{Gathered}
 use Rattle.flagops_books.specs.declared.uniting.Step.{Step}
 use Rattle.flagops_books.specs.declared.uniting.Step.TheVariants.{Noted, Stopped}
-use Rattle.flagops_files.specs.Files.{Holding}
+use Rattle.flagops_shell.specs.Files.{Holding}
 use Rattle.flagops_files.specs.Loading.{refused_by}
 use Rattle.flagops_files.specs.Question.{notes_bytes_at}
 use Rattle.flagops_files.specs.Refusal.{is_want}

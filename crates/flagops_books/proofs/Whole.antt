@@ -8,7 +8,7 @@ use Rattle.book_core.specs.declared.fault.BookFileFault.{BookFileFault}
 use Rattle.flagops_books.proofs.Read.{read_whole}
 use Rattle.flagops_books.specs.Law.{BookNotes, BytesNote, FileNotes, OneNotes, UnitesFiles}
 use Rattle.flagops_books.specs.Union.{IsUnited, IsWithBook, IsWithBytes, IsWithFile, IsWithLines, Later, TakesBytes, United, is_one_line, noted, stray}
-use Rattle.flagops_files.specs.Files.{Holding}
+use Rattle.flagops_shell.specs.Files.{Holding}
 use Rattle.flagops_files.specs.Question.{notes_bytes_at}
 use Rattle.flagops_files.specs.declared.refusal.Refusal.{Refusal}
 use Rattle.line_batches.specs.Lines.{parts_of}

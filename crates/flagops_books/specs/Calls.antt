@@ -20,8 +20,3 @@ abbrev pub stores_book : Call → Bool
 stores_book call.Book = true
 stores_book call.Store = true
 stores_book c = false
-
--- the calls that may run out of memory: those of the command, and reading the words
-abbrev pub can_want : Call → Bool
-can_want call.Flagops = true
-can_want c = book_calls c

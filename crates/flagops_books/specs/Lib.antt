@@ -1,5 +1,5 @@
 pub mod Calls
-pub mod Ended
+pub mod Command
 pub mod Law
 pub mod Report
 pub mod Step

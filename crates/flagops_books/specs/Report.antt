@@ -1,16 +1,17 @@
 -- What the command `book` comes to, and the book that it writes.
-use Rattle.std.specs.Prelude.{◌≡◌, ◌⊎◌, ℕ, Bool, true, false, List, ◌++◌, length, codes, decimal, Option, Some, None, IfSome, Result, Ok, Err, IsOk}
+use Rattle.std.specs.Prelude.{◌≡◌, ◌⊎◌, ℕ, Bool, false, List, ◌++◌, length, codes, decimal, Option, Some, IfSome, Result, Ok, Err, IsOk}
 use Rattle.book_core.specs.Book.{Contents, input_count}
 use Rattle.book_core.specs.Printing.{book_text}
 use Rattle.flagops_books.specs.Stray.{stray_report}
 use Rattle.flagops_books.specs.Told.{NamesOneFile, book_subjects}
 use Rattle.flagops_books.specs.Union.{IsUnited, United, noted, stray}
 use Rattle.flagops_books.specs.Words.{Uniting}
-use Rattle.flagops_files.specs.Files.{Holding, KeepsOthers, Stores}
+use Rattle.flagops_shell.specs.Files.{Holding, KeepsOthers, Stores}
 use Rattle.flagops_files.specs.Question.{replaceable_at}
 use Rattle.flagops_files.specs.Refusal.{unwritable}
-use Rattle.flagops_files.specs.Report.{IsFileRefusal, Outcomes}
-use Rattle.flagops_files.specs.Told.{NamesOne, Remarks, Says}
+use Rattle.flagops_files.specs.Report.{Outcomes}
+use Rattle.flagops_files.specs.Told.{NamesOne, Remarks}
+use Rattle.flagops_shell.specs.Diagnostic.{Says}
 use Rattle.flagops_files.specs.declared.refusal.Refusal.{Refusal}
 use Rattle.note_books.specs.Notes.{Notes, IsBookOf, no_notes}
 
@@ -42,18 +43,9 @@ IsUnitedFor u at came = IsUnitedWhere (replaceable_at at u.out) at u came
 unfoldable pub IsBookReport : Holding → Option Holding → Uniting → Outcomes
 IsBookReport at after u r = (came : Result United Refusal) × IsUnitedFor u at came × IsReported at after u.out (length u.files) came r
 
--- the same; and that a file cannot be read or written is told only where one has failed
-abbrev pub IsRunOutcome : Holding → Option Holding → Bool → Uniting → Outcomes
-IsRunOutcome at after has_failed u r = IsBookReport at after u r × (IsFileRefusal r → has_failed ≡ true)
-
 -- the files stay as they are; or the file that is written may become a book and no file that is read is refused, and it alone changes
 abbrev pub LeavesUnited : Option Holding → Option Holding → Uniting → Type 0
 LeavesUnited old new u = (new ≡ old) ⊎ (IfSome old (λ at. IsOk (replaceable_at at u.out) × (all : Notes) × (told : Bool) × IsUnited at u.torn u.files no_notes false (Ok (noted all told))) × KeepsOthers old new u.out)
-
--- words that ask for nothing leave them
-abbrev pub LeavesBook : Option Uniting → Option Holding → Option Holding → Type 0
-LeavesBook None old new = new ≡ old
-LeavesBook (Some u) old new = LeavesUnited old new u
 
 -- what a person is told: of a refusal the name of what is refused, and else that of the first file with lines that were passed over, or refused
 abbrev pub remark_of : Uniting → Remarks

@@ -6,8 +6,8 @@ use Rattle.flagops_books.specs.Union.{United, noted, stray}
 use Rattle.flagops_books.specs.declared.uniting.Step.{Step}
 use Rattle.flagops_books.specs.declared.uniting.Step.TheVariants.{Noted, Stopped}
 use Rattle.flagops_files.specs.Refusal.{is_want}
-use Rattle.flagops_files.specs.Report.{outcome_view}
-use Rattle.flagops_files.specs.Told.{Says}
+use Rattle.flagops_shell.specs.Report.{outcome_view}
+use Rattle.flagops_shell.specs.Diagnostic.{Says}
 use Rattle.flagops_files.specs.declared.refusal.Refusal.{Refusal}
 use Rattle.flagops_files.specs.Refusal.{Refused}
 use Rattle.note_books.specs.Notes.{Notes, IsBookOf}

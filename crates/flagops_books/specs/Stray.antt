@@ -2,7 +2,7 @@
 use Rattle.std.specs.Prelude.{ℕ, true, List, ◌++◌, codes, decimal}
 use Rattle.flag_text.specs.Printing.{text_of}
 use Rattle.flag_text.specs.Shape.{text}
-use Rattle.flagops_files.specs.Report.{Report}
+use Rattle.flagops_shell.specs.Report.{Report}
 
 -- `refused`, the call, its number and its name, the path of the file as a JSON text, and the number of the line
 abbrev pub stray_line : List ℕ → ℕ → List ℕ

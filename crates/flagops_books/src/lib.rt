@@ -1,24 +1,23 @@
 //! The command `book`: one book of what several files note, which are books, or files of note lines as the logs of `ofrep` and what
 //! `record` prints.
 //!
-//! [`book()`] takes the words after the program's name, of which its own name is the first, the files and two outlets, as
-//! `flagops_commands::run` does for every other command.
+//! [`Uniting`] is the command with its words, which `flagops_shell::run` reads, answers and reports.
 //!
 //! ```rust
 //! use flag_text::WriteOutlet;
-//! use flagops_books::book;
+//! use flagops_books::Uniting;
 //! use flagops_files::SystemFiles;
+//! use flagops_shell::{Console, run};
 //!
 //! let words = ["book", "all.txt", "notes-0.jsonl", "book.txt"];
-//! let mut out = WriteOutlet::new(rt.stdout());
-//! let mut err = WriteOutlet::new(rt.stderr());
-//! let status = book(&rt, words.as_slice(), &mut SystemFiles::new(&rt), &mut out, &mut err);
+//! let mut console = Console::new(WriteOutlet::new(rt.stdout()), WriteOutlet::new(rt.stderr()));
+//! let status = run::<_, _, _, Uniting<'_>, _, _>(&rt, words.as_slice(), &mut SystemFiles::new(&rt), &mut console);
 //! ```
 //!
-//! Proved, over the definitions in `specs/`: where the words ask for it, over files whose bytes are known, the output is the report
-//! that the files make (`Report`), or a front of it with status 1 where the output failed, or the line for want of memory; the
-//! book that is written has the notes of all files and nothing else (`Union`; [`a_book_is_the_union_of_its_files`]); a refusal names the first file at fault, and the
-//! line in it, and leaves all files as they were; and lines that were passed over are told, of which the first names its file.
+//! Proved, over the definitions in `specs/`, of [`Uniting`]: over files whose bytes are known it comes to what the files make
+//! (`Report`), unless memory ran out; the book that is written has the notes of all files and nothing else (`Union`;
+//! [`a_book_is_the_union_of_its_files`]); a refusal names the first file at fault, and the line in it, and leaves all files as they
+//! were; and lines that were passed over are told, of which the first names its file.
 #![tactic(auto)]
 
 mod asked;
@@ -30,5 +29,5 @@ mod uniting;
 mod usage;
 mod words;
 
-pub use command::book;
+pub use asked::Uniting;
 pub use laws::a_book_is_the_union_of_its_files;

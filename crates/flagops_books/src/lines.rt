@@ -3,8 +3,8 @@ ghost use Rattle.std.specs.Prelude.{◌≡◌, ◌||◌, ◌==◌, true, not, If
 ghost use Rattle.flagops_books.specs.Stray.{stray_line};
 ghost use Rattle.flagops_books.specs.Told.{Adds, NamesFile, is_told};
 
+use file_diagnostics::Ends;
 use flagops_files::quoted;
-use flagops_remarks::Ends;
 use std::alloc::{AllocError, Global};
 
 /// The line of a refusal: line `n` of the file at a path is that of no note.

@@ -5,16 +5,17 @@ ghost use Rattle.book_core.specs.Printing.{book_text};
 ghost use Rattle.flagops_books.specs.Calls.{stores_book};
 ghost use Rattle.flagops_books.specs.Report.{IsStored, counts_text};
 ghost use Rattle.flagops_books.specs.Told.{is_told};
-ghost use Rattle.flagops_commands.specs.Drive.{KeepsUnlessDone};
-ghost use Rattle.flagops_files.specs.Files.{KeepsOthers};
+ghost use Rattle.flagops_shell.specs.Ending.{KeepsUnlessDone};
+ghost use Rattle.flagops_shell.specs.Files.{KeepsOthers};
 ghost use Rattle.flagops_files.specs.Refusal.{ComesFrom, GivesOne, is_file_fault, stores_file};
-ghost use Rattle.flagops_files.specs.Report.{outcome_view};
+ghost use Rattle.flagops_shell.specs.Report.{outcome_view};
 ghost use Rattle.flagops_files.specs.Told.{TellsOfOne, by, file};
-ghost use Rattle.flagops_files.specs.declared.refused.Remark.TheVariants.{Lines};
+ghost use Rattle.flagops_shell.specs.declared.refused.Remark.TheVariants.{Lines};
 
 use crate::uniting::Gathered;
 use book_core::{Book, print_book};
-use flagops_files::{Call, FileSet, Outcome, Refusal, Refused, Remark, Status, store};
+use flagops_files::{Call, Refusal, Refused, out_of_memory, store};
+use flagops_shell::{FileSet, Outcome, Remark, Status};
 use std::alloc::{AllocError, Global};
 
 /// What is printed of a book, and the file that it is written as.
@@ -58,7 +59,7 @@ fn output_of(alloc: Global, book: &Book, count: usize) -> Result<Output, Refused
 {
     match printed(alloc, book, count) {
         Ok(output) => Ok(output),
-        Err(AllocError) => Err(Refused::out_of_memory(Call::Book)),
+        Err(AllocError) => Err(out_of_memory(Call::Book)),
     }
 }
 

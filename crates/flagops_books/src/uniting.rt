@@ -8,17 +8,17 @@ ghost use Rattle.flagops_books.specs.Union.{IsLast, IsUnited, IsWithBook, IsWith
 ghost use Rattle.flagops_files.specs.Loading.{refused_by};
 ghost use Rattle.flagops_files.specs.Question.{notes_bytes_at};
 ghost use Rattle.flagops_files.specs.Refusal.{ComesFrom, GivesUnlessWant, call_of, is_file_fault, is_unread, is_want, loads_book};
-ghost use Rattle.flagops_files.specs.Told.{Says, TellsOf, TellsOfOne, file};
+ghost use Rattle.flagops_files.specs.Told.{TellsOf, TellsOfOne, file};
+ghost use Rattle.flagops_shell.specs.Diagnostic.{Says};
 ghost use Rattle.flagops_files.specs.declared.refusal.Refusal.TheVariants.{ReadBook};
-ghost use Rattle.flagops_remarks.specs.Named.{Names};
+ghost use Rattle.file_diagnostics.specs.Named.{Names};
 ghost use Rattle.note_books.specs.Notes.{IsBookOf, Notes, no_notes};
 
 use crate::lines::{stray_line, stray_remark, with_passed};
 use book_core::{Book, BookFault, read_book};
-use flagops_files::{
-    Call, FileSet, NOTES_PIECE, Outcome, Refusal, Refused, Remark, Status, ends_line, load_notes,
-};
-use flagops_remarks::{Ends, of_book, of_full_book};
+use file_diagnostics::{Ends, of_book, of_full_book};
+use flagops_files::{Call, Refusal, Refused, load_notes, out_of_memory};
+use flagops_shell::{FileSet, NOTES_PIECE, Outcome, Remark, Status, ends_line};
 use note_books::{NotesFault, NotesTaken, begins_book, take_notes};
 use std::alloc::{AllocError, Global};
 
@@ -131,7 +131,7 @@ fn not_united(alloc: Global, path: &str, fault: BookFault) -> Refused
     ensures names { is_want result.refusal ≡ false → Says (Names path.now) result.remark }
 {
     match fault {
-        BookFault::WantOfMemory => Refused::out_of_memory(Call::Book),
+        BookFault::WantOfMemory => out_of_memory(Call::Book),
         _ => full(alloc, path),
     }
 }
@@ -158,7 +158,7 @@ fn with_lines(
         Ok(taken) => with_taken(alloc, taken, told, path),
         Err(NotesFault::Line(n)) => stopped(alloc, path, n, Ends::of(bytes)),
         Err(NotesFault::PageFull) => Err(full(alloc, path)),
-        Err(NotesFault::WantOfMemory) => Err(Refused::out_of_memory(Call::Book)),
+        Err(NotesFault::WantOfMemory) => Err(out_of_memory(Call::Book)),
     }
 }
 
@@ -177,7 +177,7 @@ fn with_taken(alloc: Global, taken: NotesTaken, told: String, path: &str) -> Res
     let NotesTaken { book, passed, torn } = taken;
     match with_passed(alloc, told, path, passed, torn) {
         Ok(told) => Ok(Step::Noted(Gathered { book, told })),
-        Err(AllocError) => Err(Refused::out_of_memory(Call::Book)),
+        Err(AllocError) => Err(out_of_memory(Call::Book)),
     }
 }
 
@@ -193,7 +193,7 @@ fn stopped(alloc: Global, path: &str, n: u64, ends: Ends) -> Result<Step, Refuse
             status: Status::Refused,
             remark: Some(Remark::of(stray_remark(alloc, path, n, ends))),
         })),
-        Err(AllocError) => Err(Refused::out_of_memory(Call::Book)),
+        Err(AllocError) => Err(out_of_memory(Call::Book)),
     }
 }
 

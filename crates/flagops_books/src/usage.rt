@@ -4,6 +4,7 @@ ghost use Rattle.clap.specs.Words.{app_of};
 ghost use Rattle.flagops_books.specs.Words.{book_app};
 
 use clap::Command;
+use flagops_words::about;
 use flagops_words::arguments::{flag, required, some_words};
 use std::alloc::{AllocError, Global};
 
@@ -12,9 +13,9 @@ use std::alloc::{AllocError, Global};
 pub fn usage<'a>(alloc: Global) -> Result<Command<'a>, AllocError>
     ensures { IfOk result (λ c. app_of c ≡ book_app) }
 {
-    let command = Command::new(alloc, "book").bin_name("flagops book")?.about(
-        "Writes the book of all that is in several books and files of note lines",
-    );
+    let command = Command::new(alloc, "book")
+        .bin_name("flagops book")?
+        .about(about::BOOK);
     let out = required(alloc, "OUT", "The book file that is written");
     let files = some_words(
         alloc,

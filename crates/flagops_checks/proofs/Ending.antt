@@ -1,27 +1,26 @@
--- What the command came to, as its outlets show it.
-use Rattle.std.proofs.Common.{◌≡◌, ◌∙◌, ◌||◌, ℕ, Bool, Bor, true, false, List, map, Option, Some, None, IfSome, IfOk, IfErr, is_some, inl, inr, refl, ap, string_bytes, String, Global, sym, subst}
+-- What the command comes to, and what a person is told of it.
+use Rattle.std.proofs.Common.{◌≡◌, ℕ, Bor, false, List, map, Option, Some, None, IfSome, IfOk, IfErr, inl, refl, string_bytes, String, Global, sym, subst}
 use Rattle.std.specs.Prelude.{Result, Ok, Err}
-use Rattle.flagops_checks.specs.Calls.{can_want, check_calls}
+use Rattle.flagops_checks.specs.Calls.{check_calls}
 use Rattle.flagops_checks.specs.Documents.{AreChecked}
 use Rattle.flagops_checks.specs.Printed.{form_of}
-use Rattle.flagops_checks.specs.Report.{IsCheckReport, IsRunOutcome, TellsChecked, check_status, remark_of}
+use Rattle.flagops_checks.specs.Report.{IsCheckReport, TellsChecked, check_status, remark_of}
 use Rattle.flagops_checks.specs.Step.{GivesAll, Speaks}
 use Rattle.flagops_checks.specs.Told.{TellsAll, check_subjects}
 use Rattle.flagops_checks.specs.Words.{Checking, checking_view}
 use Rattle.flagops_checks.specs.declared.asked.Checking as code
 use Rattle.flagops_checks.specs.declared.form.Form.{Form}
 use Rattle.flagops_checks.specs.declared.gathering.Gathered.{Gathered}
-use Rattle.flagops_files.specs.Files.{Holding}
-use Rattle.flagops_files.specs.Refusal.{call_of, is_unread, is_want, unreadable, unwritable}
-use Rattle.flagops_files.specs.Report.{IsFileRefusal, Report, ReportsAll, outcome_view, report_of, want_report}
-use Rattle.flagops_files.specs.Told.{AnswersTold, NamesOne, PutsRemark, Remarks, RemarksOrWants, Says, TellsRemark}
-use Rattle.flagops_files.specs.declared.outcome.Outcome.{Outcome}
-use Rattle.flagops_files.specs.declared.refusal.Call.{Call}
-use Rattle.flagops_files.specs.declared.refusal.Call.TheVariants as call
-use Rattle.flagops_files.specs.declared.refusal.Refusal.{Refusal}
-use Rattle.flagops_files.specs.Refusal.{Refused}
-use Rattle.flagops_files.specs.declared.refused.Remark.{Remark}
-use Rattle.flagops_files.specs.declared.refused.Remark.TheVariants.{Lines, Short}
+use Rattle.flagops_files.specs.Refusal.{ComesFrom, Refused, call_name, call_of, is_want}
+use Rattle.flagops_files.specs.Report.{IsCallOf}
+use Rattle.flagops_files.specs.Told.{TellsOfOne}
+use Rattle.flagops_shell.specs.Diagnostic.{Says}
+use Rattle.flagops_shell.specs.Ending.{KeepsUnlessDone, Remarks}
+use Rattle.flagops_shell.specs.Files.{Holding}
+use Rattle.flagops_shell.specs.Report.{Report, outcome_view}
+use Rattle.flagops_shell.specs.declared.outcome.Outcome.{Outcome}
+use Rattle.flagops_shell.specs.declared.refused.Remark.{Remark}
+use Rattle.flagops_shell.specs.declared.refused.Remark.TheVariants.{Lines, Short}
 
 -- ---- what the documents come to
 
@@ -55,91 +54,19 @@ module _ (c : Checking) where
   a_remark g (Some at) (Some (Lines lines)) says gives =
       (gives.0, gives.1, subst (λ (s : String Global). TellsAll (form_of c.json c.documents) gives.0 (string_bytes s)) (sym says.1) (gives.2.told says.0))
 
--- ---- a file that failed is told, and no other
+-- ---- what the command shows of it
 
-of_file : (r : Refusal) → IsFileRefusal (Err r) → is_unread r ≡ true
-of_file r (inl e) = let same : r ≡ unreadable = cc in ap is_unread same
-of_file r (inr e) = let same : r ≡ unwritable = cc in ap is_unread same
+-- of a report what is told of the documents, and of a refusal the name of the one that is refused
+pub remarks : (files : Option Holding) (c : Checking) (r : Result Outcome Refused) → TellsOfOne (check_subjects c.documents) r → IfSome files (λ at. IfOk r (λ o. IfSome o.remark (Says (TellsChecked at c))))
+    → IfSome files (λ at. Remarks is_want (remark_of at c) r)
+remarks None c r names notes = tt
+remarks (Some at) c (Ok o) names notes = λ remark is. subst (λ (m : Option Remark). IfSome m (Says (TellsChecked at c))) is notes
+remarks (Some at) c (Err e) names notes = names
 
-or_true : (b : Bool) → (b || true) ≡ true
-or_true true = refl
-or_true false = refl
+-- a call of the command ran out of memory
+pub wants : (r : Result Outcome Refused) → ComesFrom check_calls r → IfErr r (λ e. IsCallOf check_calls (call_name (call_of e.refusal)))
+wants (Ok o) comes = tt
+wants (Err e) comes = (call_of e.refusal, comes, refl)
 
-has_failed : (was failed : Bool) (r : Refusal) → failed ≡ (was || is_unread r) → IsFileRefusal (Err r) → failed ≡ true
-has_failed was failed r fails file = fails ∙ (ap (λ (b : Bool). was || b) (of_file r file) ∙ or_true was)
-
-not_of_file : {X : Type 0} (r : Report) → IsFileRefusal (Ok r) → X
-not_of_file r (inl e) = cc
-not_of_file r (inr e) = cc
-
-module _ (c : Checking) (failed : Bool) where
-  pub done : (files : Option Holding) (o : Outcome) → IfSome files (λ at. IsCheckReport at c (Ok (outcome_view o))) → IfSome files (λ at. IfSome o.remark (Says (TellsChecked at c)))
-      → IfSome files (λ at. RemarksOrWants check_calls (remark_of at c) (Ok o) (IsRunOutcome at failed c))
-  done None o is says = tt
-  done (Some at) o is says = (Ok (outcome_view o), (is, not_of_file (outcome_view o)), refl, says)
-
-  pub refused : (files : Option Holding) (was : Bool) (e : Refused) (r : Result Outcome Call) → IfSome files (λ at. is_want e.refusal ≡ false → IsCheckReport at c (Err e.refusal)) → check_calls (call_of e.refusal) ≡ true
-      → failed ≡ (was || is_unread e.refusal) → (is_want e.refusal ≡ false → NamesOne (check_subjects c.documents) e.refusal e.remark)
-      → IfOk r (λ o. (is_want e.refusal ≡ false) × (outcome_view o ≡ report_of (Err e.refusal))) → IfErr r (λ c. c ≡ call_of e.refusal) → IfOk r (λ o. o.remark ≡ Some e.remark)
-      → IfSome files (λ at. RemarksOrWants check_calls (remark_of at c) r (IsRunOutcome at failed c))
-  refused None was e r is calls fails told line named kept = tt
-  refused (Some at) was e (Ok o) is calls fails told line named kept =
-      (Err e.refusal, (is line.0, has_failed was failed e.refusal fails), line.1, subst (λ (m : Option Remark). IfSome m (NamesOne (check_subjects c.documents) e.refusal)) (sym kept) (told line.0))
-  refused (Some at) was e (Err k) is calls fails told line named kept = ap check_calls named ∙ calls
-
--- ---- what is written
-
-may_want : (c : Call) → check_calls c ≡ true → can_want c ≡ true
-may_want call.Flagops e = refl
-may_want call.Load e = e
-may_want call.ReadTree e = e
-may_want call.ReadRule e = e
-may_want call.Bucket e = e
-may_want call.ReadRequest e = e
-may_want call.Note e = e
-may_want call.Price e = e
-may_want call.ReadFlags e = e
-may_want call.Check e = e
-may_want call.Resolve e = e
-may_want call.ReadBook e = e
-may_want call.ReadTally e = e
-may_want call.Book e = e
-may_want call.ReadPlanned e = e
-may_want call.Verify e = e
-may_want call.Apply e = e
-may_want call.Plan e = e
-may_want call.PrintPlanned e = e
-may_want call.Drive e = e
-may_want call.Store e = e
-
-where_known : {A : Type 0} (h : Option A) (P Q : A → Type 0) → ((a : A) → P a → Q a) → IfSome h P → IfSome h Q
-where_known None P Q f p = tt
-where_known (Some a) P Q f p = f a p
-
-module _ (out out_after : Option (List ℕ)) (is_broken : Bool) (err err_after : Option (List ℕ)) (is_err_broken : Bool) (status : ℕ) (words : Option Checking) (c : Checking) (asks : words ≡ Some c) (files : Option Holding) (failed : Bool) where
-  abbrev Writes : Report → Type 0
-  Writes report = ReportsAll out out_after is_broken err err_after is_err_broken status report
-
-  abbrev Told : Checking → Holding → Type 0
-  Told a at = AnswersTold can_want (remark_of at a) out out_after is_broken err err_after is_err_broken status (IsRunOutcome at failed a)
-
-  asked : IfSome files (Told c) → IfSome words (λ a. IfSome files (Told a))
-  asked told = subst (λ (w : Option Checking). IfSome w (λ a. IfSome files (Told a))) (sym asks) told
-
-  -- the call that ran out of memory is reported
-  pub wanted : (k : Call) → IfSome files (λ at. check_calls k ≡ true) → Writes (want_report k) → IfSome words (λ a. IfSome files (Told a))
-  wanted k calls writes = asked (where_known files (λ at. check_calls k ≡ true) (Told c) (λ at is. inr (k, may_want k is, writes)) calls)
-
-  -- the remark is told
-  remarked : (IsRemark : Remarks) (r : Result Report Refusal) (o : Outcome) → IfSome o.remark (IsRemark r) → outcome_view o ≡ report_of r → PutsRemark err err_after is_err_broken o.remark → TellsRemark IsRemark err err_after is_err_broken r
-  remarked IsRemark r o has is puts = λ told. go o.remark (ap (λ (report : Report). report.is_told) is ∙ told) has puts
-    where
-      go : (m : Option Remark) → is_some m ≡ true → IfSome m (IsRemark r) → PutsRemark err err_after is_err_broken m → (remark : Remark) × IsRemark r remark × PutsRemark err err_after is_err_broken (Some remark)
-      go None none has puts = cc
-      go (Some remark) some has puts = (remark, has, puts)
-
-  pub reported : (o : Outcome) → IfSome files (λ at. RemarksOrWants check_calls (remark_of at c) (Ok o) (IsRunOutcome at failed c)) → Writes (outcome_view o) → PutsRemark err err_after is_err_broken o.remark → IfSome words (λ a. IfSome files (Told a))
-  reported o is writes puts =
-      asked
-      (where_known files (λ at. RemarksOrWants check_calls (remark_of at c) (Ok o) (IsRunOutcome at failed c)) (Told c)
-      (λ at came. inl (came.0, came.1, subst Writes came.2 writes, remarked (remark_of at c) came.0 o came.3 came.2 puts)) is)
+pub stays : {E : Type 0} (old new : Option Holding) (r : Result Outcome E) → new ≡ old → KeepsUnlessDone old new r
+stays old new r same = inl same

@@ -14,14 +14,15 @@ use Rattle.flagops_checks.specs.declared.form.Form.{Form}
 use Rattle.flagops_checks.specs.declared.gathering.Gathered.{Gathered}
 use Rattle.flagops_checks.specs.declared.remark_lines.RemarkLines.{RemarkLines}
 use Rattle.flagops_files.specs.Documents.{IsDocumentAt, IsDocumentIn, IsDocumentOf}
-use Rattle.flagops_files.specs.Files.{Holding, load_of}
+use Rattle.flagops_shell.specs.Files.{Holding, load_of}
 use Rattle.flagops_files.specs.Loading.{◌>>=◌, max_text, refused_by}
 use Rattle.flagops_files.specs.Refusal.{is_want}
-use Rattle.flagops_files.specs.Told.{NamesOne, NamesSubject, Says, by, file}
+use Rattle.flagops_files.specs.Told.{NamesOne, NamesSubject, by, file}
+use Rattle.flagops_shell.specs.Diagnostic.{Says}
 use Rattle.flagops_files.specs.declared.refusal.Refusal.{Refusal}
 use Rattle.flagops_files.specs.declared.refusal.Refusal.TheVariants.{Load}
 use Rattle.flagops_files.specs.Refusal.{Refused}
-use Rattle.flagops_files.specs.declared.refused.Remark.{Remark}
+use Rattle.flagops_shell.specs.declared.refused.Remark.{Remark}
 
 -- ---- one document
 

@@ -13,8 +13,3 @@ check_itself c = false
 abbrev pub check_calls : Call → Bool
 check_calls call.Check = true
 check_calls c = loads_flags c
-
--- the calls that may run out of memory: those of the command, and reading the words
-abbrev pub can_want : Call → Bool
-can_want call.Flagops = true
-can_want c = check_calls c

@@ -3,7 +3,7 @@ use Rattle.std.specs.Prelude.{◌≡◌, ℕ, List, [], ◌∷◌, Result, Ok, E
 use Rattle.flag_defs.specs.Document.{Definitions}
 use Rattle.flagops_checks.specs.Judged.{Checked, checked}
 use Rattle.flagops_files.specs.Documents.{IsDocumentIn}
-use Rattle.flagops_files.specs.Files.{Holding, load_of}
+use Rattle.flagops_shell.specs.Files.{Holding, load_of}
 use Rattle.flagops_files.specs.Loading.{◌>>=◌, max_text, refused_by}
 use Rattle.flagops_files.specs.declared.refusal.Refusal.{Refusal}
 use Rattle.flagops_files.specs.declared.refusal.Refusal.TheVariants.{Load}

@@ -1,6 +1,6 @@
 pub mod Calls
+pub mod Command
 pub mod Documents
-pub mod Ended
 pub mod Judged
 pub mod Names
 pub mod Printed

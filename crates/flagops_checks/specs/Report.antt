@@ -1,15 +1,17 @@
 -- What the command `check` comes to.
-use Rattle.std.specs.Prelude.{◌≡◌, ℕ, Bool, true, ◌&&◌, List, if◌then◌else◌, Result, Ok, Err}
+use Rattle.std.specs.Prelude.{◌≡◌, ℕ, Bool, ◌&&◌, List, if◌then◌else◌, Result, Ok, Err}
 use Rattle.flagops_checks.specs.Documents.{AreChecked}
 use Rattle.flagops_checks.specs.Judged.{Checked, are_wrong}
 use Rattle.flagops_checks.specs.Printed.{form_of, report_text}
 use Rattle.flagops_checks.specs.Told.{TellsAll, check_subjects}
 use Rattle.flagops_checks.specs.Words.{Checking}
 use Rattle.flagops_checks.specs.declared.form.Form.{Form}
-use Rattle.flagops_files.specs.Files.{Holding}
+use Rattle.flagops_shell.specs.Files.{Holding}
 use Rattle.flagops_files.specs.Loading.{◌>>=◌}
-use Rattle.flagops_files.specs.Report.{IsFileRefusal, Outcomes, Report}
-use Rattle.flagops_files.specs.Told.{NamesOne, Remarks, Says}
+use Rattle.flagops_files.specs.Report.{Outcomes}
+use Rattle.flagops_shell.specs.Report.{Report}
+use Rattle.flagops_files.specs.Told.{NamesOne, Remarks}
+use Rattle.flagops_shell.specs.Diagnostic.{Says}
 use Rattle.flagops_files.specs.declared.refusal.Refusal.{Refusal}
 
 -- with `--strict` this is no success
@@ -22,10 +24,6 @@ check_report strict form cs = Ok (record { text = report_text form cs; status = 
 
 unfoldable pub IsCheckReport : Holding → Checking → Outcomes
 IsCheckReport at c r = (cs : Result (List Checked) Refusal) × AreChecked at c.documents cs × (r ≡ (cs >>= check_report c.strict (form_of c.json c.documents)))
-
--- the same; and that a file cannot be read is told only where a read has failed
-abbrev pub IsRunOutcome : Holding → Bool → Checking → Outcomes
-IsRunOutcome at has_failed c r = IsCheckReport at c r × (IsFileRefusal r → has_failed ≡ true)
 
 -- ---- what is told
 

@@ -1,74 +1,53 @@
 //! The command `check`.
-ghost use Rattle.std.specs.Prelude.{◌≡◌, ◌||◌, false, is_some, map, true, IfOk, IfSome};
+ghost use Rattle.std.specs.Prelude.{◌≡◌, ◌||◌, is_some, IfOk, IfSome, ⊤};
 ghost use Rattle.flagops_checks.specs.Calls.{check_calls};
-ghost use Rattle.flagops_checks.specs.Ended.{AnswersCheck, TellsCheck};
-ghost use Rattle.flagops_checks.specs.Report.{IsCheckReport, IsRunOutcome, TellsChecked, check_status, remark_of};
+ghost use Rattle.flagops_checks.specs.Command.{description};
+ghost use Rattle.flagops_checks.specs.Report.{IsCheckReport, TellsChecked, check_status};
 ghost use Rattle.flagops_checks.specs.Step.{Speaks};
 ghost use Rattle.flagops_checks.specs.Told.{check_subjects};
-ghost use Rattle.flagops_checks.specs.Words.{check_by, checking_view};
-ghost use Rattle.flagops_commands.specs.Ended.{AnswersUnread};
+ghost use Rattle.flagops_checks.specs.Words as words;
+ghost use Rattle.flagops_checks.specs.Words.{checking_view};
 ghost use Rattle.flagops_files.specs.Refusal.{ComesFrom, GivesOne, is_file_fault};
-ghost use Rattle.flagops_files.specs.Report.{AnswersOrWants, IsFileRefusal, is_of_file, outcome_view, status_number};
-ghost use Rattle.flagops_files.specs.Told.{RemarksOrWants, Says, TellsOfOne};
+ghost use Rattle.flagops_files.specs.Told.{TellsOfOne};
+ghost use Rattle.flagops_shell.specs.Diagnostic.{Says};
+ghost use Rattle.flagops_shell.specs.Report.{outcome_view, status_number};
 
 use crate::asked::Checking;
 use crate::form::Form;
 use crate::gathering::{Gathered, gather};
 use crate::remark_lines::RemarkLines;
 use crate::words::read_checking;
-use flag_text::Outlet;
-use flagops_commands::{refused, report_usage};
-use flagops_files::{Call, FileSet, Outcome, Refused, Remark, Status, report, want};
+use flagops_files::{Refusal, Refused};
+use flagops_shell::{Command, FileSet, Outcome, Remark, Status};
 use std::alloc::Global;
 use std::convert::AsStr;
 use std::thread::Threads;
 
-/// Does what the words after the program's name ask of `check`, which is the first of them, and gives the status to end with: it
-/// prints which flags of the documents are good and which are broken, and tells why on `err`, with what is doubted of them. With
+/// It prints which flags of the documents are good and which are broken; a person is told why, and what is doubted of them. With
 /// `--strict` the status is 1 where a flag is broken or doubted, or a member of a document is not read or stands more than once.
-/// The first document that is refused refuses the command: its line is printed with status 1, and nothing else. Files are only read.
-pub fn check<R: AllocGlobal + Threads, S: AsStr, F: FileSet, O: Outlet, E: Outlet>(
-    rt: &R,
-    words: &[S],
-    files: &mut F,
-    out: &mut O,
-    err: &mut E,
-) -> u8
-    requires out_whole { O.is_broken out.old ≡ false }
-    requires err_whole { E.is_broken err.old ≡ false }
-    ensures answers { AnswersCheck O.bytes O.is_broken out.old out.new E.bytes E.is_broken err.old err.new result
-        F.holding F.has_failed files.old files.new (map S.text words.now) }
-    // Whatever the files hold, a read that failed is what is reported.
-    ensures unread { AnswersUnread O.bytes O.is_broken out.old out.new E.bytes E.is_broken err.old err.new result
-        F.holding F.has_failed files.old files.new }
-    ensures tells { TellsCheck O.bytes O.is_broken out.old out.new E.bytes E.is_broken err.old err.new result (map S.text words.now) }
-    ensures kept { F.holding files.new ≡ F.holding files.old }
-{
-    let alloc = rt.alloc();
-    match read_checking(alloc, words) {
-        Ok(asked) => match answer(rt, alloc, files, &asked) {
-            Ok(outcome) => report(out, err, &outcome),
-            Err(call) => want(out, err, call),
-        },
-        Err(error) => report_usage(alloc, &error, out, err),
-    }
-}
+/// The first document that is refused refuses the command. Files are only read.
+impl<'w, R: Threads, F: FileSet> Command<'w, R, F> for Checking<'w> {
+    type Refusal = Refusal;
 
-/// The outcome of the command or the line of its refusal, or the call that ran out of memory.
-#[tactic(auto, using(flagops_commands::proofs::Leaving::file_refusal))]
-fn answer<R: Threads, F: FileSet>(
-    rt: &R,
-    alloc: Global,
-    files: &mut F,
-    asked: &Checking<'_>,
-) -> Result<Outcome, Call>
-    ensures exact { IfSome (F.holding files.old) (λ at. RemarksOrWants check_calls (remark_of at (checking_view asked.now)) result (IsRunOutcome at (F.has_failed files.new) (checking_view asked.now))) }
-    ensures unread { F.has_failed files.old ≡ false → F.has_failed files.new ≡ true → AnswersOrWants is_of_file result IsFileRefusal }
-    ensures kept { F.holding files.new ≡ F.holding files.old }
-{
-    match outcome(rt, alloc, files, asked) {
-        Ok(outcome) => Ok(outcome),
-        Err(it) => refused(alloc, it),
+    ghost Asked = { words.Checking };
+
+    ghost Needs = { ⊤ };
+
+    ghost view = { checking_view };
+
+    ghost description = { description };
+
+    fn read<S: AsStr>(alloc: Global, words: &'w [S]) -> Result<Checking<'w>, clap::Error> {
+        read_checking(alloc, words)
+    }
+
+    #[tactic(auto, using(crate::proofs::Ending::remarks, crate::proofs::Ending::wants, crate::proofs::Ending::stays))]
+    fn answer(&self, rt: &R, alloc: Global, files: &mut F) -> Result<Outcome, Refused> {
+        outcome(rt, alloc, files, self)
+    }
+
+    fn call_of(&self, refusal: &Refusal) -> &'static str {
+        refusal.call().name()
     }
 }
 

@@ -20,7 +20,8 @@ use crate::printing::push_document;
 use crate::remark_lines::RemarkLines;
 use flag_defs::Flags;
 use flag_doubts::Repeated;
-use flagops_files::{Call, FileSet, Refused};
+use flagops_files::{Call, Refused, out_of_memory};
+use flagops_shell::FileSet;
 use std::alloc::{AllocError, Global};
 use std::mem;
 use std::thread::Threads;
@@ -89,7 +90,7 @@ fn with_document<R: Threads, F: FileSet>(
     }
     match next {
         Ok(next) => Ok(next),
-        Err(AllocError) => Err(Refused::out_of_memory(Call::Check)),
+        Err(AllocError) => Err(out_of_memory(Call::Check)),
     }
 }
 

@@ -4,15 +4,16 @@ ghost use Rattle.flag_defs.specs.Flags.{flags_view};
 ghost use Rattle.flag_doubts.specs.Doubled.{json_of};
 ghost use Rattle.flag_doubts.specs.Repeated.{Finds};
 ghost use Rattle.flagops_files.specs.Documents.{IsDocumentAt, IsDocumentIn};
-ghost use Rattle.flagops_files.specs.Files.{load_of};
+ghost use Rattle.flagops_shell.specs.Files.{load_of};
 ghost use Rattle.flagops_files.specs.Loading.{max_text};
 ghost use Rattle.flagops_files.specs.Refusal.{ComesFrom, GivesOne, is_file_fault, loads_flags, reads_flags};
 ghost use Rattle.flagops_files.specs.Told.{TellsOf, file};
 
+use file_diagnostics::of_document;
 use flag_defs::Flags;
 use flag_doubts::{ReadDocument, Repeated, read_with_names};
-use flagops_files::{FileSet, Refusal, Refused, Remark, TEXT_LIMIT, load, make_room_for};
-use flagops_remarks::of_document;
+use flagops_files::{Refusal, Refused, TEXT_LIMIT, load, make_room_for};
+use flagops_shell::{FileSet, Remark};
 use std::alloc::Global;
 use std::thread::Threads;
 

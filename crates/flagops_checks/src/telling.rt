@@ -7,10 +7,10 @@ use crate::checked::Checked;
 use crate::form::Form;
 use crate::judging::Judged;
 use crate::reasons::{reason, repeated};
+use file_diagnostics::{of_definition_errors, of_unread};
 use flag_doubts::Doubt;
 use flag_text::Tree;
 use flagops_files::quoted;
-use flagops_remarks::{of_definition_errors, of_unread};
 use std::alloc::{AllocError, Global};
 use unread_members::Reader;
 

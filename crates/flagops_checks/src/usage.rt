@@ -4,6 +4,7 @@ ghost use Rattle.clap.specs.Words.{app_of};
 ghost use Rattle.flagops_checks.specs.Words.{check_app};
 
 use clap::Command;
+use flagops_words::about;
 use flagops_words::arguments::{flag, some_words};
 use std::alloc::{AllocError, Global};
 
@@ -14,9 +15,7 @@ pub fn usage<'a>(alloc: Global) -> Result<Command<'a>, AllocError>
 {
     let command = Command::new(alloc, "check")
         .bin_name("flagops check")?
-        .about(
-            "Prints which flags of documents are good and which are broken, and tells what is doubted of them",
-        );
+        .about(about::CHECK);
     let documents = some_words(alloc, "DOC", "The flag documents");
     let strict = flag(
         alloc,

@@ -10,25 +10,19 @@ use Rattle.flagops_drive.specs.Fault.{want}
 use Rattle.flagops_drive.specs.declared.fault.DriveRefusal.{DriveRefusal}
 use Rattle.flagops_drive.specs.declared.fault.DriveRefusal.TheVariants as reason
 use Rattle.flagops_files.specs.Documents.{IsDocumentAt}
-use Rattle.flagops_files.specs.Files.{Holding, KeepsOthers, Stores}
+use Rattle.flagops_shell.specs.Files.{Holding, KeepsOthers, Stores}
 use Rattle.flagops_files.specs.Loading.{◌>>=◌, max_text, refused_by, tree_at}
 use Rattle.flagops_files.specs.Refusal.{GivesOne, GivesUnlessWant, is_want, unwritable}
-use Rattle.flagops_files.specs.Report.{Report, beside, done, outcome_view}
-use Rattle.flagops_files.specs.declared.outcome.Outcome.{Outcome}
+use Rattle.flagops_files.specs.Report.{beside, done}
+use Rattle.flagops_shell.specs.Report.{Report, outcome_view}
+use Rattle.flagops_shell.specs.declared.outcome.Outcome.{Outcome}
 use Rattle.flagops_files.specs.Refusal.{Refused}
 use Rattle.flagops_files.specs.declared.refusal.Call.TheVariants as call
 use Rattle.flagops_files.specs.declared.refusal.Refusal.{Refusal}
 use Rattle.flagops_files.specs.declared.refusal.Refusal.TheVariants.{Drive}
-use Rattle.flagops_commands.specs.Doubts.{settle}
-use Rattle.flagops_commands.specs.Drive.{AreRead, IsAnswered, IsDriveReport, IsDriveOutputOf, IsWritten, KeepsUnlessDone, LeavesBook, admitted, before_at, doubt_of_asks, recorded}
-
--- files that stayed until the storing
-pub kept_after : {E : Type 0} (old mid last new : Option Holding) (r : Result Outcome E) → mid ≡ old → last ≡ mid → KeepsUnlessDone last new r → KeepsUnlessDone old new r
-kept_after old mid last new r first second (inl same) = inl (same ∙ second ∙ first)
-kept_after old mid last new r first second (inr done) = inr done
-
-pub others_after : (old mid new : Option Holding) (path : List ℕ) → mid ≡ old → KeepsOthers mid new path → KeepsOthers old new path
-others_after old mid new path same kept = subst (λ (h : Option Holding). KeepsOthers h new path) same kept
+use Rattle.flagops_rollouts.specs.Doubts.{settle}
+use Rattle.flagops_commands.specs.Drive.{AreRead, IsAnswered, IsDriveReport, IsDriveOutputOf, IsWritten, LeavesBook, admitted, before_at, doubt_of_asks, recorded}
+use Rattle.flagops_shell.specs.Ending.{KeepsUnlessDone}
 
 -- ---- the book is written
 

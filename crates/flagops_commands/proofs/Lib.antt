@@ -1,19 +1,10 @@
 pub mod AddedUp
-mod Asked
-pub mod Driving
 mod Distinct
-mod Doubting
+pub mod Driving
 mod Gathered
 pub mod Hexadecimal
 mod Keys
-mod Keeping
-pub mod Leaving
+mod Described
 mod Members
 mod Noted
-mod Passed
 pub mod Refusing
-mod Tallies
-mod Telling
-pub mod Valid
-pub mod Verdicts
-pub mod Wants

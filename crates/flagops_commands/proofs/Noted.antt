@@ -1,11 +1,11 @@
 -- What is told beside a report.
 use Rattle.std.proofs.Common.{Option, Some, None, Result, IfOk, IfSome}
 use Rattle.std.specs.Prelude.{Ok, Err}
-use Rattle.flagops_files.specs.Told.{Says}
-use Rattle.flagops_files.specs.declared.outcome.Outcome.{Outcome}
+use Rattle.flagops_shell.specs.Diagnostic.{Says}
+use Rattle.flagops_shell.specs.declared.outcome.Outcome.{Outcome}
 use Rattle.flagops_files.specs.Refusal.{Refused}
-use Rattle.flagops_files.specs.declared.refused.Remark.{Remark}
-use Rattle.flagops_files.specs.declared.refused.Remark.TheVariants.{Short, Lines}
+use Rattle.flagops_shell.specs.declared.refused.Remark.{Remark}
+use Rattle.flagops_shell.specs.declared.refused.Remark.TheVariants.{Short, Lines}
 
 says_nothing : (o : Option Remark) → IfSome o (Says (λ lines. Unit {0}))
 says_nothing None = tt

@@ -8,7 +8,7 @@ use Rattle.flagops_drive.specs.Driven.{refusal_of, workers_refusal}
 use Rattle.flagops_drive.specs.Unread.{has_unread_ask}
 use Rattle.flagops_drive.specs.declared.fault.DriveRefusal.{DriveRefusal}
 use Rattle.flagops_drive.specs.declared.fault.DriveRefusal.TheVariants.{BadAsks}
-use Rattle.flagops_files.specs.Files.{Holding}
+use Rattle.flagops_shell.specs.Files.{Holding}
 use Rattle.flagops_files.specs.Loading.{max_text, tree_at}
 use Rattle.flagops_files.specs.Refusal.{call_of, is_want}
 use Rattle.flagops_files.specs.declared.refusal.Call.{Call}
@@ -17,9 +17,10 @@ use Rattle.flagops_files.specs.declared.refusal.Refusal.{Refusal}
 use Rattle.flagops_files.specs.declared.refusal.Doubt.TheVariants as doubt
 use Rattle.flagops_files.specs.declared.refusal.Refusal.TheVariants.{Drive, Doubted}
 use Rattle.flagops_files.specs.Refusal.{Refused}
-use Rattle.flagops_commands.specs.Doubts.{settle}
-use Rattle.flagops_commands.specs.Drive.{HasNoAsks, HasUnreadAsk, IsRefusedByName, KeepsUnlessDone, admitted}
-use Rattle.flagops_files.specs.declared.outcome.Outcome.{Outcome}
+use Rattle.flagops_rollouts.specs.Doubts.{settle}
+use Rattle.flagops_commands.specs.Drive.{HasNoAsks, HasUnreadAsk, IsRefusedByName, admitted}
+use Rattle.flagops_shell.specs.Ending.{KeepsUnlessDone}
+use Rattle.flagops_shell.specs.declared.outcome.Outcome.{Outcome}
 
 differs : {X : Type 0} → true ≡ false → X
 differs h = cc

@@ -4,9 +4,10 @@ use Rattle.std.specs.Fmt.{digit_glyph}
 use Rattle.murmur_core.specs.Murmur.{hash}
 use Rattle.flag_text.specs.Shape.{text}
 use Rattle.flag_text.specs.Printing.{text_of}
-use Rattle.flagops_files.specs.Files.{Holding}
+use Rattle.flagops_shell.specs.Files.{Holding}
 use Rattle.flagops_files.specs.Loading.{◌>>=◌, choice_at}
-use Rattle.flagops_files.specs.Report.{Report, done}
+use Rattle.flagops_files.specs.Report.{done}
+use Rattle.flagops_shell.specs.Report.{Report}
 use Rattle.flagops_files.specs.declared.refusal.Refusal.{Refusal}
 
 -- the last k hexadecimal digits of a number, in lower case, zeros in front of it included

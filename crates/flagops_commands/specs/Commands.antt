@@ -1,17 +1,23 @@
 -- The table of the commands.
-use Rattle.std.specs.Prelude.{◌≡◌, Bool, true, false, Option, Some}
-use Rattle.flagops_commands.specs.Apply.{IsApplyReport}
+use Rattle.std.specs.Prelude.{◌≡◌, Bool, true, false, Option}
+use Rattle.flagops_rollouts.specs.Apply.{IsApplyReport}
 use Rattle.flagops_commands.specs.Bucket.{bucket_report}
 use Rattle.flagops_commands.specs.Completions.{completions_report}
 use Rattle.flagops_commands.specs.Drive.{IsDriveReport, LeavesBook}
-use Rattle.flagops_files.specs.Files.{Holding}
-use Rattle.flagops_commands.specs.Keep.{IsKeepReport, LeavesDocument}
-use Rattle.flagops_commands.specs.Plan.{IsPlanReport}
+use Rattle.flagops_shell.specs.Files.{Holding}
+use Rattle.flagops_rollouts.specs.Keep.{IsKeepReport, LeavesDocument}
+use Rattle.flagops_rollouts.specs.Plan.{IsPlanReport}
 use Rattle.flagops_commands.specs.Price.{price_report}
-use Rattle.flagops_commands.specs.Calls.{bucket_calls, completions_calls, price_calls, resolve_calls, verify_calls, apply_calls, keep_calls, plan_calls, drive_calls}
-use Rattle.flagops_files.specs.Report.{IsFileRefusal, Outcomes}
+use Rattle.flagops_commands.specs.Calls.{bucket_calls, completions_calls, price_calls, resolve_calls, drive_calls}
+use Rattle.flagops_rollouts.specs.Calls.{verify_calls, apply_calls, keep_calls, plan_calls}
+use Rattle.flagops_commands.specs.Subjects.{remark_of}
+use Rattle.flagops_files.specs.Described.{described}
+use Rattle.flagops_files.specs.Report.{Outcomes}
+use Rattle.flagops_files.specs.declared.refusal.Refusal.{Refusal}
+use Rattle.flagops_shell.specs.Running.{Description}
+use Rattle.flagops_words.specs.Words.{asked_by, faults_of}
 use Rattle.flagops_commands.specs.Resolve.{IsResolveReport}
-use Rattle.flagops_commands.specs.Verify.{IsVerifyReport}
+use Rattle.flagops_rollouts.specs.Verify.{IsVerifyReport}
 use Rattle.flagops_files.specs.declared.refusal.Call.{Call}
 use Rattle.flagops_files.specs.declared.refusal.Call.TheVariants as call
 use Rattle.flagops_words.specs.Asked.{Asked, bucket, price, resolve, verify, apply, keep, plan, drive, completions}
@@ -33,20 +39,11 @@ IsOutcome at after (plan document request book refine strict explain) r = IsPlan
 IsOutcome at after (completions shell) r = completions_report shell ≡ r
 IsOutcome at after (drive document file workers book add strict json) r = IsDriveReport at after document file workers book add strict json r
 
--- the same; and that a file cannot be read or written is told only where one has failed
-abbrev pub IsRunOutcome : Holding → Option Holding → Bool → Asked → Outcomes
-IsRunOutcome at after has_failed asked r = IsOutcome at after asked r × (IsFileRefusal r → has_failed ≡ true)
-
 -- a command leaves the files as they are; `drive` and `apply --keep --write` change the one file that they write, and only where there is something to write
 abbrev pub Leaves : Asked → Option Holding → Option Holding → Type 0
 Leaves (keep document file request book write refine strict) old new = LeavesDocument old new document write
 Leaves (drive document file workers book add strict json) old new = LeavesBook old new document file workers book add strict
 Leaves asked old new = new ≡ old
-
--- words that ask for no command leave them
-abbrev pub LeavesAsked : Option Asked → Option Holding → Option Holding → Type 0
-LeavesAsked (Some asked) old new = Leaves asked old new
-LeavesAsked o old new = new ≡ old
 
 -- the calls that each command makes
 abbrev pub calls_of : Asked → Call → Bool
@@ -60,7 +57,6 @@ calls_of (plan document request book refine strict explain) c = plan_calls c
 calls_of (completions shell) c = completions_calls c
 calls_of (drive document file workers book add strict json) c = drive_calls c
 
--- the calls that may run out of memory: those of the command, and reading the words
-abbrev pub can_want : Asked → Call → Bool
-can_want asked call.Flagops = true
-can_want asked c = calls_of asked c
+-- what is known of these commands
+abbrev pub description : Description Asked Refusal
+description = described asked_by faults_of (λ a at after. IsOutcome at after a) (λ a at. remark_of a) calls_of Leaves

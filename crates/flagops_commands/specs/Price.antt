@@ -11,10 +11,11 @@ use Rattle.book_core.specs.Page.{PageName}
 use Rattle.price_core.specs.Cost.{cost_of, first_forbidden_of}
 use Rattle.price_core.specs.Pricing.{Pricing}
 use Rattle.price_core.specs.Request.{Asked, asked_of}
-use Rattle.flagops_files.specs.Files.{Holding, load_of}
+use Rattle.flagops_shell.specs.Files.{Holding, load_of}
 use Rattle.flagops_files.specs.Loading.{◌>>=◌, refused_by, rule_at, max_text}
-use Rattle.flagops_files.specs.Report.{Report, beside, done}
-use Rattle.flagops_commands.specs.Doubts.{is_unread}
+use Rattle.flagops_files.specs.Report.{beside, done}
+use Rattle.flagops_shell.specs.Report.{Report}
+use Rattle.flagops_rollouts.specs.Doubts.{is_unread}
 use Rattle.flagops_commands.specs.Totals.{totals_by_name}
 use Rattle.flagops_files.specs.declared.refusal.Refusal.{Refusal}
 use Rattle.flagops_files.specs.declared.refusal.Refusal.TheVariants.{Load, ReadRequest, ReadTree, Note, Price}

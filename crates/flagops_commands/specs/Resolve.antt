@@ -7,9 +7,10 @@ use Rattle.flag_resolve.specs.Printing.{resolution_text}
 use Rattle.flag_resolve.specs.Resolution.{resolution_of}
 use Rattle.flag_defs.specs.declared.kind.Kind.{Kind}
 use Rattle.flagops_files.specs.Documents.{IsDocumentAt}
-use Rattle.flagops_files.specs.Files.{Holding}
+use Rattle.flagops_shell.specs.Files.{Holding}
 use Rattle.flagops_files.specs.Loading.{◌>>=◌, max_text, refused_by, tree_at}
-use Rattle.flagops_files.specs.Report.{Outcomes, Report, done}
+use Rattle.flagops_files.specs.Report.{Outcomes, done}
+use Rattle.flagops_shell.specs.Report.{Report}
 use Rattle.flagops_files.specs.declared.refusal.Refusal.{Refusal}
 use Rattle.flagops_files.specs.declared.refusal.Refusal.TheVariants.{ReadTree}
 

@@ -5,7 +5,8 @@ use Rattle.flagops_drive.specs.declared.fault.DriveRefusal.{DriveRefusal}
 use Rattle.flagops_drive.specs.declared.fault.DriveRefusal.TheVariants as driving
 use Rattle.flagops_files.specs.Question.{question_subjects}
 use Rattle.flagops_files.specs.Refusal.{loads_book, loads_flags, loads_plan, loads_rule, loads_tree, stores_file}
-use Rattle.flagops_files.specs.Told.{NamesOne, Remarks, Says, Subjects, by, file, word}
+use Rattle.flagops_files.specs.Told.{NamesOne, Remarks, Subjects, by, file, word}
+use Rattle.flagops_shell.specs.Diagnostic.{Says}
 use Rattle.flagops_files.specs.declared.keeping.KeepRefusal.TheVariants as keeping
 use Rattle.flagops_files.specs.declared.refusal.Call.{Call}
 use Rattle.flagops_files.specs.declared.refusal.Call.TheVariants as call
@@ -13,8 +14,9 @@ use Rattle.flagops_files.specs.declared.refusal.PriceMismatch.TheVariants.{Weigh
 use Rattle.flagops_files.specs.declared.refusal.Refusal.{Refusal}
 use Rattle.flagops_files.specs.declared.refusal.Refusal.TheVariants.{Note, Price, Plan, PrintPlanned, Verify, Apply, Keep, Drive, Doubted}
 use Rattle.flagops_commands.specs.Calls.{loads_request}
-use Rattle.flagops_commands.specs.Doubts.{NamesDoubted, doubt_subjects}
-use Rattle.flagops_remarks.specs.Named.{Names, NamesWord}
+use Rattle.flagops_rollouts.specs.Doubts.{NamesDoubted, doubt_subjects}
+use Rattle.file_diagnostics.specs.Named.{Names, NamesWord}
+use Rattle.flagops_rollouts.specs.Subjects.{apply_subjects, keep_subjects, plan_subjects, verify_subjects}
 use Rattle.flagops_words.specs.Asked.{Asked, bucket, price, resolve, verify, apply, keep, plan, drive, completions}
 use Rattle.rollout_checks.specs.declared.verify_fault.VerifyFault.{VerifyFault}
 use Rattle.rollout_checks.specs.declared.verify_fault.VerifyFault.TheVariants as verdict
@@ -47,60 +49,6 @@ reads_tree c = false
 
 abbrev pub resolve_subjects : List ℕ → List ℕ → Subjects
 resolve_subjects document context = (file document, by loads_flags) ∷ (word (codes "DEFAULT"), by reads_tree) ∷ (file context, by loads_tree) ∷ []
-
--- a plan is refused as no answer to its request, or the request itself
-abbrev pub is_of_request : Refusal → Bool
-is_of_request (Verify (verdict.Request e)) = true
-is_of_request (Plan e) = true
-is_of_request e = false
-
-abbrev pub is_of_answer : Refusal → Bool
-is_of_answer (Verify (verdict.Check e)) = true
-is_of_answer e = by loads_plan e
-
-abbrev pub verify_subjects : List ℕ → List ℕ → List ℕ → List ℕ → Subjects
-verify_subjects document request book answer = question_subjects document request book ++ (file request, is_of_request) ∷ (file answer, is_of_answer) ∷ doubt_subjects request book
-
--- what is said of an answer that is not verified
-abbrev pub NamesVerified : List ℕ → List ℕ → VerifyFault → List ℕ → Type 0
-NamesVerified request answer (verdict.Request e) lines = Names request lines
-NamesVerified request answer (verdict.Check e) lines = Names answer lines
-
--- a plan is refused as a file, or where its rule is put
-abbrev pub is_of_plan : Refusal → Bool
-is_of_plan (Apply e) = true
-is_of_plan e = by loads_plan e
-
-abbrev pub apply_subjects : List ℕ → List ℕ → Subjects
-apply_subjects document answer = (file document, by loads_flags) ∷ (file answer, is_of_plan) ∷ []
-
--- a document that is to keep what else it has is refused with its request, with its plan, or by itself
-abbrev pub is_of_kept_request : Refusal → Bool
-is_of_kept_request (Keep (keeping.Verify (verdict.Request e))) = true
-is_of_kept_request e = false
-
-abbrev pub is_of_kept_answer : Refusal → Bool
-is_of_kept_answer (Keep (keeping.Verify (verdict.Check e))) = true
-is_of_kept_answer e = is_of_plan e
-
-abbrev pub is_of_kept_document : Refusal → Bool
-is_of_kept_document (Keep (keeping.Document e)) = true
-is_of_kept_document e = by stores_file e
-
-abbrev pub keep_subjects : List ℕ → List ℕ → List ℕ → List ℕ → Subjects
-keep_subjects document answer request book =
-    question_subjects document request book ++ (file request, is_of_kept_request) ∷ (file answer, is_of_kept_answer) ∷ (file document, is_of_kept_document) ∷ doubt_subjects request book
-
--- a plan that is too large to be printed
-abbrev pub is_of_size : Refusal → Bool
-is_of_size (PrintPlanned e) = true
-is_of_size e = false
-
-abbrev pub the_plan : List ℕ
-the_plan = codes "the plan"
-
-abbrev pub plan_subjects : List ℕ → List ℕ → List ℕ → Subjects
-plan_subjects document request book = question_subjects document request book ++ (file request, is_of_request) ∷ (word the_plan, is_of_size) ∷ doubt_subjects request book
 
 -- asks are refused as a file, for what it holds, or for what is doubted of it
 abbrev pub is_of_asks : Refusal → Bool

@@ -1,5 +1,6 @@
 //! The command that makes a book.
 
+mod ask_diagnostics;
 mod asks;
 pub mod drive;
 mod driving;

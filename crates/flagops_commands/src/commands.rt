@@ -1,23 +1,22 @@
 //! The table of the commands, and what each answers.
 ghost use Rattle.std.specs.Prelude.{◌≡◌, ◌||◌, false, IfOk, IfSome};
 ghost use Rattle.flagops_commands.specs.Commands.{calls_of, IsOutcome, Leaves, waits};
-ghost use Rattle.flagops_commands.specs.Drive.{KeepsUnlessDone};
+ghost use Rattle.flagops_shell.specs.Ending.{KeepsUnlessDone};
 ghost use Rattle.flagops_words.specs.Asked.{asked_view};
 ghost use Rattle.flagops_files.specs.Refusal.{ComesFrom, GivesOne, is_file_fault};
-ghost use Rattle.flagops_files.specs.Report.{outcome_view};
-ghost use Rattle.flagops_files.specs.Told.{Says, TellsOfOne};
+ghost use Rattle.flagops_shell.specs.Report.{outcome_view};
+ghost use Rattle.flagops_files.specs.Told.{TellsOfOne};
+ghost use Rattle.flagops_shell.specs.Diagnostic.{Says};
 ghost use Rattle.flagops_commands.specs.Subjects.{notes_of, subjects_of};
 
 use crate::books::drive::drive;
 use crate::completions::completions;
 use crate::flags::resolve::resolve;
-use crate::rollouts::apply::apply;
-use crate::rollouts::keep::keep;
-use crate::rollouts::plan::plan;
-use crate::rollouts::verify::verify;
 use crate::rules::bucket::bucket;
 use crate::rules::price::price;
-use flagops_files::{FileSet, Outcome, Refused};
+use flagops_files::Refused;
+use flagops_rollouts::{apply, keep, plan, verify};
+use flagops_shell::{FileSet, Outcome};
 use flagops_words::Asked;
 use std::alloc::Global;
 use std::sync::Wait;

@@ -2,4 +2,5 @@
 
 pub mod bucket;
 pub mod price;
+mod price_diagnostics;
 mod totals;

@@ -1,4 +1,2 @@
-pub mod Ending
-pub mod Writes
 pub mod Told
 mod Recorded

@@ -2,7 +2,7 @@
 use Rattle.std.proofs.Common.{◌≡◌, ℕ, List, false, Option, Some, None, IfSome, refl, sym, subst}
 use Rattle.std.specs.Prelude.{Result, Ok, Err}
 use Rattle.flagops_files.specs.Evidence.{IsEvidenceOf, IsReadAs, begins_tally}
-use Rattle.flagops_files.specs.Files.{Holding}
+use Rattle.flagops_shell.specs.Files.{Holding}
 use Rattle.flagops_files.specs.Question.{IsEvidenceAt, book_bytes_at}
 use Rattle.flagops_files.specs.Refusal.{GivesOne, is_want}
 use Rattle.flagops_files.specs.declared.evidence.Evidence.{Evidence}

@@ -1,10 +1,11 @@
 -- A remark that is made of lines, and what is told of one of several things.
 use Rattle.std.proofs.Common.{◌≡◌, ℕ, List, [], ◌∷◌, ◌++◌, Result, Ok, Err, IfOk, String, string_bytes, sym, subst, inl, inr, Global}
 use Rattle.std.specs.Prelude.{OnErr}
-use Rattle.flagops_files.specs.Told.{Says, NamesOne, Subjects}
+use Rattle.flagops_files.specs.Told.{NamesOne, Subjects}
+use Rattle.flagops_shell.specs.Diagnostic.{Says}
 use Rattle.flagops_files.specs.declared.refusal.Refusal.{Refusal}
-use Rattle.flagops_files.specs.declared.refused.Remark.{Remark}
-use Rattle.flagops_files.specs.declared.refused.Remark.TheVariants.{Short, Lines}
+use Rattle.flagops_shell.specs.declared.refused.Remark.{Remark}
+use Rattle.flagops_shell.specs.declared.refused.Remark.TheVariants.{Short, Lines}
 
 -- what the lines say, the remark says
 pub says : {E : Type 0} (P : List ℕ → Type 0) (lines : Result (String Global) E) (remark : Remark) → IfOk lines (λ s. remark ≡ Lines s) → OnErr lines (remark ≡ Short)

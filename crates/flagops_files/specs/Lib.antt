@@ -1,10 +1,9 @@
-pub mod Beginning
+pub mod Described
 pub mod Documents
-pub mod Ending
 pub mod Evidence
-pub mod Files
-pub mod Given
+pub mod FileLines
 pub mod Keeping
+pub mod Lines
 pub mod Loading
 pub mod Payload
 pub mod PlanFile

@@ -7,8 +7,9 @@ use Rattle.rule_text.specs.Choosing.{choice_of}
 use Rattle.rule_text.specs.Reading.{rule_of_text}
 use Rattle.rule_text.specs.declared.fault.RuleTextFault.{RuleTextFault}
 use Rattle.rule_text.specs.declared.fault.RuleTextFault.TheVariants.{Text, Rule}
-use Rattle.flagops_files.specs.Files.{Holding, load_of}
+use Rattle.flagops_shell.specs.Files.{Holding, load_of}
 use Rattle.flagops_files.specs.declared.refusal.Refusal.{Refusal}
+use Rattle.limits.specs.Limits.{file_bytes, text_bytes}
 use Rattle.flagops_files.specs.declared.refusal.Refusal.TheVariants.{Load, ReadTree, ReadRule}
 
 -- what comes next, where nothing was refused
@@ -24,11 +25,11 @@ refused_by f (Err e) = Err (f e)
 
 -- the largest rule or plan file, in bytes
 abbrev pub max_rule : ℕ
-max_rule = 67108864
+max_rule = file_bytes
 
 -- the largest request, key file, document or context, in bytes
 abbrev pub max_text : ℕ
-max_text = 4194304
+max_text = text_bytes
 
 -- the tree of the file at a path
 unfoldable pub tree_at : Holding → List ℕ → ℕ → Result Shape Refusal

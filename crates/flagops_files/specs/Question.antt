@@ -5,9 +5,9 @@ use Rattle.book_core.specs.Reading.{book_of}
 use Rattle.flag_defs.specs.Document.{Definitions}
 use Rattle.flag_defs.specs.Flags.{flags_view}
 use Rattle.flagops_files.specs.Documents.{IsDocumentAt}
-use Rattle.flagops_files.specs.Beginning.{first_line}
+use Rattle.flagops_shell.specs.Beginning.{first_line}
 use Rattle.flagops_files.specs.Evidence.{IsEvidenceOf}
-use Rattle.flagops_files.specs.Files.{Holding, first_piece, load_book_of, load_notes_of, load_of}
+use Rattle.flagops_shell.specs.Files.{Holding, first_piece, load_book_of, load_notes_of, load_of}
 use Rattle.flagops_files.specs.Loading.{◌>>=◌, max_text, refused_by}
 use Rattle.flagops_files.specs.Refusal.{loads_book, loads_evidence, loads_file, loads_flags}
 use Rattle.flagops_files.specs.Told.{Subjects, by, file}

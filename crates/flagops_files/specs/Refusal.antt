@@ -9,17 +9,19 @@ use Rattle.rollout_checks.specs.Fault as rollouts
 use Rattle.plan_text.specs.Fault as plan_files
 use Rattle.rollout_checks.specs.VerifyFault as verdicts
 use Rattle.flagops_drive.specs.Fault as drives
-use Rattle.flagops_files.specs.Files.{load_number, load_name, store_number, store_name}
-use Rattle.flagops_files.specs.Given as given
+use Rattle.flagops_shell.specs.Files.{load_number, load_name, store_number, store_name}
+use Rattle.flagops_shell.specs.Ending as shell
+use Rattle.flagops_shell.specs.Report.{want_line_of}
+use Rattle.flagops_shell.specs.Given as given
 use Rattle.flagops_files.specs.Keeping as keeping
 use Rattle.flagops_files.specs.Payload.{file_items, keep_items, rollout_items, tally_items, verify_items}
 use Rattle.flagops_files.specs.Tallies as tallies
-use Rattle.flagops_files.specs.declared.files.LoadFault.TheVariants.{Unreadable}
-use Rattle.flagops_files.specs.declared.files.StoreFault.TheVariants.{Unwritable}
+use Rattle.flagops_shell.specs.declared.files.LoadFault.TheVariants.{Unreadable}
+use Rattle.flagops_shell.specs.declared.files.StoreFault.TheVariants.{Unwritable}
 use Rattle.flagops_files.specs.declared.refusal.Call.{Call}
 use Rattle.flagops_files.specs.declared.refusal.Call.TheVariants as call
 use Rattle.flagops_files.specs.declared.refusal.Refusal.{Refusal}
-use Rattle.flagops_files.specs.declared.refused.Refused as refusals
+use Rattle.flagops_shell.specs.declared.refused.Refused as refusals
 use Rattle.flagops_files.specs.declared.refusal.Refusal.TheVariants.{WantOfMemory, Load, LongBook, ReadTree, ReadRule, ReadRequest, Note, Price, ReadFlags, ReadBook, ReadTally, FullBook, ReadPlanned, Verify, Apply, Keep, Plan, PrintPlanned, Drive, Store, Doubted}
 use Rattle.flagops_files.specs.declared.refusal.Doubt.{Doubt}
 use Rattle.flagops_files.specs.declared.refusal.Doubt.TheVariants.{Unread, Unrecorded, Foreign}
@@ -215,10 +217,6 @@ line_with call number name payload = codes "refused " ++ (call ++ (codes " " ++ 
 unfoldable pub line_of : Refusal → List ℕ
 line_of r = line_with (call_name (call_of r)) (decimal (number_of r)) (name_of r) (payload_of r)
 
--- the line where the call of a name ran out of memory
-abbrev pub want_line_of : List ℕ → List ℕ
-want_line_of name = codes "refused " ++ (name ++ codes " 0 WantOfMemory\n")
-
 unfoldable pub want_line : Call → List ℕ
 want_line c = want_line_of (call_name c)
 
@@ -245,8 +243,7 @@ is_unread (Store Unwritable) = true
 is_unread r = false
 
 abbrev pub is_file_fault : {X : Type 0} → Result X Refused → Bool
-is_file_fault (Ok x) = false
-is_file_fault (Err r) = is_unread r.refusal
+is_file_fault r = shell.is_file_fault is_unread r
 
 abbrev pub unreadable : Refusal
 unreadable = Load Unreadable

@@ -1,6 +1,6 @@
 //! What a rollout is asked over where the inputs that were recorded are those of a book.
 ghost use Rattle.std.specs.Prelude.{◌≡◌, ◌<◌, ◌||◌, IfOk, IfSome, Ok};
-ghost use Rattle.flagops_files.specs.Files.{load_of};
+ghost use Rattle.flagops_shell.specs.Files.{load_of};
 ghost use Rattle.flagops_files.specs.Loading.{max_text};
 ghost use Rattle.flagops_files.specs.Question.{IsBookQuestionAt, book_at, book_question_subjects, book_question_view};
 ghost use Rattle.flagops_files.specs.Refusal.{ComesFrom, GivesOne, GivesUnlessWant, is_file_fault, loads_book, loads_book_question};
@@ -8,12 +8,11 @@ ghost use Rattle.flagops_files.specs.Told.{TellsOf, TellsOfOne, file};
 
 use crate::books::load_book_bytes;
 use crate::documents::{Document, load_document};
-use crate::files::FileSet;
 use crate::loading::{TEXT_LIMIT, load};
-use crate::refusal::Refusal;
-use crate::refused::{Refused, Remark};
+use crate::refusal::{Refusal, Refused};
+use file_diagnostics::{Ends, of_book};
 use flag_defs::Flags;
-use flagops_remarks::{Ends, of_book};
+use flagops_shell::{FileSet, Remark};
 use page_tally::BookFile;
 use rollout_checks::{Refining, read_book_for};
 use std::alloc::Global;

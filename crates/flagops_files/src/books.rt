@@ -1,16 +1,14 @@
 //! From the path of a book file to the book, and from that of a file of notes to its bytes.
 ghost use Rattle.std.specs.Prelude.{◌≡◌, ◌||◌, false, IfSome, option_map};
-ghost use Rattle.flagops_files.specs.Beginning.{first_line};
+ghost use Rattle.flagops_shell.specs.Beginning.{first_line};
 ghost use Rattle.flagops_files.specs.Question.{book_at, book_bytes_at, if_readable, if_replaceable, notes_bytes_at, replaceable_at};
 ghost use Rattle.flagops_files.specs.Refusal.{ComesFrom, GivesUnlessWant, is_file_fault, loads_book, loads_file};
 ghost use Rattle.flagops_files.specs.Told.{TellsOf, file};
 
-use crate::beginning::first_line;
-use crate::files::FileSet;
-use crate::refusal::Refusal;
-use crate::refused::{Refused, Remark};
+use crate::refusal::{Refusal, Refused};
 use book_core::{Book, BookFileFault, read_book};
-use flagops_remarks::{Ends, of_book, of_long_book, of_other_file, of_unreadable};
+use file_diagnostics::{Ends, of_book, of_long_book, of_other_file, of_unreadable};
+use flagops_shell::{FileSet, Remark, first_line};
 use std::alloc::{AllocError, Global};
 
 /// The largest book file, in bytes.

@@ -2,18 +2,17 @@
 ghost use Rattle.std.specs.Prelude.{◌≡◌, ◌||◌, false, IfOk, IfSome, Ok};
 ghost use Rattle.flag_defs.specs.Flags.{flags_view};
 ghost use Rattle.flagops_files.specs.Documents.{IsDocumentAt, IsDocumentIn};
-ghost use Rattle.flagops_files.specs.Files.{load_of};
+ghost use Rattle.flagops_shell.specs.Files.{load_of};
 ghost use Rattle.flagops_files.specs.Loading.{max_text};
 ghost use Rattle.flagops_files.specs.Refusal.{ComesFrom, GivesOne, is_file_fault, loads_flags, reads_flags};
 ghost use Rattle.flagops_files.specs.Told.{TellsOf, file};
 
-use crate::files::FileSet;
 use crate::loading::{TEXT_LIMIT, load};
-use crate::refusal::Refusal;
-use crate::refused::{Refused, Remark};
+use crate::refusal::{Refusal, Refused};
 use crate::room::make_room_for;
+use file_diagnostics::of_document;
 use flag_defs::{Flags, read_flags};
-use flagops_remarks::of_document;
+use flagops_shell::{FileSet, Remark};
 use std::alloc::Global;
 
 /// A flag document: its bytes, and the flags that they mean.

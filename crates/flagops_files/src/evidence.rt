@@ -6,11 +6,10 @@ ghost use Rattle.flagops_files.specs.Refusal.{ComesFrom, GivesOne, is_file_fault
 ghost use Rattle.flagops_files.specs.Told.{TellsOf, file};
 
 use crate::books::load_book_bytes;
-use crate::files::FileSet;
-use crate::refusal::Refusal;
-use crate::refused::{Refused, Remark};
+use crate::refusal::{Refusal, Refused};
+use file_diagnostics::{Ends, of_book, of_tally};
 use flag_defs::Flags;
-use flagops_remarks::{Ends, of_book, of_tally};
+use flagops_shell::{FileSet, Remark};
 use page_tally::BookFile;
 use rollout_checks::{Refining, read_book_for};
 use std::alloc::Global;

@@ -27,46 +27,36 @@
 //! told where there is one, whatever becomes of the output, and changes neither text nor status.
 #![tactic(auto)]
 
-mod beginning;
 mod book_question;
 mod books;
-mod command_refusal;
 mod documents;
 mod evidence;
-mod files;
 mod keeping;
+mod lines;
 mod loading;
-mod outcome;
 mod payload;
 mod plan_file;
 mod question;
 mod quoting;
 mod refusal;
-mod refused;
 mod replacing;
-mod reports;
 mod room;
 mod storing;
 mod system_files;
 mod tallies;
 
-pub use beginning::{ends_line, may_begin_record, may_note};
 pub use book_question::{BookQuestion, load_book_question};
 pub use books::{check_replaceable, load_book, load_notes};
-pub use command_refusal::CommandRefusal;
 pub use documents::{Document, load_document, load_flags};
 pub use evidence::Evidence;
-pub use files::{FileSet, LoadFault, NOTES_PIECE, StoreFault};
 pub use keeping::KeepRefusal;
+pub use lines::{fault_line, file_line, whole_line};
 pub use loading::{TEXT_LIMIT, load, load_choice, load_rule, load_tree};
-pub use outcome::{Outcome, Status};
 pub use payload::{number_item, rollout_items, verify_items};
 pub use plan_file::load_planned;
 pub use question::{Question, load_question};
 pub use quoting::quoted;
-pub use refusal::{Call, Doubt, PriceMismatch, Refusal};
-pub use refused::{Refused, Remark};
-pub use reports::{finish, report, tell, want, write_three};
+pub use refusal::{Call, Doubt, PriceMismatch, Refusal, Refused, out_of_memory};
 pub use room::make_room_for;
 pub use storing::store;
 pub use system_files::SystemFiles;

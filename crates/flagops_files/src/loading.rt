@@ -3,19 +3,19 @@ ghost use Rattle.std.specs.Prelude.{◌≡◌, ◌≤◌, ◌+◌, ◌||◌, tru
 ghost use Rattle.flag_text.specs.Shape.{is_whole};
 ghost use Rattle.flag_text.specs.View.{view};
 ghost use Rattle.flagops_files.specs.Refusal.{ComesFrom, GivesUnlessWant, is_file_fault, loads_file, loads_rule, loads_tree};
-ghost use Rattle.flagops_files.specs.Files.{load_of};
+ghost use Rattle.flagops_shell.specs.Files.{load_of};
 ghost use Rattle.flagops_files.specs.Loading.{choice_at, refusal_of, refused_by, rule_at, tree_at};
 ghost use Rattle.flagops_files.specs.declared.refusal.Refusal.TheVariants.{Load};
-ghost use Rattle.flagops_remarks.specs.Named.{Names};
-ghost use Rattle.flagops_files.specs.Told.{Says, TellsOf, file};
+ghost use Rattle.flagops_files.specs.Told.{TellsOf, file};
+ghost use Rattle.flagops_shell.specs.Diagnostic.{Says};
+ghost use Rattle.file_diagnostics.specs.Named.{Names};
 ghost use Rattle.rule_text.specs.Choosing.{choice_view};
 
-use crate::files::FileSet;
-use crate::refusal::Refusal;
-use crate::refused::{Refused, Remark};
+use crate::refusal::{Refusal, Refused};
 use bucket_core::Rule;
+use file_diagnostics::{of_rule, of_text, of_unreadable};
 use flag_text::{Tree, read_tree};
-use flagops_remarks::{of_rule, of_text, of_unreadable};
+use flagops_shell::{FileSet, Remark};
 use rule_text::{Choice, RuleTextFault, choose_in_text, read_rule_text};
 use std::alloc::Global;
 

@@ -5,11 +5,10 @@ ghost use Rattle.flagops_files.specs.PlanFile.{plan_at};
 ghost use Rattle.flagops_files.specs.Refusal.{ComesFrom, GivesUnlessWant, is_file_fault, loads_plan};
 ghost use Rattle.flagops_files.specs.Told.{TellsOf, file};
 
-use crate::files::FileSet;
 use crate::loading::{RULE_LIMIT, load};
-use crate::refusal::Refusal;
-use crate::refused::{Refused, Remark};
-use flagops_remarks::of_plan_file;
+use crate::refusal::{Refusal, Refused};
+use file_diagnostics::of_plan_file;
+use flagops_shell::{FileSet, Remark};
 use plan_text::{Planned, read_planned};
 use std::alloc::Global;
 

@@ -1,6 +1,6 @@
 //! What a rollout is asked over: the flags, a request, and what was recorded.
 ghost use Rattle.std.specs.Prelude.{◌≡◌, ◌<◌, ◌||◌, IfOk, IfSome, Ok};
-ghost use Rattle.flagops_files.specs.Files.{load_of};
+ghost use Rattle.flagops_shell.specs.Files.{load_of};
 ghost use Rattle.flagops_files.specs.Loading.{max_text};
 ghost use Rattle.flagops_files.specs.Question.{IsQuestionAt, question_subjects, question_view};
 ghost use Rattle.flagops_files.specs.Refusal.{ComesFrom, GivesOne, is_file_fault, loads_question};
@@ -8,10 +8,10 @@ ghost use Rattle.flagops_files.specs.Told.{TellsOfOne};
 
 use crate::documents::{Document, load_document};
 use crate::evidence::{Evidence, load_evidence};
-use crate::files::FileSet;
 use crate::loading::{TEXT_LIMIT, load};
-use crate::refused::Refused;
+use crate::refusal::Refused;
 use flag_defs::Flags;
+use flagops_shell::FileSet;
 use std::alloc::Global;
 use std::thread::Threads;
 

@@ -1,9 +1,9 @@
 //! Refusals, and the line that each is written as.
 ghost use Rattle.std.specs.Prelude.{◌≡◌};
-ghost use Rattle.flagops_files.specs.Refusal.{call_of, call_name, doubt_name, doubt_number, is_want, number_of, name_of, line_of, mismatch_number, mismatch_name};
+ghost use Rattle.flagops_files.specs.FileLines.{file_line};
+ghost use Rattle.flagops_shell.specs.declared.refused.Remark.TheVariants.{Short};
+ghost use Rattle.flagops_files.specs.Refusal.{call_of, call_name, doubt_name, doubt_number, is_unread, is_want, number_of, name_of, line_of, mismatch_number, mismatch_name};
 
-use crate::command_refusal::CommandRefusal;
-use crate::files::{LoadFault, StoreFault};
 use crate::keeping::KeepRefusal;
 use crate::payload::payload;
 use crate::tallies::name_of_tally_fault;
@@ -12,6 +12,7 @@ use bucket_core::RuleFault;
 use flag_defs::DefFault;
 use flag_text::TextFault;
 use flagops_drive::DriveRefusal;
+use flagops_shell::{CommandRefusal, LoadFault, Remark, StoreFault};
 use plan_text::PlanFileFault;
 use price_core::PriceFault;
 use rollout_checks::{RolloutFault, VerifyFault};
@@ -292,8 +293,24 @@ impl Refusal {
     }
 }
 
+/// A refusal of one of these calls, with what a person is told of it.
+pub type Refused = flagops_shell::Refused<Refusal>;
+
+/// The refusal of a call that ran out of memory.
+pub fn out_of_memory(call: Call) -> Refused
+    ensures refusal { result.refusal ≡ Refusal.WantOfMemory call }
+    ensures remark { result.remark ≡ Short }
+{
+    Refused {
+        refusal: Refusal::WantOfMemory(call),
+        remark: Remark::Short,
+    }
+}
+
 impl CommandRefusal for Refusal {
     ghost is_want = { is_want };
+
+    ghost is_unread = { is_unread };
 
     ghost line_of = { line_of };
 
@@ -309,4 +326,6 @@ impl CommandRefusal for Refusal {
         let payload = payload(alloc, self)?;
         format!(in alloc; "refused {call} {number} {name}{payload}\n")
     }
+
+    ghost unread_lines = { file_line };
 }

@@ -1,13 +1,12 @@
 //! From bytes to a file at a path.
 ghost use Rattle.std.specs.Prelude.{◌≡◌, ◌||◌, false, IfErr, OnErr, OnOk};
-ghost use Rattle.flagops_files.specs.Files.{KeepsOthers, Stores};
+ghost use Rattle.flagops_shell.specs.Files.{KeepsOthers, Stores};
 ghost use Rattle.flagops_files.specs.Refusal.{ComesFrom, is_file_fault, is_want, stores_file, unwritable};
 ghost use Rattle.flagops_files.specs.Told.{TellsOf, file};
 
-use crate::files::FileSet;
-use crate::refusal::Refusal;
-use crate::refused::{Refused, Remark};
-use flagops_remarks::of_unwritable;
+use crate::refusal::{Refusal, Refused};
+use file_diagnostics::of_unwritable;
+use flagops_shell::{FileSet, Remark};
 use std::alloc::Global;
 
 /// Writes `bytes` to the file at `path`. After a refusal the files are as they were.

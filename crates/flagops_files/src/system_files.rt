@@ -1,10 +1,11 @@
 //! The files of the system.
 ghost use Rattle.std.specs.Prelude.{◌≡◌, ◌≤◌, ◌+◌, ◌||◌, None, Ok, false, length, IfOk};
-ghost use Rattle.flagops_files.specs.Files.{is_unreadable};
+ghost use Rattle.flagops_shell.specs.Files.{is_unreadable};
 
-use crate::beginning::{may_begin_record, may_note};
-use crate::files::{FIRST_PIECE, FileSet, LoadFault, NOTES_PIECE, StoreFault};
 use crate::replacing::{plain_file, replace};
+use flagops_shell::{
+    FIRST_PIECE, FileSet, LoadFault, NOTES_PIECE, StoreFault, may_begin_record, may_note,
+};
 use line_batches::cut_line;
 use note_books::{begins_astray, begins_book};
 use progress::{Counted, Meter, Progress};

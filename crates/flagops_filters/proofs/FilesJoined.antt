@@ -1,7 +1,7 @@
 -- What is joined of files is the tally of the union of what they are tallies of.
 use Rattle.std.proofs.Common.{◌≡◌, ◌∙◌, ℕ, List, [], ◌∷◌, ◌++◌, Result, Ok, Err, append-nil, append_assoc, ap, refl, sym, subst, inl, inr}
 use Rattle.book_core.specs.Book.{Inputs}
-use Rattle.flagops_files.specs.Files.{Holding}
+use Rattle.flagops_shell.specs.Files.{Holding}
 use Rattle.tally_core.specs.Law as tally
 use Rattle.tally_core.specs.Tally.{PageTally}
 use Rattle.tally_filters.specs.Joined.{all_of}

@@ -1,40 +1,38 @@
--- What the filters come to, by what the standard input gives, what the two outlets show before and after, what the files show, and
+-- What the filters of the standard input come to, by what it gives, what the console shows before and after, what the files show, and
 -- the status.
-use Rattle.std.specs.Prelude.{◌≡◌, ◌⊎◌, ℕ, Bool, List, Option, None, IfSome}
+use Rattle.std.specs.Prelude.{◌≡◌, ◌⊎◌, ℕ, Bool, true, false, List, Option, Some, None, IfSome}
 use Rattle.clap.specs.Walk.{Text}
-use Rattle.flagops_commands.specs.Telling.{TellsOne, Wants}
-use Rattle.flagops_files.specs.Files.{Holding}
-use Rattle.flagops_filters.specs.Join.{IsJoinReport, join_want}
-use Rattle.flagops_filters.specs.Record.{RecordAnswers}
-use Rattle.flagops_filters.specs.Report.{Reports}
-use Rattle.flagops_filters.specs.Tally.{IsTallyReport, tally_want}
-use Rattle.flagops_filters.specs.Words.{join_by, join_faults, record_by, record_faults, tally_by, tally_faults}
+use Rattle.flagops_shell.specs.Console.{Shown}
+use Rattle.flagops_shell.specs.Ending.{ShowsUnread}
+use Rattle.flagops_shell.specs.Files.{Holding}
+use Rattle.flagops_shell.specs.Running.{AnswersAsked}
+use Rattle.flagops_shell.specs.Usage.{ShowsOneUsage, ShowsWordsWant}
+use Rattle.flagops_filters.specs.Command.{tally_description}
+use Rattle.flagops_filters.specs.Record.{RecordAnswers, record_call}
+use Rattle.flagops_filters.specs.Refusal.{is_unread, line_of}
+use Rattle.flagops_filters.specs.Tally.{tally_call}
+use Rattle.flagops_filters.specs.Words.{Recording, Tallying, record_by, record_faults, tally_by, tally_faults}
 
--- the output and what is told beside it, each by the bytes that are known of it and by whether it is broken
-module _ {O E : Type 0} (bytes : O → Option (List ℕ)) (is_broken : O → Bool) (out out' : O) (told : E → Option (List ℕ)) (is_mute : E → Bool) (err err' : E) (status : ℕ) where
+module _ (old new : Shown) (status : ℕ) (words : List Text) where
   -- over files and a standard input whose bytes are known; where `is_cut`, a read of it failed
-  module _ {F : Type 0} (holding : F → Option Holding) (files : F) (given : Option (List ℕ)) (is_cut : Bool) (words : List Text) where
-    abbrev pub AnswersRecord : Type 0
-    AnswersRecord = IfSome (record_by words) (λ a. IfSome (holding files) (λ at. IfSome given (λ lines.
-        RecordAnswers (bytes out) (bytes out') (is_broken out') (told err) (told err') (is_mute err') status at a lines is_cut
-        ⊎ Wants (bytes out) (bytes out') (is_broken out') (told err) (told err') (is_mute err') status)))
+  abbrev pub AnswersRecord : Option Holding → Bool → Option (List ℕ) → Bool → Type 0
+  AnswersRecord files has_failed given is_cut = IfSome (record_by words) (λ a. IfSome files (λ at. IfSome given (λ bytes.
+      RecordAnswers old new status at has_failed a bytes is_cut ⊎ ShowsWordsWant old new status)))
 
-    abbrev pub AnswersTally : Type 0
-    AnswersTally = IfSome (tally_by words) (λ a. IfSome (holding files) (λ at. IfSome given (λ lines.
-        Reports (bytes out) (bytes out') (is_broken out') (told err) (told err') (is_mute err') status tally_want (IsTallyReport at a lines is_cut)
-        ⊎ Wants (bytes out) (bytes out') (is_broken out') (told err) (told err') (is_mute err') status)))
+  abbrev pub AnswersTally : Option Holding → Option Holding → Bool → Option (List ℕ) → Bool → Type 0
+  AnswersTally files after has_failed given is_cut =
+      IfSome given (λ bytes. AnswersAsked (tally_description bytes is_cut) is_unread old new status line_of files after has_failed words)
 
-  abbrev pub AnswersJoin : {F : Type 0} → (F → Option Holding) → F → List Text → Type 0
-  AnswersJoin holding files words = IfSome (join_by words) (λ a. IfSome (holding files) (λ at.
-      Reports (bytes out) (bytes out') (is_broken out') (told err) (told err') (is_mute err') status join_want (IsJoinReport at a.tallies)
-      ⊎ Wants (bytes out) (bytes out') (is_broken out') (told err) (told err') (is_mute err') status))
+  -- whatever the files hold, a read of one that failed is what is reported
+  abbrev pub UnreadRecord : Bool → Bool → Type 0
+  UnreadRecord had_failed has_failed = had_failed ≡ false → has_failed ≡ true → (a : Recording) × (record_by words ≡ Some a) × ShowsUnread old new status (λ name. name ≡ record_call)
+
+  abbrev pub UnreadTally : Bool → Bool → Type 0
+  UnreadTally had_failed has_failed = had_failed ≡ false → has_failed ≡ true → (a : Tallying) × (tally_by words ≡ Some a) × ShowsUnread old new status (λ name. name ≡ tally_call)
 
   -- words with a mistake are told by one of their mistakes
-  abbrev pub TellsRecord : List Text → Type 0
-  TellsRecord words = record_by words ≡ None → TellsOne (bytes out) (bytes out') (is_broken out') (told err) (told err') (is_mute err') status (record_faults words)
+  abbrev pub TellsRecord : Type 0
+  TellsRecord = record_by words ≡ None → ShowsOneUsage old new status (record_faults words)
 
-  abbrev pub TellsTally : List Text → Type 0
-  TellsTally words = tally_by words ≡ None → TellsOne (bytes out) (bytes out') (is_broken out') (told err) (told err') (is_mute err') status (tally_faults words)
-
-  abbrev pub TellsJoin : List Text → Type 0
-  TellsJoin words = join_by words ≡ None → TellsOne (bytes out) (bytes out') (is_broken out') (told err) (told err') (is_mute err') status (join_faults words)
+  abbrev pub TellsTally : Type 0
+  TellsTally = tally_by words ≡ None → ShowsOneUsage old new status (tally_faults words)

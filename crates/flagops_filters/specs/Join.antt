@@ -1,8 +1,7 @@
 -- What the command `join` comes to.
-use Rattle.std.specs.Prelude.{◌≡◌, ◌⊎◌, ℕ, false, List, [], ◌∷◌, Result, Ok, Err, codes}
-use Rattle.flagops_files.specs.Files.{Holding, load_of}
+use Rattle.std.specs.Prelude.{◌≡◌, ◌⊎◌, ℕ, false, List, [], ◌∷◌, Result, Ok, Err}
+use Rattle.flagops_shell.specs.Files.{Holding, load_of}
 use Rattle.flagops_files.specs.Loading.{max_rule, refused_by}
-use Rattle.flagops_files.specs.Refusal.{want_line_of}
 use Rattle.flagops_files.specs.declared.refusal.Refusal.{Refusal}
 use Rattle.flagops_files.specs.declared.refusal.Refusal.TheVariants.{Load as Unread, ReadTally}
 use Rattle.tally_core.specs.Join.{Joins}
@@ -14,9 +13,6 @@ use Rattle.tally_text.specs.declared.fault.TallyFileFault.{TallyFileFault}
 use Rattle.flagops_filters.specs.Report.{Came}
 use Rattle.flagops_filters.specs.declared.refusal.FilterRefusal.{FilterRefusal}
 use Rattle.flagops_filters.specs.declared.refusal.FilterRefusal.TheVariants.{Load, Join}
-
-abbrev pub join_want : List ℕ
-join_want = want_line_of (codes "join")
 
 abbrev pub read_as : Result PageTally TallyFileFault → Result PageTally FilterRefusal
 read_as (Ok t) = Ok t

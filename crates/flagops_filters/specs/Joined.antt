@@ -1,7 +1,7 @@
 -- What is joined, in private contracts alone.
 use Rattle.std.specs.Prelude.{◌≡◌, ◌⊎◌, ℕ, List, Result, Ok, Err}
-use Rattle.flagops_files.specs.Files.{Holding}
-use Rattle.flagops_files.specs.Given.{GivesOne}
+use Rattle.flagops_shell.specs.Files.{Holding}
+use Rattle.flagops_shell.specs.Given.{GivesOne}
 use Rattle.tally_core.specs.Join.{Joins}
 use Rattle.tally_core.specs.Tally.{PageTally}
 use Rattle.tally_core.specs.declared.joining.JoinFault.{JoinFault}

@@ -1,7 +1,7 @@
 -- What the tally of joined files amounts to.
 use Rattle.std.specs.Prelude.{◌≡◌, ℕ, List, [], ◌∷◌, Ok}
 use Rattle.book_core.specs.Book.{Inputs}
-use Rattle.flagops_files.specs.Files.{Holding}
+use Rattle.flagops_shell.specs.Files.{Holding}
 use Rattle.tally_core.specs.Law as tally
 use Rattle.tally_core.specs.Tally.{PageTally}
 use Rattle.tally_filters.specs.Joined.{all_of}

@@ -1,11 +1,15 @@
+pub mod Command
 pub mod Ended
+pub mod FileLines
 pub mod Join
 pub mod Joined
 pub mod Law
 pub mod Place
 pub mod Record
 pub mod Refusal
+pub mod Remarks
 pub mod Report
 pub mod Stopping
 pub mod Tally
 pub mod Words
+pub mod Writing

@@ -2,8 +2,8 @@
 use Rattle.std.specs.Prelude.{◌≡◌, Bool, true, Result, Ok, Err}
 use Rattle.book_core.specs.Page.{PageName}
 use Rattle.bucket_core.specs.Rule.{Entries, entries_view}
-use Rattle.flagops_files.specs.Report.{outcome_view}
-use Rattle.flagops_files.specs.declared.outcome.Outcome.{Outcome}
+use Rattle.flagops_shell.specs.Report.{outcome_view}
+use Rattle.flagops_shell.specs.declared.outcome.Outcome.{Outcome}
 use Rattle.tally_core.specs.Tally.{PageTally}
 use Rattle.tally_text.specs.File.{tally_text}
 use Rattle.flagops_filters.specs.Refusal.{is_want}

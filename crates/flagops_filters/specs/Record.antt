@@ -6,9 +6,8 @@ use Rattle.std.specs.Str.{bytes_eq}
 use Rattle.flag_text.specs.Outlet.{AppendsPart}
 use Rattle.flag_defs.specs.Document.{Definitions}
 use Rattle.flagops_files.specs.Documents.{IsDocumentAt}
-use Rattle.flagops_files.specs.Files.{Holding}
-use Rattle.flagops_files.specs.Refusal.{want_line_of}
-use Rattle.flagops_files.specs.Report.{ReportsAll, TellsIf, refusal_report}
+use Rattle.flagops_shell.specs.Console.{Shown}
+use Rattle.flagops_shell.specs.Files.{Holding}
 use Rattle.flagops_files.specs.declared.refusal.Refusal.{Refusal}
 use Rattle.flagops_files.specs.declared.refusal.Refusal.TheVariants.{Plan}
 use Rattle.note_streams.specs.Recorded.{most_bytes, recorded_of}
@@ -19,12 +18,11 @@ use Rattle.record_lines.specs.declared.recorder.RecordFault.{RecordFault}
 use Rattle.record_lines.specs.declared.recorder.RecordFault.TheVariants as recording
 use Rattle.rollout_checks.specs.declared.fault.RolloutFault.{RolloutFault}
 use Rattle.rollout_checks.specs.declared.fault.RolloutFault.TheVariants as rollout
-use Rattle.flagops_filters.specs.Report.{ReportsAfter, ReportsBehind, report_of}
+use Rattle.flagops_filters.specs.Refusal.{is_unread}
+use Rattle.flagops_filters.specs.Remarks.{NamesInput, NamesPath, PutsNote, record_opening}
 use Rattle.flagops_filters.specs.Words.{Recording}
+use Rattle.flagops_filters.specs.Writing.{After, AfterPart, Refuses, Wants}
 use Rattle.flagops_filters.specs.declared.refusal.FilterRefusal.TheVariants.{Load, Record}
-
-abbrev pub record_want : List ℕ
-record_want = want_line_of (codes "record")
 
 -- a flag that is not recorded is refused as `plan` refuses it: unknown, or without sites as it is broken
 abbrev pub of_record : RecordFault → RolloutFault
@@ -32,43 +30,43 @@ of_record recording.WantOfMemory = rollout.WantOfMemory
 of_record recording.UnknownFlag = rollout.UnknownFlag
 of_record recording.Broken = rollout.NoSite
 
-module _ (out out_after : Option (List ℕ)) (is_broken : Bool) (err err_after : Option (List ℕ)) (is_err_broken : Bool) (status : ℕ) where
+abbrev pub record_call : List ℕ
+record_call = codes "record"
+
+module _ (old new : Shown) (status : ℕ) where
   -- a front of a text was written, where a write failed; nothing is told
   abbrev pub BreaksOff : List ℕ → Type 0
-  BreaksOff text = AppendsPart out out_after text × (is_broken ≡ true) × (status ≡ 1) × (err_after ≡ err)
+  BreaksOff text = AppendsPart old.printed new.printed text × (new.is_broken ≡ true) × (status ≡ 1) × (new.reported ≡ old.reported)
 
-  -- the whole text was written; a person may be told something beside it
+  -- the whole text was written; a person may be told what was passed over
   abbrev pub Ends : List ℕ → Type 0
-  Ends text = Appends out out_after text × (is_broken ≡ false) × (status ≡ 0) × ((told : Bool) × TellsIf err err_after is_err_broken told)
+  Ends text = Appends old.printed new.printed text × (new.is_broken ≡ false) × (status ≡ 0) × PutsNote record_opening old.reported new.reported new.is_mute
 
   -- Of what is recorded of a stream of so many bytes: all its lines; or those up to the line that is no context, whose number is told;
   -- or a front of them, where a write or a read failed, the stream is too long or memory ran out.
   abbrev pub RecordEnds : Recorded → ℕ → Bool → Type 0
   RecordEnds r size is_cut =
       ((r.refused ≡ false) × Ends r.text)
-      ⊎ ((r.refused ≡ true) × ReportsAfter out out_after is_broken err err_after is_err_broken status r.text (report_of (Err (Record (Line r.lines)))))
+      ⊎ ((r.refused ≡ true) × After old r.text (λ mid. Refuses mid new status NamesInput (Record (Line r.lines))))
       ⊎ BreaksOff r.text
-      ⊎ ((is_cut ≡ true) × ReportsBehind out out_after is_broken err err_after is_err_broken status r.text (report_of (Err (Record Unreadable))))
-      ⊎ ((most_bytes < size) × ReportsBehind out out_after is_broken err err_after is_err_broken status r.text (report_of (Err (Record TooLong))))
-      ⊎ ReportsBehind out out_after is_broken err err_after is_err_broken status r.text (refusal_report record_want)
+      ⊎ ((is_cut ≡ true) × AfterPart old r.text (λ mid. Refuses mid new status NamesInput (Record Unreadable)))
+      ⊎ ((most_bytes < size) × AfterPart old r.text (λ mid. Refuses mid new status NamesInput (Record TooLong)))
+      ⊎ AfterPart old r.text (λ mid. Wants mid new status record_call)
 
-  -- memory ran out before the first line
-  abbrev pub NoneRecorded : Type 0
-  NoneRecorded = ReportsAll out out_after is_broken err err_after is_err_broken status (refusal_report record_want)
-
-  -- of a flag of these flags, over a stream of these bytes
-  abbrev pub RecordOver : Definitions → List ℕ → ℕ → List ℕ → Bool → Type 0
-  RecordOver flags key moment bytes is_cut =
+  -- of a flag of these flags, which a document at a path has, over a stream of these bytes
+  abbrev pub RecordOver : List ℕ → Definitions → List ℕ → ℕ → List ℕ → Bool → Type 0
+  RecordOver path flags key moment bytes is_cut =
       ((s : Scene) × IsSceneOf flags key moment s × RecordEnds (recorded_of s bytes) (length bytes) is_cut)
-      ⊎ ((fault : RecordFault) × (refusal_for (lookup (bytes_eq key) flags) ≡ Some fault) × ReportsAll out out_after is_broken err err_after is_err_broken status (report_of (Err (Load (Plan (of_record fault))))))
-      ⊎ NoneRecorded
+      ⊎ ((fault : RecordFault) × (refusal_for (lookup (bytes_eq key) flags) ≡ Some fault) × Refuses old new status (NamesPath path) (Load (Plan (of_record fault))))
+      ⊎ Wants old new status record_call
 
-  abbrev pub RecordIn : Result Definitions Refusal → List ℕ → ℕ → List ℕ → Bool → Type 0
-  RecordIn (Err e) key moment bytes is_cut = ReportsAll out out_after is_broken err err_after is_err_broken status (report_of (Err (Load e)))
-  RecordIn (Ok flags) key moment bytes is_cut = RecordOver flags key moment bytes is_cut
+  -- of what was read as a document; it cannot be read only where a call has failed
+  abbrev pub RecordIn : Bool → List ℕ → Result Definitions Refusal → List ℕ → ℕ → List ℕ → Bool → Type 0
+  RecordIn has_failed path (Err e) key moment bytes is_cut = Refuses old new status (NamesPath path) (Load e) × (is_unread (Load e) ≡ true → has_failed ≡ true)
+  RecordIn has_failed path (Ok flags) key moment bytes is_cut = RecordOver path flags key moment bytes is_cut
 
   -- of the document at a path
-  abbrev pub RecordAnswers : Holding → Recording → List ℕ → Bool → Type 0
-  RecordAnswers at a bytes is_cut =
-      ((document : Result Definitions Refusal) × IsDocumentAt at a.document document × RecordIn document a.key (unwrap_or a.moment 0) bytes is_cut)
-      ⊎ NoneRecorded
+  abbrev pub RecordAnswers : Holding → Bool → Recording → List ℕ → Bool → Type 0
+  RecordAnswers at has_failed a bytes is_cut =
+      ((document : Result Definitions Refusal) × IsDocumentAt at a.document document × RecordIn has_failed a.document document a.key (unwrap_or a.moment 0) bytes is_cut)
+      ⊎ Wants old new status record_call

@@ -1,5 +1,5 @@
 -- The line that a refusal of a filter is written as.
-use Rattle.std.specs.Prelude.{ℕ, Bool, List, [], codes, decimal, nat_eq}
+use Rattle.std.specs.Prelude.{ℕ, Bool, false, List, [], codes, decimal, nat_eq}
 use Rattle.flagops_files.specs.Payload.{number_item}
 use Rattle.flagops_files.specs.Refusal as files
 use Rattle.flagops_files.specs.Refusal.{line_with}
@@ -29,6 +29,11 @@ number_of (Join e) = join_number e
 
 abbrev pub is_want : FilterRefusal → Bool
 is_want r = nat_eq (number_of r) 0
+
+-- a file could not be read; the standard input is none
+abbrev pub is_unread : FilterRefusal → Bool
+is_unread (Load e) = files.is_unread e
+is_unread r = false
 
 -- ---- names, and the number of the line at fault
 

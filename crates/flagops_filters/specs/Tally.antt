@@ -4,8 +4,7 @@ use Rattle.bucket_core.specs.Rule.{Entries, total_weight}
 use Rattle.book_core.specs.Page.{PageName}
 use Rattle.flag_defs.specs.Document.{Definitions}
 use Rattle.flagops_files.specs.Documents.{IsDocumentAt}
-use Rattle.flagops_files.specs.Files.{Holding}
-use Rattle.flagops_files.specs.Refusal.{want_line_of}
+use Rattle.flagops_shell.specs.Files.{Holding}
 use Rattle.flagops_files.specs.declared.refusal.Refusal.{Refusal}
 use Rattle.flagops_files.specs.declared.refusal.Refusal.TheVariants.{Plan}
 use Rattle.line_batches.specs.Lines.{parts_of}
@@ -23,8 +22,8 @@ use Rattle.flagops_filters.specs.Report.{Came}
 use Rattle.flagops_filters.specs.Words.{Tallying}
 use Rattle.flagops_filters.specs.declared.refusal.FilterRefusal.TheVariants.{Load, Tally}
 
-abbrev pub tally_want : List ℕ
-tally_want = want_line_of (codes "tally")
+abbrev pub tally_call : List ℕ
+tally_call = codes "tally"
 
 -- what is tallied: the inputs of a page, in so many points
 pub record Target : Type 0 where

@@ -1,19 +1,23 @@
 //! The command `join`.
-ghost use Rattle.std.specs.Prelude.{◌≡◌, ◌∷◌, true, false, map, IfSome, Ok};
-ghost use Rattle.flagops_filters.specs.Ended.{AnswersJoin, TellsJoin};
+ghost use Rattle.std.specs.Prelude.{◌≡◌, ◌∷◌, ◌||◌, false, map, IfErr, IfOk, IfSome, None, Ok, string_bytes, ⊤};
+ghost use Rattle.flagops_shell.specs.Diagnostic.{Says};
+ghost use Rattle.flagops_filters.specs.Command.{join_description};
 ghost use Rattle.flagops_filters.specs.Join.{IsJoinReport, IsTallyIn, IsTallyOf, JoinsAllFiles, JoinsFiles, report_joined};
 ghost use Rattle.flagops_filters.specs.Joined.{JoinsNext, JoinsTwo, JoinsUnless};
-ghost use Rattle.flagops_filters.specs.Refusal.{is_want};
-ghost use Rattle.flagops_filters.specs.Report.{GivesOne};
+ghost use Rattle.flagops_filters.specs.Remarks.{NamesPath, RemarksOnePath, RemarksPath};
+ghost use Rattle.flagops_filters.specs.Report.{GivesOne, is_file_fault};
+ghost use Rattle.flagops_filters.specs.Words as words;
+ghost use Rattle.flagops_filters.specs.Words.{joining_view};
 ghost use Rattle.flagops_filters.specs.declared.refusal.FilterRefusal.TheVariants.{Join, Load};
 ghost use Rattle.flagops_files.specs.declared.refusal.Refusal.TheVariants.{ReadTally};
+ghost use Rattle.tally_text.specs.declared.fault.TallyFileFault.TheVariants.{WantOfMemory};
 
+use crate::asked::Joining;
 use crate::refusal::FilterRefusal;
 use crate::words::read_join;
-use flag_text::Outlet;
-use flagops_commands::{file_line, report_usage, whole_line};
-use flagops_files::{FileSet, Outcome, Refusal, Refused, Remark, Status, finish, load};
-use flagops_remarks::{Ends, of_tally};
+use file_diagnostics::{Ends, of_tally};
+use flagops_files::{Refusal, file_line, load, whole_line};
+use flagops_shell::{Command, FileSet, Outcome, Refused, Remark, Status};
 use std::alloc::{AllocError, Global};
 use std::convert::AsStr;
 use tally_core::{JoinFault, PageTally, join as joined};
@@ -22,43 +26,50 @@ use tally_text::{TallyFileFault, print_tally, read_tally};
 /// The largest file of a tally, in bytes.
 const TALLY_LIMIT: u64 = limits::FILE_BYTES as u64;
 
-/// Does what the words after the program's name ask of `join`, which is the first of them, and gives the status to end with. It
-/// prints the tally of the lines of all, or the line of a refusal with status 1.
-pub fn join<R, S, F, O, E>(rt: &R, words: &[S], files: &mut F, out: &mut O, err: &mut E) -> u8
-where
-    R: AllocGlobal,
-    S: AsStr,
-    F: FileSet,
-    O: Outlet,
-    E: Outlet,
-    requires out_whole { O.is_broken out.old ≡ false }
-    requires err_whole { E.is_broken err.old ≡ false }
-    ensures answers { AnswersJoin O.bytes O.is_broken out.old out.new E.bytes E.is_broken err.old err.new result
-        F.holding files.old (map S.text words.now) }
-    ensures tells { TellsJoin O.bytes O.is_broken out.old out.new E.bytes E.is_broken err.old err.new result (map S.text words.now) }
-    ensures kept { F.holding files.new ≡ F.holding files.old }
-{
-    let alloc = rt.alloc();
-    match read_join(alloc, words) {
-        Ok(asked) => {
-            let came = reported(alloc, files, asked.first, asked.others.as_slice());
-            finish(alloc, came, "join", out, err)
-        }
-        Err(error) => report_usage(alloc, &error, out, err),
+/// It prints the tally of the lines of all files. Files are only read.
+impl<'w, R, F: FileSet> Command<'w, R, F> for Joining<'w> {
+    type Refusal = FilterRefusal;
+
+    ghost Asked = { words.Joining };
+
+    ghost Needs = { ⊤ };
+
+    ghost view = { joining_view };
+
+    ghost description = { join_description };
+
+    fn read<S: AsStr>(alloc: Global, words: &'w [S]) -> Result<Joining<'w>, clap::Error> {
+        read_join(alloc, words)
+    }
+
+    #[tactic(auto, using(crate::proofs::Ending::join_remarks, crate::proofs::Ending::stays))]
+    fn answer(
+        &self,
+        _rt: &R,
+        alloc: Global,
+        files: &mut F,
+    ) -> Result<Outcome, Refused<FilterRefusal>> {
+        reported(alloc, files, self)
+    }
+
+    fn call_of(&self, _refusal: &FilterRefusal) -> &'static str {
+        "join"
     }
 }
 
-/// The report of the files at these paths.
+/// The report of the files at the paths.
 fn reported<F: FileSet>(
     alloc: Global,
     files: &mut F,
-    first: &str,
-    others: &[&str],
+    asked: &Joining<'_>,
 ) -> Result<Outcome, Refused<FilterRefusal>>
-    ensures exact { IfSome (F.holding files.old) (λ at. GivesOne result (IsJoinReport at (first.now ∷ map (λ p. p.now) others.now))) }
+    ensures exact { IfSome (F.holding files.old) (λ at. GivesOne result (IsJoinReport at (joining_view asked.now).tallies)) }
+    ensures failed { F.has_failed files.new ≡ (F.has_failed files.old || is_file_fault result) }
     ensures kept { F.holding files.new ≡ F.holding files.old }
+    ensures names { RemarksOnePath (joining_view asked.now).tallies result }
+    ensures quiet { IfOk result (λ o. o.remark ≡ None) }
 {
-    match all_of(alloc, files, first, others) {
+    match all_of(alloc, files, asked.first, asked.others.as_slice()) {
         Ok(tally) => printed(alloc, &tally),
         Err(told) => Err(told),
     }
@@ -66,7 +77,9 @@ fn reported<F: FileSet>(
 
 /// The file of a tally.
 fn printed(alloc: Global, tally: &PageTally) -> Result<Outcome, Refused<FilterRefusal>>
-    ensures { GivesOne result (λ came. came ≡ report_joined (Ok tally.now)) }
+    ensures exact { GivesOne result (λ came. came ≡ report_joined (Ok tally.now)) }
+    ensures quiet { IfOk result (λ o. o.remark ≡ None) }
+    ensures wants { IfErr result (λ e. e.refusal ≡ Load (ReadTally WantOfMemory)) }
 {
     match print_tally(alloc, tally) {
         Ok(text) => Ok(Outcome {
@@ -79,7 +92,7 @@ fn printed(alloc: Global, tally: &PageTally) -> Result<Outcome, Refused<FilterRe
 }
 
 fn out_of_memory() -> Refused<FilterRefusal>
-    ensures { is_want result.refusal ≡ true }
+    ensures { result.refusal ≡ Load (ReadTally WantOfMemory) }
 {
     Refused {
         refusal: FilterRefusal::Load(Refusal::ReadTally(TallyFileFault::WantOfMemory)),
@@ -95,7 +108,9 @@ fn all_of<F: FileSet>(
     others: &[&str],
 ) -> Result<PageTally, Refused<FilterRefusal>>
     ensures exact { IfSome (F.holding files.old) (λ at. JoinsUnless result (JoinsAllFiles at (first.now ∷ map (λ p. p.now) others.now))) }
+    ensures failed { F.has_failed files.new ≡ (F.has_failed files.old || is_file_fault result) }
     ensures kept { F.holding files.new ≡ F.holding files.old }
+    ensures names { RemarksOnePath (first.now ∷ map (λ p. p.now) others.now) result }
 {
     let one = one_of(alloc, files, first)?;
     all_with(alloc, files, one, others)
@@ -109,7 +124,9 @@ fn all_with<F: FileSet>(
     paths: &[&str],
 ) -> Result<PageTally, Refused<FilterRefusal>>
     ensures exact { IfSome (F.holding files.old) (λ at. JoinsUnless result (JoinsFiles at one (map (λ p. p.now) paths.now))) }
+    ensures failed { F.has_failed files.new ≡ (F.has_failed files.old || is_file_fault result) }
     ensures kept { F.holding files.new ≡ F.holding files.old }
+    ensures names { RemarksOnePath (map (λ p. p.now) paths.now) result }
 {
     let mut all = one;
     for path in paths {
@@ -126,7 +143,9 @@ fn with_next<F: FileSet>(
     path: &str,
 ) -> Result<PageTally, Refused<FilterRefusal>>
     ensures exact { IfSome (F.holding files.old) (λ at. JoinsUnless result (JoinsNext at one path.now)) }
+    ensures failed { F.has_failed files.new ≡ (F.has_failed files.old || is_file_fault result) }
     ensures kept { F.holding files.new ≡ F.holding files.old }
+    ensures names { RemarksPath path.now result }
 {
     let next = one_of(alloc, files, path)?;
     both_of(alloc, path, one, next)
@@ -139,7 +158,9 @@ fn both_of(
     one: PageTally,
     next: PageTally,
 ) -> Result<PageTally, Refused<FilterRefusal>>
-    ensures { JoinsUnless result (JoinsTwo one next) }
+    ensures exact { JoinsUnless result (JoinsTwo one next) }
+    ensures read { is_file_fault result ≡ false }
+    ensures names { RemarksPath path.now result }
 {
     match joined(one, next) {
         Ok(both) => Ok(both),
@@ -148,8 +169,10 @@ fn both_of(
 }
 
 /// A tally in a file that does not join those before it.
+#[tactic(auto, using(flagops_files::proofs::Told::says))]
 fn unjoined(alloc: Global, path: &str, fault: JoinFault) -> Refused<FilterRefusal>
-    ensures { result.refusal ≡ Join fault }
+    ensures refusal { result.refusal ≡ Join fault }
+    ensures names { Says (NamesPath path.now) result.remark }
 {
     Refused {
         refusal: FilterRefusal::Join(fault),
@@ -157,7 +180,9 @@ fn unjoined(alloc: Global, path: &str, fault: JoinFault) -> Refused<FilterRefusa
     }
 }
 
-fn join_line(alloc: Global, path: &str, fault: JoinFault) -> Result<String, AllocError> {
+fn join_line(alloc: Global, path: &str, fault: JoinFault) -> Result<String, AllocError>
+    ensures { IfOk result (λ s. NamesPath path.now (string_bytes s)) }
+{
     let reason = format!(in alloc; "{fault}")?;
     file_line(alloc, path, reason.as_str())
 }
@@ -169,7 +194,9 @@ fn one_of<F: FileSet>(
     path: &str,
 ) -> Result<PageTally, Refused<FilterRefusal>>
     ensures exact { IfSome (F.holding files.old) (λ at. JoinsUnless result (IsTallyOf at path.now)) }
+    ensures failed { F.has_failed files.new ≡ (F.has_failed files.old || is_file_fault result) }
     ensures kept { F.holding files.new ≡ F.holding files.old }
+    ensures names { RemarksPath path.now result }
 {
     match load(alloc, files, path, TALLY_LIMIT) {
         Ok(bytes) => read(alloc, path, bytes.as_slice()),
@@ -179,7 +206,9 @@ fn one_of<F: FileSet>(
 
 /// The tally that the bytes of a file are.
 fn read(alloc: Global, path: &str, bytes: &[u8]) -> Result<PageTally, Refused<FilterRefusal>>
-    ensures { JoinsUnless result (IsTallyIn (Ok bytes.now)) }
+    ensures exact { JoinsUnless result (IsTallyIn (Ok bytes.now)) }
+    ensures read { is_file_fault result ≡ false }
+    ensures names { RemarksPath path.now result }
 {
     match read_tally(alloc, bytes) {
         Ok(tally) => Ok(tally),
@@ -188,8 +217,10 @@ fn read(alloc: Global, path: &str, bytes: &[u8]) -> Result<PageTally, Refused<Fi
 }
 
 /// A file that is no tally.
+#[tactic(auto, using(flagops_files::proofs::Told::says))]
 fn unread(alloc: Global, path: &str, ends: Ends, fault: TallyFileFault) -> Refused<FilterRefusal>
-    ensures { result.refusal ≡ Load (ReadTally fault) }
+    ensures refusal { result.refusal ≡ Load (ReadTally fault) }
+    ensures names { Says (NamesPath path.now) result.remark }
 {
     Refused {
         refusal: FilterRefusal::Load(Refusal::ReadTally(fault)),
@@ -203,7 +234,9 @@ fn read_line(
     path: &str,
     ends: Ends,
     fault: TallyFileFault,
-) -> Result<String, AllocError> {
+) -> Result<String, AllocError>
+    ensures { IfOk result (λ s. NamesPath path.now (string_bytes s)) }
+{
     match ends {
         Ends::Empty => whole_line(alloc, path, "is empty, and no tally"),
         Ends::Marked => whole_line(

@@ -1,7 +1,7 @@
 //! What a standard input began with, which a person is told.
 ghost use Rattle.std.specs.Prelude.{◌≡◌};
 
-use flagops_remarks::Ends;
+use file_diagnostics::Ends;
 use line_batches::Inlet;
 use std::io;
 

@@ -1,13 +1,15 @@
 //! The command `record`.
-ghost use Rattle.std.specs.Prelude.{◌≡◌, ◌<◌, ◌^◌, unwrap_or, false, length, map, option_map, IfSome, Err};
+ghost use Rattle.std.specs.Prelude.{◌≡◌, ◌<◌, ◌^◌, unwrap_or, false, true, length, map, option_map, IfOk, IfSome, string_bytes};
 ghost use Rattle.flag_defs.specs.Flags.{flags_view};
-ghost use Rattle.flagops_filters.specs.Ended.{AnswersRecord, TellsRecord};
-ghost use Rattle.flagops_filters.specs.Record.{RecordAnswers, RecordEnds, RecordOver, of_record, record_want};
-ghost use Rattle.flagops_filters.specs.Report.{Ends};
+ghost use Rattle.flagops_shell.specs.Console.{IsOpen};
+ghost use Rattle.flagops_shell.specs.Diagnostic.{Says};
+ghost use Rattle.flagops_shell.specs.Ending.{ShowsUnread};
+ghost use Rattle.flagops_filters.specs.Ended.{AnswersRecord, TellsRecord, UnreadRecord};
+ghost use Rattle.flagops_filters.specs.Record.{RecordAnswers, RecordEnds, RecordOver, of_record, record_call};
+ghost use Rattle.flagops_filters.specs.Remarks.{NamesInput, NamesPath, PutsNote, is_noted, record_opening};
 ghost use Rattle.flagops_filters.specs.Stopping.{GivesUp, is_broken_off};
 ghost use Rattle.flagops_filters.specs.declared.refusal.FilterRefusal.TheVariants.{Load, Record};
 ghost use Rattle.flagops_filters.specs.Words.{recording_view};
-ghost use Rattle.flagops_files.specs.Report.{TellsIf};
 ghost use Rattle.flagops_files.specs.declared.refusal.Refusal.TheVariants.{Plan};
 ghost use Rattle.note_streams.specs.Recorded.{recorded_of};
 ghost use Rattle.record_lines.specs.Scene.{scene_of};
@@ -15,13 +17,13 @@ ghost use Rattle.record_lines.specs.Scene.{scene_of};
 use crate::asked::Recording;
 use crate::opening::Opening;
 use crate::refusal::FilterRefusal;
-use crate::remarks::{counted_lines, flag_line, input_line, marked_line};
+use crate::remarks::{counted_lines, flag_line, input_line, is_noted, marked_line};
 use crate::words::read_record;
+use file_diagnostics::Ends as FileEnds;
 use flag_defs::Flags;
 use flag_text::Outlet;
-use flagops_commands::report_usage;
-use flagops_files::{FileSet, Refusal, Refused, Remark, finish, load_flags, tell};
-use flagops_remarks::Ends as FileEnds;
+use flagops_files::{Refusal, load_flags};
+use flagops_shell::{Console, FileSet, Refused, Remark, refuse, report_usage, tell};
 use flagops_words::Moment;
 use line_batches::Inlet;
 use note_streams::{Counted, RecordStop, record_stream};
@@ -31,16 +33,20 @@ use std::alloc::{AllocError, Global};
 use std::convert::AsStr;
 use std::thread::Threads;
 
+/// The name of the call that a want of memory is reported of.
+const RECORD: &str = "record";
+
 /// Does what the words after the program's name ask of `record`, which is the first of them, and gives the status to end with.
 /// It prints the note lines of what the evaluation of a flag reaches in each context of the standard input, and behind them the
 /// line of a refusal where a line is no context.
+///
+/// It writes while it reads, so it is no command that makes its whole output first.
 pub fn record<R, S, I, F, O, E>(
     rt: &R,
     words: &[S],
     input: &mut I,
     files: &mut F,
-    out: &mut O,
-    err: &mut E,
+    console: &mut Console<O, E>,
 ) -> u8
 where
     R: AllocGlobal + Threads + Sync,
@@ -50,17 +56,17 @@ where
     O: Outlet,
     E: Outlet,
     requires in_whole { I.is_broken input.old ≡ false }
-    requires out_whole { O.is_broken out.old ≡ false }
-    requires err_whole { E.is_broken err.old ≡ false }
-    ensures answers { AnswersRecord O.bytes O.is_broken out.old out.new E.bytes E.is_broken err.old err.new result
-        F.holding files.old (I.bytes input.old) (I.is_broken input.new) (map S.text words.now) }
-    ensures tells { TellsRecord O.bytes O.is_broken out.old out.new E.bytes E.is_broken err.old err.new result (map S.text words.now) }
+    requires open { IsOpen console.old }
+    ensures answers { AnswersRecord console.old console.new result (map S.text words.now)
+        (F.holding files.old) (F.has_failed files.new) (I.bytes input.old) (I.is_broken input.new) }
+    ensures unread { UnreadRecord console.old console.new result (map S.text words.now) (F.has_failed files.old) (F.has_failed files.new) }
+    ensures tells { TellsRecord console.old console.new result (map S.text words.now) }
     ensures kept { F.holding files.new ≡ F.holding files.old }
 {
     let alloc = rt.alloc();
     match read_record(alloc, words) {
-        Ok(asked) => recorded(rt, alloc, &asked, input, files, out, err),
-        Err(error) => report_usage(alloc, &error, out, err),
+        Ok(asked) => recorded(rt, alloc, &asked, input, files, console),
+        Err(error) => report_usage(alloc, &error, console),
     }
 }
 
@@ -71,19 +77,18 @@ fn recorded<R: Threads + Sync, I: Inlet + Opening, F: FileSet, O: Outlet, E: Out
     asked: &Recording<'_>,
     input: &mut I,
     files: &mut F,
-    out: &mut O,
-    err: &mut E,
+    console: &mut Console<O, E>,
 ) -> u8
     requires in_whole { I.is_broken input.old ≡ false }
-    requires out_whole { O.is_broken out.old ≡ false }
-    requires err_whole { E.is_broken err.old ≡ false }
+    requires open { IsOpen console.old }
     ensures answers { IfSome (F.holding files.old) (λ at. IfSome (I.bytes input.old) (λ bytes.
-        RecordAnswers (O.bytes out.old) (O.bytes out.new) (O.is_broken out.new) (E.bytes err.old) (E.bytes err.new) (E.is_broken err.new) result at (recording_view asked.now) bytes (I.is_broken input.new))) }
+        RecordAnswers console.old console.new result at (F.has_failed files.new) (recording_view asked.now) bytes (I.is_broken input.new))) }
+    ensures unread { F.has_failed files.old ≡ false → F.has_failed files.new ≡ true → ShowsUnread console.old console.new result (λ name. name ≡ record_call) }
     ensures kept { F.holding files.new ≡ F.holding files.old }
 {
     match load_flags(alloc, files, asked.document) {
-        Ok(flags) => over(rt, alloc, asked, &flags, input, out, err),
-        Err(unread) => refused(alloc, Refused::of(unread), out, err),
+        Ok(flags) => over(rt, alloc, asked, &flags, input, console),
+        Err(unread) => refuse(alloc, Refused::<FilterRefusal>::of(unread), RECORD, console),
     }
 }
 
@@ -94,17 +99,15 @@ fn over<R: Threads + Sync, I: Inlet + Opening, O: Outlet, E: Outlet>(
     asked: &Recording<'_>,
     flags: &Flags,
     input: &mut I,
-    out: &mut O,
-    err: &mut E,
+    console: &mut Console<O, E>,
 ) -> u8
     requires in_whole { I.is_broken input.old ≡ false }
-    requires out_whole { O.is_broken out.old ≡ false }
-    requires err_whole { E.is_broken err.old ≡ false }
-    ensures { IfSome (I.bytes input.old) (λ bytes. RecordOver (O.bytes out.old) (O.bytes out.new) (O.is_broken out.new) (E.bytes err.old) (E.bytes err.new) (E.is_broken err.new) result (flags_view flags.now) asked.now.key.now (unwrap_or (option_map (λ m. m.number) asked.now.moment) 0) bytes (I.is_broken input.new)) }
+    requires open { IsOpen console.old }
+    ensures { IfSome (I.bytes input.old) (λ bytes. RecordOver console.old console.new result asked.now.document.now (flags_view flags.now) asked.now.key.now (unwrap_or (option_map (λ m. m.number) asked.now.moment) 0) bytes (I.is_broken input.new)) }
 {
     match Recorder::new(alloc, flags, asked.key, moment_of(asked.moment)) {
-        Ok(recorder) => stream(rt, alloc, &recorder, asked.workers, input, out, err),
-        Err(fault) => refused(alloc, unrecorded(alloc, asked, fault), out, err),
+        Ok(recorder) => stream(rt, alloc, &recorder, asked.workers, input, console),
+        Err(fault) => refuse(alloc, unrecorded(alloc, asked, fault), RECORD, console),
     }
 }
 
@@ -115,20 +118,18 @@ fn stream<R: Threads + Sync, I: Inlet + Opening, O: Outlet, E: Outlet>(
     recorder: &Recorder<'_>,
     workers: usize,
     input: &mut I,
-    out: &mut O,
-    err: &mut E,
+    console: &mut Console<O, E>,
 ) -> u8
     requires in_whole { I.is_broken input.old ≡ false }
-    requires out_whole { O.is_broken out.old ≡ false }
-    requires err_whole { E.is_broken err.old ≡ false }
-    ensures { IfSome (I.bytes input.old) (λ bytes. RecordEnds (O.bytes out.old) (O.bytes out.new) (O.is_broken out.new) (E.bytes err.old) (E.bytes err.new) (E.is_broken err.new) result (recorded_of (scene_of recorder.now) bytes) (length bytes) (I.is_broken input.new)) }
+    requires open { IsOpen console.old }
+    ensures { IfSome (I.bytes input.old) (λ bytes. RecordEnds console.old console.new result (recorded_of (scene_of recorder.now) bytes) (length bytes) (I.is_broken input.new)) }
 {
-    match record_stream(rt, alloc, recorder, workers, input, out) {
+    match record_stream(rt, alloc, recorder, workers, input, &mut console.out) {
         Ok(counted) => {
-            tell_counted(alloc, counted, input.opening(), err);
+            tell_counted(alloc, counted, input.opening(), &mut console.err);
             0
         }
-        Err(stop) => give_up(alloc, stop, input.opening(), out, err),
+        Err(stop) => give_up(alloc, stop, input.opening(), console),
     }
 }
 
@@ -137,17 +138,16 @@ fn give_up<O: Outlet, E: Outlet>(
     alloc: Global,
     stop: RecordStop,
     opening: FileEnds,
-    out: &mut O,
-    err: &mut E,
+    console: &mut Console<O, E>,
 ) -> u8
-    requires out_whole { O.is_broken out.old ≡ is_broken_off stop }
-    requires err_whole { E.is_broken err.old ≡ false }
-    ensures { GivesUp (O.bytes out.old) (O.bytes out.new) (O.is_broken out.new) (E.bytes err.old) (E.bytes err.new) (E.is_broken err.new) result (is_broken_off stop) (Record stop) }
+    requires broken { console.old.is_broken ≡ is_broken_off stop }
+    requires told { console.old.is_mute ≡ false }
+    ensures { GivesUp console.old console.new result stop (is_broken_off stop) }
 {
     if is_broken_off(&stop) {
         return 1;
     }
-    refused(alloc, stopped(alloc, stop, opening), out, err)
+    refuse(alloc, stopped(alloc, stop, opening), RECORD, console)
 }
 
 /// Whether the output has failed.
@@ -163,20 +163,6 @@ fn is_broken_off(stop: &RecordStop) -> bool
     }
 }
 
-/// Writes the line of a refusal, behind what is written.
-fn refused<O: Outlet, E: Outlet>(
-    alloc: Global,
-    told: Refused<FilterRefusal>,
-    out: &mut O,
-    err: &mut E,
-) -> u8
-    requires out_whole { O.is_broken out.old ≡ false }
-    requires err_whole { E.is_broken err.old ≡ false }
-    ensures { Ends (O.bytes out.old) (O.bytes out.new) (O.is_broken out.new) (E.bytes err.old) (E.bytes err.new) (E.is_broken err.new) result record_want (Err told.refusal) }
-{
-    finish(alloc, Err(told), "record", out, err)
-}
-
 /// The moment of the evaluations, 0 where none is given.
 fn moment_of(moment: Option<Moment>) -> u64
     ensures small { result < 2 ^ 53 }
@@ -189,8 +175,10 @@ fn moment_of(moment: Option<Moment>) -> u64
 }
 
 /// A flag that is not recorded, which is refused as `plan` refuses it.
+#[tactic(auto, using(flagops_files::proofs::Told::says))]
 fn unrecorded(alloc: Global, asked: &Recording<'_>, fault: RecordFault) -> Refused<FilterRefusal>
-    ensures { result.refusal ≡ Load (Plan (of_record fault)) }
+    ensures refusal { result.refusal ≡ Load (Plan (of_record fault)) }
+    ensures names { Says (NamesPath asked.now.document.now) result.remark }
 {
     let reason = match fault {
         RecordFault::WantOfMemory => "out of memory",
@@ -199,8 +187,14 @@ fn unrecorded(alloc: Global, asked: &Recording<'_>, fault: RecordFault) -> Refus
     };
     Refused {
         refusal: FilterRefusal::Load(Refusal::Plan(fault_of(fault))),
-        remark: Remark::of(flag_line(alloc, asked.document, asked.key, reason)),
+        remark: Remark::of(unrecorded_line(alloc, asked, reason)),
     }
+}
+
+fn unrecorded_line(alloc: Global, asked: &Recording<'_>, reason: &str) -> Result<String, AllocError>
+    ensures { IfOk result (λ s. NamesPath asked.now.document.now (string_bytes s)) }
+{
+    flag_line(alloc, asked.document, asked.key, reason)
 }
 
 fn fault_of(fault: RecordFault) -> RolloutFault
@@ -214,8 +208,10 @@ fn fault_of(fault: RecordFault) -> RolloutFault
 }
 
 /// A stream that is not recorded to its end.
+#[tactic(auto, using(flagops_files::proofs::Told::says))]
 fn stopped(alloc: Global, stop: RecordStop, opening: FileEnds) -> Refused<FilterRefusal>
-    ensures { result.refusal ≡ Record stop }
+    ensures refusal { result.refusal ≡ Record stop }
+    ensures names { Says NamesInput result.remark }
 {
     Refused {
         refusal: FilterRefusal::Record(stop),
@@ -224,7 +220,9 @@ fn stopped(alloc: Global, stop: RecordStop, opening: FileEnds) -> Refused<Filter
 }
 
 /// What is told of it, by what the input began with.
-fn stop_line(alloc: Global, stop: RecordStop, opening: FileEnds) -> Result<String, AllocError> {
+fn stop_line(alloc: Global, stop: RecordStop, opening: FileEnds) -> Result<String, AllocError>
+    ensures { IfOk result (λ s. NamesInput (string_bytes s)) }
+{
     let reason = format!(in alloc; "{stop}")?;
     match (stop, opening) {
         (RecordStop::Line(1), FileEnds::Marked) => marked_line(alloc, reason.as_str()),
@@ -232,18 +230,25 @@ fn stop_line(alloc: Global, stop: RecordStop, opening: FileEnds) -> Result<Strin
     }
 }
 
-/// Tells what was not noted, where there is something to tell, and says whether there was.
-fn tell_counted<E: Outlet>(alloc: Global, counted: Counted, opening: FileEnds, err: &mut E) -> bool
+/// Tells what was not noted, where there is something to tell.
+fn tell_counted<E: Outlet>(alloc: Global, counted: Counted, opening: FileEnds, err: &mut E)
     requires { E.is_broken err.old ≡ false }
-    ensures { TellsIf (E.bytes err.old) (E.bytes err.new) (E.is_broken err.new) result }
+    ensures { PutsNote record_opening (E.bytes err.old) (E.bytes err.new) (E.is_broken err.new) }
 {
     let is_empty = matches!(opening, FileEnds::Empty);
-    if counted.long == 0 && !counted.torn && !is_empty {
-        return false;
+    if is_noted(counted, is_empty) {
+        tell_noted(alloc, counted, is_empty, err);
     }
+}
+
+/// Tells what was not noted.
+fn tell_noted<E: Outlet>(alloc: Global, counted: Counted, is_empty: bool, err: &mut E)
+    requires noted { is_noted counted is_empty ≡ true }
+    requires whole { E.is_broken err.old ≡ false }
+    ensures { PutsNote record_opening (E.bytes err.old) (E.bytes err.new) (E.is_broken err.new) }
+{
     match counted_lines(alloc, counted, is_empty) {
         Ok(lines) => tell(err, lines.as_str()),
         Err(AllocError) => tell(err, "error: out of memory\n"),
     }
-    true
 }

@@ -2,11 +2,12 @@
 ghost use Rattle.std.specs.Prelude.{◌≡◌, IfOk, codes, decimal, string_bytes};
 ghost use Rattle.flagops_files.specs.Refusal.{line_with};
 ghost use Rattle.tally_filters.specs.Fault as filters;
-ghost use Rattle.flagops_filters.specs.Refusal.{filter_items, filter_name, is_want, join_name, join_number, line_of, number_of, record_name};
+ghost use Rattle.flagops_filters.specs.FileLines.{file_line};
+ghost use Rattle.flagops_filters.specs.Refusal.{filter_items, filter_name, is_unread, is_want, join_name, join_number, line_of, number_of, record_name};
 ghost use Rattle.flagops_filters.specs.declared.refusal.FilterRefusal.TheVariants.{Load, Record, Tally};
 
-use flagops_commands::fault_line;
-use flagops_files::{CommandRefusal, Refusal, number_item};
+use flagops_files::{Refusal, fault_line, number_item};
+use flagops_shell::CommandRefusal;
 use note_streams::{RecordStop, TallyStop};
 use std::alloc::{AllocError, Global};
 use tally_core::JoinFault;
@@ -50,6 +51,8 @@ impl From<Refusal> for FilterRefusal {
 impl CommandRefusal for FilterRefusal {
     ghost is_want = { is_want };
 
+    ghost is_unread = { is_unread };
+
     ghost line_of = { line_of };
 
     fn is_want(&self) -> bool {
@@ -66,6 +69,8 @@ impl CommandRefusal for FilterRefusal {
             }
         }
     }
+
+    ghost unread_lines = { file_line };
 }
 
 fn record_line(alloc: Global, stop: &RecordStop) -> Result<String, AllocError>

@@ -1,13 +1,23 @@
 //! What a person is told of a filter.
-ghost use Rattle.std.specs.Prelude.{IfOk, string_bytes};
-ghost use Rattle.flagops_commands.specs.Lines.{NamesFile};
+ghost use Rattle.std.specs.Prelude.{◌≡◌, IfOk, nat_lt, string_bytes};
+ghost use Rattle.file_diagnostics.specs.Named.{NamesWord};
+ghost use Rattle.flagops_files.specs.Lines.{NamesFile};
+ghost use Rattle.flagops_filters.specs.Remarks.{NamesInput, NotesIf, is_noted, record_opening};
 
 use flagops_files::quoted;
 use note_streams::Counted;
 use std::alloc::{AllocError, Global};
 
+/// The words for the standard input.
+const INPUT: &str = "the standard input";
+
 /// A line on the flag of a document that is refused.
-pub fn flag_line(alloc: Global, path: &str, key: &str, reason: &str) -> Result<String, AllocError>
+pub(crate) fn flag_line(
+    alloc: Global,
+    path: &str,
+    key: &str,
+    reason: &str,
+) -> Result<String, AllocError>
     ensures { IfOk result (λ s. NamesFile path.now (string_bytes s)) }
 {
     let name = quoted(alloc, path)?;
@@ -16,37 +26,79 @@ pub fn flag_line(alloc: Global, path: &str, key: &str, reason: &str) -> Result<S
 }
 
 /// A line on the standard input.
-pub fn input_line(alloc: Global, reason: &str) -> Result<String, AllocError> {
-    format!(in alloc; "error: the standard input: {reason}\n")
+pub(crate) fn input_line(alloc: Global, reason: &str) -> Result<String, AllocError>
+    ensures { IfOk result (λ s. NamesInput (string_bytes s)) }
+{
+    word_line(alloc, INPUT, reason)
 }
 
 /// The same where it begins with a byte order mark.
-pub fn marked_line(alloc: Global, reason: &str) -> Result<String, AllocError> {
-    format!(in alloc;
-        "error: the standard input: {reason}, as it begins with a byte order mark\n  send it as UTF-8 without the mark\n"
-    )
+pub(crate) fn marked_line(alloc: Global, reason: &str) -> Result<String, AllocError>
+    ensures { IfOk result (λ s. NamesInput (string_bytes s)) }
+{
+    let reason = format!(in alloc;
+        "{reason}, as it begins with a byte order mark\n  send it as UTF-8 without the mark"
+    )?;
+    word_line(alloc, INPUT, reason.as_str())
+}
+
+/// A line that names something that is no file, and what is the matter with it.
+#[tactic(auto, unfolding(file_diagnostics::specs::Named::NamesWord))]
+fn word_line(alloc: Global, word: &str, reason: &str) -> Result<String, AllocError>
+    ensures { IfOk result (λ s. NamesWord word.now (string_bytes s)) }
+{
+    format!(in alloc; "error: {word}: {reason}\n")
+}
+
+/// Whether something is told of contexts that were all recorded.
+pub(crate) fn is_noted(counted: Counted, is_empty: bool) -> bool
+    ensures { result ≡ is_noted counted is_empty }
+{
+    is_empty || counted.long > 0 || counted.torn
 }
 
 /// What is told of contexts that were all recorded: that there were none, the inputs that were not noted, and the bytes that
 /// were passed over.
-pub fn counted_lines(
+#[tactic(auto, using(crate::proofs::Noted::three))]
+pub(crate) fn counted_lines(
     alloc: Global,
     counted: Counted,
     is_empty: bool,
-) -> Result<String, AllocError> {
-    let mut lines = String::new(alloc);
-    if is_empty {
-        lines.push_str("record: the standard input is empty, and nothing is recorded\n")?;
+) -> Result<String, AllocError>
+    ensures { IfOk result (λ s. NotesIf (is_noted counted is_empty) record_opening (string_bytes s)) }
+{
+    let empty = line_if(
+        alloc,
+        is_empty,
+        "the standard input is empty, and nothing is recorded",
+    )?;
+    let long = long_line(alloc, counted.long)?;
+    let torn = line_if(
+        alloc,
+        counted.torn,
+        "the last line has no end and is passed over",
+    )?;
+    format!(in alloc; "{empty}{long}{torn}")
+}
+
+/// A line of `record`, where it is so.
+fn line_if(alloc: Global, is_so: bool, words: &str) -> Result<String, AllocError>
+    ensures { IfOk result (λ s. NotesIf is_so record_opening (string_bytes s)) }
+{
+    if is_so {
+        format!(in alloc; "record: {words}\n")
+    } else {
+        Ok(String::new(alloc))
     }
-    if counted.long > 0 {
-        let long = counted.long;
-        let line = format!(in alloc;
-            "record: {long} inputs have more than 1024 bytes and are not noted\n"
-        )?;
-        lines.push_str(line.as_str())?;
+}
+
+/// A line on inputs that were not noted, where there are any.
+fn long_line(alloc: Global, long: u64) -> Result<String, AllocError>
+    ensures { IfOk result (λ s. NotesIf (nat_lt 0 long) record_opening (string_bytes s)) }
+{
+    if long > 0 {
+        format!(in alloc; "record: {long} inputs have more than 1024 bytes and are not noted\n")
+    } else {
+        Ok(String::new(alloc))
     }
-    if counted.torn {
-        lines.push_str("record: the last line has no end and is passed over\n")?;
-    }
-    Ok(lines)
 }

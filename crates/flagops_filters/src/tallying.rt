@@ -1,13 +1,21 @@
 //! The command `tally`.
-ghost use Rattle.std.specs.Prelude.{◌≡◌, ◌<◌, ◌≤◌, false, map, option_map, IfOk, IfSome, Ok};
+ghost use Rattle.std.specs.Prelude.{◌≡◌, ◌<◌, ◌≤◌, ◌||◌, false, true, map, option_map, IfErr, IfOk, IfSome, Ok, string_bytes};
 ghost use Rattle.flag_defs.specs.Flags.{flags_view};
 ghost use Rattle.flag_text.specs.Outcome.{GivesUnless};
 ghost use Rattle.rollout_checks.specs.Lawful.{place_of};
-ghost use Rattle.flagops_filters.specs.Ended.{AnswersTally, TellsTally};
+ghost use Rattle.flagops_shell.specs.Console.{IsOpen};
+ghost use Rattle.flagops_shell.specs.Diagnostic.{Says};
+ghost use Rattle.flagops_shell.specs.Ending.{Ends, ShowsUnread};
+ghost use Rattle.flagops_shell.specs.Running.{MayRun};
+ghost use Rattle.flagops_filters.specs.Command.{tally_description};
+ghost use Rattle.flagops_filters.specs.Ended.{AnswersTally, TellsTally, UnreadTally};
 ghost use Rattle.flagops_filters.specs.Place.{PrintsTally, place_view, target_view};
-ghost use Rattle.flagops_filters.specs.Report.{GivesOne};
-ghost use Rattle.flagops_filters.specs.Tally.{IsTallyIn, IsTallyOver, IsTallyReport, points_of, site_of, target_of};
-ghost use Rattle.flagops_filters.specs.declared.refusal.FilterRefusal.TheVariants.{Load};
+ghost use Rattle.flagops_filters.specs.Refusal.{is_unread, line_of};
+ghost use Rattle.flagops_filters.specs.Remarks.{BeginsWith, NamesInput, NamesPath, NamesRefused, RemarksBy, tally_opening, tally_remark};
+ghost use Rattle.flagops_filters.specs.Report.{GivesOne, is_file_fault};
+ghost use Rattle.flagops_filters.specs.Stopping.{IsStopped};
+ghost use Rattle.flagops_filters.specs.Tally.{IsTallyIn, IsTallyOver, IsTallyReport, points_of, site_of, tally_call, target_of};
+ghost use Rattle.flagops_filters.specs.declared.refusal.FilterRefusal.TheVariants.{Load, Tally};
 ghost use Rattle.flagops_files.specs.declared.refusal.Refusal.TheVariants.{Plan};
 ghost use Rattle.flagops_filters.specs.Words.{tallying_view};
 
@@ -19,11 +27,13 @@ use crate::target::Target;
 use crate::words::read_tally;
 use book_core::Page;
 use bucket_core::total_weight;
+use file_diagnostics::Ends as FileEnds;
 use flag_defs::Flags;
 use flag_text::Outlet;
-use flagops_commands::report_usage;
-use flagops_files::{FileSet, Outcome, Refusal, Refused, Remark, Status, finish, load_flags};
-use flagops_remarks::Ends as FileEnds;
+use flagops_files::{Refusal, load_flags};
+use flagops_shell::{
+    Console, FileSet, Outcome, Refused, Remark, Status, refuse, report, report_usage,
+};
 use flagops_words::factor_of;
 use line_batches::Inlet;
 use logic_ast::{Site, site};
@@ -45,8 +55,7 @@ pub fn tally<R, S, I, F, O, E>(
     words: &[S],
     input: &mut I,
     files: &mut F,
-    out: &mut O,
-    err: &mut E,
+    console: &mut Console<O, E>,
 ) -> u8
 where
     R: AllocGlobal,
@@ -56,20 +65,38 @@ where
     O: Outlet,
     E: Outlet,
     requires in_whole { I.is_broken input.old ≡ false }
-    requires out_whole { O.is_broken out.old ≡ false }
-    requires err_whole { E.is_broken err.old ≡ false }
-    ensures answers { AnswersTally O.bytes O.is_broken out.old out.new E.bytes E.is_broken err.old err.new result
-        F.holding files.old (I.bytes input.old) (I.is_broken input.new) (map S.text words.now) }
-    ensures tells { TellsTally O.bytes O.is_broken out.old out.new E.bytes E.is_broken err.old err.new result (map S.text words.now) }
+    requires open { IsOpen console.old }
+    ensures answers { AnswersTally console.old console.new result (map S.text words.now)
+        (F.holding files.old) (F.holding files.new) (F.has_failed files.new) (I.bytes input.old) (I.is_broken input.new) }
+    ensures unread { UnreadTally console.old console.new result (map S.text words.now) (F.has_failed files.old) (F.has_failed files.new) }
+    ensures tells { TellsTally console.old console.new result (map S.text words.now) }
     ensures kept { F.holding files.new ≡ F.holding files.old }
 {
     let alloc = rt.alloc();
     match read_tally(alloc, words) {
-        Ok(asked) => {
-            let came = tallied(alloc, &asked, input, files);
-            finish(alloc, came, "tally", out, err)
-        }
-        Err(error) => report_usage(alloc, &error, out, err),
+        Ok(asked) => answered(alloc, &asked, input, files, console),
+        Err(error) => report_usage(alloc, &error, console),
+    }
+}
+
+/// Writes what is tallied of what is asked for.
+fn answered<I: Inlet + Opening, F: FileSet, O: Outlet, E: Outlet>(
+    alloc: Global,
+    asked: &Tallying<'_>,
+    input: &mut I,
+    files: &mut F,
+    console: &mut Console<O, E>,
+) -> u8
+    requires in_whole { I.is_broken input.old ≡ false }
+    requires open { IsOpen console.old }
+    ensures answers { IfSome (F.holding files.old) (λ at. IfSome (I.bytes input.old) (λ bytes. Ends console.old console.new result line_of (λ name. name ≡ tally_call) (tally_remark asked.now.document.now)
+        (MayRun (tally_description bytes (I.is_broken input.new)) is_unread (tallying_view asked.now) at (F.holding files.new) (F.has_failed files.new)))) }
+    ensures unread { F.has_failed files.old ≡ false → F.has_failed files.new ≡ true → ShowsUnread console.old console.new result (λ name. name ≡ tally_call) }
+    ensures kept { F.holding files.new ≡ F.holding files.old }
+{
+    match tallied(alloc, asked, input, files) {
+        Ok(outcome) => report(console, &outcome),
+        Err(refused) => refuse(alloc, refused, "tally", console),
     }
 }
 
@@ -82,7 +109,10 @@ fn tallied<I: Inlet + Opening, F: FileSet>(
 ) -> Result<Outcome, Refused<FilterRefusal>>
     requires { I.is_broken input.old ≡ false }
     ensures exact { IfSome (F.holding files.old) (λ at. IfSome (I.bytes input.old) (λ bytes. GivesOne result (IsTallyReport at (tallying_view asked.now) bytes (I.is_broken input.new)))) }
+    ensures failed { F.has_failed files.new ≡ (F.has_failed files.old || is_file_fault result) }
     ensures kept { F.holding files.new ≡ F.holding files.old }
+    ensures names { RemarksBy (NamesRefused asked.now.document.now) result }
+    ensures notes { IfOk result (λ o. IfSome o.remark (Says (BeginsWith tally_opening))) }
 {
     match load_flags(alloc, files, asked.document) {
         Ok(flags) => within(alloc, asked, &flags, input),
@@ -98,7 +128,10 @@ fn within<I: Inlet + Opening>(
     input: &mut I,
 ) -> Result<Outcome, Refused<FilterRefusal>>
     requires { I.is_broken input.old ≡ false }
-    ensures { IfSome (I.bytes input.old) (λ bytes. GivesOne result (IsTallyIn (Ok (flags_view flags.now)) (tallying_view asked.now) bytes (I.is_broken input.new))) }
+    ensures exact { IfSome (I.bytes input.old) (λ bytes. GivesOne result (IsTallyIn (Ok (flags_view flags.now)) (tallying_view asked.now) bytes (I.is_broken input.new))) }
+    ensures read { is_file_fault result ≡ false }
+    ensures names { RemarksBy (NamesRefused asked.now.document.now) result }
+    ensures notes { IfOk result (λ o. IfSome o.remark (Says (BeginsWith tally_opening))) }
 {
     match target_of(alloc, flags, asked.key, asked.site, factor_of(asked.refine)) {
         Ok(target) => over(alloc, target, input),
@@ -113,7 +146,9 @@ fn over<I: Inlet + Opening>(
     input: &mut I,
 ) -> Result<Outcome, Refused<FilterRefusal>>
     requires { I.is_broken input.old ≡ false }
-    ensures { IfSome (I.bytes input.old) (λ bytes. GivesOne result (IsTallyOver (target_view target) bytes (I.is_broken input.new))) }
+    ensures exact { IfSome (I.bytes input.old) (λ bytes. GivesOne result (IsTallyOver (target_view target) bytes (I.is_broken input.new))) }
+    ensures stops { IfErr result (λ told. IsStopped told) }
+    ensures notes { IfOk result (λ o. IfSome o.remark (Says (BeginsWith tally_opening))) }
 {
     let Target { page, total, .. } = target;
     match tally_stream(alloc, page, total, input) {
@@ -128,7 +163,9 @@ fn printed(
     came: &StreamTally,
     opening: FileEnds,
 ) -> Result<Outcome, Refused<FilterRefusal>>
-    ensures { PrintsTally came.now.tally result }
+    ensures prints { PrintsTally came.now.tally result }
+    ensures stops { IfErr result (λ told. IsStopped told) }
+    ensures notes { IfOk result (λ o. IfSome o.remark (Says (BeginsWith tally_opening))) }
 {
     match print_tally(alloc, &came.tally) {
         Ok(text) => Ok(Outcome {
@@ -144,18 +181,35 @@ fn printed(
 }
 
 /// What is told where bytes stood behind the last line, and of an input without bytes.
-fn beside(alloc: Global, torn: bool, opening: FileEnds) -> Option<Remark> {
-    let line = match opening {
-        FileEnds::Empty => "tally: the standard input is empty, and nothing is counted\n",
-        _ if torn => "tally: the last line has no end and is passed over\n",
-        _ => return None,
-    };
-    Some(Remark::of(String::from_str(alloc, line)))
+fn beside(alloc: Global, torn: bool, opening: FileEnds) -> Option<Remark>
+    ensures { IfSome result (Says (BeginsWith tally_opening)) }
+{
+    match opening {
+        FileEnds::Empty => Some(note(alloc, "the standard input is empty, and nothing is counted")),
+        _ if torn => Some(note(alloc, "the last line has no end and is passed over")),
+        _ => None,
+    }
+}
+
+/// A line of `tally` beside its output.
+#[tactic(auto, using(flagops_files::proofs::Told::says))]
+fn note(alloc: Global, words: &str) -> Remark
+    ensures { Says (BeginsWith tally_opening) result }
+{
+    Remark::of(note_line(alloc, words))
+}
+
+fn note_line(alloc: Global, words: &str) -> Result<String, AllocError>
+    ensures { IfOk result (λ s. BeginsWith tally_opening (string_bytes s)) }
+{
+    format!(in alloc; "tally: {words}\n")
 }
 
 /// A stream that is not tallied to its end.
+#[tactic(auto, using(flagops_files::proofs::Told::says))]
 fn stopped(alloc: Global, stop: TallyStop, opening: FileEnds) -> Refused<FilterRefusal>
-    ensures { result.refusal ≡ FilterRefusal.Tally stop }
+    ensures refusal { result.refusal ≡ Tally stop }
+    ensures names { Says NamesInput result.remark }
 {
     Refused {
         refusal: FilterRefusal::Tally(stop),
@@ -164,7 +218,9 @@ fn stopped(alloc: Global, stop: TallyStop, opening: FileEnds) -> Refused<FilterR
 }
 
 /// What is told of it, by what the input began with.
-fn stop_line(alloc: Global, stop: TallyStop, opening: FileEnds) -> Result<String, AllocError> {
+fn stop_line(alloc: Global, stop: TallyStop, opening: FileEnds) -> Result<String, AllocError>
+    ensures { IfOk result (λ s. NamesInput (string_bytes s)) }
+{
     let reason = format!(in alloc; "{stop}")?;
     match (stop, opening) {
         (TallyStop::Filter(FilterFault::Line(1)), FileEnds::Marked) => {
@@ -175,8 +231,10 @@ fn stop_line(alloc: Global, stop: TallyStop, opening: FileEnds) -> Result<String
 }
 
 /// A site that is not tallied at.
+#[tactic(auto, using(flagops_files::proofs::Told::says))]
 fn untallied(alloc: Global, asked: &Tallying<'_>, fault: RolloutFault) -> Refused<FilterRefusal>
-    ensures { result.refusal ≡ Load (Plan fault) }
+    ensures refusal { result.refusal ≡ Load (Plan fault) }
+    ensures names { Says (NamesPath asked.now.document.now) result.remark }
 {
     Refused {
         refusal: FilterRefusal::Load(Refusal::Plan(fault)),
@@ -188,7 +246,9 @@ fn refusal_line(
     alloc: Global,
     asked: &Tallying<'_>,
     fault: RolloutFault,
-) -> Result<String, AllocError> {
+) -> Result<String, AllocError>
+    ensures { IfOk result (λ s. NamesPath asked.now.document.now (string_bytes s)) }
+{
     let reason = format!(in alloc; "{fault}")?;
     flag_line(alloc, asked.document, asked.key, reason.as_str())
 }

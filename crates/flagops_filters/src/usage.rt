@@ -7,6 +7,7 @@ ghost use Rattle.flagops_words.specs.Words.{option_number, required};
 ghost use Rattle.flagops_filters.specs.Words.{join_app, max_workers, record_app, tally_app};
 
 use clap::{Arg, Command};
+use flagops_words::about;
 use flagops_words::arguments::{option_number, refine, required, site, some_words};
 use limits::LATEST_MOMENT;
 use std::alloc::{AllocError, Global};
@@ -32,9 +33,7 @@ fn record_begun<'a>(alloc: Global) -> Result<Command<'a>, AllocError>
     let key = required(alloc, "KEY", "The flag's key");
     Command::new(alloc, "record")
         .bin_name("flagops record")?
-        .about(
-            "Prints the hash inputs that a flag's evaluation reaches in each context of the standard input",
-        )
+        .about(about::RECORD)
         .arg(document)?
         .arg(key)
 }
@@ -60,9 +59,7 @@ fn tally_begun<'a>(alloc: Global) -> Result<Command<'a>, AllocError>
     let key = required(alloc, "FLAG", "The flag's key");
     Command::new(alloc, "tally")
         .bin_name("flagops tally")?
-        .about(
-            "Prints how many hash inputs of a site fall on each point, of the sorted lines of the standard input",
-        )
+        .about(about::TALLY)
         .arg(document)?
         .arg(key)
 }
@@ -72,9 +69,9 @@ fn tally_begun<'a>(alloc: Global) -> Result<Command<'a>, AllocError>
 pub fn join<'a>(alloc: Global) -> Result<Command<'a>, AllocError>
     ensures { IfOk result (λ c. app_of c ≡ join_app) }
 {
-    let command = Command::new(alloc, "join").bin_name("flagops join")?.about(
-        "Prints the tally of the lines of several tallies, which follow one another",
-    );
+    let command = Command::new(alloc, "join")
+        .bin_name("flagops join")?
+        .about(about::JOIN);
     let tallies = some_words(
         alloc,
         "TALLY",

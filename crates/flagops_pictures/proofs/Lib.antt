@@ -1,3 +1,4 @@
+mod Diagnosed
 pub mod Drawings
 pub mod Matched
 pub mod Pictures

@@ -1,21 +1,26 @@
 -- A plan that is printed and drawn.
-use Rattle.std.proofs.Common.{◌≡◌, ◌⊎◌, Bool, false, true, ℕ, List, Option, None, Some, Result, Ok, Err, unwrap_or, refl, ap, ◌∙◌, subst, sym, inl, inr}
+use Rattle.std.proofs.Common.{◌≡◌, ◌⊎◌, ◌||◌, Bool, false, true, ℕ, List, Option, None, Some, Result, Ok, Err, unwrap_or, refl, ap, ◌∙◌, subst, sym, inl, inr}
 use Rattle.std.specs.Prelude.{IfErr, IfOk, IfSome, OnErr}
 use Rattle.book_core.specs.Book.{Contents}
-use Rattle.flagops_commands.specs.Plan.{IsPlanOf, IsPlannedOn}
-use Rattle.flagops_files.specs.Files.{Holding, KeepsOthers, Stores}
+use Rattle.flagops_rollouts.specs.Doubts.{doubt_of, settle}
+use Rattle.flagops_rollouts.specs.Plan.{IsPlanOf, IsPlannedOn, plan_report, plan_status, report_planned}
+use Rattle.flagops_shell.specs.Files.{Holding, KeepsOthers, Stores}
 use Rattle.flagops_files.specs.Question.{BookQuestion, Question, IsBookQuestionAt, book_question_view}
 use Rattle.flagops_files.specs.Refusal.{GivesOne, is_want, unwritable}
-use Rattle.flagops_files.specs.Report.{Report, outcome_view}
+use Rattle.flagops_shell.specs.Report.{Report, outcome_view}
 use Rattle.flagops_files.specs.declared.evidence.Evidence.{Evidence}
 use Rattle.flagops_files.specs.declared.evidence.Evidence.TheVariants.{Book}
-use Rattle.flagops_files.specs.declared.outcome.Outcome.{Outcome}
+use Rattle.flagops_shell.specs.declared.outcome.Outcome.{Outcome}
 use Rattle.flagops_files.specs.declared.refusal.Call.{Call}
 use Rattle.flagops_files.specs.declared.refusal.Refusal.{Refusal}
-use Rattle.flagops_files.specs.declared.refusal.Refusal.TheVariants.{WantOfMemory}
+use Rattle.flagops_files.specs.declared.refusal.Call.TheVariants as call
+use Rattle.flagops_files.specs.declared.refusal.Refusal.TheVariants.{PrintPlanned, WantOfMemory}
+use Rattle.flagops_files.specs.Loading.{◌>>=◌, refused_by}
+use Rattle.flagops_files.specs.Report.{beside}
 use Rattle.flagops_files.specs.Refusal.{Refused}
-use Rattle.plan_text.specs.Answer.{Answer, planned_view}
+use Rattle.plan_text.specs.Answer.{Answer, emit, none_exists, planned_view}
 use Rattle.plan_text.specs.PlanFile.{answer_of}
+use Rattle.plan_text.specs.PlanFile.{plan_line}
 use Rattle.plan_text.specs.declared.fault.PlanFileFault.{PlanFileFault}
 use Rattle.plan_text.specs.declared.planned.Planned.{Planned}
 use Rattle.rollout.specs.Planned.{IsPlanned}
@@ -24,7 +29,7 @@ use Rattle.rollout_checks.specs.Refined.{problem_refined}
 use Rattle.rollout_checks.specs.Verified.{IsShown}
 use Rattle.rollout_checks.specs.declared.fault.RolloutFault.{RolloutFault}
 use Rattle.flagops_pictures.specs.Pictured.{IsDrawn, as_question}
-use Rattle.flagops_pictures.specs.Planning.{IsDrawnOn, IsPictureOf, IsPlanPicture, IsPlanWith, LeavesPicture}
+use Rattle.flagops_pictures.specs.Planning.{IsDrawnOn, IsPictureOf, IsPlanPicture, IsPlanWith, KeepsUnlessPlanned}
 use Rattle.flagops_pictures.specs.Words.{Planning}
 
 -- what is planned is shown to be right
@@ -99,20 +104,42 @@ module _ (p : Planning) where
 
 -- ---- what becomes of the files
 
-pub left_alone : (o : Option Planning) (h : Option Holding) → LeavesPicture o h h
-left_alone None h = refl
-left_alone (Some p) h = inl refl
-
-pub left_so : (o : Option Planning) (p : Planning) (old new : Option Holding) → o ≡ Some p → (new ≡ old) ⊎ KeepsOthers old new p.picture → LeavesPicture o old new
-left_so o p old new is left = subst (λ (x : Option Planning). LeavesPicture x old new) (sym is) left
-
 -- files that a load left as they are
 pub left_behind : (old kept new : Option Holding) (path : List ℕ) → kept ≡ old → (new ≡ kept) ⊎ KeepsOthers kept new path → (new ≡ old) ⊎ KeepsOthers old new path
 left_behind old kept new path same left = subst (λ (h : Option Holding). (new ≡ h) ⊎ KeepsOthers h new path) same left
 
-pub kept_behind : {X E : Type 0} (r : Result X E) (old kept new : Option Holding) → kept ≡ old → OnErr r (new ≡ kept) → OnErr r (new ≡ old)
-kept_behind r old kept new same left = subst (λ (h : Option Holding). OnErr r (new ≡ h)) same left
+pub kept_behind : {E : Type 0} (r : Result Outcome E) (old kept new : Option Holding) → kept ≡ old → KeepsUnlessPlanned kept new r → KeepsUnlessPlanned old new r
+kept_behind r old kept new same left = subst (λ (h : Option Holding). KeepsUnlessPlanned h new r) same left
 
-pub in_any_case : {X E P : Type 0} (r : Result X E) → P → OnErr r P
-in_any_case (Ok x) p = tt
-in_any_case (Err e) p = p
+-- ---- the status of a plan
+
+abbrev HasStatus : Result Report Refusal → Type 0
+HasStatus r = IfOk r (λ report. (report.status ≡ 0) ⊎ (report.status ≡ 3))
+
+answer_status : (answer : Answer) → (plan_status answer ≡ 0) ⊎ (plan_status answer ≡ 3)
+answer_status (emit rule c) = inl refl
+answer_status (none_exists kind names) = inr refl
+
+printed_status : (told : Bool) (answer : Answer) (text : Result (List ℕ) PlanFileFault) → HasStatus (beside told (refused_by PrintPlanned text >>= λ t. Ok (record { text = t; status = plan_status answer; is_told = false })))
+printed_status told answer (Ok t) = answer_status answer
+printed_status told answer (Err e) = tt
+
+settled_status : (explain : Bool) (settled : Result Bool Refusal) (answer : Answer) → HasStatus (settled >>= λ told. beside (explain || told) (plan_report answer))
+settled_status explain (Ok told) answer = printed_status (explain || told) answer (plan_line answer)
+settled_status explain (Err e) answer = tt
+
+planned_status : (explain : Bool) (settled : Result Bool Refusal) (planned : Result Planned RolloutFault) → HasStatus (report_planned explain settled planned)
+planned_status explain settled (Ok p) = settled_status explain settled (planned_view p)
+planned_status explain settled (Err f) = tt
+
+-- a plan has a rule or shows that none fits
+pub status_of : (strict explain : Bool) (refine : Option ℕ) (q : Question) (report : Report) → IsPlanOf strict explain refine (Ok q) (Ok report) → (report.status ≡ 0) ⊎ (report.status ≡ 3)
+status_of strict explain refine q report (planned, may, is, reads) = subst HasStatus (sym is) (planned_status explain (settle call.Plan strict (doubt_of q)) planned)
+
+-- no read failed before the last step
+or_false : (b : Bool) → (b || false) ≡ b
+or_false true = refl
+or_false false = refl
+
+pub failed_behind : (old mid new fault : Bool) → mid ≡ (old || false) → new ≡ (mid || fault) → new ≡ (old || fault)
+failed_behind old mid new fault first last = last ∙ ap (λ (b : Bool). b || fault) (first ∙ or_false old)

@@ -1,9 +1,9 @@
 -- What comes of a ramp that is drawn.
 use Rattle.std.proofs.Common.{◌≡◌, false, true, Option, None, Some, Ok, Err, refl, ◌∙◌, sym}
 use Rattle.std.specs.Prelude.{IfSome}
-use Rattle.flagops_files.specs.Files.{Holding}
-use Rattle.flagops_files.specs.Report.{outcome_view}
-use Rattle.flagops_files.specs.declared.outcome.Outcome.{Outcome}
+use Rattle.flagops_shell.specs.Files.{Holding}
+use Rattle.flagops_shell.specs.Report.{outcome_view}
+use Rattle.flagops_shell.specs.declared.outcome.Outcome.{Outcome}
 use Rattle.flagops_ramps.specs.Judging.{IsFoundAt, answered_view}
 use Rattle.flagops_ramps.specs.Refusal.{is_want}
 use Rattle.flagops_ramps.specs.Report.{GivesOne, Told}

@@ -1,4 +1,5 @@
-pub mod Ended
+pub mod Commands
+pub mod Diagnostics
 pub mod Pictured
 pub mod Planning
 pub mod Ramps

@@ -4,12 +4,13 @@ use Rattle.std.specs.Map.{keys_of}
 use Rattle.std.specs.declared.alloc.Global.{Global}
 use Rattle.book_core.specs.Counts.{counts_of}
 use Rattle.bucket_core.specs.Rule.{Entries, total_weight}
-use Rattle.flagops_commands.specs.Doubts.{doubt_of}
-use Rattle.flagops_files.specs.Files.{Holding}
+use Rattle.flagops_rollouts.specs.Doubts.{doubt_of}
+use Rattle.flagops_shell.specs.Files.{Holding}
 use Rattle.flagops_files.specs.PlanFile.{plan_at}
 use Rattle.flagops_files.specs.Question.{BookQuestion, Question, IsBookQuestionAt}
 use Rattle.flagops_files.specs.Refusal.{loads_book_question}
-use Rattle.flagops_files.specs.Report.{Outcomes, Report, beside, done}
+use Rattle.flagops_files.specs.Report.{Outcomes, beside, done}
+use Rattle.flagops_shell.specs.Report.{Report}
 use Rattle.flagops_files.specs.declared.evidence.Evidence.TheVariants.{Book}
 use Rattle.flagops_files.specs.declared.refusal.Call.{Call}
 use Rattle.flagops_files.specs.declared.refusal.Call.TheVariants as call
@@ -27,7 +28,7 @@ use Rattle.switch_table.specs.Runs.{Run, AreRuns}
 use Rattle.switch_table.specs.Switches.{IsSwitchTable}
 use Rattle.switch_table.specs.declared.table.Switch.{Switch}
 use Rattle.transport_instance.specs.Certificate.{DualPrices}
-use Rattle.flagops_pictures.specs.Words.{Asked}
+use Rattle.flagops_pictures.specs.Words.{Picturing}
 
 -- what is told of a rule that a problem is answered with: its runs and its switches are those of the recorded inputs
 pub record IsChangeTold (p : Problem) (rule : Entries) (duals : DualPrices) (items : List Item) : Type 0 where
@@ -94,7 +95,7 @@ IsPictured refine (Ok q) (Err e) r = r ≡ Err e
 IsPictured refine (Ok q) (Ok answer) r =
     (bytes : Result (List ℕ) VerifyFault) × IsDrawnOrDenied (asked_over refine answer q) answer bytes × (r ≡ beside (is_some (doubt_of (as_question q))) (drawn_report bytes))
 
-unfoldable pub IsPictureReport : Holding → Asked → Outcomes
+unfoldable pub IsPictureReport : Holding → Picturing → Outcomes
 IsPictureReport at a r =
     (question : Result BookQuestion Refusal) × IsBookQuestionAt at a.document a.request a.book question × IsPictured a.refine question (plan_at at a.plan) r
 

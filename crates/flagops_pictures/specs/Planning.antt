@@ -1,14 +1,16 @@
 -- What `plan --picture` answers, and the file that it writes.
-use Rattle.std.specs.Prelude.{◌≡◌, ◌⊎◌, ℕ, Bool, true, List, unwrap_or, Option, Some, None, Result, Ok, Err}
+use Rattle.std.specs.Prelude.{◌≡◌, ◌⊎◌, ℕ, Bool, true, IsOkAnd, List, unwrap_or, Option, Some, None, Result, Ok, Err}
 use Rattle.flag_defs.specs.Document.{Definitions}
 use Rattle.plan_text.specs.Answer.{Answer}
 use Rattle.plan_text.specs.PlanFile.{answer_of}
 use Rattle.rollout_checks.specs.Refined.{problem_refined}
-use Rattle.flagops_commands.specs.Plan.{IsPlanOf}
-use Rattle.flagops_files.specs.Files.{Holding, KeepsOthers, Stores}
+use Rattle.flagops_rollouts.specs.Plan.{IsPlanOf}
+use Rattle.flagops_shell.specs.Files.{Holding, KeepsOthers, Stores}
 use Rattle.flagops_files.specs.Question.{BookQuestion, Question, IsBookQuestionAt}
 use Rattle.flagops_files.specs.Refusal.{loads_book_question, unwritable}
-use Rattle.flagops_files.specs.Report.{Outcomes, Report}
+use Rattle.flagops_files.specs.Report.{Outcomes}
+use Rattle.flagops_shell.specs.Report.{Report, status_number}
+use Rattle.flagops_shell.specs.declared.outcome.Outcome.{Outcome}
 use Rattle.flagops_files.specs.declared.evidence.Evidence.{Evidence}
 use Rattle.flagops_files.specs.declared.evidence.Evidence.TheVariants.{Book, Tally}
 use Rattle.flagops_files.specs.declared.refusal.Call.{Call}
@@ -46,10 +48,9 @@ IsPlanPictured at after p (Ok q) r = IsPlanWith at after p (as_question q) r
 unfoldable pub IsPlanPicture : Holding → Option Holding → Planning → Outcomes
 IsPlanPicture at after p r = (question : Result BookQuestion Refusal) × IsBookQuestionAt at p.document p.request p.book question × IsPlanPictured at after p question r
 
--- the files stay as they are, or the one at the path alone changes
-abbrev pub LeavesPicture : Option Planning → Option Holding → Option Holding → Type 0
-LeavesPicture None old new = new ≡ old
-LeavesPicture (Some p) old new = (new ≡ old) ⊎ KeepsOthers old new p.picture
+-- the files stay as they are, or a plan was printed, which has a rule or shows that none fits
+abbrev pub KeepsUnlessPlanned : {E : Type 0} → Option Holding → Option Holding → Result Outcome E → Type 0
+KeepsUnlessPlanned old new r = (new ≡ old) ⊎ IsOkAnd r (λ o. (status_number o.status ≡ 0) ⊎ (status_number o.status ≡ 3))
 
 -- the calls that the command makes
 abbrev pub plan_calls : Call → Bool

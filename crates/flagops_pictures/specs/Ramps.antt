@@ -1,7 +1,7 @@
 -- What `picture --ramp` answers.
 use Rattle.std.specs.Prelude.{◌≡◌, ℕ, suc, is_some, List, [], ◌∷◌, ◌++◌, Option, Some, Ok, Err}
 use Rattle.book_core.specs.Book.{Contents}
-use Rattle.flagops_files.specs.Files.{Holding}
+use Rattle.flagops_shell.specs.Files.{Holding}
 use Rattle.flagops_ramps.specs.Doubts.{doubt_of_steps}
 use Rattle.flagops_ramps.specs.Report.{Came}
 use Rattle.flagops_ramps.specs.Judging.{Answered, Found, IsFoundAt}

@@ -6,11 +6,11 @@ use Rattle.clap.specs.Walk.{Row, Rule, Text, first_of}
 use Rattle.flagops_ramps.specs.Words.{Verifying, verify_in, with_steps}
 use Rattle.flagops_words.specs.Alone.{asked_in, faults_in}
 use Rattle.flagops_words.specs.Words.{◌>>=◌, flag, flag_in, is_strict, refine_in, refine_option, required, strict_flag, with_rollout}
-use Rattle.flagops_pictures.specs.declared.asked.Asked as code
+use Rattle.flagops_pictures.specs.declared.asked.Picturing as code
 use Rattle.flagops_pictures.specs.declared.asked.Planning as code_planning
 
 -- the files of a rollout and of its plan, and the factor of a refinement if there is one
-pub record Asked : Type 0 where
+pub record Picturing : Type 0 where
   pub document : Text
   pub request : Text
   pub book : Text
@@ -31,8 +31,8 @@ pub record Planning : Type 0 where
 abbrev pub planning_view : code_planning.Planning → Planning
 planning_view p = record { document = p.document.now; request = p.request.now; book = p.book.now; picture = p.picture.now; refine = option_map (λ m. m.number) p.refine; strict = p.strict; explain = p.explain }
 
-abbrev pub asked_view : code.Asked → Asked
-asked_view a = record { document = a.document.now; request = a.request.now; book = a.book.now; plan = a.plan.now; refine = option_map (λ m. m.number) a.refine }
+abbrev pub picturing_view : code.Picturing → Picturing
+picturing_view a = record { document = a.document.now; request = a.request.now; book = a.book.now; plan = a.plan.now; refine = option_map (λ m. m.number) a.refine }
 
 -- `picture DOC REQUEST BOOK PLAN`, with `--refine M`
 unfoldable pub picture_app : App
@@ -50,7 +50,7 @@ picture_option = record (required (codes "FILE")) { long = Some (codes "picture"
 unfoldable pub plan_app : App
 plan_app = with_rule (with_rule (with_rule (with_rule (with_rollout (new_app (codes "plan"))) picture_option) refine_option) strict_flag) (flag (codes "explain"))
 
-abbrev pub picture_in : List Row → Option Asked
+abbrev pub picture_in : List Row → Option Picturing
 picture_in rows = do
   document ← first_of (codes "DOC") rows
   request ← first_of (codes "REQUEST") rows
@@ -71,7 +71,7 @@ planning_in rows = do
 unfoldable pub picture_faults : List Text → Kinds
 picture_faults = faults_in picture_app picture_in
 
-unfoldable pub picture_by : List Text → Option Asked
+unfoldable pub picture_by : List Text → Option Picturing
 picture_by = asked_in picture_app picture_in
 
 unfoldable pub ramp_faults : List Text → Kinds

@@ -1,14 +1,21 @@
 //! The commands with their words.
+use flagops_ramps::Verifying;
 use flagops_words::Factor;
 
 /// What `picture` is asked for: the files of a rollout and of its plan, and the factor that it was made with.
 #[derive(Clone, Copy, Debug)]
-pub struct Asked<'a> {
+pub struct Picturing<'a> {
     pub document: &'a str,
     pub request: &'a str,
     pub book: &'a str,
     pub plan: &'a str,
     pub refine: Option<Factor>,
+}
+
+/// What `picture --ramp` is asked for: the answers to the steps of a rollout, as `verify-ramp` takes them.
+#[derive(Clone, Copy, Debug)]
+pub struct PicturingRamp<'a> {
+    pub answers: Verifying<'a>,
 }
 
 /// What `plan --picture` is asked for: the files of a rollout, the factor, the file that the picture is written to, and how the

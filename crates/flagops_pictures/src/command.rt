@@ -1,71 +1,60 @@
-//! The command `picture`.
-ghost use Rattle.std.specs.Prelude.{◌≡◌, false, is_some, map, IfSome, Ok, option_map, string_bytes};
-ghost use Rattle.flagops_commands.specs.Doubts.{doubt_of};
-ghost use Rattle.flagops_files.specs.Refusal.{ComesFrom, GivesOne, GivesUnlessWant};
+//! The command `picture`: it prints the picture of a plan that is right.
+ghost use denote.Param.Send.{IsSync};
+ghost use Rattle.std.specs.Prelude.{◌≡◌, ◌||◌, false, true, is_some, map, IfErr, IfOk, IfSome, Ok, option_map, string_bytes};
+ghost use Rattle.flagops_rollouts.specs.Doubts.{NamesDoubted, doubt_of};
+ghost use Rattle.flagops_rollouts.specs.Subjects.{NamesVerified};
+ghost use Rattle.flagops_files.specs.Refusal.{ComesFrom, GivesOne, GivesUnlessWant, is_file_fault, is_want};
+ghost use Rattle.flagops_files.specs.Told.{TellsOfOne};
+ghost use Rattle.flagops_shell.specs.Diagnostic.{Says};
 ghost use Rattle.flagops_files.specs.Question.{book_question_view};
-ghost use Rattle.flagops_files.specs.Report.{AnswersOrWants, beside, outcome_view};
-ghost use Rattle.flagops_pictures.specs.Ended.{AnswersPicture, TellsPicture};
+ghost use Rattle.flagops_files.specs.Report.{beside};
+ghost use Rattle.flagops_shell.specs.Report.{outcome_view};
+ghost use Rattle.flagops_pictures.specs.Commands.{picture_description};
+ghost use Rattle.flagops_pictures.specs.Diagnostics.{checked_subjects, picture_subjects};
 ghost use Rattle.flagops_pictures.specs.Pictured.{IsPictureReport, IsPictured, as_question, drawn_report, picture_calls};
-ghost use Rattle.flagops_pictures.specs.Words.{asked_view};
+ghost use Rattle.flagops_pictures.specs.Words as words;
+ghost use Rattle.flagops_pictures.specs.Words.{picturing_view};
 ghost use Rattle.plan_text.specs.Answer.{planned_view};
 
-use crate::asked::Asked;
+use crate::asked::Picturing;
 use crate::checking::checked_picture;
 use crate::doubts::noted;
 use crate::words::read_picture;
-use flag_text::Outlet;
-use flagops_commands::{refused, report_usage};
+use clap::Error;
 use flagops_files::{
-    BookQuestion, Call, FileSet, Outcome, Refusal, Refused, Remark, Status, load_book_question,
-    load_planned, report, want,
+    BookQuestion, Call, Refusal, Refused, load_book_question, load_planned, out_of_memory,
 };
-use flagops_remarks::{of_check, of_rollout};
+use flagops_shell::{Command, FileSet, Outcome, Remark, Status};
 use flagops_words::factor_of;
 use plan_text::Planned;
 use rollout_checks::VerifyFault;
+use rollout_diagnostics::{of_check, of_rollout};
 use std::alloc::{AllocError, Global};
 use std::convert::AsStr;
 use std::thread::Threads;
 
-/// Does what the words after the program's name ask of `picture`, which is the first of them, and gives the status to end
-/// with: 0, or 1 where the files, the request or the plan are refused, as `verify` refuses them. Files are only read.
-pub fn picture<R: AllocGlobal + Threads + Sync, S: AsStr, F: FileSet, O: Outlet, E: Outlet>(
-    rt: &R,
-    words: &[S],
-    files: &mut F,
-    out: &mut O,
-    err: &mut E,
-) -> u8
-    requires out_whole { O.is_broken out.old ≡ false }
-    requires err_whole { E.is_broken err.old ≡ false }
-    ensures answers { AnswersPicture O.bytes O.is_broken out.old out.new E.bytes E.is_broken err.old err.new result
-        F.holding files.old (map S.text words.now) }
-    ensures tells { TellsPicture O.bytes O.is_broken out.old out.new E.bytes E.is_broken err.old err.new result (map S.text words.now) }
-    ensures kept { F.holding files.new ≡ F.holding files.old }
-{
-    let alloc = rt.alloc();
-    match read_picture(alloc, words) {
-        Ok(asked) => match answer(rt, alloc, files, &asked) {
-            Ok(outcome) => report(out, err, &outcome),
-            Err(call) => want(out, err, call),
-        },
-        Err(error) => report_usage(alloc, &error, out, err),
-    }
-}
+impl<'w, R: Threads + Sync, F: FileSet> Command<'w, R, F> for Picturing<'w> {
+    type Refusal = Refusal;
 
-/// The picture or the line of a refusal, or the call that ran out of memory.
-fn answer<R: Threads + Sync, F: FileSet>(
-    rt: &R,
-    alloc: Global,
-    files: &mut F,
-    asked: &Asked<'_>,
-) -> Result<Outcome, Call>
-    ensures exact { IfSome (F.holding files.old) (λ at. AnswersOrWants picture_calls result (IsPictureReport at (asked_view asked.now))) }
-    ensures kept { F.holding files.new ≡ F.holding files.old }
-{
-    match outcome(rt, alloc, files, asked) {
-        Ok(outcome) => Ok(outcome),
-        Err(it) => refused(alloc, it),
+    ghost Asked = { words.Picturing };
+
+    ghost Needs = { IsSync R.row };
+
+    ghost view = { picturing_view };
+
+    ghost description = { picture_description };
+
+    fn read<S: AsStr>(alloc: Global, words: &'w [S]) -> Result<Picturing<'w>, Error> {
+        read_picture(alloc, words)
+    }
+
+    #[tactic(auto, using(crate::proofs::Diagnosed::picture_remarks, crate::proofs::Diagnosed::wants, crate::proofs::Diagnosed::all_kept))]
+    fn answer(&self, rt: &R, alloc: Global, files: &mut F) -> Result<Outcome, Refused> {
+        outcome(rt, alloc, files, self)
+    }
+
+    fn call_of(&self, refusal: &Refusal) -> &'static str {
+        refusal.call().name()
     }
 }
 
@@ -75,10 +64,13 @@ fn outcome<R: Threads + Sync, F: FileSet>(
     rt: &R,
     alloc: Global,
     files: &mut F,
-    asked: &Asked<'_>,
+    asked: &Picturing<'_>,
 ) -> Result<Outcome, Refused>
-    ensures exact { IfSome (F.holding files.old) (λ at. GivesOne outcome_view result (IsPictureReport at (asked_view asked.now))) }
+    ensures exact { IfSome (F.holding files.old) (λ at. GivesOne outcome_view result (IsPictureReport at (picturing_view asked.now))) }
     ensures calls { ComesFrom picture_calls result }
+    ensures failed { F.has_failed files.new ≡ (F.has_failed files.old || is_file_fault result) }
+    ensures names { TellsOfOne (picture_subjects (picturing_view asked.now)) result }
+    ensures notes { IfOk result (λ o. IfSome o.remark (Says (NamesDoubted asked.now.request.now asked.now.book.now))) }
     ensures kept { F.holding files.new ≡ F.holding files.old }
 {
     let factor = factor_of(asked.refine);
@@ -96,15 +88,19 @@ fn outcome<R: Threads + Sync, F: FileSet>(
 }
 
 /// The picture of an answer to a question, which were loaded from these paths.
+#[tactic(auto, using(flagops_files::proofs::Told::says))]
 fn pictured(
     rt: &(impl Threads + Sync),
     alloc: Global,
-    asked: &Asked<'_>,
+    asked: &Picturing<'_>,
     question: &BookQuestion,
     planned: &Planned,
 ) -> Result<Outcome, Refused>
     ensures exact { GivesOne outcome_view result (IsPictured (option_map (λ m. m.number) asked.now.refine) (Ok (book_question_view question.now)) (Ok (planned_view planned.now))) }
     ensures calls { ComesFrom picture_calls result }
+    ensures read { is_file_fault result ≡ false }
+    ensures names { TellsOfOne (checked_subjects asked.now.request.now asked.now.plan.now) result }
+    ensures notes { IfOk result (λ o. IfSome o.remark (Says (NamesDoubted asked.now.request.now asked.now.book.now))) }
 {
     match checked_picture(rt, alloc, question, planned, asked.refine) {
         Ok(text) => told(rt, alloc, asked, question, text),
@@ -122,12 +118,15 @@ fn pictured(
 fn told(
     rt: &(impl Threads + Sync),
     alloc: Global,
-    asked: &Asked<'_>,
+    asked: &Picturing<'_>,
     question: &BookQuestion,
     text: String,
 ) -> Result<Outcome, Refused>
     ensures exact { GivesUnlessWant outcome_view result (beside (is_some (doubt_of (as_question (book_question_view question.now)))) (drawn_report (Ok (string_bytes text)))) }
     ensures calls { ComesFrom picture_calls result }
+    ensures read { is_file_fault result ≡ false }
+    ensures wants { IfErr result (λ t. is_want t.refusal ≡ true) }
+    ensures notes { IfOk result (λ o. IfSome o.remark (Says (NamesDoubted asked.now.request.now asked.now.book.now))) }
 {
     match noted(rt, alloc, asked, question) {
         Ok(remark) => Ok(Outcome {
@@ -135,18 +134,20 @@ fn told(
             status: Status::Done,
             remark,
         }),
-        Err(AllocError) => Err(Refused::out_of_memory(Call::Verify)),
+        Err(AllocError) => Err(out_of_memory(Call::Verify)),
     }
 }
 
 /// What a person is told of an answer that is not right, or of a request that is refused.
 fn lines_on(
     alloc: Global,
-    asked: &Asked<'_>,
+    asked: &Picturing<'_>,
     question: &BookQuestion,
     planned: &Planned,
     fault: &VerifyFault,
-) -> Result<String, AllocError> {
+) -> Result<String, AllocError>
+    ensures { IfOk result (λ s. NamesVerified asked.now.request.now asked.now.plan.now fault.now (string_bytes s)) }
+{
     let (flags, bytes) = (&question.flags, question.request.as_slice());
     match fault {
         VerifyFault::Request(fault) => of_rollout(

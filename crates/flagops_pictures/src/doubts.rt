@@ -1,24 +1,28 @@
 //! What is doubted of an answer that is drawn, which a person is told.
-ghost use Rattle.std.specs.Prelude.{◌≡◌, is_some, IfOk};
-ghost use Rattle.flagops_commands.specs.Doubts.{doubt_of};
+ghost use Rattle.std.specs.Prelude.{◌≡◌, is_some, IfOk, IfSome};
+ghost use Rattle.flagops_rollouts.specs.Doubts.{NamesDoubted, doubt_of};
+ghost use Rattle.flagops_shell.specs.Diagnostic.{Says};
 ghost use Rattle.flagops_files.specs.Question.{book_question_view};
 ghost use Rattle.flagops_pictures.specs.Pictured.{as_question};
 
-use crate::asked::Asked;
-use flagops_commands::{doubt_in_book, remark_in, unread};
-use flagops_files::{BookQuestion, Remark};
+use crate::asked::Picturing;
+use flagops_files::BookQuestion;
 use flagops_ramps::first_of;
+use flagops_rollouts::{doubt_in_book, remark_in, unread};
+use flagops_shell::Remark;
 use std::alloc::{AllocError, Global};
 use std::thread::Threads;
 
 /// What a person is told beside the picture of an answer to a question.
+#[tactic(auto, using(crate::proofs::Diagnosed::for_request, crate::proofs::Diagnosed::noted))]
 pub(crate) fn noted<R: Threads>(
     rt: &R,
     alloc: Global,
-    asked: &Asked<'_>,
+    asked: &Picturing<'_>,
     question: &BookQuestion,
 ) -> Result<Option<Remark>, AllocError>
-    ensures { IfOk result (λ r. is_some r ≡ is_some (doubt_of (as_question (book_question_view question.now)))) }
+    ensures told { IfOk result (λ r. is_some r ≡ is_some (doubt_of (as_question (book_question_view question.now)))) }
+    ensures notes { IfOk result (λ r. IfSome r (Says (NamesDoubted asked.now.request.now asked.now.book.now))) }
 {
     let request = question.request.as_slice();
     let unread = unread(alloc, asked.request, request)?;

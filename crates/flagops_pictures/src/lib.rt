@@ -1,22 +1,26 @@
 //! The commands that draw the plan of a rollout: `picture` one plan, `picture --ramp` those of its steps, and `plan --picture` the
 //! plan that it prints.
 //!
-//! [`picture`], [`picture_ramp`] and [`plan_picture`] take the words after the program's name, of which the command's own name is
-//! the first, the files and two outlets, as `flagops_commands::run` does for every other command. They read the words by `clap`
-//! and load what a rollout is asked over. `picture` then loads the plan, checks it as `verify` does, and prints its picture as
-//! SVG; `picture --ramp` does so with the answers to steps, as `verify-ramp` does; `plan --picture` prints what `plan` prints, and
+//! [`Picturing`], [`PicturingRamp`] and [`Planning`] are commands with their words, which `flagops_shell::run` reads by `clap`, does
+//! and reports. `picture` loads what a rollout is asked over and the plan, checks it as `verify` does, and prints its picture as SVG;
+//! `picture --ramp` does so with the answers to steps, as `verify-ramp` does; `plan --picture` prints what `plan` prints, and
 //! replaces a file whole by the picture of it. What is doubted of an answer that is drawn is told beside its picture.
 //!
 //! ```rust
 //! use flag_text::WriteOutlet;
 //! use flagops_files::SystemFiles;
-//! use flagops_pictures::picture;
+//! use flagops_pictures::Picturing;
+//! use flagops_shell::{Console, run};
 //!
 //! let words = ["picture", "flags.json", "request.json", "book.jsonl", "plan.json"];
-//! let mut out = WriteOutlet::new(rt.stdout());
-//! let mut err = WriteOutlet::new(rt.stderr());
-//! let status = picture(&rt, words.as_slice(), &mut SystemFiles::new(&rt), &mut out, &mut err);
+//! let mut console = Console::new(WriteOutlet::new(rt.stdout()), WriteOutlet::new(rt.stderr()));
+//! let status = run::<_, _, _, Picturing<'_>, _, _>(&rt, words.as_slice(), &mut SystemFiles::new(&rt), &mut console);
 //! ```
+//!
+//! Proved of each command (`specs/Commands.antt`): over files whose bytes are known it comes to what the files at the paths make
+//! (`Pictured`, `Ramps`, `Planning`), unless memory ran out; a file that could not be read or written is what it is refused for; only
+//! `plan --picture` changes a file, the one that it is to write, and only where the plan is printed; and a person is told of a refusal by
+//! the file or the word that was refused. `flagops_shell` has what is then written.
 #![tactic(auto)]
 
 mod asked;
@@ -29,6 +33,4 @@ mod ramps;
 mod usage;
 mod words;
 
-pub use command::picture;
-pub use planning::plan_picture;
-pub use ramps::picture_ramp;
+pub use asked::{Picturing, PicturingRamp, Planning};

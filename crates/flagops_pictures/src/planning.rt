@@ -1,24 +1,31 @@
-//! The command `plan --picture`.
-ghost use Rattle.std.specs.Prelude.{◌≡◌, ◌⊎◌, ◌<◌, Ok, false, map, option_map, unwrap_or, IfErr, IfOk, IfSome, OnErr, string_bytes};
-ghost use Rattle.flagops_commands.specs.Plan.{IsPlanOf};
-ghost use Rattle.flagops_files.specs.Files.{KeepsOthers};
+//! The command `plan --picture`: it prints what `plan` does, and replaces the file of the picture whole.
+ghost use denote.Param.Send.{IsSync};
+ghost use Rattle.std.specs.Prelude.{◌≡◌, ◌⊎◌, ◌||◌, Ok, map, option_map, IfErr, IfOk, IfSome, string_bytes};
+ghost use Rattle.flagops_rollouts.specs.Plan.{IsPlanOf};
+ghost use Rattle.flagops_rollouts.specs.Doubts.{NamesDoubted};
+ghost use Rattle.flagops_shell.specs.Diagnostic.{Says};
+ghost use Rattle.flagops_shell.specs.Files.{KeepsOthers};
 ghost use Rattle.flagops_files.specs.Question.{book_question_view, question_view};
-ghost use Rattle.flagops_files.specs.Refusal.{ComesFrom, GivesOne};
-ghost use Rattle.flagops_files.specs.Report.{AnswersOrWants, outcome_view};
-ghost use Rattle.flagops_pictures.specs.Ended.{AnswersPlan, TellsPlan};
+ghost use Rattle.flagops_files.specs.Refusal.{ComesFrom, GivesOne, is_file_fault};
+ghost use Rattle.flagops_files.specs.Told.{TellsOfOne};
+ghost use Rattle.flagops_shell.specs.Report.{outcome_view};
+ghost use Rattle.flagops_pictures.specs.Commands.{plan_description};
+ghost use Rattle.flagops_pictures.specs.Diagnostics.{drawn_subjects, plan_subjects};
 ghost use Rattle.flagops_pictures.specs.Pictured.{as_question};
-ghost use Rattle.flagops_pictures.specs.Planning.{IsOfBook, IsPictureOf, IsPlanPicture, IsPlanWith, LeavesPicture, plan_calls};
-ghost use Rattle.flagops_pictures.specs.Words.{plan_by, planning_view};
+ghost use Rattle.flagops_pictures.specs.Planning.{IsOfBook, IsPictureOf, IsPlanPicture, IsPlanWith, KeepsUnlessPlanned, plan_calls};
+ghost use Rattle.flagops_pictures.specs.Words as words;
+ghost use Rattle.flagops_pictures.specs.Words.{planning_view};
 
 use crate::asked::Planning;
 use crate::drawing::{Asked, drawn};
 use crate::words::read_plan;
-use flag_text::Outlet;
-use flagops_commands::{plan_answer, refused, report_usage};
+use clap::Error;
 use flagops_files::{
-    BookQuestion, Call, Evidence, FileSet, Outcome, Question, Refusal, Refused, load_book_question,
-    report, store, want,
+    BookQuestion, Call, Evidence, Question, Refusal, Refused, load_book_question, out_of_memory,
+    store,
 };
+use flagops_rollouts::plan_answer;
+use flagops_shell::{Command, FileSet, Outcome};
 use flagops_words::factor_of;
 use page_tally::BookFile;
 use plan_text::{PlanFileFault, read_planned};
@@ -26,46 +33,28 @@ use std::alloc::{AllocError, Global};
 use std::convert::AsStr;
 use std::thread::Threads;
 
-/// Does what the words after the program's name ask of `plan --picture`, of which `plan` is the first, and gives the status to
-/// end with: it prints what `plan` does, and replaces the file of the picture whole, or leaves all files as they were.
-pub fn plan_picture<R: AllocGlobal + Threads + Sync, S: AsStr, F: FileSet, O: Outlet, E: Outlet>(
-    rt: &R,
-    words: &[S],
-    files: &mut F,
-    out: &mut O,
-    err: &mut E,
-) -> u8
-    requires out_whole { O.is_broken out.old ≡ false }
-    requires err_whole { E.is_broken err.old ≡ false }
-    ensures answers { AnswersPlan O.bytes O.is_broken out.old out.new E.bytes E.is_broken err.old err.new result
-        F.holding files.old files.new (map S.text words.now) }
-    ensures tells { TellsPlan O.bytes O.is_broken out.old out.new E.bytes E.is_broken err.old err.new result (map S.text words.now) }
-    ensures left { LeavesPicture (plan_by (map S.text words.now)) (F.holding files.old) (F.holding files.new) }
-{
-    let alloc = rt.alloc();
-    match read_plan(alloc, words) {
-        Ok(asked) => match answer(rt, alloc, files, &asked) {
-            Ok(outcome) => report(out, err, &outcome),
-            Err(call) => want(out, err, call),
-        },
-        Err(error) => report_usage(alloc, &error, out, err),
-    }
-}
+impl<'w, R: Threads + Sync, F: FileSet> Command<'w, R, F> for Planning<'w> {
+    type Refusal = Refusal;
 
-/// The plan or the line of a refusal, or the call that ran out of memory.
-fn answer<R: Threads + Sync, F: FileSet>(
-    rt: &R,
-    alloc: Global,
-    files: &mut F,
-    asked: &Planning<'_>,
-) -> Result<Outcome, Call>
-    ensures exact { IfSome (F.holding files.old) (λ at. AnswersOrWants plan_calls result (IsPlanPicture at (F.holding files.new) (planning_view asked.now))) }
-    ensures left { (F.holding files.new ≡ F.holding files.old) ⊎ KeepsOthers (F.holding files.old) (F.holding files.new) asked.now.picture.now }
-    ensures kept { OnErr result (F.holding files.new ≡ F.holding files.old) }
-{
-    match outcome(rt, alloc, files, asked) {
-        Ok(outcome) => Ok(outcome),
-        Err(it) => refused(alloc, it),
+    ghost Asked = { words.Planning };
+
+    ghost Needs = { IsSync R.row };
+
+    ghost view = { planning_view };
+
+    ghost description = { plan_description };
+
+    fn read<S: AsStr>(alloc: Global, words: &'w [S]) -> Result<Planning<'w>, Error> {
+        read_plan(alloc, words)
+    }
+
+    #[tactic(auto, using(crate::proofs::Diagnosed::plan_remarks, crate::proofs::Diagnosed::wants))]
+    fn answer(&self, rt: &R, alloc: Global, files: &mut F) -> Result<Outcome, Refused> {
+        outcome(rt, alloc, files, self)
+    }
+
+    fn call_of(&self, refusal: &Refusal) -> &'static str {
+        refusal.call().name()
     }
 }
 
@@ -79,8 +68,11 @@ fn outcome<R: Threads + Sync, F: FileSet>(
 ) -> Result<Outcome, Refused>
     ensures exact { IfSome (F.holding files.old) (λ at. GivesOne outcome_view result (IsPlanPicture at (F.holding files.new) (planning_view asked.now))) }
     ensures calls { ComesFrom plan_calls result }
+    ensures failed { F.has_failed files.new ≡ (F.has_failed files.old || is_file_fault result) }
+    ensures names { TellsOfOne (plan_subjects (planning_view asked.now)) result }
+    ensures notes { IfOk result (λ o. IfSome o.remark (Says (NamesDoubted asked.now.request.now asked.now.book.now))) }
     ensures left { (F.holding files.new ≡ F.holding files.old) ⊎ KeepsOthers (F.holding files.old) (F.holding files.new) asked.now.picture.now }
-    ensures kept { OnErr result (F.holding files.new ≡ F.holding files.old) }
+    ensures kept { KeepsUnlessPlanned (F.holding files.old) (F.holding files.new) result }
 {
     let factor = factor_of(asked.refine);
     let question = load_book_question(
@@ -125,8 +117,11 @@ fn planned<R: Threads + Sync, F: FileSet>(
     requires { IsOfBook question.now.evidence }
     ensures exact { IfSome (F.holding files.old) (λ at. GivesOne outcome_view result (IsPlanWith at (F.holding files.new) (planning_view asked.now) (question_view question.now))) }
     ensures calls { ComesFrom plan_calls result }
+    ensures failed { F.has_failed files.new ≡ (F.has_failed files.old || is_file_fault result) }
+    ensures names { TellsOfOne (drawn_subjects (planning_view asked.now)) result }
+    ensures notes { IfOk result (λ o. IfSome o.remark (Says (NamesDoubted asked.now.request.now asked.now.book.now))) }
     ensures left { (F.holding files.new ≡ F.holding files.old) ⊎ KeepsOthers (F.holding files.old) (F.holding files.new) asked.now.picture.now }
-    ensures kept { OnErr result (F.holding files.new ≡ F.holding files.old) }
+    ensures kept { KeepsUnlessPlanned (F.holding files.old) (F.holding files.new) result }
 {
     let outcome = plan_answer(
         rt,
@@ -158,7 +153,7 @@ fn picture_of<R: Threads + Sync>(
 {
     match picture_drawn(rt, alloc, asked, question, outcome) {
         Ok(text) => Ok(text),
-        Err(AllocError) => Err(Refused::out_of_memory(Call::Plan)),
+        Err(AllocError) => Err(out_of_memory(Call::Plan)),
     }
 }
 

@@ -1,24 +1,30 @@
-//! The command `picture --ramp`.
-ghost use Rattle.std.specs.Prelude.{◌≡◌, ◌≤◌, ◌<◌, ◌+◌, false, length, List, map, option_map, Ok, IfOk, IfSome, string_bytes};
+//! The command `picture --ramp`: it prints the pictures of answers to steps that are right.
+ghost use denote.Param.Send.{IsSync};
+ghost use Rattle.std.specs.Prelude.{◌≡◌, ◌≤◌, ◌<◌, ◌+◌, ◌||◌, length, List, map, option_map, Ok, IfOk, IfSome, string_bytes};
 ghost use Rattle.flag_defs.specs.Flags.{flags_view};
-ghost use Rattle.flagops_files.specs.Report.{outcome_view};
-ghost use Rattle.flagops_pictures.specs.Ended.{AnswersRamp, TellsRamp};
+ghost use Rattle.flagops_shell.specs.Report.{outcome_view};
+ghost use Rattle.flagops_pictures.specs.Commands.{ramp_description};
 ghost use Rattle.flagops_pictures.specs.Ramps.{AreTold, Continues, IsRampDrawn, IsRampPicture, IsRampPictureOf};
 ghost use Rattle.flagops_ramps.specs.Judging.{AreRightAnswers, answered_view};
-ghost use Rattle.flagops_ramps.specs.Report.{GivesOne};
+ghost use Rattle.flagops_ramps.specs.Report.{GivesOne, is_file_fault};
+ghost use Rattle.flagops_ramps.specs.Diagnostics.{Diagnoses, IsOfVerify};
+ghost use Rattle.flagops_ramps.specs.Words as words;
+ghost use Rattle.flagops_rollouts.specs.Doubts.{NamesDoubted};
+ghost use Rattle.flagops_shell.specs.Diagnostic.{Says};
 ghost use Rattle.flagops_ramps.specs.Words.{verifying_view};
 ghost use Rattle.picture.specs.Told.{Item};
 ghost use Rattle.plan_text.specs.Answer.{planned_view};
 ghost use Rattle.ramp.specs.Right.{AreRight};
 ghost use Rattle.ramp_steps.specs.Steps.{most_steps, requests_view};
 
+use crate::asked::PicturingRamp;
 use crate::drawing::{Asked, add_picture};
 use crate::words::read_ramp;
+use clap::Error;
 use flag_defs::Flags;
-use flag_text::Outlet;
-use flagops_commands::{remark_in, report_usage};
-use flagops_files::{FileSet, Outcome, Refused, Status, finish};
 use flagops_ramps::{RampRefusal, RightAnswers, Verifying, doubted, load_answers, out_of_memory};
+use flagops_rollouts::remark_in;
+use flagops_shell::{Command, FileSet, Outcome, Refused, Status};
 use flagops_words::factor_number;
 use page_tally::BookFile;
 use picture::{draw_step, page};
@@ -29,39 +35,39 @@ use std::alloc::{AllocError, Global};
 use std::convert::AsStr;
 use std::thread::Threads;
 
-/// Does what the words after the program's name ask of `picture --ramp`, and gives the status to end with: 0, or 1 where the
-/// files, the steps or their answers are refused, as `verify-ramp` refuses them. Files are only read.
-pub fn picture_ramp<R, S, F, O, E>(
-    rt: &R,
-    words: &[S],
-    files: &mut F,
-    out: &mut O,
-    err: &mut E,
-) -> u8
-where
-    R: AllocGlobal + Threads + Sync,
-    S: AsStr,
-    F: FileSet,
-    O: Outlet,
-    E: Outlet,
-    requires out_whole { O.is_broken out.old ≡ false }
-    requires err_whole { E.is_broken err.old ≡ false }
-    ensures answers { AnswersRamp O.bytes O.is_broken out.old out.new E.bytes E.is_broken err.old err.new result
-        F.holding files.old (map S.text words.now) }
-    ensures tells { TellsRamp O.bytes O.is_broken out.old out.new E.bytes E.is_broken err.old err.new result (map S.text words.now) }
-    ensures kept { F.holding files.new ≡ F.holding files.old }
-{
-    let alloc = rt.alloc();
-    match read_ramp(alloc, words) {
-        Ok(asked) => {
-            let came = pictured(rt, alloc, files, &asked);
-            finish(alloc, came, "verify-ramp", out, err)
-        }
-        Err(error) => report_usage(alloc, &error, out, err),
+impl<'w, R: Threads + Sync, F: FileSet> Command<'w, R, F> for PicturingRamp<'w> {
+    type Refusal = RampRefusal;
+
+    ghost Asked = { words.Verifying };
+
+    ghost Needs = { IsSync R.row };
+
+    ghost view = { λ c. verifying_view c.answers };
+
+    ghost description = { ramp_description };
+
+    fn read<S: AsStr>(alloc: Global, words: &'w [S]) -> Result<PicturingRamp<'w>, Error> {
+        let answers = read_ramp(alloc, words)?;
+        Ok(PicturingRamp { answers })
+    }
+
+    #[tactic(auto, using(flagops_ramps::proofs::Diagnosed::verify_remarks, flagops_ramps::proofs::Diagnosed::wants, flagops_ramps::proofs::Diagnosed::all_kept))]
+    fn answer(
+        &self,
+        rt: &R,
+        alloc: Global,
+        files: &mut F,
+    ) -> Result<Outcome, Refused<RampRefusal>> {
+        pictured(rt, alloc, files, &self.answers)
+    }
+
+    fn call_of(&self, _refusal: &RampRefusal) -> &'static str {
+        "verify-ramp"
     }
 }
 
 /// The pictures of what the files at the paths ask and answer.
+#[tactic(auto, using(flagops_ramps::proofs::Diagnosed::wanting))]
 fn pictured<R: Threads + Sync, F: FileSet>(
     rt: &R,
     alloc: Global,
@@ -69,6 +75,9 @@ fn pictured<R: Threads + Sync, F: FileSet>(
     asked: &Verifying<'_>,
 ) -> Result<Outcome, Refused<RampRefusal>>
     ensures exact { IfSome (F.holding files.old) (λ at. GivesOne outcome_view result (IsRampPicture at (verifying_view asked.now))) }
+    ensures failed { F.has_failed files.new ≡ (F.has_failed files.old || is_file_fault result) }
+    ensures names { Diagnoses (IsOfVerify (verifying_view asked.now)) result }
+    ensures notes { IfOk result (λ o. IfSome o.remark (Says (NamesDoubted asked.now.rollout.steps.now asked.now.rollout.book.now))) }
     ensures kept { F.holding files.new ≡ F.holding files.old }
 {
     match load_answers(rt, alloc, files, asked) {
@@ -81,6 +90,7 @@ fn pictured<R: Threads + Sync, F: FileSet>(
 }
 
 /// The page that has the pictures of answers that are right, beside which a person is told what is doubted of them.
+#[tactic(auto, using(crate::proofs::Diagnosed::noted))]
 fn drawn<R: Threads + Sync>(
     rt: &R,
     alloc: Global,
@@ -88,7 +98,8 @@ fn drawn<R: Threads + Sync>(
     right: &RightAnswers,
 ) -> Result<Outcome, AllocError>
     requires { AreRightAnswers (option_map (λ m. m.number) asked.now.rollout.refine) right.now }
-    ensures { IfOk result (λ o. IsRampPictureOf (option_map (λ m. m.number) asked.now.rollout.refine) (Ok (answered_view right.now)) (Ok (outcome_view o))) }
+    ensures drawn { IfOk result (λ o. IsRampPictureOf (option_map (λ m. m.number) asked.now.rollout.refine) (Ok (answered_view right.now)) (Ok (outcome_view o))) }
+    ensures notes { IfOk result (λ o. IfSome o.remark (Says (NamesDoubted asked.now.rollout.steps.now asked.now.rollout.book.now))) }
 {
     let steps = right.steps.as_slice();
     let doubted = doubted(rt, alloc, &asked.rollout, &right.question, steps)?;

@@ -8,6 +8,7 @@ ghost use Rattle.flagops_words.specs.Words.{flag, strict_flag, with_rollout};
 
 use clap::{Arg, Command};
 use flagops_ramps::with_steps;
+use flagops_words::about;
 use flagops_words::arguments::{flag, refine, required, strict};
 use std::alloc::{AllocError, Global};
 
@@ -25,9 +26,7 @@ pub(crate) fn usage<'a>(alloc: Global) -> Result<Command<'a>, AllocError>
     let plan = required(alloc, "PLAN", "The plan file, as 'flagops plan' prints it");
     let command = Command::new(alloc, "picture")
         .bin_name("flagops picture")?
-        .about(
-            "Prints a picture of a plan as SVG: what it moves, and what it costs; with --ramp those of the steps of a rollout",
-        );
+        .about(about::PICTURE);
     rollout(alloc, command)?
         .arg(plan)?
         .arg(refine(alloc, REFINED))

@@ -2,10 +2,10 @@
 ghost use Rattle.std.specs.Prelude.{◌≡◌, IfErr, IfOk, Some, map, option_map};
 ghost use Rattle.clap.specs.Words.{found_of, kind_of, rows_of};
 ghost use Rattle.flagops_words.specs.Alone.{IsToldBy};
-ghost use Rattle.flagops_pictures.specs.Words.{asked_view, picture_by, picture_faults, picture_in, plan_by, plan_faults, planning_in, planning_view, ramp_by, ramp_faults};
+ghost use Rattle.flagops_pictures.specs.Words.{picturing_view, picture_by, picture_faults, picture_in, plan_by, plan_faults, planning_in, planning_view, ramp_by, ramp_faults};
 ghost use Rattle.flagops_ramps.specs.Words.{verifying_view};
 
-use crate::asked::{Asked, Planning};
+use crate::asked::{Picturing, Planning};
 use crate::usage::{plan, ramp, usage};
 use clap::{ArgMatches, Error};
 use flagops_ramps::{Verifying, verifying_in};
@@ -16,8 +16,11 @@ use std::convert::AsStr;
 
 /// What the words after the program's name ask of `picture`, which is the first of them.
 #[tactic(auto, unfolding(crate::specs::Words::picture_by, crate::specs::Words::picture_faults))]
-pub(crate) fn read_picture<'a, S: AsStr>(alloc: Global, words: &'a [S]) -> Result<Asked<'a>, Error>
-    ensures ok { IfOk result (λ a. picture_by (map S.text words.entry.now) ≡ Some (asked_view a)) }
+pub(crate) fn read_picture<'a, S: AsStr>(
+    alloc: Global,
+    words: &'a [S],
+) -> Result<Picturing<'a>, Error>
+    ensures ok { IfOk result (λ a. picture_by (map S.text words.entry.now) ≡ Some (picturing_view a)) }
     ensures err { IfErr result (λ e. IsToldBy (picture_faults (map S.text words.entry.now)) (picture_by (map S.text words.entry.now)) (kind_of e)) }
 {
     let matches = usage(alloc)?.try_get_matches_from(words)?;
@@ -75,15 +78,15 @@ fn planning_in<'a>(matches: &ArgMatches<'a>) -> Option<Planning<'a>>
 }
 
 #[tactic(auto, using(flagops_words::proofs::Matched::rows))]
-fn asked_in<'a>(matches: &ArgMatches<'a>) -> Option<Asked<'a>>
-    ensures { option_map asked_view result ≡ picture_in (rows_of (found_of matches.now)) }
+fn asked_in<'a>(matches: &ArgMatches<'a>) -> Option<Picturing<'a>>
+    ensures { option_map picturing_view result ≡ picture_in (rows_of (found_of matches.now)) }
 {
     let document = matches.get_str("DOC")?;
     let request = matches.get_str("REQUEST")?;
     let book = matches.get_str("BOOK")?;
     let plan = matches.get_str("PLAN")?;
     let refine = refine_in(matches)?;
-    Some(Asked {
+    Some(Picturing {
         document,
         request,
         book,

@@ -1,7 +1,7 @@
 -- What comes of a report beside which a doubt is settled.
 use Rattle.std.proofs.Common.{◌≡◌, false, Bool, Result, Ok, Err, sym, ap, subst}
-use Rattle.flagops_files.specs.Report.{outcome_view}
-use Rattle.flagops_files.specs.declared.outcome.Outcome.{Outcome}
+use Rattle.flagops_shell.specs.Report.{outcome_view}
+use Rattle.flagops_shell.specs.declared.outcome.Outcome.{Outcome}
 use Rattle.flagops_ramps.specs.Doubts.{beside}
 use Rattle.flagops_ramps.specs.Refusal.{is_want}
 use Rattle.flagops_ramps.specs.Report.{Came, GivesUnlessWant, Told}

@@ -1,5 +1,6 @@
 mod Applied
 mod Besides
+pub mod Diagnosed
 mod Loaded
 pub mod Matched
 mod Stepped

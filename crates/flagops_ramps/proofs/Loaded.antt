@@ -1,12 +1,12 @@
 -- What comes of the files that were loaded.
 use Rattle.std.proofs.Common.{◌≡◌, false, List, Vec, Global, Option, None, Some, Result, Ok, Err, ℕ, map, refl, ap, ◌∙◌, subst, sym}
 use Rattle.std.specs.Prelude.{IfSome}
-use Rattle.flagops_files.specs.Files.{Holding, load_of}
+use Rattle.flagops_shell.specs.Files.{Holding, load_of}
 use Rattle.flagops_files.specs.Loading.{max_rule, refused_by}
 use Rattle.flagops_files.specs.Question.{IsBookQuestionAt, book_question_view}
 use Rattle.flagops_files.specs.Refusal as files
-use Rattle.flagops_files.specs.Report.{outcome_view}
-use Rattle.flagops_files.specs.declared.outcome.Outcome.{Outcome}
+use Rattle.flagops_shell.specs.Report.{outcome_view}
+use Rattle.flagops_shell.specs.declared.outcome.Outcome.{Outcome}
 use Rattle.flagops_files.specs.declared.book_question.BookQuestion.{BookQuestion}
 use Rattle.flagops_files.specs.declared.refusal.Refusal.TheVariants.{Load as Unread}
 use Rattle.flagops_files.specs.Refusal.{Refused}

@@ -2,9 +2,9 @@
 use Rattle.std.proofs.Common.{◌≡◌, ◌≢◌, ℕ, Bool, false, true, List, Option, Result, Ok, Err, unwrap_or, refl, sym, ap, ◌∙◌, subst, inl, inr}
 use Rattle.flag_defs.specs.Flags.{flags_view}
 use Rattle.flagops_files.specs.Question.{BookQuestion, book_question_view}
-use Rattle.flagops_files.specs.Report.{outcome_view}
+use Rattle.flagops_shell.specs.Report.{outcome_view}
 use Rattle.flagops_files.specs.declared.book_question.BookQuestion as program
-use Rattle.flagops_files.specs.declared.outcome.Outcome.{Outcome}
+use Rattle.flagops_shell.specs.declared.outcome.Outcome.{Outcome}
 use Rattle.plan_text.specs.Answer.{Answer}
 use Rattle.ramp.specs.Ramp.{ArePlans, IsRefused}
 use Rattle.ramp.specs.Right.{IsTold}

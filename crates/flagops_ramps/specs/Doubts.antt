@@ -6,9 +6,9 @@ use Rattle.flag_text.specs.Shape.{Shape, object, Members, no_members, member}
 use Rattle.flag_text.specs.declared.fault.TextFault.{TextFault}
 use Rattle.unread_members.specs.Unread.{reads}
 use Rattle.unread_members.specs.declared.reader.Reader.TheVariants as reader
-use Rattle.flagops_commands.specs.Doubts.{first_doubt, recorded_doubt}
-use Rattle.flagops_commands.specs.Foreign.{is_foreign}
-use Rattle.flagops_commands.specs.Unrecorded.{is_unrecorded}
+use Rattle.flagops_rollouts.specs.Doubts.{first_doubt, recorded_doubt}
+use Rattle.flagops_rollouts.specs.Foreign.{is_foreign}
+use Rattle.flagops_rollouts.specs.Unrecorded.{is_unrecorded}
 use Rattle.flagops_files.specs.Loading.{max_text}
 use Rattle.flagops_files.specs.Question.{BookQuestion, Question}
 use Rattle.flagops_files.specs.declared.evidence.Evidence.TheVariants.{Book}

@@ -1,7 +1,7 @@
 -- What is found of the answers to steps that stand in a file.
 use Rattle.std.specs.Prelude.{◌≡◌, ◌≤◌, ℕ, List, length, map, Option, Result, Ok, Err}
 use Rattle.flag_defs.specs.Flags.{flags_view}
-use Rattle.flagops_files.specs.Files.{Holding, load_of}
+use Rattle.flagops_shell.specs.Files.{Holding, load_of}
 use Rattle.flagops_files.specs.Loading.{max_rule, refused_by}
 use Rattle.flagops_files.specs.Question.{BookQuestion, IsBookQuestionAt, book_question_view}
 use Rattle.flagops_files.specs.declared.refusal.Refusal.{Refusal}

@@ -1,10 +1,11 @@
 pub mod Apply
+pub mod Commands
+pub mod Diagnostics
 pub mod Doubts
-pub mod Ended
+pub mod FileLines
 pub mod Judging
 pub mod Ramp
 pub mod Refusal
-pub mod Remarks
 pub mod Report
 pub mod Verify
 pub mod Words

@@ -1,6 +1,6 @@
 -- What the command `ramp` answers.
 use Rattle.std.specs.Prelude.{◌≡◌, ◌⊎◌, ℕ, Bool, false, List, [], ◌∷◌, unwrap_or, Option, Result, Ok, Err}
-use Rattle.flagops_files.specs.Files.{Holding}
+use Rattle.flagops_shell.specs.Files.{Holding}
 use Rattle.flagops_files.specs.Question.{BookQuestion, IsBookQuestionAt}
 use Rattle.flagops_files.specs.declared.refusal.Refusal.{Refusal}
 use Rattle.plan_text.specs.Answer.{Answer, emit, none_exists}

@@ -1,5 +1,5 @@
 -- The line that a refusal of a command on steps is written as.
-use Rattle.std.specs.Prelude.{ℕ, Bool, List, [], codes, decimal, nat_eq}
+use Rattle.std.specs.Prelude.{ℕ, Bool, false, List, [], codes, decimal, nat_eq}
 use Rattle.flagops_files.specs.Payload.{number_item, rollout_items, verify_items}
 use Rattle.flagops_files.specs.Refusal as files
 use Rattle.flagops_files.specs.Refusal.{line_with}
@@ -31,6 +31,11 @@ number_of (Doubted c d) = files.doubt_number d
 
 abbrev pub is_want : RampRefusal → Bool
 is_want r = nat_eq (number_of r) 0
+
+-- a file could not be read
+abbrev pub is_unread : RampRefusal → Bool
+is_unread (Load e) = files.is_unread e
+is_unread r = false
 
 -- the line at fault
 abbrev pub line_items : RampFileFault → List ℕ

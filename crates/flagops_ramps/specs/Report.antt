@@ -1,10 +1,10 @@
 -- What a command on steps writes and ends with.
-use Rattle.std.specs.Prelude.{ℕ, Bool, List, Option, Result}
-use Rattle.flagops_files.specs.Ending as ending
-use Rattle.flagops_files.specs.Given as given
-use Rattle.flagops_files.specs.Report.{Report}
-use Rattle.flagops_files.specs.declared.refused.Refused.{Refused}
-use Rattle.flagops_ramps.specs.Refusal.{is_want, line_of}
+use Rattle.std.specs.Prelude.{Bool, Result}
+use Rattle.flagops_shell.specs.Ending as ending
+use Rattle.flagops_shell.specs.Given as given
+use Rattle.flagops_shell.specs.Report.{Report}
+use Rattle.flagops_shell.specs.declared.refused.Refused.{Refused}
+use Rattle.flagops_ramps.specs.Refusal.{is_unread, is_want}
 use Rattle.flagops_ramps.specs.declared.refusal.RampRefusal.{RampRefusal}
 
 -- what a command may come to
@@ -23,6 +23,6 @@ GivesOne seen r Wanted = given.GivesOne is_want seen r Wanted
 abbrev pub GivesUnlessWant : {X Y : Type 0} → (X → Y) → Result X Told → Result Y RampRefusal → Type 0
 GivesUnlessWant seen r wanted = given.GivesUnlessWant is_want seen r wanted
 
--- the report of one of these, or memory ran out
-abbrev pub Reports : Option (List ℕ) → Option (List ℕ) → Bool → Option (List ℕ) → Option (List ℕ) → Bool → ℕ → List ℕ → (Came → Type 0) → Type 0
-Reports = ending.EndsOne is_want line_of
+-- a file could not be read
+abbrev pub is_file_fault : {X : Type 0} → Result X Told → Bool
+is_file_fault r = ending.is_file_fault is_unread r

@@ -1,6 +1,6 @@
 -- What the command `verify-ramp` answers.
 use Rattle.std.specs.Prelude.{◌≡◌, Bool, false, List, ℕ, [], ◌∷◌, ◌++◌, codes, decimal, Ok, Err}
-use Rattle.flagops_files.specs.Files.{Holding}
+use Rattle.flagops_shell.specs.Files.{Holding}
 use Rattle.plan_text.specs.Answer.{Answer, emit, none_exists}
 use Rattle.flagops_ramps.specs.Doubts.{beside, doubt_of_steps, settle}
 use Rattle.flagops_ramps.specs.Judging.{Found, IsFoundAt}

@@ -1,12 +1,16 @@
-//! The command `apply --step`.
-ghost use Rattle.std.specs.Prelude.{◌≡◌, false, map, option_map, string_bytes, IfOk, IfSome, Ok};
+//! The command `apply --step`: it prints what `apply` does of the plan that answers the step.
+ghost use Rattle.std.specs.Prelude.{◌≡◌, ◌||◌, false, true, map, option_map, string_bytes, IfErr, IfOk, IfSome, None, Ok, ⊤};
 ghost use Rattle.flag_defs.specs.Flags.{flags_view};
-ghost use Rattle.flagops_commands.specs.Apply.{IsLocalReport, applied_report, document_line, none_report};
-ghost use Rattle.flagops_files.specs.Report.{done, outcome_view};
+ghost use Rattle.flagops_rollouts.specs.Apply.{IsLocalReport, applied_report, document_line, none_report};
+ghost use Rattle.flagops_files.specs.Report.{done};
+ghost use Rattle.flagops_shell.specs.Report.{outcome_view};
 ghost use Rattle.flagops_ramps.specs.Apply.{IsStepApplied, IsStepReport, answer_to, as_came};
-ghost use Rattle.flagops_ramps.specs.Ended.{AnswersStep, TellsStep};
-ghost use Rattle.flagops_ramps.specs.Remarks.{NamesStep};
-ghost use Rattle.flagops_ramps.specs.Report.{GivesOne, GivesUnlessWant};
+ghost use Rattle.flagops_ramps.specs.Commands.{step_description};
+ghost use Rattle.flagops_ramps.specs.Diagnostics.{Diagnoses, IsOfStep, NamesStep};
+ghost use Rattle.flagops_ramps.specs.Report.{GivesOne, GivesUnlessWant, is_file_fault};
+ghost use Rattle.flagops_ramps.specs.Refusal.{is_want};
+ghost use Rattle.flagops_ramps.specs.Words as words;
+ghost use Rattle.flagops_ramps.specs.Words.{applying_view};
 ghost use Rattle.flagops_ramps.specs.Judging.{answers_at};
 ghost use Rattle.plan_text.specs.Answer.{planned_view};
 
@@ -15,49 +19,56 @@ use crate::judging::{load_ramp, out_of_memory};
 use crate::refusal::RampRefusal;
 use crate::remarks::step_line;
 use crate::words::read_step;
+use clap::Error;
 use flag_defs::{Flags, print_flags};
-use flag_text::Outlet;
-use flagops_commands::report_usage;
-use flagops_files::{FileSet, Outcome, Refusal, Refused, Remark, Status, finish, load_flags};
-use flagops_remarks::of_applied;
+use flagops_files::{Refusal, load_flags};
+use flagops_shell::{Command, FileSet, Outcome, Refused, Remark, Status};
 use plan_text::Planned;
+use rollout_diagnostics::of_applied;
 use std::alloc::{AllocError, Global};
 use std::convert::AsStr;
-use std::thread::Threads;
 
-/// Does what the words after the program's name ask of `apply --step`, and gives the status to end with: it prints what `apply`
-/// does of the plan that answers the step, or the line of a refusal with status 1.
-pub fn apply_step<R, S, F, O, E>(rt: &R, words: &[S], files: &mut F, out: &mut O, err: &mut E) -> u8
-where
-    R: AllocGlobal + Threads + Sync,
-    S: AsStr,
-    F: FileSet,
-    O: Outlet,
-    E: Outlet,
-    requires out_whole { O.is_broken out.old ≡ false }
-    requires err_whole { E.is_broken err.old ≡ false }
-    ensures answers { AnswersStep O.bytes O.is_broken out.old out.new E.bytes E.is_broken err.old err.new result
-        F.holding files.old (map S.text words.now) }
-    ensures tells { TellsStep O.bytes O.is_broken out.old out.new E.bytes E.is_broken err.old err.new result (map S.text words.now) }
-    ensures kept { F.holding files.new ≡ F.holding files.old }
-{
-    let alloc = rt.alloc();
-    match read_step(alloc, words) {
-        Ok(asked) => {
-            let came = applied(alloc, files, &asked);
-            finish(alloc, came, "apply", out, err)
-        }
-        Err(error) => report_usage(alloc, &error, out, err),
+impl<'w, R, F: FileSet> Command<'w, R, F> for Applying<'w> {
+    type Refusal = RampRefusal;
+
+    ghost Asked = { words.Applying };
+
+    ghost Needs = { ⊤ };
+
+    ghost view = { applying_view };
+
+    ghost description = { step_description };
+
+    fn read<S: AsStr>(alloc: Global, words: &'w [S]) -> Result<Applying<'w>, Error> {
+        read_step(alloc, words)
+    }
+
+    #[tactic(auto, using(crate::proofs::Diagnosed::step_remarks, crate::proofs::Diagnosed::wants, crate::proofs::Diagnosed::all_kept))]
+    fn answer(
+        &self,
+        _rt: &R,
+        alloc: Global,
+        files: &mut F,
+    ) -> Result<Outcome, Refused<RampRefusal>> {
+        applied(alloc, files, self)
+    }
+
+    fn call_of(&self, _refusal: &RampRefusal) -> &'static str {
+        "apply"
     }
 }
 
 /// The report of the files that are asked for.
+#[tactic(auto, using(crate::proofs::Diagnosed::step_loaded, crate::proofs::Diagnosed::failed_load))]
 fn applied<F: FileSet>(
     alloc: Global,
     files: &mut F,
     asked: &Applying<'_>,
 ) -> Result<Outcome, Refused<RampRefusal>>
     ensures exact { IfSome (F.holding files.old) (λ at. GivesOne outcome_view result (IsStepReport at asked.now.document.now asked.now.ramp.now asked.now.key.now asked.now.site asked.now.step)) }
+    ensures failed { F.has_failed files.new ≡ (F.has_failed files.old || is_file_fault result) }
+    ensures names { Diagnoses (IsOfStep (applying_view asked.now)) result }
+    ensures notes { IfOk result (λ o. o.remark ≡ None) }
     ensures kept { F.holding files.new ≡ F.holding files.old }
 {
     match load_flags(alloc, files, asked.document) {
@@ -67,6 +78,7 @@ fn applied<F: FileSet>(
 }
 
 /// The report on flags, of answers that stand in a file.
+#[tactic(auto, using(crate::proofs::Diagnosed::step_answers))]
 fn against<F: FileSet>(
     alloc: Global,
     files: &mut F,
@@ -74,6 +86,9 @@ fn against<F: FileSet>(
     flags: &Flags,
 ) -> Result<Outcome, Refused<RampRefusal>>
     ensures exact { IfSome (F.holding files.old) (λ at. GivesOne outcome_view result (IsStepApplied asked.now.key.now asked.now.site asked.now.step (Ok (flags_view flags.now)) (answers_at at asked.now.ramp.now))) }
+    ensures failed { F.has_failed files.new ≡ (F.has_failed files.old || is_file_fault result) }
+    ensures names { Diagnoses (IsOfStep (applying_view asked.now)) result }
+    ensures notes { IfOk result (λ o. o.remark ≡ None) }
     ensures kept { F.holding files.new ≡ F.holding files.old }
 {
     match load_ramp(alloc, files, asked.ramp) {
@@ -83,13 +98,17 @@ fn against<F: FileSet>(
 }
 
 /// The report on flags and answers.
+#[tactic(auto, using(flagops_files::proofs::Told::says))]
 fn put(
     alloc: Global,
     asked: &Applying<'_>,
     flags: &Flags,
     answers: &[Planned],
 ) -> Result<Outcome, Refused<RampRefusal>>
-    ensures { GivesOne outcome_view result (IsStepApplied asked.now.key.now asked.now.site asked.now.step (Ok (flags_view flags.now)) (Ok (map planned_view answers.now))) }
+    ensures exact { GivesOne outcome_view result (IsStepApplied asked.now.key.now asked.now.site asked.now.step (Ok (flags_view flags.now)) (Ok (map planned_view answers.now))) }
+    ensures read { is_file_fault result ≡ false }
+    ensures names { Diagnoses (IsOfStep (applying_view asked.now)) result }
+    ensures notes { IfOk result (λ o. o.remark ≡ None) }
 {
     match answer_to(answers, asked.step) {
         Some(planned) => answer_put(alloc, asked, flags, planned),
@@ -120,7 +139,7 @@ fn of_no_step(alloc: Global, asked: &Applying<'_>) -> Result<String, AllocError>
 }
 
 /// The flags with the rule of an answer at the site, if it has one.
-#[tactic(auto, unfolding(flagops_commands::specs::Apply::applied_report))]
+#[tactic(auto, using(flagops_files::proofs::Told::says, crate::proofs::Diagnosed::wanting, crate::proofs::Diagnosed::plain), unfolding(flagops_rollouts::specs::Apply::applied_report))]
 fn answer_put(
     alloc: Global,
     asked: &Applying<'_>,
@@ -129,6 +148,9 @@ fn answer_put(
 ) -> Result<Outcome, Refused<RampRefusal>>
     ensures exact { GivesUnlessWant outcome_view result (as_came (applied_report (flags_view flags.now) asked.now.key.now asked.now.site (planned_view planned.now))) }
     ensures local { IfOk result (λ o. IsLocalReport (flags_view flags.now) asked.now.key.now asked.now.site (planned_view planned.now) (outcome_view o)) }
+    ensures read { is_file_fault result ≡ false }
+    ensures names { Diagnoses (IsOfStep (applying_view asked.now)) result }
+    ensures notes { IfOk result (λ o. o.remark ≡ None) }
 {
     match planned {
         Planned::Emit(rule, _) => {
@@ -149,8 +171,12 @@ fn answer_put(
 }
 
 /// The report of the changed document.
+#[tactic(auto, using(crate::proofs::Diagnosed::plain))]
 fn document(alloc: Global, flags: &Flags) -> Result<Outcome, Refused<RampRefusal>>
-    ensures { GivesUnlessWant outcome_view result (as_came (done (document_line (flags_view flags.now)))) }
+    ensures exact { GivesUnlessWant outcome_view result (as_came (done (document_line (flags_view flags.now)))) }
+    ensures wants { IfErr result (λ t. is_want t.refusal ≡ true) }
+    ensures read { is_file_fault result ≡ false }
+    ensures notes { IfOk result (λ o. o.remark ≡ None) }
 {
     match document_line(alloc, flags) {
         Ok(text) => Ok(Outcome::plain(text, Status::Done)),
@@ -159,8 +185,12 @@ fn document(alloc: Global, flags: &Flags) -> Result<Outcome, Refused<RampRefusal
 }
 
 /// The report of an answer without a rule.
+#[tactic(auto, using(crate::proofs::Diagnosed::plain))]
 fn none(alloc: Global) -> Result<Outcome, Refused<RampRefusal>>
-    ensures { GivesUnlessWant outcome_view result (Ok none_report) }
+    ensures exact { GivesUnlessWant outcome_view result (Ok none_report) }
+    ensures wants { IfErr result (λ t. is_want t.refusal ≡ true) }
+    ensures read { is_file_fault result ≡ false }
+    ensures notes { IfOk result (λ o. o.remark ≡ None) }
 {
     match Vec::from_slice(alloc, b"none\n") {
         Ok(text) => Ok(Outcome::plain(text, Status::NoneExists)),

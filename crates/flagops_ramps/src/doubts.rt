@@ -1,19 +1,23 @@
 //! What is doubted of answers to steps: a person is told, and `--strict` refuses it.
-ghost use Rattle.std.specs.Prelude.{◌≡◌, is_some, option_map, IfOk};
+ghost use Rattle.std.specs.Prelude.{◌≡◌, List, ℕ, false, is_some, option_map, IfOk, IfSome};
 ghost use Rattle.flag_text.specs.View.{members_view, view};
-ghost use Rattle.flagops_commands.specs.Doubts.{first_doubt};
+ghost use Rattle.flagops_rollouts.specs.Doubts.{NamesDoubt, NamesDoubted, first_doubt};
 ghost use Rattle.flagops_files.specs.Question.{book_question_view};
 ghost use Rattle.flagops_ramps.specs.Doubts.{doubt_of_steps, first_request, has_unread, has_unread_member, is_read, is_unread, settle};
-ghost use Rattle.flagops_ramps.specs.Report.{GivesUnlessWant};
+ghost use Rattle.flagops_ramps.specs.Report.{GivesUnlessWant, is_file_fault};
+ghost use Rattle.flagops_ramps.specs.Diagnostics.{Diagnoses, IsOfDoubted};
+ghost use Rattle.file_diagnostics.specs.Named.{Names};
+ghost use Rattle.flagops_shell.specs.Diagnostic.{Says};
 ghost use Rattle.ramp_steps.specs.Steps.{requests_view};
 
 use crate::asked::Ramping;
 use crate::judging::out_of_memory;
 use crate::refusal::{RampRefusal, StepCall};
+use file_diagnostics::of_unread;
 use flag_text::{TextFault, Tree, read_tree};
-use flagops_commands::{NotedDoubt, doubt_in_book, remark_in};
-use flagops_files::{BookQuestion, Doubt, Refused, Remark, TEXT_LIMIT};
-use flagops_remarks::of_unread;
+use flagops_files::{BookQuestion, Doubt, TEXT_LIMIT};
+use flagops_rollouts::{NotedDoubt, doubt_in_book, remark_in};
+use flagops_shell::{Refused, Remark};
 use std::alloc::{AllocError, Global};
 use std::thread::Threads;
 use unread_members::Reader;
@@ -28,24 +32,32 @@ pub(crate) fn settled<R: Threads>(
     question: &BookQuestion,
     steps: &[Vec<u8>],
 ) -> Result<Option<Remark>, Refused<RampRefusal>>
-    ensures { GivesUnlessWant (λ r. is_some r) result (settle call asked.now.strict (doubt_of_steps (book_question_view question.now) (requests_view steps.now))) }
+    ensures exact { GivesUnlessWant (λ r. is_some r) result (settle call asked.now.strict (doubt_of_steps (book_question_view question.now) (requests_view steps.now))) }
+    ensures read { is_file_fault result ≡ false }
+    ensures names { Diagnoses (IsOfDoubted asked.now.steps.now asked.now.book.now) result }
+    ensures notes { IfOk result (λ r. IfSome r (Says (NamesDoubted asked.now.steps.now asked.now.book.now))) }
 {
     match doubted(rt, alloc, asked, question, steps) {
-        Ok(doubted) => settle(call, doubted, asked.strict),
+        Ok(doubted) => settle(call, asked, doubted),
         Err(AllocError) => Err(out_of_memory()),
     }
 }
 
 /// The remark on a doubt, or its refusal.
+#[tactic(auto, using(crate::proofs::Diagnosed::doubt_said))]
 fn settle(
     call: StepCall,
+    asked: &Ramping<'_>,
     doubted: Option<NotedDoubt>,
-    strict: bool,
 ) -> Result<Option<Remark>, Refused<RampRefusal>>
-    ensures { GivesUnlessWant (λ r. is_some r) result (settle call strict (option_map (λ d. d.doubt) doubted)) }
+    requires { IfSome doubted (λ d. Says (NamesDoubt asked.now.steps.now asked.now.book.now d.doubt) d.remark) }
+    ensures exact { GivesUnlessWant (λ r. is_some r) result (settle call asked.now.strict (option_map (λ d. d.doubt) doubted)) }
+    ensures read { is_file_fault result ≡ false }
+    ensures names { Diagnoses (IsOfDoubted asked.now.steps.now asked.now.book.now) result }
+    ensures notes { IfOk result (λ r. IfSome r (Says (NamesDoubted asked.now.steps.now asked.now.book.now))) }
 {
     match doubted {
-        Some(NotedDoubt { doubt, remark }) => if strict {
+        Some(NotedDoubt { doubt, remark }) => if asked.strict {
             Err(Refused {
                 refusal: RampRefusal::Doubted(call, doubt),
                 remark,
@@ -58,6 +70,7 @@ fn settle(
 }
 
 /// The first that is doubted of the answers to steps; all that is doubted is told.
+#[tactic(auto, using(crate::proofs::Diagnosed::for_request))]
 pub fn doubted<R: Threads>(
     rt: &R,
     alloc: Global,
@@ -65,7 +78,8 @@ pub fn doubted<R: Threads>(
     question: &BookQuestion,
     steps: &[Vec<u8>],
 ) -> Result<Option<NotedDoubt>, AllocError>
-    ensures { IfOk result (λ o. option_map (λ d. d.doubt) o ≡ doubt_of_steps (book_question_view question.now) (requests_view steps.now)) }
+    ensures doubt { IfOk result (λ o. option_map (λ d. d.doubt) o ≡ doubt_of_steps (book_question_view question.now) (requests_view steps.now)) }
+    ensures notes { IfOk result (λ o. IfSome o (λ d. Says (NamesDoubt asked.now.steps.now asked.now.book.now d.doubt) d.remark)) }
 {
     let unread = unread(alloc, asked.steps, question.request.as_slice())?;
     let (flags, request) = (&question.flags, first_request(steps));
@@ -75,7 +89,8 @@ pub fn doubted<R: Threads>(
 
 /// The first of two doubts, with what is told of both.
 pub fn first_of(unread: Option<Remark>, recorded: Option<NotedDoubt>) -> Option<NotedDoubt>
-    ensures { option_map (λ d. d.doubt) result ≡ first_doubt (is_some unread) (option_map (λ d. d.doubt) recorded) }
+    ensures doubt { option_map (λ d. d.doubt) result ≡ first_doubt (is_some unread) (option_map (λ d. d.doubt) recorded) }
+    ensures notes { (request book : List ℕ) → IfSome unread (Says (Names request)) → IfSome recorded (λ d. Says (NamesDoubt request book d.doubt) d.remark) → IfSome result (λ d. Says (NamesDoubt request book d.doubt) d.remark) }
 {
     match unread {
         Some(remark) => Some(NotedDoubt {
@@ -87,7 +102,10 @@ pub fn first_of(unread: Option<Remark>, recorded: Option<NotedDoubt>) -> Option<
 }
 
 /// A remark with another behind it.
-fn joined(remark: Remark, more: Option<Remark>) -> Remark {
+#[tactic(auto, using(crate::proofs::Diagnosed::named_still))]
+fn joined(remark: Remark, more: Option<Remark>) -> Remark
+    ensures { (name : List ℕ) → Says (Names name) remark → Says (Names name) result }
+{
     match (remark, more) {
         (Remark::Lines(mut lines), Some(Remark::Lines(more))) => {
             match lines.push_str(more.as_str()) {
@@ -111,7 +129,8 @@ pub(crate) fn first_request(steps: &[Vec<u8>]) -> &[u8]
 
 /// What is told of members of a file of steps that are not read, where there are any.
 fn unread(alloc: Global, path: &str, bytes: &[u8]) -> Result<Option<Remark>, AllocError>
-    ensures { IfOk result (λ r. is_some r ≡ is_unread bytes.now) }
+    ensures unread { IfOk result (λ r. is_some r ≡ is_unread bytes.now) }
+    ensures notes { IfOk result (λ r. IfSome r (Says (Names path.now))) }
 {
     match read_tree(alloc, bytes, TEXT_LIMIT as usize) {
         Ok(tree) => unread_in(alloc, path, tree),
@@ -121,7 +140,8 @@ fn unread(alloc: Global, path: &str, bytes: &[u8]) -> Result<Option<Remark>, All
 }
 
 fn unread_in(alloc: Global, path: &str, tree: Tree) -> Result<Option<Remark>, AllocError>
-    ensures { IfOk result (λ r. is_some r ≡ has_unread (view tree)) }
+    ensures unread { IfOk result (λ r. is_some r ≡ has_unread (view tree)) }
+    ensures notes { IfOk result (λ r. IfSome r (Says (Names path.now))) }
 {
     match tree {
         Tree::Object(members) => unread_among(alloc, path, members),
@@ -129,12 +149,14 @@ fn unread_in(alloc: Global, path: &str, tree: Tree) -> Result<Option<Remark>, Al
     }
 }
 
+#[tactic(auto, using(flagops_files::proofs::Told::says))]
 fn unread_among(
     alloc: Global,
     path: &str,
     members: Vec<(String, Tree)>,
 ) -> Result<Option<Remark>, AllocError>
-    ensures { IfOk result (λ r. is_some r ≡ has_unread_member (members_view members.items)) }
+    ensures unread { IfOk result (λ r. is_some r ≡ has_unread_member (members_view members.items)) }
+    ensures notes { IfOk result (λ r. IfSome r (Says (Names path.now))) }
 {
     if !has_unread(members.as_slice()) {
         return Ok(None);

@@ -1,11 +1,11 @@
 //! Answers to steps that stand in a file, which are loaded and judged for each command that takes them.
-ghost use Rattle.std.specs.Prelude.{◌≡◌, ◌≤◌, ◌⊎◌, true, length, map, option_map, string_bytes, IfOk, IfSome, Ok};
-ghost use Rattle.flagops_commands.specs.Lines.{NamesFile};
+ghost use Rattle.std.specs.Prelude.{◌≡◌, ◌≤◌, ◌||◌, false, true, length, map, option_map, string_bytes, IfOk, IfSome, Ok};
+ghost use Rattle.flagops_files.specs.Lines.{NamesFile};
 ghost use Rattle.flagops_files.specs.Question.{book_question_view};
 ghost use Rattle.flagops_ramps.specs.Judging.{AreRightAnswers, IsFoundAt, IsFoundOf, IsFoundOver, answered_view, answers_at, read_as, refused_as};
-ghost use Rattle.flagops_ramps.specs.Refusal.{is_want};
-ghost use Rattle.flagops_ramps.specs.Remarks.{NamesStep};
-ghost use Rattle.flagops_ramps.specs.Report.{GivesOne, GivesUnlessWant};
+ghost use Rattle.flagops_ramps.specs.Refusal.{is_unread, is_want};
+ghost use Rattle.flagops_ramps.specs.Diagnostics.{Diagnoses, IsOfAnswers, IsOfVerify, NamesStep, judged_path};
+ghost use Rattle.flagops_ramps.specs.Report.{GivesOne, GivesUnlessWant, is_file_fault};
 ghost use Rattle.flagops_ramps.specs.Words.{verifying_view};
 ghost use Rattle.plan_text.specs.Answer.{planned_view};
 ghost use Rattle.ramp_steps.specs.Lines.{ramp_of};
@@ -15,9 +15,9 @@ use crate::asked::Verifying;
 use crate::ramping::{count, of_steps};
 use crate::refusal::RampRefusal;
 use crate::remarks::{of_steps_in, step_line};
-use flagops_commands::{file_line, whole_line};
-use flagops_files::{BookQuestion, FileSet, Refused, Remark, load, load_book_question};
-use flagops_remarks::Ends;
+use file_diagnostics::Ends;
+use flagops_files::{BookQuestion, file_line, load, load_book_question, whole_line};
+use flagops_shell::{FileSet, Refused, Remark};
 use flagops_words::{factor_number, factor_of};
 use plan_text::Planned;
 use ramp::{RampFault, verify_steps};
@@ -38,6 +38,7 @@ pub struct RightAnswers {
 }
 
 /// The answers of the file that is asked for, with the files that they are judged by, where they are right; or the first refusal.
+#[tactic(auto, using(crate::proofs::Diagnosed::verify_loaded, crate::proofs::Diagnosed::failed_load))]
 pub fn load_answers<R: Threads + Sync, F: FileSet>(
     rt: &R,
     alloc: Global,
@@ -46,6 +47,8 @@ pub fn load_answers<R: Threads + Sync, F: FileSet>(
 ) -> Result<RightAnswers, Refused<RampRefusal>>
     ensures exact { IfSome (F.holding files.old) (λ at. GivesOne answered_view result (IsFoundAt at (verifying_view asked.now))) }
     ensures right { IfOk result (AreRightAnswers (option_map (λ m. m.number) asked.now.rollout.refine)) }
+    ensures failed { F.has_failed files.new ≡ (F.has_failed files.old || is_file_fault result) }
+    ensures names { Diagnoses (IsOfVerify (verifying_view asked.now)) result }
     ensures kept { F.holding files.new ≡ F.holding files.old }
 {
     let rollout = &asked.rollout;
@@ -64,6 +67,7 @@ pub fn load_answers<R: Threads + Sync, F: FileSet>(
 }
 
 /// The same to a question, whose answers stand in a file.
+#[tactic(auto, using(flagops_files::proofs::Told::says, crate::proofs::Diagnosed::verify_answers))]
 fn against<R: Threads + Sync, F: FileSet>(
     rt: &R,
     alloc: Global,
@@ -73,6 +77,8 @@ fn against<R: Threads + Sync, F: FileSet>(
 ) -> Result<RightAnswers, Refused<RampRefusal>>
     ensures exact { IfSome (F.holding files.old) (λ at. GivesOne answered_view result (IsFoundOf (option_map (λ m. m.number) asked.now.rollout.refine) (Ok (book_question_view question)) (answers_at at asked.now.ramp.now))) }
     ensures right { IfOk result (AreRightAnswers (option_map (λ m. m.number) asked.now.rollout.refine)) }
+    ensures failed { F.has_failed files.new ≡ (F.has_failed files.old || is_file_fault result) }
+    ensures names { Diagnoses (IsOfVerify (verifying_view asked.now)) result }
     ensures kept { F.holding files.new ≡ F.holding files.old }
 {
     let answers = load_ramp(alloc, files, asked.ramp)?;
@@ -89,6 +95,7 @@ fn against<R: Threads + Sync, F: FileSet>(
 }
 
 /// The same of answers to these steps.
+#[tactic(auto, using(crate::proofs::Diagnosed::wanting))]
 fn over<R: Threads + Sync>(
     rt: &R,
     alloc: Global,
@@ -100,6 +107,8 @@ fn over<R: Threads + Sync>(
     requires { length steps.items ≤ most_steps }
     ensures exact { GivesOne answered_view result (IsFoundOver (option_map (λ m. m.number) asked.now.rollout.refine) (book_question_view question) (map planned_view answers.items) (Ok (requests_view steps.items))) }
     ensures right { IfOk result (AreRightAnswers (option_map (λ m. m.number) asked.now.rollout.refine)) }
+    ensures read { is_file_fault result ≡ false }
+    ensures names { Diagnoses (IsOfVerify (verifying_view asked.now)) result }
 {
     let mut question = question;
     let refine = asked.rollout.refine;
@@ -126,12 +135,15 @@ fn over<R: Threads + Sync>(
 }
 
 /// The answers of the file at a path.
+#[tactic(auto, using(crate::proofs::Diagnosed::answers_loaded, crate::proofs::Diagnosed::failed_load))]
 pub(crate) fn load_ramp<F: FileSet>(
     alloc: Global,
     files: &mut F,
     path: &str,
 ) -> Result<Vec<Planned>, Refused<RampRefusal>>
     ensures exact { IfSome (F.holding files.old) (λ at. GivesUnlessWant (λ v. map planned_view v.items) result (answers_at at path.now)) }
+    ensures failed { F.has_failed files.new ≡ (F.has_failed files.old || is_file_fault result) }
+    ensures names { Diagnoses (IsOfAnswers path.now) result }
     ensures kept { F.holding files.new ≡ F.holding files.old }
 {
     match load(alloc, files, path, RAMP_LIMIT) {
@@ -141,8 +153,11 @@ pub(crate) fn load_ramp<F: FileSet>(
 }
 
 /// The answers of a file's bytes.
+#[tactic(auto, using(flagops_files::proofs::Told::says, crate::proofs::Diagnosed::file_path))]
 fn read(alloc: Global, path: &str, bytes: &[u8]) -> Result<Vec<Planned>, Refused<RampRefusal>>
-    ensures { GivesUnlessWant (λ v. map planned_view v.items) result (read_as (ramp_of bytes.now)) }
+    ensures exact { GivesUnlessWant (λ v. map planned_view v.items) result (read_as (ramp_of bytes.now)) }
+    ensures read { is_file_fault result ≡ false }
+    ensures names { Diagnoses (IsOfAnswers path.now) result }
 {
     match read_ramp(alloc, bytes) {
         Ok(answers) => Ok(answers),
@@ -155,7 +170,8 @@ fn read(alloc: Global, path: &str, bytes: &[u8]) -> Result<Vec<Planned>, Refused
 
 /// Memory that ran out.
 pub fn out_of_memory() -> Refused<RampRefusal>
-    ensures { is_want result.refusal ≡ true }
+    ensures want { is_want result.refusal ≡ true }
+    ensures read { is_unread result.refusal ≡ false }
 {
     Refused {
         refusal: RampRefusal::Verify(VerifyFault::Request(RolloutFault::WantOfMemory)),
@@ -164,8 +180,11 @@ pub fn out_of_memory() -> Refused<RampRefusal>
 }
 
 /// Answers that are not right, which a person is told of.
+#[tactic(auto, using(flagops_files::proofs::Told::says, crate::proofs::Diagnosed::step_said, crate::proofs::Diagnosed::file_path))]
 fn wrong(alloc: Global, asked: &Verifying<'_>, fault: RampFault) -> Refused<RampRefusal>
-    ensures { result.refusal ≡ refused_as fault }
+    ensures refusal { result.refusal ≡ refused_as fault }
+    ensures read { is_unread result.refusal ≡ false }
+    ensures names { IsOfVerify (verifying_view asked.now) result.refusal result.remark }
 {
     match fault {
         RampFault::Step(step, fault) => Refused {
@@ -190,7 +209,7 @@ fn of_verdict(
     step: u32,
     fault: &VerifyFault,
 ) -> Result<String, AllocError>
-    ensures { IfOk result (λ s. NamesStep asked.now.rollout.steps.now step (string_bytes s) ⊎ NamesStep asked.now.ramp.now step (string_bytes s)) }
+    ensures { IfOk result (λ s. NamesStep (judged_path (verifying_view asked.now) fault.now) step (string_bytes s)) }
 {
     let path = match fault {
         VerifyFault::Request(_) => asked.rollout.steps,

@@ -1,13 +1,18 @@
-//! The command `ramp`.
-ghost use Rattle.std.specs.Prelude.{◌≡◌, ◌<◌, false, is_some, map, option_map, IfSome, Ok};
+//! The command `ramp`: it prints a line for each step that was planned.
+ghost use denote.Param.Send.{IsSync};
+ghost use Rattle.std.specs.Prelude.{◌≡◌, ◌<◌, ◌||◌, false, is_some, map, option_map, IfErr, IfOk, IfSome, Ok};
 ghost use Rattle.std.specs.List.{All};
 ghost use Rattle.flag_text.specs.Outcome.{GivesUnless};
 ghost use Rattle.flagops_files.specs.Question.{book_question_view};
-ghost use Rattle.flagops_files.specs.Report.{outcome_view, status_number};
+ghost use Rattle.flagops_rollouts.specs.Doubts.{NamesDoubted};
+ghost use Rattle.flagops_shell.specs.Diagnostic.{Says};
+ghost use Rattle.flagops_shell.specs.Report.{outcome_view, status_number};
 ghost use Rattle.flagops_ramps.specs.Doubts.{beside, doubt_of_steps, settle};
-ghost use Rattle.flagops_ramps.specs.Ended.{AnswersRamp, TellsRamp};
+ghost use Rattle.flagops_ramps.specs.Commands.{ramp_description};
+ghost use Rattle.flagops_ramps.specs.Diagnostics.{Diagnoses, IsOfRamp, IsOfSize, NamesPath};
 ghost use Rattle.flagops_ramps.specs.Ramp.{IsRampOf, IsRampReport, of_steps, ramp_status, report_ramp};
-ghost use Rattle.flagops_ramps.specs.Report.{GivesOne, GivesUnlessWant};
+ghost use Rattle.flagops_ramps.specs.Report.{GivesOne, GivesUnlessWant, is_file_fault};
+ghost use Rattle.flagops_ramps.specs.Words as words;
 ghost use Rattle.flagops_ramps.specs.Words.{ramping_view};
 ghost use Rattle.plan_text.specs.Answer.{planned_view};
 ghost use Rattle.plan_text.specs.PlanFile.{IsWhole};
@@ -20,50 +25,52 @@ use crate::refusal::{RampRefusal, StepCall};
 use crate::remarks::of_steps_in;
 use crate::words::read_ramp;
 use book_core::BookFileFault;
-use flag_text::Outlet;
-use flagops_commands::report_usage;
-use flagops_files::{
-    BookQuestion, FileSet, Outcome, Refused, Remark, Status, finish, load_book_question,
-};
-use flagops_remarks::of_large_plan;
+use clap::Error;
+use flagops_files::{BookQuestion, load_book_question};
+use flagops_shell::{Command, FileSet, Outcome, Refused, Remark, Status};
 use flagops_words::factor_of;
 use plan_text::Planned;
 use price_core::PriceFault;
 use ramp::{StepFault, plan_steps};
 use ramp_steps::{StepsFault, print_ramp, read_steps};
 use rollout_checks::{Refining, RolloutFault, read_book_for};
+use rollout_diagnostics::of_large_plan;
 use std::alloc::Global;
 use std::convert::AsStr;
 use std::thread::Threads;
 
-/// Does what the words after the program's name ask of `ramp`, which is the first of them, and gives the status to end with. It
-/// prints a line for each step that was planned, or the line of a refusal with status 1; the status is 3 where no rule fits the
-/// last one.
-pub fn ramp<R, S, F, O, E>(rt: &R, words: &[S], files: &mut F, out: &mut O, err: &mut E) -> u8
-where
-    R: AllocGlobal + Threads + Sync,
-    S: AsStr,
-    F: FileSet,
-    O: Outlet,
-    E: Outlet,
-    requires out_whole { O.is_broken out.old ≡ false }
-    requires err_whole { E.is_broken err.old ≡ false }
-    ensures answers { AnswersRamp O.bytes O.is_broken out.old out.new E.bytes E.is_broken err.old err.new result
-        F.holding files.old (map S.text words.now) }
-    ensures tells { TellsRamp O.bytes O.is_broken out.old out.new E.bytes E.is_broken err.old err.new result (map S.text words.now) }
-    ensures kept { F.holding files.new ≡ F.holding files.old }
-{
-    let alloc = rt.alloc();
-    match read_ramp(alloc, words) {
-        Ok(asked) => {
-            let came = planned(rt, alloc, files, &asked);
-            finish(alloc, came, "ramp", out, err)
-        }
-        Err(error) => report_usage(alloc, &error, out, err),
+impl<'w, R: Threads + Sync, F: FileSet> Command<'w, R, F> for Ramping<'w> {
+    type Refusal = RampRefusal;
+
+    ghost Asked = { words.Ramping };
+
+    ghost Needs = { IsSync R.row };
+
+    ghost view = { ramping_view };
+
+    ghost description = { ramp_description };
+
+    fn read<S: AsStr>(alloc: Global, words: &'w [S]) -> Result<Ramping<'w>, Error> {
+        read_ramp(alloc, words)
+    }
+
+    #[tactic(auto, using(crate::proofs::Diagnosed::ramp_remarks, crate::proofs::Diagnosed::wants, crate::proofs::Diagnosed::all_kept))]
+    fn answer(
+        &self,
+        rt: &R,
+        alloc: Global,
+        files: &mut F,
+    ) -> Result<Outcome, Refused<RampRefusal>> {
+        planned(rt, alloc, files, self)
+    }
+
+    fn call_of(&self, _refusal: &RampRefusal) -> &'static str {
+        "ramp"
     }
 }
 
 /// The report of the files that are asked for.
+#[tactic(auto, using(crate::proofs::Diagnosed::ramp_loaded, crate::proofs::Diagnosed::failed_load))]
 fn planned<R: Threads + Sync, F: FileSet>(
     rt: &R,
     alloc: Global,
@@ -71,6 +78,9 @@ fn planned<R: Threads + Sync, F: FileSet>(
     asked: &Ramping<'_>,
 ) -> Result<Outcome, Refused<RampRefusal>>
     ensures exact { IfSome (F.holding files.old) (λ at. GivesOne outcome_view result (IsRampReport at (ramping_view asked.now))) }
+    ensures failed { F.has_failed files.new ≡ (F.has_failed files.old || is_file_fault result) }
+    ensures names { Diagnoses (IsOfRamp (ramping_view asked.now)) result }
+    ensures notes { IfOk result (λ o. IfSome o.remark (Says (NamesDoubted asked.now.steps.now asked.now.book.now))) }
     ensures kept { F.holding files.new ≡ F.holding files.old }
 {
     match load_book_question(
@@ -88,13 +98,17 @@ fn planned<R: Threads + Sync, F: FileSet>(
 }
 
 /// The report on a question.
+#[tactic(auto, using(crate::proofs::Diagnosed::ramp_refused, crate::proofs::Diagnosed::ramp_read, crate::proofs::Diagnosed::wanting))]
 fn answer<R: Threads + Sync>(
     rt: &R,
     alloc: Global,
     asked: &Ramping<'_>,
     question: BookQuestion,
 ) -> Result<Outcome, Refused<RampRefusal>>
-    ensures { GivesOne outcome_view result (IsRampOf asked.now.strict (option_map (λ m. m.number) asked.now.refine) (Ok (book_question_view question))) }
+    ensures exact { GivesOne outcome_view result (IsRampOf asked.now.strict (option_map (λ m. m.number) asked.now.refine) (Ok (book_question_view question))) }
+    ensures read { is_file_fault result ≡ false }
+    ensures names { Diagnoses (IsOfRamp (ramping_view asked.now)) result }
+    ensures notes { IfOk result (λ o. IfSome o.remark (Says (NamesDoubted asked.now.steps.now asked.now.book.now))) }
 {
     let steps = match read_steps(alloc, question.request.as_slice()) {
         Ok(steps) => steps,
@@ -113,6 +127,7 @@ fn answer<R: Threads + Sync>(
 }
 
 /// The lines of the answers, beside which a person is told what is doubted of them.
+#[tactic(auto, using(crate::proofs::Diagnosed::ramp_doubted, crate::proofs::Diagnosed::ramp_large))]
 fn told<R: Threads>(
     rt: &R,
     alloc: Global,
@@ -122,7 +137,10 @@ fn told<R: Threads>(
     answers: &[Planned],
 ) -> Result<Outcome, Refused<RampRefusal>>
     requires { All (λ p. IsWhole (planned_view p)) answers.now }
-    ensures { GivesUnlessWant outcome_view result (beside (settle StepCall.Ramp asked.now.strict (doubt_of_steps (book_question_view question.now) (requests_view steps.now))) (report_ramp (map planned_view answers.now))) }
+    ensures exact { GivesUnlessWant outcome_view result (beside (settle StepCall.Ramp asked.now.strict (doubt_of_steps (book_question_view question.now) (requests_view steps.now))) (report_ramp (map planned_view answers.now))) }
+    ensures read { is_file_fault result ≡ false }
+    ensures names { Diagnoses (IsOfRamp (ramping_view asked.now)) result }
+    ensures notes { IfOk result (λ o. IfSome o.remark (Says (NamesDoubted asked.now.steps.now asked.now.book.now))) }
 {
     match settled(rt, alloc, StepCall::Ramp, asked, question, steps) {
         Ok(remark) => printed(alloc, answers, remark),
@@ -131,13 +149,15 @@ fn told<R: Threads>(
 }
 
 /// A step that is refused, which a person is told of.
+#[tactic(auto, using(flagops_files::proofs::Told::says))]
 fn refused(
     alloc: Global,
     path: &str,
     question: &BookQuestion,
     fault: StepFault,
 ) -> Refused<RampRefusal>
-    ensures { result.refusal ≡ RampRefusal.Ramp fault.fault }
+    ensures refusal { result.refusal ≡ RampRefusal.Ramp fault.fault }
+    ensures names { Says (NamesPath path.now) result.remark }
 {
     Refused {
         refusal: RampRefusal::Ramp(fault.fault),
@@ -177,13 +197,17 @@ pub(crate) fn count<R: Threads>(
 }
 
 /// The lines of the answers, with what a person is told beside them.
+#[tactic(auto, using(flagops_files::proofs::Told::says))]
 fn printed(
     alloc: Global,
     answers: &[Planned],
     remark: Option<Remark>,
 ) -> Result<Outcome, Refused<RampRefusal>>
     requires { All (λ p. IsWhole (planned_view p)) answers.now }
-    ensures { GivesUnlessWant outcome_view result (beside (Ok (is_some remark)) (report_ramp (map planned_view answers.now))) }
+    ensures exact { GivesUnlessWant outcome_view result (beside (Ok (is_some remark)) (report_ramp (map planned_view answers.now))) }
+    ensures read { is_file_fault result ≡ false }
+    ensures names { IfErr result (λ t. IsOfSize t.refusal t.remark) }
+    ensures remark { IfOk result (λ o. o.remark ≡ remark) }
 {
     match print_ramp(alloc, answers) {
         Ok(text) => Ok(Outcome {

@@ -1,10 +1,11 @@
 //! Why the commands on steps refuse.
 ghost use Rattle.std.specs.Prelude.{◌≡◌, IfOk, string_bytes};
-ghost use Rattle.flagops_ramps.specs.Refusal.{call_name, is_want, line_of, number_of};
+ghost use Rattle.flagops_ramps.specs.FileLines.{file_line};
+ghost use Rattle.flagops_ramps.specs.Refusal.{call_name, is_unread, is_want, line_of, number_of};
 ghost use Rattle.flagops_ramps.specs.declared.refusal.RampRefusal.TheVariants.{Load, Ramp, Read, Verify};
 
-use flagops_commands::fault_line;
-use flagops_files::{CommandRefusal, Doubt, Refusal, number_item, rollout_items, verify_items};
+use flagops_files::{Doubt, Refusal, fault_line, number_item, rollout_items, verify_items};
+use flagops_shell::CommandRefusal;
 use plan_text::PlanFileFault;
 use ramp_steps::RampFileFault;
 use rollout_checks::{RolloutFault, VerifyFault};
@@ -81,6 +82,8 @@ impl From<Refusal> for RampRefusal {
 impl CommandRefusal for RampRefusal {
     ghost is_want = { is_want };
 
+    ghost is_unread = { is_unread };
+
     ghost line_of = { line_of };
 
     fn is_want(&self) -> bool {
@@ -103,6 +106,8 @@ impl CommandRefusal for RampRefusal {
             }
         }
     }
+
+    ghost unread_lines = { file_line };
 }
 
 /// The line of steps that are refused.

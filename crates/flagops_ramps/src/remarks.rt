@@ -1,13 +1,10 @@
 //! What a person is told of steps that are refused.
-ghost use Rattle.std.specs.Prelude.{◌⊎◌, IfOk, string_bytes};
-ghost use Rattle.flagops_commands.specs.Lines.{NamesFile};
-ghost use Rattle.flagops_ramps.specs.Remarks.{NamesStep};
-ghost use Rattle.flagops_remarks.specs.Named.{Names};
+ghost use Rattle.std.specs.Prelude.{IfOk, string_bytes};
+ghost use Rattle.flagops_ramps.specs.Diagnostics.{NamesPath, NamesStep};
 
+use file_diagnostics::of_text;
 use flag_text::read_tree;
-use flagops_commands::file_line;
-use flagops_files::{BookQuestion, TEXT_LIMIT, quoted};
-use flagops_remarks::of_text;
+use flagops_files::{BookQuestion, TEXT_LIMIT, file_line, quoted};
 use ramp::StepFault;
 use std::alloc::{AllocError, Global};
 
@@ -17,13 +14,14 @@ const LOOK: &str =
 
 /// Of the steps of a file, by its text: what is wrong with one that is no tree, what steps look like where there are none, and
 /// else the step that is refused.
+#[tactic(auto, using(crate::proofs::Diagnosed::name_path, crate::proofs::Diagnosed::file_path, crate::proofs::Diagnosed::step_path))]
 pub(crate) fn of_steps_in(
     alloc: Global,
     path: &str,
     question: &BookQuestion,
     fault: StepFault,
 ) -> Result<String, AllocError>
-    ensures { IfOk result (λ s. Names path.now (string_bytes s) ⊎ NamesFile path.now (string_bytes s) ⊎ NamesStep path.now fault.step (string_bytes s)) }
+    ensures { IfOk result (λ s. NamesPath path.now (string_bytes s)) }
 {
     let (bytes, limit) = (question.request.as_slice(), TEXT_LIMIT as usize);
     match read_tree(alloc, bytes, limit) {

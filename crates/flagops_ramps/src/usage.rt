@@ -7,8 +7,8 @@ ghost use Rattle.flagops_ramps.specs.Words.{ramp_app, step_app, step_option, ver
 
 use clap::builder::ValueParser;
 use clap::{Arg, Command};
-use flagops_words::LARGEST_32;
 use flagops_words::arguments::{refine, required, site, strict};
+use flagops_words::{LARGEST_32, about};
 use std::alloc::{AllocError, Global};
 
 /// What the book of a rollout is.
@@ -23,9 +23,9 @@ const REFINED: &str =
 pub fn ramp<'a>(alloc: Global) -> Result<Command<'a>, AllocError>
     ensures { IfOk result (λ c. app_of c ≡ ramp_app) }
 {
-    let command = Command::new(alloc, "ramp").bin_name("flagops ramp")?.about(
-        "Plans a rollout in steps, each on the rule that the step before left",
-    );
+    let command = Command::new(alloc, "ramp")
+        .bin_name("flagops ramp")?
+        .about(about::RAMP);
     let factor = refine(alloc, REFINED);
     let strict = strict(alloc);
     with_steps(alloc, command, BOOK)?.arg(factor)?.arg(strict)
@@ -47,7 +47,7 @@ fn verified<'a>(alloc: Global) -> Result<Command<'a>, AllocError>
 {
     let command = Command::new(alloc, "verify-ramp")
         .bin_name("flagops verify-ramp")?
-        .about("Checks the answers to the steps of a rollout apart from the planner");
+        .about(about::VERIFY_RAMP);
     let answers = required(alloc, "RAMP", "The file that ramp printed");
     with_steps(alloc, command, BOOK)?.arg(answers)
 }

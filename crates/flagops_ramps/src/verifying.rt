@@ -1,10 +1,16 @@
-//! The command `verify-ramp`.
-ghost use Rattle.std.specs.Prelude.{◌≡◌, false, is_some, map, string_bytes, IfOk, IfSome, Ok};
-ghost use Rattle.flagops_files.specs.Report.{outcome_view};
+//! The command `verify-ramp`: it prints what each step costs.
+ghost use denote.Param.Send.{IsSync};
+ghost use Rattle.std.specs.Prelude.{◌≡◌, ◌||◌, false, true, is_some, map, string_bytes, IfErr, IfOk, IfSome, Ok};
+ghost use Rattle.flagops_rollouts.specs.Doubts.{NamesDoubted};
+ghost use Rattle.flagops_shell.specs.Diagnostic.{Says};
+ghost use Rattle.flagops_shell.specs.Report.{outcome_view};
 ghost use Rattle.flagops_ramps.specs.Doubts.{beside};
-ghost use Rattle.flagops_ramps.specs.Ended.{AnswersVerify, TellsVerify};
+ghost use Rattle.flagops_ramps.specs.Commands.{verify_description};
+ghost use Rattle.flagops_ramps.specs.Diagnostics.{Diagnoses, IsOfVerify};
 ghost use Rattle.flagops_ramps.specs.Judging.{answered_view};
-ghost use Rattle.flagops_ramps.specs.Report.{GivesOne, GivesUnlessWant};
+ghost use Rattle.flagops_ramps.specs.Report.{GivesOne, GivesUnlessWant, is_file_fault};
+ghost use Rattle.flagops_ramps.specs.Refusal.{is_want};
+ghost use Rattle.flagops_ramps.specs.Words as words;
 ghost use Rattle.flagops_ramps.specs.Verify.{IsVerdictReport, cost_item, report_found, report_valid, valid_ramp};
 ghost use Rattle.flagops_ramps.specs.Words.{verifying_view};
 ghost use Rattle.plan_text.specs.Answer.{planned_view};
@@ -14,43 +20,40 @@ use crate::doubts::settled;
 use crate::judging::{RightAnswers, load_answers, out_of_memory};
 use crate::refusal::{RampRefusal, StepCall};
 use crate::words::read_verify;
-use flag_text::Outlet;
-use flagops_commands::report_usage;
-use flagops_files::{FileSet, Outcome, Refused, Remark, Status, finish};
+use clap::Error;
+use flagops_shell::{Command, FileSet, Outcome, Refused, Remark, Status};
 use plan_text::Planned;
 use std::alloc::{AllocError, Global};
 use std::convert::AsStr;
 use std::thread::Threads;
 
-/// Does what the words after the program's name ask of `verify-ramp`, which is the first of them, and gives the status to end
-/// with. It prints what each step costs, or the line of a refusal with status 1.
-pub fn verify_ramp<R, S, F, O, E>(
-    rt: &R,
-    words: &[S],
-    files: &mut F,
-    out: &mut O,
-    err: &mut E,
-) -> u8
-where
-    R: AllocGlobal + Threads + Sync,
-    S: AsStr,
-    F: FileSet,
-    O: Outlet,
-    E: Outlet,
-    requires out_whole { O.is_broken out.old ≡ false }
-    requires err_whole { E.is_broken err.old ≡ false }
-    ensures answers { AnswersVerify O.bytes O.is_broken out.old out.new E.bytes E.is_broken err.old err.new result
-        F.holding files.old (map S.text words.now) }
-    ensures tells { TellsVerify O.bytes O.is_broken out.old out.new E.bytes E.is_broken err.old err.new result (map S.text words.now) }
-    ensures kept { F.holding files.new ≡ F.holding files.old }
-{
-    let alloc = rt.alloc();
-    match read_verify(alloc, words) {
-        Ok(asked) => {
-            let came = verdict(rt, alloc, files, &asked);
-            finish(alloc, came, "verify-ramp", out, err)
-        }
-        Err(error) => report_usage(alloc, &error, out, err),
+impl<'w, R: Threads + Sync, F: FileSet> Command<'w, R, F> for Verifying<'w> {
+    type Refusal = RampRefusal;
+
+    ghost Asked = { words.Verifying };
+
+    ghost Needs = { IsSync R.row };
+
+    ghost view = { verifying_view };
+
+    ghost description = { verify_description };
+
+    fn read<S: AsStr>(alloc: Global, words: &'w [S]) -> Result<Verifying<'w>, Error> {
+        read_verify(alloc, words)
+    }
+
+    #[tactic(auto, using(crate::proofs::Diagnosed::verify_remarks, crate::proofs::Diagnosed::wants, crate::proofs::Diagnosed::all_kept))]
+    fn answer(
+        &self,
+        rt: &R,
+        alloc: Global,
+        files: &mut F,
+    ) -> Result<Outcome, Refused<RampRefusal>> {
+        verdict(rt, alloc, files, self)
+    }
+
+    fn call_of(&self, _refusal: &RampRefusal) -> &'static str {
+        "verify-ramp"
     }
 }
 
@@ -62,6 +65,9 @@ fn verdict<R: Threads + Sync, F: FileSet>(
     asked: &Verifying<'_>,
 ) -> Result<Outcome, Refused<RampRefusal>>
     ensures exact { IfSome (F.holding files.old) (λ at. GivesOne outcome_view result (IsVerdictReport at (verifying_view asked.now))) }
+    ensures failed { F.has_failed files.new ≡ (F.has_failed files.old || is_file_fault result) }
+    ensures names { Diagnoses (IsOfVerify (verifying_view asked.now)) result }
+    ensures notes { IfOk result (λ o. IfSome o.remark (Says (NamesDoubted asked.now.rollout.steps.now asked.now.rollout.book.now))) }
     ensures kept { F.holding files.new ≡ F.holding files.old }
 {
     match load_answers(rt, alloc, files, asked) {
@@ -71,13 +77,17 @@ fn verdict<R: Threads + Sync, F: FileSet>(
 }
 
 /// The report of answers that are right, beside which a person is told what is doubted of them.
+#[tactic(auto, using(crate::proofs::Diagnosed::verify_doubted, crate::proofs::Diagnosed::wanting))]
 fn reported<R: Threads>(
     rt: &R,
     alloc: Global,
     asked: &Verifying<'_>,
     right: &RightAnswers,
 ) -> Result<Outcome, Refused<RampRefusal>>
-    ensures { GivesUnlessWant outcome_view result (report_found asked.now.rollout.strict (Ok (answered_view right.now))) }
+    ensures exact { GivesUnlessWant outcome_view result (report_found asked.now.rollout.strict (Ok (answered_view right.now))) }
+    ensures read { is_file_fault result ≡ false }
+    ensures names { Diagnoses (IsOfVerify (verifying_view asked.now)) result }
+    ensures notes { IfOk result (λ o. IfSome o.remark (Says (NamesDoubted asked.now.rollout.steps.now asked.now.rollout.book.now))) }
 {
     let steps = right.steps.as_slice();
     let (rollout, question) = (&asked.rollout, &right.question);
@@ -93,7 +103,10 @@ fn valid(
     answers: &[Planned],
     remark: Option<Remark>,
 ) -> Result<Outcome, Refused<RampRefusal>>
-    ensures { GivesUnlessWant outcome_view result (beside (Ok (is_some remark)) (report_valid (map planned_view answers.now))) }
+    ensures exact { GivesUnlessWant outcome_view result (beside (Ok (is_some remark)) (report_valid (map planned_view answers.now))) }
+    ensures read { is_file_fault result ≡ false }
+    ensures wants { IfErr result (λ t. is_want t.refusal ≡ true) }
+    ensures remark { IfOk result (λ o. o.remark ≡ remark) }
 {
     match valid_line(alloc, answers) {
         Ok(text) => Ok(Outcome {

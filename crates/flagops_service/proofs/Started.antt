@@ -1,9 +1,13 @@
 -- Documents that are loaded, merged and answered from.
+use Rattle.clap.specs.Walk.{Text}
+use Rattle.flagops_shell.specs.Console.{Shown}
+use Rattle.flagops_shell.specs.Usage.{ShowsWordsWant}
+use Rattle.flagops_service.specs.Ended.{AnswersOfrep, Reports, Serves, ServesOfrep}
 use Rattle.std.proofs.Common.{◌≡◌, ◌⊎◌, ◌∙◌, ℕ, false, List, [], ◌∷◌, Option, Some, Result, Ok, Err, IfSome, inl, inr, refl, ap, arith, length, map, subst, sym}
 use Rattle.flag_defs.specs.Document.{Definitions}
 use Rattle.flag_defs.specs.declared.flags.Flags.{Flags}
 use Rattle.source_merge.specs.Sources.{SourceList}
-use Rattle.flagops_files.specs.Files.{Holding}
+use Rattle.flagops_shell.specs.Files.{Holding}
 use Rattle.flagops_streams.specs.Loading.{Loaded, loaded_at}
 use Rattle.flagops_streams.proofs.DocumentsLoaded.{where_known}
 use Rattle.flagops_streams.specs.Documents.{Answer, Gives, MayFail, Merges, count_of}
@@ -12,7 +16,7 @@ use Rattle.flagops_streams.specs.declared.refusal.Refusal.{Refusal}
 use Rattle.flagops_streams.proofs.Gives.{counted}
 use Rattle.flagops_service.specs.Merging.{GivesMore}
 use Rattle.flagops_service.specs.Starting.{StartsLoaded, StartsOn, StartsTo}
-use Rattle.flagops_service.specs.Words.{Answering, seats_of}
+use Rattle.flagops_service.specs.Words.{Answering, ofrep_by, seats_of}
 
 -- the first document is merged, and those behind it give the rest
 pub first_merged : (sources next last : SourceList) (flags : Definitions) (text : List ℕ) (texts : List (List ℕ)) (r : Result Flags Refusal)
@@ -29,23 +33,11 @@ serves_as seats d (Ok all) Reported (inr gives) p =
     inl (subst (λ (k : ℕ). Reported (Ok k)) count p)
 serves_as seats d (Err refusal) Reported starts p = inr (refusal, p)
 
--- the same, for words that ask for as many documents
-pub served : (asked : Option Answering) (a : Answering) (d : Loaded) (answer : Answer) (Reported : Result ℕ Refusal → Type 0) (Wanted : Type 0)
-    → asked ≡ Some a → length d.texts ≡ length a.documents → StartsOn (seats_of a) d answer → Reported (count_of answer)
-    → IfSome asked (λ t. Reported (Ok (length t.documents)) ⊎ ((refusal : Refusal) × Reported (Err refusal)) ⊎ Wanted)
-served asked a d answer Reported Wanted is count starts report =
-    subst (λ (o : Option Answering). IfSome o (λ t. Reported (Ok (length t.documents)) ⊎ ((refusal : Refusal) × Reported (Err refusal)) ⊎ Wanted)) (sym is)
-    (by (serves_as (seats_of a) d answer Reported starts report))
-  where
-    by : Reported (Ok (length d.texts)) ⊎ ((refusal : Refusal) × Reported (Err refusal)) → Reported (Ok (length a.documents)) ⊎ ((refusal : Refusal) × Reported (Err refusal)) ⊎ Wanted
-    by (inl p) = inl (subst (λ (k : ℕ). Reported (Ok k)) count p)
-    by (inr refused) = inr (inl refused)
-
--- and where they were not loaded
-pub unserved : (asked : Option Answering) (a : Answering) (refusal : Refusal) (Reported : Result ℕ Refusal → Type 0) (Wanted : Type 0)
-    → asked ≡ Some a → Reported (Err refusal) → IfSome asked (λ t. Reported (Ok (length t.documents)) ⊎ ((r : Refusal) × Reported (Err r)) ⊎ Wanted)
-unserved asked a refusal Reported Wanted is report =
-    subst (λ (o : Option Answering). IfSome o (λ t. Reported (Ok (length t.documents)) ⊎ ((r : Refusal) × Reported (Err r)) ⊎ Wanted)) (sym is) (inr (inl (refusal, report)))
+-- the same, of as many documents as are asked for
+pub served : (a : Answering) (d : Loaded) (answer : Answer) (Reported : Result ℕ Refusal → Type 0) (n : ℕ)
+    → length d.texts ≡ n → StartsOn (seats_of a) d answer → Reported (count_of answer) → Reported (Ok n) ⊎ ((refusal : Refusal) × Reported (Err refusal))
+served a d answer Reported n count starts report =
+    subst (λ (k : ℕ). Reported (Ok k) ⊎ ((refusal : Refusal) × Reported (Err refusal))) count (serves_as (seats_of a) d answer Reported starts report)
 
 -- documents that were merged are answered from, or not
 pub begun : (seats n : ℕ) (d : Loaded) (all : List Definitions) (Reported : Result ℕ Refusal → Type 0) → n ≡ length d.texts → Gives d.sources d.texts [] (Ok all)
@@ -64,13 +56,11 @@ loaded_started at a d (Err refusal) loaded starts = λ _. subst (λ (r : Result 
 not_loaded : (at : Holding) (a : Answering) (refusal : Refusal) → (is_want refusal ≡ false → loaded_at at a.documents ≡ Err refusal) → StartsTo at a (Err refusal)
 not_loaded at a refusal loaded = λ other. subst (λ (r : Result Loaded Refusal). StartsLoaded (seats_of a) r (Err refusal)) (sym (loaded other)) refl
 
--- an answer to words that ask for this, and its report
-pub answered : (holding : Option Holding) (asked : Option Answering) (a : Answering) (answer : Answer) (Reported : Answer → Type 0) (Wanted : Type 0)
-    → asked ≡ Some a → IfSome holding (λ at. StartsTo at a answer) → Reported answer
-    → IfSome asked (λ t. IfSome holding (λ at. ((r : Answer) × StartsTo at t r × Reported r) ⊎ Wanted))
-answered holding asked a answer Reported Wanted is answers report =
-    subst (λ (o : Option Answering). IfSome o (λ t. IfSome holding (λ at. ((r : Answer) × StartsTo at t r × Reported r) ⊎ Wanted))) (sym is)
-    (where_known holding (λ at. StartsTo at a answer) (λ at. ((r : Answer) × StartsTo at a r × Reported r) ⊎ Wanted) (λ at h. inl (answer, h, report)) answers)
+-- an answer to what is asked, and its report
+pub answered : (holding : Option Holding) (a : Answering) (answer : Answer) (Reported : Answer → Type 0)
+    → IfSome holding (λ at. StartsTo at a answer) → Reported answer → IfSome holding (λ at. (r : Answer) × StartsTo at a r × Reported r)
+answered holding a answer Reported answers report =
+    where_known holding (λ at. StartsTo at a answer) (λ at. (r : Answer) × StartsTo at a r × Reported r) (λ at h. (answer, h, report)) answers
 
 -- the same over the words' own paths, of which the slice was taken
 module _ {X : Type 0} (now : X → List ℕ) (slice items : List X) (same : slice ≡ items) (holding : Option Holding) (a : Answering) (paths : a.documents ≡ map now items) where
@@ -85,3 +75,23 @@ module _ {X : Type 0} (now : X → List ℕ) (slice items : List X) (same : slic
   none_started refusal loaded =
       where_known holding (λ at. is_want refusal ≡ false → loaded_at at (map now slice) ≡ Err refusal) (λ at. StartsTo at a (Err refusal))
       (λ at e. not_loaded at a refusal (λ other. ap (loaded_at at) (sym named) ∙ e other)) loaded
+
+-- ---- what the words ask for
+
+-- over a console of which the two outlets were taken
+pub answers_asked : (old inside new : Shown) (status : ℕ) (words : List Text) (a : Answering) (files : Option Holding) → inside ≡ old → ofrep_by words ≡ Some a
+    → IfSome files (λ at. (answer : Answer) × StartsTo at a answer × Reports inside.printed new.printed new.is_broken inside.reported new.reported new.is_mute status (count_of answer))
+    → AnswersOfrep old new status files words
+answers_asked old inside new status words a files same is answers =
+    subst (λ (o : Shown). AnswersOfrep o new status files words) same
+    (subst (λ (o : Option Answering). IfSome o (λ t. IfSome files (λ at. ((answer : Answer) × StartsTo at t answer × Reports inside.printed new.printed new.is_broken inside.reported new.reported new.is_mute status (count_of answer)) ⊎ ShowsWordsWant inside new status))) (sym is)
+    (where_known files (λ at. (answer : Answer) × StartsTo at a answer × Reports inside.printed new.printed new.is_broken inside.reported new.reported new.is_mute status (count_of answer))
+    (λ at. ((answer : Answer) × StartsTo at a answer × Reports inside.printed new.printed new.is_broken inside.reported new.reported new.is_mute status (count_of answer)) ⊎ ShowsWordsWant inside new status)
+    (λ at h. inl h) answers))
+
+pub serves_asked : (old inside new : Shown) (status : ℕ) (words : List Text) (a : Answering) (n : ℕ) → inside ≡ old → ofrep_by words ≡ Some a → n ≡ length a.documents
+    → Serves inside.printed new.printed new.is_broken inside.reported new.reported new.is_mute status n → ServesOfrep old new status words
+serves_asked old inside new status words a n same is count serves =
+    subst (λ (o : Shown). ServesOfrep o new status words) same
+    (subst (λ (o : Option Answering). IfSome o (λ t. Serves inside.printed new.printed new.is_broken inside.reported new.reported new.is_mute status (length t.documents) ⊎ ShowsWordsWant inside new status)) (sym is)
+    (inl (subst (λ (k : ℕ). Serves inside.printed new.printed new.is_broken inside.reported new.reported new.is_mute status k) count serves)))

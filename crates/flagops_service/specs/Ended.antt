@@ -1,9 +1,9 @@
 -- What `ofrep` comes to, by what the two outlets show before and after, what the files show, and the status.
 use Rattle.std.specs.Prelude.{◌≡◌, ◌⊎◌, ℕ, Bool, List, ◌++◌, codes, decimal, length, Option, None, IfSome, Result, Ok, Err}
 use Rattle.clap.specs.Walk.{Text}
-use Rattle.flagops_commands.specs.Ended.{WantsAt}
-use Rattle.flagops_files.specs.Files.{Holding}
-use Rattle.flagops_commands.specs.Telling.{TellsOne}
+use Rattle.flagops_shell.specs.Console.{Shown}
+use Rattle.flagops_shell.specs.Files.{Holding}
+use Rattle.flagops_shell.specs.Usage.{ShowsOneUsage, ShowsWordsWant}
 use Rattle.flagops_service.specs.Starting.{StartsTo}
 use Rattle.flagops_service.specs.Words.{ofrep_by, ofrep_faults}
 use Rattle.flagops_streams.specs.Documents.{Answer, MayFail, count_of}
@@ -40,20 +40,23 @@ Begins out out' broken told told' mute status seats n =
     ServesOn out out' broken told told' mute status n
     ⊎ ((refusal : Refusal) × MayFail seats refusal × Reports out out' broken told told' mute status (Err refusal))
 
-module _ {O E : Type 0} (bytes : O → Option (List ℕ)) (is_broken : O → Bool) (out out' : O) (told : E → Option (List ℕ)) (is_mute : E → Bool) (err err' : E) (status : ℕ) where
+-- so many documents are answered from, or there is a refusal
+abbrev pub Serves : Option (List ℕ) → Option (List ℕ) → Bool → Option (List ℕ) → Option (List ℕ) → Bool → ℕ → ℕ → Type 0
+Serves out out' broken told told' mute status n =
+    ServesOn out out' broken told told' mute status n ⊎ ((refusal : Refusal) × Reports out out' broken told told' mute status (Err refusal))
+
+module _ (old new : Shown) (status : ℕ) where
   -- over files whose bytes are known, the line of what the documents at the paths make
-  abbrev pub AnswersOfrep : {F : Type 0} → (F → Option Holding) → F → List Text → Type 0
-  AnswersOfrep holding files words = IfSome (ofrep_by words) (λ a. IfSome (holding files) (λ at.
-      ((answer : Answer) × StartsTo at a answer × Reports (bytes out) (bytes out') (is_broken out') (told err) (told err') (is_mute err') status (count_of answer))
-      ⊎ WantsAt bytes is_broken out out' told is_mute err err' status))
+  abbrev pub AnswersOfrep : Option Holding → List Text → Type 0
+  AnswersOfrep files words = IfSome (ofrep_by words) (λ a. IfSome files (λ at.
+      ((answer : Answer) × StartsTo at a answer × Reports old.printed new.printed new.is_broken old.reported new.reported new.is_mute status (count_of answer))
+      ⊎ ShowsWordsWant old new status))
 
   -- the number of the documents, or a refusal
   abbrev pub ServesOfrep : List Text → Type 0
   ServesOfrep words = IfSome (ofrep_by words) (λ a.
-      ServesOn (bytes out) (bytes out') (is_broken out') (told err) (told err') (is_mute err') status (length a.documents)
-      ⊎ ((refusal : Refusal) × Reports (bytes out) (bytes out') (is_broken out') (told err) (told err') (is_mute err') status (Err refusal))
-      ⊎ WantsAt bytes is_broken out out' told is_mute err err' status)
+      Serves old.printed new.printed new.is_broken old.reported new.reported new.is_mute status (length a.documents) ⊎ ShowsWordsWant old new status)
 
   -- words with a mistake are told by one of their mistakes
   abbrev pub TellsOfrep : List Text → Type 0
-  TellsOfrep words = ofrep_by words ≡ None → TellsOne (bytes out) (bytes out') (is_broken out') (told err) (told err') (is_mute err') status (ofrep_faults words)
+  TellsOfrep words = ofrep_by words ≡ None → ShowsOneUsage old new status (ofrep_faults words)

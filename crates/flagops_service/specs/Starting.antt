@@ -1,6 +1,6 @@
 -- What starting on documents gives, from the files at their paths.
 use Rattle.std.specs.Prelude.{◌≡◌, ◌⊎◌, false, ℕ, [], Result, Ok, Err}
-use Rattle.flagops_files.specs.Files.{Holding}
+use Rattle.flagops_shell.specs.Files.{Holding}
 use Rattle.flagops_streams.specs.Loading.{Loaded, loaded_at}
 use Rattle.flagops_streams.specs.Documents.{Answer, Gives, MayFail}
 use Rattle.flagops_streams.specs.Refusal.{is_want}

@@ -1,11 +1,12 @@
 //! The command `ofrep`.
-ghost use Rattle.std.specs.Prelude.{◌≡◌, ◌<◌, false, length, map, vec_len};
+ghost use Rattle.std.specs.Prelude.{◌≡◌, ◌<◌, false, length, map, vec_len, IfSome};
 ghost use Rattle.flagops_streams.specs.Loading.{documents_view};
 ghost use Rattle.flagops_streams.specs.Documents.{Answer, count_of, documents_in};
 ghost use Rattle.source_merge.specs.View.{sources_view};
-ghost use Rattle.flagops_service.specs.Ended.{AnswersOfrep, Begins, Reports, ServesOfrep, TellsOfrep};
+ghost use Rattle.flagops_service.specs.Ended.{AnswersOfrep, Begins, Reports, Serves, ServesOfrep, TellsOfrep};
 ghost use Rattle.flagops_service.specs.Merging.{AreMerged, ArePublished};
-ghost use Rattle.flagops_service.specs.Starting.{StartsOn};
+ghost use Rattle.flagops_service.specs.Starting.{StartsOn, StartsTo};
+ghost use Rattle.flagops_shell.specs.Console.{IsOpen};
 ghost use Rattle.flagops_service.specs.Words.{answering_view, seats_of, subscribers_of};
 
 use crate::asked::Answering;
@@ -20,8 +21,7 @@ use crate::watching::{Watched, watch};
 use crate::words::read_ofrep;
 use flag_defs::Flags;
 use flag_text::Outlet;
-use flagops_commands::report_usage;
-use flagops_files::FileSet;
+use flagops_shell::{Console, FileSet, report_usage};
 use flagops_streams::{Documents, Refusal, loaded, write_line};
 use ofrep_service::{Board, work_beside};
 use snap_share::{History, Publisher, ReadSeat, ShareName, share};
@@ -36,23 +36,38 @@ pub fn ofrep<R: Host, S: AsStr, F: FileSet, O: Outlet, E: Outlet>(
     rt: &R,
     words: &[S],
     files: &mut F,
+    console: &mut Console<O, E>,
+) -> u8
+    requires { IsOpen console.old }
+    ensures answers { AnswersOfrep console.old console.new result (F.holding files.old) (map S.text words.now) }
+    ensures serves { ServesOfrep console.old console.new result (map S.text words.now) }
+    ensures tells { TellsOfrep console.old console.new result (map S.text words.now) }
+{
+    let alloc = rt.alloc();
+    match read_ofrep(alloc, words) {
+        Ok(answering) => { answer_asked(rt, &answering, files, &mut console.out, &mut console.err) }
+        Err(error) => report_usage(alloc, &error, console),
+    }
+}
+
+/// Loads the documents that are asked for and answers from them, or tells why not.
+fn answer_asked<R: Host, F: FileSet, O: Outlet, E: Outlet>(
+    rt: &R,
+    answering: &Answering<'_>,
+    files: &mut F,
     out: &mut O,
     err: &mut E,
 ) -> u8
     requires out_whole { O.is_broken out.old ≡ false }
     requires err_whole { E.is_broken err.old ≡ false }
-    ensures answers { AnswersOfrep O.bytes O.is_broken out.old out.new E.bytes E.is_broken err.old err.new result F.holding files.old (map S.text words.now) }
-    ensures serves { ServesOfrep O.bytes O.is_broken out.old out.new E.bytes E.is_broken err.old err.new result (map S.text words.now) }
-    ensures tells { TellsOfrep O.bytes O.is_broken out.old out.new E.bytes E.is_broken err.old err.new result (map S.text words.now) }
+    ensures answers { IfSome (F.holding files.old) (λ at. (answer : Answer) × StartsTo at (answering_view answering.now) answer
+        × Reports (O.bytes out.old) (O.bytes out.new) (O.is_broken out.new) (E.bytes err.old) (E.bytes err.new) (E.is_broken err.new) result (count_of answer)) }
+    ensures serves { Serves (O.bytes out.old) (O.bytes out.new) (O.is_broken out.new) (E.bytes err.old) (E.bytes err.new) (E.is_broken err.new) result (length answering.now.documents.items) }
 {
     let alloc = rt.alloc();
-    let answering = match read_ofrep(alloc, words) {
-        Ok(answering) => answering,
-        Err(error) => return report_usage(alloc, &error, out, err),
-    };
     let paths = answering.documents.as_slice();
     match loaded(alloc, files, paths) {
-        Ok(documents) => answer_documents(rt, &answering, documents, files, out, err),
+        Ok(documents) => answer_documents(rt, answering, documents, files, out, err),
         Err(unloaded) => refuse_unloaded(
             alloc,
             out,

@@ -3,9 +3,9 @@ ghost use Rattle.std.specs.Prelude.{◌≡◌, ℕ, Err, IfOk, false, string_byt
 ghost use Rattle.flagops_service.specs.Ended.{Reports, ServesOn, serving_line};
 ghost use Rattle.flagops_streams.specs.Told.{TellsText};
 
+use file_diagnostics::{of_document, of_unreadable};
 use flag_text::Outlet;
-use flagops_files::tell;
-use flagops_remarks::{of_document, of_unreadable};
+use flagops_shell::tell;
 use flagops_streams::{Refusal, refuse, say_refused, write_line};
 use source_merge::SourceFault;
 use std::alloc::{AllocError, Global};

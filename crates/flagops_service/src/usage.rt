@@ -4,8 +4,8 @@ ghost use Rattle.clap.specs.Words.{app_of, rule_of};
 ghost use Rattle.flagops_service.specs.Words.{ofrep_app, ofrep_begun, option_text};
 
 use clap::{Arg, Command};
-use flagops_words::LARGEST_PORT;
 use flagops_words::arguments::{option_number, some_words};
+use flagops_words::{LARGEST_PORT, about};
 use std::alloc::{AllocError, Global};
 
 /// The most workers.
@@ -70,7 +70,7 @@ fn begun<'a>(alloc: Global) -> Result<Command<'a>, AllocError>
     );
     Command::new(alloc, "ofrep")
         .bin_name("flagops ofrep")?
-        .about("Answers evaluations of flags over HTTP (OpenFeature Remote Evaluation Protocol)")
+        .about(about::OFREP)
         .arg(documents)?
         .arg(listen)?
         .arg(log)

@@ -4,9 +4,10 @@ ghost use Rattle.source_merge.specs.View.{sources_view};
 ghost use Rattle.flagops_service.specs.Merging.{Publishes, Takes};
 
 use crate::telling::{say_kept, say_made, say_published};
+use file_diagnostics::{of_document, of_unreadable};
 use flag_text::Outlet;
-use flagops_files::{FileSet, LoadFault, TEXT_LIMIT};
-use flagops_remarks::{of_document, of_unreadable};
+use flagops_files::TEXT_LIMIT;
+use flagops_shell::{FileSet, LoadFault};
 use flagops_streams::say;
 use ofrep_service::Board;
 use snap_share::{Publisher, ShareFault, ShareName};

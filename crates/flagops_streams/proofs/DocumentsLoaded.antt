@@ -1,7 +1,7 @@
 -- Documents that are loaded, one after the other, and served.
 use Rattle.std.proofs.Common.{◌≡◌, ◌+◌, ◌<◌, ◌∙◌, ◌⊎◌, ℕ, false, List, [], ◌∷◌, Option, Some, None, Result, Ok, Err, IfSome, inl, refl, add-one, ap, drop, get_or, length, map, subst, sym}
 use Rattle.std.proofs.Math.Seq.{drop-cons}
-use Rattle.flagops_files.specs.Files.{Holding}
+use Rattle.flagops_shell.specs.Files.{Holding}
 use Rattle.flagops_files.specs.Loading.{◌>>=◌}
 use Rattle.flagops_streams.specs.Documents.{Answer, ServesTo}
 use Rattle.flagops_streams.specs.Refusal.{is_want}
@@ -43,13 +43,12 @@ loaded_served at s d (Err refusal) loaded served = λ _. subst (λ (r : Result L
 pub not_loaded : (at : Holding) (s : Serving) (refusal : Refusal) → (is_want refusal ≡ false → loaded_at at s.documents ≡ Err refusal) → AnswersTo at s (Err refusal)
 not_loaded at s refusal loaded = λ other. subst (λ (r : Result Loaded Refusal). ServesLoaded s.subscribers r (Err refusal)) (sym (loaded other)) refl
 
--- an answer to words that ask for this, and its report
-pub answered : (holding : Option Holding) (asked : Option Serving) (s : Serving) (answer : Answer) (Reported : Serving → Answer → Type 0) (Wanted : Type 0)
-    → asked ≡ Some s → IfSome holding (λ at. AnswersTo at s answer) → Reported s answer
-    → IfSome asked (λ t. IfSome holding (λ at. ((r : Answer) × AnswersTo at t r × Reported t r) ⊎ Wanted))
-answered holding asked s answer Reported Wanted is answers report =
-    subst (λ (o : Option Serving). IfSome o (λ t. IfSome holding (λ at. ((r : Answer) × AnswersTo at t r × Reported t r) ⊎ Wanted))) (sym is)
-    (where_known holding (λ at. AnswersTo at s answer) (λ at. ((r : Answer) × AnswersTo at s r × Reported s r) ⊎ Wanted) (λ at h. inl (answer, h, report)) answers)
+-- an answer to what is asked, and its report
+pub answered : (holding : Option Holding) (s : Serving) (answer : Answer) (Reported : Answer → Type 0)
+    → IfSome holding (λ at. AnswersTo at s answer) → Reported answer
+    → IfSome holding (λ at. (r : Answer) × AnswersTo at s r × Reported r)
+answered holding s answer Reported answers report =
+    where_known holding (λ at. AnswersTo at s answer) (λ at. (r : Answer) × AnswersTo at s r × Reported r) (λ at h. (answer, h, report)) answers
 
 -- the same over the words' own paths, of which the slice was taken
 module _ {X : Type 0} (now : X → List ℕ) (slice items : List X) (same : slice ≡ items) (holding : Option Holding) (s : Serving) (paths : s.documents ≡ map now items) where

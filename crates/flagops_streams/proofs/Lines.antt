@@ -9,9 +9,9 @@ use Rattle.sync_server.proofs.Followed.{first_less}
 use Rattle.sync_server.specs.Handed.{Handed, Took}
 use Rattle.sync_server.specs.declared.end.ReadEnd.{ReadEnd}
 use Rattle.sync_server.specs.declared.end.ReadEnd.TheVariants.{WantOfMemory}
-use Rattle.flagops_streams.specs.Printed.{Prints, snapshot_line, snapshot_lines, last_line, status_of}
+use Rattle.flagops_streams.specs.Printed.{Prints, PrintsBy, snapshot_line, snapshot_lines, last_line, status_of}
 use Rattle.flagops_streams.specs.Report.{Writes}
-use Rattle.flagops_files.proofs.Writes.{part_after, whole_after}
+use Rattle.flagops_shell.proofs.Writes.{part_after, whole_after}
 use Rattle.flagops_streams.proofs.Writes.{none_written}
 
 -- the lines of two lists
@@ -20,15 +20,19 @@ lines_append [] ts = refl
 lines_append (s ∷ ss) ts = ap (λ (l : List ℕ). snapshot_line s ++ l) (lines_append ss ts) ∙ sym (append_assoc (snapshot_line s) (snapshot_lines ss) (snapshot_lines ts))
 
 -- the lines, and behind them the last line
+pub ended_by : (MayEnd : ReadEnd → Type 0) (AreFirst : Type 0) (ss : List Numbered) (old mid new : Option (List ℕ)) (broken : Bool) (status : ℕ) (end : ReadEnd)
+    → MayEnd end → Appends old mid (snapshot_lines ss) → Writes mid new broken status (last_line end) (status_of end) → PrintsBy MayEnd AreFirst ss old new broken status
+ended_by MayEnd AreFirst ss old mid new false status end how lines (last, is) = (end, how, whole_after old mid new (snapshot_lines ss) (last_line end) lines last, is)
+ended_by MayEnd AreFirst ss old mid new true status end how lines (last, is) = (is, inr (end, how, part_after old mid new (snapshot_lines ss) (last_line end) lines last))
+
 pub ended : (stream : List ℕ) (ss : List Numbered) (left : Option (List ℕ)) (is_inlet_broken : Bool) (old mid new : Option (List ℕ)) (broken : Bool) (status : ℕ) (end : ReadEnd)
     → Ends stream ss left is_inlet_broken end → Appends old mid (snapshot_lines ss) → Writes mid new broken status (last_line end) (status_of end) → Prints stream ss left is_inlet_broken old new broken status
-ended stream ss left is_inlet_broken old mid new false status end how lines (last, is) = (end, how, whole_after old mid new (snapshot_lines ss) (last_line end) lines last, is)
-ended stream ss left is_inlet_broken old mid new true status end how lines (last, is) = (is, inr (end, how, part_after old mid new (snapshot_lines ss) (last_line end) lines last))
+ended stream ss left is_inlet_broken = ended_by (Ends stream ss left is_inlet_broken) (FirstOf stream ss) ss
 
 -- the output failed within the line of one more
-pub broken_off : (stream : List ℕ) (ss taken : List Numbered) (s : Numbered) (left : Option (List ℕ)) (is_inlet_broken : Bool) (old mid new : Option (List ℕ)) (status : ℕ)
-    → FirstOf stream ss → ss ≡ taken ++ s ∷ [] → Appends old mid (snapshot_lines taken) → AppendsPart mid new (snapshot_line s) → status ≡ 1 → Prints stream ss left is_inlet_broken old new true status
-broken_off stream ss taken s left is_inlet_broken old mid new status first is lines part one =
+pub broken_off : (MayEnd : ReadEnd → Type 0) (AreFirst : Type 0) (ss taken : List Numbered) (s : Numbered) (old mid new : Option (List ℕ)) (status : ℕ)
+    → AreFirst → ss ≡ taken ++ s ∷ [] → Appends old mid (snapshot_lines taken) → AppendsPart mid new (snapshot_line s) → status ≡ 1 → PrintsBy MayEnd AreFirst ss old new true status
+broken_off MayEnd AreFirst ss taken s old mid new status first is lines part one =
     let all : snapshot_lines ss ≡ snapshot_lines taken ++ snapshot_line s = ap snapshot_lines is ∙ lines_append taken (s ∷ []) ∙ ap (λ (l : List ℕ). snapshot_lines taken ++ l) (append-nil (snapshot_line s)) in
     (one, inl (first, subst (AppendsPart old new) (sym all) (part_after old mid new (snapshot_lines taken) (snapshot_line s) lines part)))
 
@@ -57,9 +61,13 @@ module _ {X : Type 0} (bytes : X → Option (List ℕ)) (is_broken wants : X →
       )
 
   -- the output failed within the line of the last one
+  pub off_by : (MayEnd : ReadEnd → Type 0) (x y : X) (stream : List ℕ) (ss : List Numbered) (status : ℕ) → FirstOf stream ss → Handed PrintedOne PrintedPart x ss true y → wants y ≡ false → status ≡ 1
+      → PrintsBy MayEnd (FirstOf stream ss) ss (bytes x) (bytes y) (is_broken y) status
+  off_by MayEnd x y stream ss status first (taken, last, z, is, took, refused) want one =
+      let part = subst (λ (b : Bool). MatchBool b ((bytes y ≡ bytes z) × (is_broken y ≡ false)) (AppendsPart (bytes z) (bytes y) (snapshot_line last) × (is_broken y ≡ true))) want refused in
+      subst (λ (b : Bool). PrintsBy MayEnd (FirstOf stream ss) ss (bytes x) (bytes y) b status) (sym part.1)
+      (broken_off MayEnd (FirstOf stream ss) ss taken last (bytes x) (bytes z) (bytes y) status first is (lines_taken x z taken took) part.0 one)
+
   pub off : (x y : X) (stream : List ℕ) (ss : List Numbered) (left : Option (List ℕ)) (is_inlet_broken : Bool) (status : ℕ) → FirstOf stream ss → Handed PrintedOne PrintedPart x ss true y → wants y ≡ false → status ≡ 1
       → Prints stream ss left is_inlet_broken (bytes x) (bytes y) (is_broken y) status
-  off x y stream ss left is_inlet_broken status first (taken, last, z, is, took, refused) want one =
-      let part = subst (λ (b : Bool). MatchBool b ((bytes y ≡ bytes z) × (is_broken y ≡ false)) (AppendsPart (bytes z) (bytes y) (snapshot_line last) × (is_broken y ≡ true))) want refused in
-      subst (λ (b : Bool). Prints stream ss left is_inlet_broken (bytes x) (bytes y) b status) (sym part.1)
-      (broken_off stream ss taken last left is_inlet_broken (bytes x) (bytes z) (bytes y) status first is (lines_taken x z taken took) part.0 one)
+  off x y stream ss left is_inlet_broken = off_by (Ends stream ss left is_inlet_broken) x y stream ss

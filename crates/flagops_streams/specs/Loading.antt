@@ -2,10 +2,10 @@
 use Rattle.std.specs.Prelude.{◌≡◌, ℕ, ◌+◌, Bool, false, List, [], ◌∷◌, ◌++◌, length, Result, Ok, Err}
 use Rattle.source_merge.specs.Sources.{SourceList}
 use Rattle.source_merge.specs.View.{sources_view}
-use Rattle.flagops_files.specs.Files.{Holding, load_of}
+use Rattle.flagops_shell.specs.Files.{Holding, load_of}
 use Rattle.flagops_files.specs.Loading.{◌>>=◌, max_text}
-use Rattle.flagops_files.specs.declared.files.LoadFault.{LoadFault}
-use Rattle.flagops_files.specs.declared.files.LoadFault.TheVariants as load
+use Rattle.flagops_shell.specs.declared.files.LoadFault.{LoadFault}
+use Rattle.flagops_shell.specs.declared.files.LoadFault.TheVariants as load
 use Rattle.flagops_streams.specs.Documents.{Answer, ServesTo, source_added, texts_of}
 use Rattle.flagops_streams.specs.Refusal.{is_unreadable, is_want}
 use Rattle.flagops_streams.specs.declared.documents.Documents.{Documents}

@@ -33,17 +33,27 @@ status_of Ended = 0
 status_of Limit = 0
 status_of end = 1
 
--- The lines of all snapshots and the last line are there; or the output failed, and a front of these, or of the lines of the
--- first snapshots, is there.
+-- The lines of all snapshots and the last line, of an end that may be told, are there; or the output failed, and a front of these, or of
+-- the lines of the first snapshots, is there.
+abbrev pub PrintsBy : (ReadEnd → Type 0) → Type 0 → List Numbered → Option (List ℕ) → Option (List ℕ) → Bool → ℕ → Type 0
+PrintsBy MayEnd AreFirst ss old new false status = (end : ReadEnd) × MayEnd end × Appends old new (snapshot_lines ss ++ last_line end) × (status ≡ status_of end)
+PrintsBy MayEnd AreFirst ss old new true status =
+    (status ≡ 1) × ((AreFirst × AppendsPart old new (snapshot_lines ss)) ⊎ ((end : ReadEnd) × MayEnd end × AppendsPart old new (snapshot_lines ss ++ last_line end)))
+
+-- the same of the snapshots of a stream, and of how it ended
 abbrev pub Prints : List ℕ → List Numbered → Option (List ℕ) → Bool → Option (List ℕ) → Option (List ℕ) → Bool → ℕ → Type 0
-Prints stream ss left is_inlet_broken old new false status = (end : ReadEnd) × Ends stream ss left is_inlet_broken end × Appends old new (snapshot_lines ss ++ last_line end) × (status ≡ status_of end)
-Prints stream ss left is_inlet_broken old new true status =
-    (status ≡ 1) × ((FirstOf stream ss × AppendsPart old new (snapshot_lines ss)) ⊎ ((end : ReadEnd) × Ends stream ss left is_inlet_broken end × AppendsPart old new (snapshot_lines ss ++ last_line end)))
+Prints stream ss left is_inlet_broken = PrintsBy (Ends stream ss left is_inlet_broken) (FirstOf stream ss) ss
 
 -- Some stream was taken from the input, and this was printed of it.
 abbrev pub Printed : Option (List ℕ) → Option (List ℕ) → Bool → Option (List ℕ) → Option (List ℕ) → Bool → ℕ → Type 0
 Printed before left is_inlet_broken old new is_broken status = (stream : List ℕ) × (ss : List Numbered) × Consumes before left stream × Prints stream ss left is_inlet_broken old new is_broken status
 
--- The same of an input of which nothing is known but what was printed.
+-- The same, of an end that also the reads allow.
+abbrev pub PrintedWithin : (ReadEnd → Type 0) → Option (List ℕ) → Option (List ℕ) → Bool → Option (List ℕ) → Option (List ℕ) → Bool → ℕ → Type 0
+PrintedWithin AreReads before left is_inlet_broken old new is_broken status =
+    (stream : List ℕ) × (ss : List Numbered) × Consumes before left stream
+    × PrintsBy (λ end. Ends stream ss left is_inlet_broken end × AreReads end) (FirstOf stream ss) ss old new is_broken status
+
+-- What is printed of an input of which nothing is known but that.
 abbrev pub Follows : Option (List ℕ) → Option (List ℕ) → Bool → ℕ → Type 0
 Follows old new is_broken status = (before : Option (List ℕ)) × (left : Option (List ℕ)) × (is_inlet_broken : Bool) × Printed before left is_inlet_broken old new is_broken status

@@ -1,12 +1,13 @@
 //! The command `follow`.
 ghost use Rattle.std.specs.Prelude.{◌≡◌, false, map};
+ghost use Rattle.flagops_shell.specs.Console.{IsOpen};
 ghost use Rattle.flagops_streams.specs.Ended.{FollowsAsked, TellsFollow};
 
 use crate::asked::Following;
 use crate::following::follow_port;
 use crate::words::read_follow;
 use flag_text::Outlet;
-use flagops_commands::report_usage;
+use flagops_shell::{Console, report_usage};
 use std::convert::AsStr;
 use std::net::Net;
 use std::time::Clock;
@@ -17,20 +18,18 @@ use std::time::Clock;
 pub fn follow<R: AllocGlobal + Net + Clock, S: AsStr, O: Outlet, E: Outlet>(
     rt: &R,
     words: &[S],
-    out: &mut O,
-    err: &mut E,
+    console: &mut Console<O, E>,
 ) -> u8
-    requires out_whole { O.is_broken out.old ≡ false }
-    requires err_whole { E.is_broken err.old ≡ false }
-    ensures follows { FollowsAsked O.bytes O.is_broken out.old out.new E.bytes E.is_broken err.old err.new result (map S.text words.now) }
-    ensures tells { TellsFollow O.bytes O.is_broken out.old out.new E.bytes E.is_broken err.old err.new result (map S.text words.now) }
+    requires { IsOpen console.old }
+    ensures follows { FollowsAsked console.old console.new result (map S.text words.now) }
+    ensures tells { TellsFollow console.old console.new result (map S.text words.now) }
 {
     let alloc = rt.alloc();
     match read_follow(alloc, words) {
         Ok(following) => {
             let Following { port, turns, wait } = following;
-            follow_port(rt, port, turns, wait, out, err)
+            follow_port(rt, port, turns, wait, &mut console.out, &mut console.err)
         }
-        Err(error) => report_usage(alloc, &error, out, err),
+        Err(error) => report_usage(alloc, &error, console),
     }
 }

@@ -1,11 +1,11 @@
 //! The command `follow`: what a stream of snapshots brings.
-ghost use Rattle.std.specs.Prelude.{◌≡◌, ◌⊎◌, false, not, IfOk, string_bytes};
+ghost use Rattle.std.specs.Prelude.{◌≡◌, ◌⊎◌, false, not, IfOk, Some, string_bytes};
 ghost use Rattle.flag_text.specs.Outlet.{AppendsPart};
 ghost use Rattle.std.specs.Bool.{MatchBool};
 ghost use Rattle.std.specs.Io.KnownBytes.{Appends};
 ghost use Rattle.snap_core.specs.HubView.{snapshot_view};
-ghost use Rattle.sync_server.specs.Reads.{ReadUpTo};
-ghost use Rattle.flagops_streams.specs.Printed.{Follows, Printed, last_line, snapshot_line, start_of, status_of, word_of};
+ghost use Rattle.sync_server.specs.Reads.{ReadUpTo, ReadWithin};
+ghost use Rattle.flagops_streams.specs.Printed.{Follows, Printed, PrintedWithin, last_line, snapshot_line, start_of, status_of, word_of};
 ghost use Rattle.flagops_streams.specs.Report.{FindsNobody, Writes};
 ghost use Rattle.flagops_streams.specs.Told.{TellsLate};
 
@@ -15,7 +15,7 @@ use crate::report::refuse;
 use crate::timely::Timely;
 use core::mem::replace_with;
 use flag_text::{Outlet, write_whole};
-use flagops_files::write_three;
+use flagops_shell::write_three;
 use persistent_io::PersistentInput;
 use snap_core::Snapshot;
 use std::alloc::{AllocError, Global};
@@ -123,6 +123,7 @@ pub fn follow_lines<I: Inlet, O: Outlet>(
     requires inlet { I.is_broken inlet.old ≡ false }
     requires outlet { O.is_broken out ≡ false }
     ensures printed { Printed (I.bytes inlet.old) (I.bytes inlet.new) (I.is_broken inlet.new) (O.bytes out) (O.bytes result.0) (O.is_broken result.0) result.1 }
+    ensures within { PrintedWithin (λ end. ReadWithin I.was_read turns inlet.old inlet.new (Some end)) (I.bytes inlet.old) (I.bytes inlet.new) (I.is_broken inlet.new) (O.bytes out) (O.bytes result.0) (O.is_broken result.0) result.1 }
     ensures reads { ReadUpTo I.was_read turns inlet.old inlet.new }
 {
     let mut printer = Printer {

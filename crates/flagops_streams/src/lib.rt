@@ -1,8 +1,8 @@
 //! Streams of snapshots: the commands `serve`, which publishes flag documents to its subscribers, and `follow`, which prints what
 //! it is sent.
 //!
-//! [`serve`] and [`follow`] take the words after the program's name, of which their own name is the first, and two outlets,
-//! `serve` files too, as `flagops_commands::run` does for every other command. They read the words by `clap` and load the
+//! [`serve`] and [`follow`] take the words after the program's name, of which their own name is the first, and a console,
+//! `serve` files too, as `flagops_shell::run` does for every other command. They read the words by `clap` and load the
 //! files. [`serve_documents`] and [`follow_port`] do what is asked: they alone are handed the network and threads. What they do is
 //! - [`follow_lines`], over any inlet and outlet: the line of each snapshot when it has come, and at the end why;
 //! - a thread for each subscriber that runs `serve_stream` over its seat, and the numbers that the publisher puts on a board.
@@ -10,12 +10,12 @@
 //! ```rust
 //! use flag_text::WriteOutlet;
 //! use flagops_files::SystemFiles;
+//! use flagops_shell::Console;
 //! use flagops_streams::serve;
 //!
 //! let words = ["serve", "8013", "2", "flags.json"];
-//! let mut out = WriteOutlet::new(rt.stdout());
-//! let mut err = WriteOutlet::new(rt.stderr());
-//! let status = serve(&rt, words.as_slice(), &mut SystemFiles::new(&rt), &mut out, &mut err);
+//! let mut console = Console::new(WriteOutlet::new(rt.stdout()), WriteOutlet::new(rt.stderr()));
+//! let status = serve(&rt, words.as_slice(), &mut SystemFiles::new(&rt), &mut console);
 //! ```
 //!
 //! Proved of [`follow_lines`]: what is on the output are the lines of all snapshots that are whole in the bytes read, and a

@@ -6,7 +6,8 @@ ghost use Rattle.flagops_streams.specs.Refusal.{GivesUnlessWant};
 
 use crate::documents::Documents;
 use crate::refusal::Refusal;
-use flagops_files::{FileSet, LoadFault, TEXT_LIMIT};
+use flagops_files::TEXT_LIMIT;
+use flagops_shell::{FileSet, LoadFault};
 use std::alloc::Global;
 
 /// Why the documents were not loaded, and the path of the one where that was seen.

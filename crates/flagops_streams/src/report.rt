@@ -6,7 +6,7 @@ ghost use Rattle.flagops_streams.specs.Report.{Reports, RefusesBy, Writes, publi
 use crate::refusal::Refusal;
 use crate::remark::{Remarks, say_refused, say_why};
 use flag_text::{Outlet, write_whole};
-use flagops_files::write_three;
+use flagops_shell::write_three;
 use std::alloc::{AllocError, Global};
 
 /// Writes the line of a refusal, or without taking memory that of its call which ran out of it, and gives the status 1. The

@@ -1,19 +1,25 @@
 //! The command `serve`.
-ghost use Rattle.std.specs.Prelude.{◌≡◌, false, map};
+ghost use Rattle.std.specs.Prelude.{◌≡◌, false, true, length, map, IfSome};
+ghost use Rattle.flagops_shell.specs.Console.{IsOpen};
 ghost use Rattle.flagops_streams.specs.Ended.{AnswersServe, RefusesUnread, ServesAsked, TellsServe};
-ghost use Rattle.flagops_streams.specs.Told.{TellsText};
+ghost use Rattle.flagops_streams.specs.Documents.{Answer, count_of};
+ghost use Rattle.flagops_streams.specs.Loading.{AnswersTo};
+ghost use Rattle.flagops_streams.specs.Report.{RefusesBy, Reports, Serves};
+ghost use Rattle.flagops_streams.specs.Told.{IsServeLine, TellsText};
+ghost use Rattle.flagops_streams.specs.Words.{serving_view};
+ghost use Rattle.flagops_streams.specs.declared.refusal.Refusal.TheVariants.{Unreadable};
 
+use crate::asked::Serving;
 use crate::loading::{Unloaded, loaded};
 use crate::refusal::Refusal;
 use crate::remark::{Remarks, say_refused};
 use crate::report::refuse;
 use crate::serving::serve_documents;
 use crate::words::read_serve;
+use file_diagnostics::{of_document, of_unreadable};
 use flag_defs::DefFault;
 use flag_text::Outlet;
-use flagops_commands::report_usage;
-use flagops_files::{FileSet, tell};
-use flagops_remarks::{of_document, of_unreadable};
+use flagops_shell::{Console, FileSet, report_usage, tell};
 use std::alloc::{AllocError, Global};
 use std::convert::AsStr;
 use std::io;
@@ -25,7 +31,7 @@ use std::time::Clock;
 /// Does what the words after the program's name ask of `serve`, which is the first of them, and gives the status to end
 /// with. It loads the documents, waits for its subscribers on a port of this host, publishes one document after the other,
 /// and prints how many; or the line of a refusal with status 1. Where a file can't be read it has listened on no port.
-pub fn serve<R, S, F, O, E>(rt: &R, words: &[S], files: &mut F, out: &mut O, err: &mut E) -> u8
+pub fn serve<R, S, F, O, E>(rt: &R, words: &[S], files: &mut F, console: &mut Console<O, E>) -> u8
 where
     R: AllocGlobal
         + Net<Listener = TcpListener, Stream = TcpStream>
@@ -37,22 +43,49 @@ where
     F: FileSet,
     O: Outlet,
     E: Outlet + Drop,
-    requires out_whole { O.is_broken out.old ≡ false }
-    requires err_whole { E.is_broken err.old ≡ false }
-    ensures answers { AnswersServe O.bytes O.is_broken out.old out.new E.bytes E.is_broken err.old err.new result
-        F.holding files.old (map S.text words.now) }
-    ensures serves { ServesAsked O.bytes O.is_broken out.old out.new E.bytes E.is_broken err.old err.new result (map S.text words.now) }
+    requires { IsOpen console.old }
+    ensures answers { AnswersServe console.old console.new result (F.holding files.old) (map S.text words.now) }
+    ensures serves { ServesAsked console.old console.new result (map S.text words.now) }
     // Whatever the files hold, a read that failed is what is reported and told.
-    ensures unread { RefusesUnread O.bytes O.is_broken out.old out.new E.bytes E.is_broken err.old err.new result
-        F.has_failed files.old files.new }
-    ensures tells { TellsServe O.bytes O.is_broken out.old out.new E.bytes E.is_broken err.old err.new result (map S.text words.now) }
+    ensures unread { RefusesUnread console.old console.new result (F.has_failed files.old) (F.has_failed files.new) }
+    ensures tells { TellsServe console.old console.new result (map S.text words.now) }
     ensures kept { F.holding files.new ≡ F.holding files.old }
 {
     let alloc = rt.alloc();
-    let serving = match read_serve(alloc, words) {
-        Ok(serving) => serving,
-        Err(error) => return report_usage(alloc, &error, out, err),
-    };
+    match read_serve(alloc, words) {
+        Ok(serving) => serve_asked(rt, &serving, files, &mut console.out, &mut console.err),
+        Err(error) => report_usage(alloc, &error, console),
+    }
+}
+
+/// Loads the documents that are asked for and serves them, or tells why not.
+fn serve_asked<R, F, O, E>(
+    rt: &R,
+    serving: &Serving<'_>,
+    files: &mut F,
+    out: &mut O,
+    err: &mut E,
+) -> u8
+where
+    R: AllocGlobal
+        + Net<Listener = TcpListener, Stream = TcpStream>
+        + Clock
+        + Threads
+        + Wait
+        + Sync,
+    F: FileSet,
+    O: Outlet,
+    E: Outlet + Drop,
+    requires out_whole { O.is_broken out.old ≡ false }
+    requires err_whole { E.is_broken err.old ≡ false }
+    ensures answers { IfSome (F.holding files.old) (λ at. (answer : Answer) × AnswersTo at (serving_view serving.now) answer
+        × Reports (IsServeLine serving.now.port serving.now.subscribers) (count_of answer) (O.bytes out.old) (O.bytes out.new) (O.is_broken out.new) (E.bytes err.old) (E.bytes err.new) (E.is_broken err.new) result) }
+    ensures serves { Serves (IsServeLine serving.now.port serving.now.subscribers) (length serving.now.documents.items) (O.bytes out.old) (O.bytes out.new) (O.is_broken out.new) (E.bytes err.old) (E.bytes err.new) (E.is_broken err.new) result }
+    ensures unread { F.has_failed files.old ≡ false → F.has_failed files.new ≡ true
+        → RefusesBy Unreadable (O.bytes out.old) (O.bytes out.new) (O.is_broken out.new) result × TellsText (E.bytes err.old) (E.bytes err.new) (E.is_broken err.new) }
+    ensures kept { F.holding files.new ≡ F.holding files.old }
+{
+    let alloc = rt.alloc();
     let paths = serving.documents.as_slice();
     match loaded(alloc, files, paths) {
         Ok(documents) => serve_documents(

@@ -4,8 +4,8 @@ ghost use Rattle.clap.specs.Words.{app_of, rule_of};
 ghost use Rattle.flagops_streams.specs.Words.{follow_app, serve_app, serve_begun, wait_option};
 
 use clap::{Arg, Command};
-use flagops_words::LARGEST_PORT;
 use flagops_words::arguments::{number, option_number, some_words};
+use flagops_words::{LARGEST_PORT, about};
 use std::alloc::{AllocError, Global};
 
 /// The most subscribers.
@@ -54,7 +54,7 @@ fn serve_begun<'a>(alloc: Global) -> Result<Command<'a>, AllocError>
     );
     Command::new(alloc, "serve")
         .bin_name("flagops serve")?
-        .about("Publishes flag documents to the subscribers that follow on a port of this host")
+        .about(about::SERVE)
         .arg(port)?
         .arg(subscribers)?
         .arg(documents)
@@ -81,7 +81,7 @@ pub fn follow<'a>(alloc: Global) -> Result<Command<'a>, AllocError>
     );
     Command::new(alloc, "follow")
         .bin_name("flagops follow")?
-        .about("Prints a line for each snapshot that is served on a port of this host")
+        .about(about::FOLLOW)
         .arg(port)?
         .arg(turns)?
         .arg(wait(

@@ -1,16 +1,16 @@
 -- What `clap` is proved to read of the words, as the command that they ask for.
-use Rattle.std.proofs.Common.{◌≡◌, ◌≢◌, ◌⊎◌, Bool, cond, true, false, is_some, List, [], ◌∷◌, length, map, Option, Some, None, ap, refl, subst, sym, ◌∙◌, inl, inr}
+use Rattle.std.proofs.Common.{◌≡◌, ◌≢◌, ◌⊎◌, ◌||◌, Bool, cond, true, false, is_some, List, [], ◌∷◌, length, map, Option, Some, None, ap, refl, subst, sym, ◌∙◌, inl, inr}
 use Rattle.std.specs.Prelude.{codes, option_and_then}
 use Rattle.std.specs.Str.{bytes_eq}
 use Rattle.clap.proofs.WalkLemmas.{first_value-rows, raw_values-rows}
 use Rattle.clap.specs.Walk.{Row, first_of}
 use Rattle.clap.specs.Words.{App, HasMatchesOf, IsAmong, Kinds, Text, is_simple, is_simple_and_free, fault_of, subcommand_of, subcommand_rows_of}
 use Rattle.clap.specs.declared.error.kind.ErrorKind.{ErrorKind}
-use Rattle.clap.specs.declared.error.kind.ErrorKind.TheVariants.{InvalidValue, MissingRequiredArgument, OutOfMemory, ValueValidation}
+use Rattle.clap.specs.declared.error.kind.ErrorKind.TheVariants.{InvalidSubcommand, InvalidValue, MissingRequiredArgument, OutOfMemory, ValueValidation}
 use Rattle.clap.specs.declared.parser.matches.ArgMatches.{ArgMatches}
 use Rattle.flagops_words.specs.Asked.{Asked}
 use Rattle.flagops_words.proofs.Named.{faultless}
-use Rattle.flagops_words.specs.Words.{IsToldBy, applied_in, apply_fault, apply_in, asked_by, asked_in, asked_of, faults_of, apply_app, bucket_app, completions_app, completions_in, drive_app, flag_in, if_any, is_stray, keep_in, kind_fault, kind_fault_in, kind_in, mistake_of, plan_app, price_app, resolve_app, resolve_in, shell_in, site_in, unless, verify_app, flagops_app}
+use Rattle.flagops_words.specs.Words.{IsToldBy, applied_in, apply_fault, apply_in, asked_by, asked_in, asked_of, faults_of, apply_app, bucket_app, bucket_in, completions_app, completions_in, drive_app, drive_in, flag_in, if_any, is_read, is_stray, keep_in, kind_fault, kind_fault_in, kind_in, mistake_of, plan_app, plan_in, price_app, price_in, resolve_app, resolve_in, rollout_in, shell_in, site_in, unless, verify_app, verify_in, flagops_app}
 
 pub ruleset rows = (first_value-rows, raw_values-rows)
 
@@ -56,15 +56,31 @@ no_apply_fault rows a e = go (flag_in (codes "keep") rows) (is_stray rows) e
     go false true h = absurd (none_some h)
     go false false h = rw (some_site (site_in rows) _ a h) refl
 
+-- what is read of a command other than the three that have a mistake of their own
+reads_other : (rows : List Row) (p b v l d : Bool) (a : Asked)
+    → cond p (price_in rows) (cond b (bucket_in rows) (cond v (verify_in rows) (cond l (plan_in rows) (cond d (drive_in rows) None)))) ≡ Some a
+    → unless InvalidSubcommand (p || (b || (v || (l || d)))) ≡ []
+reads_other rows true b v l d a e = refl
+reads_other rows false true v l d a e = refl
+reads_other rows false false true l d a e = refl
+reads_other rows false false false true d a e = refl
+reads_other rows false false false false true a e = refl
+reads_other rows false false false false false a e = absurd (none_some e)
+
 no_fault_in : (name : Text) (rows : List Row) (a : Asked) → asked_in (name, rows) ≡ Some a → kind_fault_in (name, rows) ≡ []
-no_fault_in name rows a e = go (bytes_eq name (codes "resolve")) (bytes_eq name (codes "completions")) (bytes_eq name (codes "apply")) _ e
+no_fault_in name rows a e = go (bytes_eq name (codes "resolve")) (bytes_eq name (codes "completions")) (bytes_eq name (codes "apply")) e
   where
-    go : (b c d : Bool) (other : Option Asked) → cond b (resolve_in rows) (cond c (completions_in rows) (cond d (apply_in rows) other)) ≡ Some a
-        → cond b (unless InvalidValue (is_some (kind_in rows))) (cond c (unless InvalidValue (is_some (shell_in rows))) (cond d (apply_fault rows) [])) ≡ []
-    go true c d other h = rw (has_kind rows a h) refl
-    go false true d other h = rw (has_shell rows a h) refl
-    go false false true other h = no_apply_fault rows a h
-    go false false false other h = refl
+    go : (b c d : Bool)
+        → cond b (resolve_in rows) (cond c (completions_in rows) (cond d (apply_in rows) (cond (bytes_eq name (codes "price")) (price_in rows)
+        (cond (bytes_eq name (codes "bucket")) (bucket_in rows) (rollout_in (name, rows)))))) ≡ Some a
+        → cond b (unless InvalidValue (is_some (kind_in rows)))
+        (cond c (unless InvalidValue (is_some (shell_in rows))) (cond d (apply_fault rows) (unless InvalidSubcommand (is_read name)))) ≡ []
+    go true c d h = rw (has_kind rows a h) refl
+    go false true d h = rw (has_shell rows a h) refl
+    go false false true h = no_apply_fault rows a h
+    go false false false h =
+        reads_other rows (bytes_eq name (codes "price")) (bytes_eq name (codes "bucket")) (bytes_eq name (codes "verify")) (bytes_eq name (codes "plan"))
+        (bytes_eq name (codes "drive")) a h
 
 no_kind_fault : (named : Option (Text × List Row)) (a : Asked) → asked_of named ≡ Some a → kind_fault named ≡ []
 no_kind_fault None a e = refl

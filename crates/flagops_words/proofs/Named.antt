@@ -1,5 +1,5 @@
 -- Words with which `clap` finds no fault ask for a command, or one of them is a mistake.
-use Rattle.std.proofs.Common.{◌≡◌, ◌&&◌, ◌||◌, ◌⊎◌, ◌↔◌, inl, inr, ℕ, Bool, cond, true, false, refl, subst, sym, List, [], ◌∷◌, Option, Some, None, not, codes, is_some, option_map}
+use Rattle.std.proofs.Common.{◌≡◌, ◌&&◌, ◌||◌, ◌⊎◌, ◌↔◌, inl, inr, ℕ, Bool, cond, true, false, refl, subst, sym, List, [], ◌∷◌, Option, Some, None, not, codes, is_some, option_map, drop}
 use Rattle.std.specs.Prelude.{option_and_then, slice_get}
 use Rattle.std.specs.List.{find, list_all, list_any}
 use Rattle.std.specs.Option.{option_map_or}
@@ -307,6 +307,44 @@ alone : {P : Type 0} (b : Bool) → (b || false) ≡ true → (b ≡ true ↔ P)
 alone true e decides = decides.0 refl
 alone false e decides = cc
 
+-- the commands that are only listed, and `help`
+listed : AllAsk (drop 8 (built flagops_app).subs)
+unfolding flagops_app
+listed = (
+  λ _ _ _ _ _. inr refl,
+  (
+    λ _ _ _ _ _. inr refl,
+    (
+      λ _ _ _ _ _. inr refl,
+      (
+        λ _ _ _ _ _. inr refl,
+        (
+          λ _ _ _ _ _. inr refl,
+          (
+            λ _ _ _ _ _. inr refl,
+            (
+              λ _ _ _ _ _. inr refl,
+              (
+                λ _ _ _ _ _. inr refl,
+                (
+                  λ _ _ _ _ _. inr refl,
+                  (
+                    λ _ _ _ _ _. inr refl,
+                    (
+                      λ _ _ _ _ _. inr refl,
+                      (λ name is other. help_unasked _ name (λ named. sym (alone (bytes_eq (codes "help") name) named (bytes_eq-Decides (codes "help") name))) is other, tt),
+                    ),
+                  ),
+                ),
+              ),
+            ),
+          ),
+        ),
+      ),
+    ),
+  ),
+)
+
 each : AllAsk (built flagops_app).subs
 unfolding flagops_app bucket_app price_app resolve_app plan_app verify_app apply_app drive_app completions_app
 each = (
@@ -364,10 +402,7 @@ each = (
                   let workers = needed _ _ file.1 in
                   let book = needed _ _ workers.1 in
                   (document.0, file.0, workers.0, book.0)),
-              (
-                λ _ _ _. completions_asks _ refl refl (λ rows e. (needed _ _ e).0),
-                (λ name is other. help_unasked _ name (λ named. sym (alone (bytes_eq (codes "help") name) named (bytes_eq-Decides (codes "help") name))) is other, tt),
-              ),
+              (λ _ _ _. completions_asks _ refl refl (λ rows e. (needed _ _ e).0), listed),
             ),
           ),
         ),

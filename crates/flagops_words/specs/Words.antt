@@ -8,7 +8,7 @@ use Rattle.clap.specs.Kinds.{Kinds, IsAmong, or_else}
 use Rattle.clap.specs.declared.builder.action.ArgAction.TheVariants.{SetTrue}
 use Rattle.clap.specs.declared.builder.value_parser.ValueParser.TheVariants.{Unsigned}
 use Rattle.clap.specs.declared.error.kind.ErrorKind.{ErrorKind}
-use Rattle.clap.specs.declared.error.kind.ErrorKind.TheVariants.{InvalidValue, MissingRequiredArgument, OutOfMemory, ValueValidation}
+use Rattle.clap.specs.declared.error.kind.ErrorKind.TheVariants.{InvalidSubcommand, InvalidValue, MissingRequiredArgument, OutOfMemory, ValueValidation}
 use Rattle.clap.specs.Faults.{fault_of}
 use Rattle.flag_defs.specs.declared.kind.Kind.{Kind}
 use Rattle.flagops_words.specs.Asked.{Asked, bucket, price, resolve, verify, apply, keep, plan, drive, completions}
@@ -114,12 +114,18 @@ takes_commands s = record s {
   subcommand_required = true;
 }
 
--- the program with its commands
+-- a command more, whose words its own library reads: the program lists it
+abbrev pub listing : Text → App → App
+listing name a = with_subcommand a (new_app name).top
+
+-- the program with its commands: those that are read here, and those that it lists
 unfoldable pub flagops_app : App
 flagops_app =
-    with_subcommand (with_subcommand (with_subcommand (with_subcommand (with_subcommand
+    listing (codes "follow") (listing (codes "serve") (listing (codes "ofrep") (listing (codes "join") (listing (codes "tally") (listing (codes "record")
+    (listing (codes "picture") (listing (codes "verify-ramp") (listing (codes "ramp") (listing (codes "book") (listing (codes "check")
+    (with_subcommand (with_subcommand (with_subcommand (with_subcommand (with_subcommand
     (with_subcommand (with_subcommand (with_subcommand (on_top takes_commands (new_app (codes "flagops"))) bucket_app.top) price_app.top)
-    resolve_app.top) plan_app.top) verify_app.top) apply_app.top) drive_app.top) completions_app.top
+    resolve_app.top) plan_app.top) verify_app.top) apply_app.top) drive_app.top) completions_app.top)))))))))))
 
 -- ---- what the words ask for
 
@@ -295,12 +301,19 @@ apply_fault rows =
     if flag_in (codes "keep") rows then [] else
     (if is_stray rows then MissingRequiredArgument ∷ [] else unless ValueValidation (is_some (site_in rows)))
 
--- a kind of value that is none of the words for the four is a mistake, and so is a shell that is none of the three
+-- a command other than these three whose words are read here
+abbrev pub is_read : Text → Bool
+is_read name =
+    bytes_eq name (codes "price")
+    || (bytes_eq name (codes "bucket") || (bytes_eq name (codes "verify") || (bytes_eq name (codes "plan") || bytes_eq name (codes "drive"))))
+
+-- A kind of value that is none of the words for the four is a mistake, and so is a shell that is none of the three; and a command that is
+-- listed alone is none that is read here.
 abbrev pub kind_fault_in : Text × List Row → Kinds
 kind_fault_in (name, rows) =
     if bytes_eq name (codes "resolve") then unless InvalidValue (is_some (kind_in rows)) else
     (if bytes_eq name (codes "completions") then unless InvalidValue (is_some (shell_in rows)) else
-    (if bytes_eq name (codes "apply") then apply_fault rows else []))
+    (if bytes_eq name (codes "apply") then apply_fault rows else unless InvalidSubcommand (is_read name)))
 
 abbrev pub kind_fault : Option (Text × List Row) → Kinds
 kind_fault None = []
@@ -308,7 +321,9 @@ kind_fault (Some named) = kind_fault_in named
 
 -- the mistake of words that `clap` takes and that ask for nothing
 abbrev pub mistake_in : Text × List Row → ErrorKind
-mistake_in (name, rows) = if bytes_eq name (codes "apply") then (if is_stray rows then MissingRequiredArgument else ValueValidation) else InvalidValue
+mistake_in (name, rows) =
+    if bytes_eq name (codes "apply") then (if is_stray rows then MissingRequiredArgument else ValueValidation) else
+    (if bytes_eq name (codes "completions") then InvalidValue else (if bytes_eq name (codes "resolve") then InvalidValue else InvalidSubcommand))
 
 abbrev pub mistake_of : Option (Text × List Row) → ErrorKind
 mistake_of None = InvalidValue

@@ -22,6 +22,7 @@
 //! for a command.
 #![tactic(auto)]
 
+pub mod about;
 pub mod arguments;
 mod asked;
 mod kinds;

@@ -1,5 +1,6 @@
 //! The commands of `flagops_commands` with their words, as the help of the program lists them.
 
+use crate::about;
 use crate::numbers::{LARGEST_16, LARGEST_32, LATEST_MOMENT};
 
 /// A command with its words.
@@ -51,7 +52,7 @@ const REFINE: Word = Word::Option(
     LARGEST_32,
 );
 
-/// The commands, in the order of the help.
+/// The commands, in the order of the help: those that are read here, and then those that are only listed.
 pub const COMMANDS: &[Usage] = &[
     BUCKET,
     PRICE,
@@ -61,6 +62,17 @@ pub const COMMANDS: &[Usage] = &[
     APPLY,
     DRIVE,
     COMPLETIONS,
+    LISTED_CHECK,
+    LISTED_BOOK,
+    LISTED_RAMP,
+    LISTED_VERIFY_RAMP,
+    LISTED_PICTURE,
+    LISTED_RECORD,
+    LISTED_TALLY,
+    LISTED_JOIN,
+    LISTED_OFREP,
+    LISTED_SERVE,
+    LISTED_FOLLOW,
 ];
 
 const BUCKET: Usage = Usage {
@@ -213,3 +225,69 @@ pub const COMPLETIONS_ALONE: Usage = Usage {
 const COMPLETES: &str = "Prints the script by which a shell completes these words";
 
 const SHELL: &[Word] = &[Word::Text("SHELL", "bash, fish or zsh")];
+
+const LISTED_CHECK: Usage = Usage {
+    name: "check",
+    about: about::CHECK,
+    words: &[],
+};
+
+const LISTED_BOOK: Usage = Usage {
+    name: "book",
+    about: about::BOOK,
+    words: &[],
+};
+
+const LISTED_RAMP: Usage = Usage {
+    name: "ramp",
+    about: about::RAMP,
+    words: &[],
+};
+
+const LISTED_VERIFY_RAMP: Usage = Usage {
+    name: "verify-ramp",
+    about: about::VERIFY_RAMP,
+    words: &[],
+};
+
+const LISTED_PICTURE: Usage = Usage {
+    name: "picture",
+    about: about::PICTURE,
+    words: &[],
+};
+
+const LISTED_RECORD: Usage = Usage {
+    name: "record",
+    about: about::RECORD,
+    words: &[],
+};
+
+const LISTED_TALLY: Usage = Usage {
+    name: "tally",
+    about: about::TALLY,
+    words: &[],
+};
+
+const LISTED_JOIN: Usage = Usage {
+    name: "join",
+    about: about::JOIN,
+    words: &[],
+};
+
+const LISTED_OFREP: Usage = Usage {
+    name: "ofrep",
+    about: about::OFREP,
+    words: &[],
+};
+
+const LISTED_SERVE: Usage = Usage {
+    name: "serve",
+    about: about::SERVE,
+    words: &[],
+};
+
+const LISTED_FOLLOW: Usage = Usage {
+    name: "follow",
+    about: about::FOLLOW,
+    words: &[],
+};

@@ -3,7 +3,7 @@ ghost use Rattle.std.specs.Prelude.{◌≡◌, codes, IfOk, false};
 ghost use Rattle.clap.specs.Simple.{new_app, on_top};
 ghost use Rattle.clap.specs.Words.{app_of, kind_of, rule_of};
 ghost use Rattle.clap.specs.declared.builder.command.Command.TheViews.{out-Command};
-ghost use Rattle.clap.specs.declared.error.kind.ErrorKind.TheVariants.{InvalidValue, MissingRequiredArgument, ValueValidation};
+ghost use Rattle.clap.specs.declared.error.kind.ErrorKind.TheVariants.{InvalidSubcommand, InvalidValue, MissingRequiredArgument, ValueValidation};
 ghost use Rattle.flagops_words.specs.Usage.{app_for, rule_for, with_commands};
 ghost use Rattle.flagops_words.specs.Words.{flagops_app, takes_commands};
 
@@ -60,9 +60,19 @@ pub fn missing_keep(alloc: Global) -> Result<Error, AllocError>
     )
 }
 
-/// What the help of the program ends with: the commands that read their words by themselves, and the statuses.
+/// The mistake of a command that the program lists, whose words its own library reads.
+pub fn read_elsewhere(alloc: Global) -> Result<Error, AllocError>
+    ensures { IfOk result (λ e. kind_of e ≡ InvalidSubcommand) }
+{
+    program(alloc)?.error(
+        ErrorKind::InvalidSubcommand,
+        "the words of this command are read by its own library",
+    )
+}
+
+/// What the help of the program ends with: where each command tells its words, and the statuses.
 const STATUSES: &str =
-    "Of documents: 'flagops check' tells which flags are good and which are broken or doubted.\nIn steps: 'flagops ramp' plans a rollout of several steps, 'flagops verify-ramp' checks its plans,\n'flagops apply --step N' gives the document after a step.\nDrawn: 'flagops picture' prints a plan as SVG, with --ramp those of several steps;\n'flagops plan --picture FILE' writes the picture of what it plans.\nOf records: 'flagops book' writes the book of several books and logs, with --torn past lines that are no notes;\n'flagops record' prints the hash inputs that contexts reach, 'flagops tally' counts them by their points,\n'flagops join' makes one tally of several.\nOn the network: 'flagops ofrep' answers OpenFeature's SDKs over HTTP; 'flagops serve' publishes flag documents\nto subscribers, 'flagops follow' prints what comes.\nEach tells its words with --help, as 'flagops ramp --help'.\n\nStatus: 0 done, 1 refused, a broken or doubted flag at check --strict, or the output failed, 2 words that are no command, 3 no rule fits.\nWhat was refused, where, and what to change is told on the error outlet; docs/REFUSALS.md has each line\nthat begins with 'refused', docs/FORMATS.md the files with examples, demo/README.md a first rollout.";
+    "Each command tells its words with --help, as 'flagops ramp --help'.\n\nStatus: 0 done, 1 refused, a broken or doubted flag at check --strict, or the output failed, 2 words that are no command, 3 no rule fits.\nWhat was refused, where, and what to change is told on the error outlet; docs/REFUSALS.md has each line\nthat begins with 'refused', docs/FORMATS.md the files with examples, demo/README.md a first rollout.";
 
 /// The version of the program, and the kit that it is proved with (`rt version`), a line each.
 const VERSION: &str = "0.1.0\nproved with rattle-kit-13f logic dac8208d650f15bf";

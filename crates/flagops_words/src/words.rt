@@ -9,7 +9,9 @@ use crate::kinds::kind_spelled;
 use crate::matches::{flag_in, is_json, is_strict, refine_in};
 use crate::numbers::{Moment, spelled_16, spelled_32};
 use crate::shell::Shell;
-use crate::usage::{flagops, missing_keep, unknown_kind, unknown_shell, unknown_site};
+use crate::usage::{
+    flagops, missing_keep, read_elsewhere, unknown_kind, unknown_shell, unknown_site,
+};
 use clap::{ArgMatches, Error};
 use std::alloc::{AllocError, Global};
 use std::convert::AsStr;
@@ -23,13 +25,14 @@ pub fn read_words<'a, S: AsStr>(alloc: Global, words: &'a [S]) -> Result<Asked<'
     let matches = flagops(alloc)?.try_get_matches_from(words)?;
     match asked_of(&matches) {
         Some(asked) => Ok(asked),
-        // Words that `clap` takes name a command with each of its words. Checked here are a kind, a shell, and the two forms
-        // of `apply`.
+        // Words that `clap` takes name a command with each of its words. Checked here are a kind, a shell, the two forms of
+        // `apply`, and that the command is not only listed.
         None => Err(unknown_word(alloc, &matches)?),
     }
 }
 
-/// The mistake of a kind that is none of the four, of a shell that is none of the three, or of the words of `apply`.
+/// The mistake of a kind that is none of the four, of a shell that is none of the three, of the words of `apply`, or of a command that
+/// is only listed.
 fn unknown_word(alloc: Global, matches: &ArgMatches<'_>) -> Result<Error, AllocError>
     ensures { IfOk result (λ e. kind_of e ≡ mistake_of (subcommand_rows_of matches.now)) }
 {
@@ -37,7 +40,8 @@ fn unknown_word(alloc: Global, matches: &ArgMatches<'_>) -> Result<Error, AllocE
         Some(("apply", words)) if is_stray(words) => missing_keep(alloc),
         Some(("apply", _)) => unknown_site(alloc),
         Some(("completions", _)) => unknown_shell(alloc),
-        _ => unknown_kind(alloc),
+        Some(("resolve", _)) | None => unknown_kind(alloc),
+        Some(_) => read_elsewhere(alloc),
     }
 }
 

@@ -1,8 +1,10 @@
 //! The limits of the product, each declared once: how large what is read or written may be, and how many of a kind there may be.
 //!
-//! A crate of its own, though it is small, so that the crates at the bottom have them too. Each definition in a crate's `specs/`
-//! states the number that it means, and each contract over it holds the code to that number.
+//! A crate of its own, though it is small, so that the crates at the bottom have them too. `specs/` defines each by the same name
+//! for contracts, which hold the code to that number.
 #![tactic(auto)]
+
+ghost use Rattle.limits.specs.Constants.{AreTheConstants};
 
 /// How deep lists and objects of a JSON text nest at most, as `serde_json` reads it.
 pub const JSON_LEVELS: usize = 127;
@@ -19,7 +21,7 @@ pub const FILE_BYTES: usize = 67_108_864;
 /// The most flags of a document, and of several that are merged.
 pub const FLAGS: usize = 10_000;
 
-/// The most variants of a flag.
+/// The most variants of a flag, and names of a rule that is planned on.
 pub const VARIANTS: usize = 64;
 
 /// The most nodes of a targeting, what its references lead to counted at each of them.
@@ -28,8 +30,11 @@ pub const EXPRESSION_NODES: u32 = 10_000;
 /// How deep the nodes of a targeting nest at most.
 pub const EXPRESSION_LEVELS: u32 = 100;
 
+/// The largest whole number of a context: from there on a double no longer holds each integer.
+pub const LARGEST_WHOLE: u64 = (1 << 53) - 1;
+
 /// The latest moment of an evaluation, in seconds since 1970: the largest whole number of a context.
-pub const LATEST_MOMENT: u64 = (1 << 53) - 1;
+pub const LATEST_MOMENT: u64 = LARGEST_WHOLE;
 
 /// How many numbers a site may have: they are below it.
 pub const SITES: i64 = 1 << 32;
@@ -39,6 +44,18 @@ pub const INPUT_BYTES: usize = 1024;
 
 /// The most inputs of a page.
 pub const PAGE_INPUTS: usize = 1_000_000;
+
+/// The most inputs on one point of a tally or of a rule that is planned on.
+pub const POINT_INPUTS: u32 = 67_108_864;
+
+/// The most inputs on all points of a tally or of a rule that is planned on.
+pub const TALLY_INPUTS: u64 = 8_589_934_592;
+
+/// The largest total of a rule that is planned on: the most points of a plan or tally.
+pub const PLANNED_TOTAL: u32 = 1_000_000;
+
+/// The greatest price of a change.
+pub const LARGEST_PRICE: u32 = 1_000_000;
 
 /// The most documents that are merged.
 pub const SOURCES: usize = 16;
@@ -55,3 +72,8 @@ pub const STACK_BYTES: usize = 4_194_304;
 
 /// How often a read or write that a signal interrupts is made again.
 pub const INTERRUPTIONS: u32 = 1_000_000;
+
+/// Each constant is the limit that is defined by its name.
+pub fn the_constants_are_the_limits()
+    ensures { AreTheConstants }
+{}

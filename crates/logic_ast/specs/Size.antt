@@ -1,5 +1,6 @@
 -- How large an expression is: its nodes and its levels, as `write_expr` writes it, without its literal buckets.
 use Rattle.std.specs.Prelude.{ℕ, suc, ◌+◌, ◌-◌, max, List, Bool, ◌&&◌, ◌||◌, nat_lt, nat_le, if◌then◌else◌, Option, Some, None}
+use Rattle.limits.specs.Limits.{expression_nodes, expression_levels}
 use Rattle.bucket_core.specs.Reading.{bucket_from as entry_of}
 use Rattle.flag_text.specs.Shape.{Shape, list, object, Items, no_items, item, Members, no_members, member}
 use Rattle.logic_ast.specs.Operator.{is_fractional}
@@ -92,10 +93,10 @@ abbrev pub bucket_size : Items → Size
 bucket_size ps = unless_literal (entry_of ps) (bucket_parts_size ps)
 
 abbrev pub max_nodes : ℕ
-max_nodes = 10000
+max_nodes = expression_nodes
 
 abbrev pub max_levels : ℕ
-max_levels = 100
+max_levels = expression_levels
 
 abbrev pub is_over : Size → Bool
 is_over s = nat_lt max_nodes s.nodes || nat_lt max_levels s.levels

@@ -4,7 +4,7 @@ use Rattle.std.proofs.lemmas.Int.{ints}
 use Rattle.std.proofs.lemmas.Option.{same_Some}
 use Rattle.min_cost_flow.specs.Offered.{IsSwitchCost, IsOffer, Offers}
 use Rattle.min_cost_flow.specs.Problem.{is_allowed, cost_or_zero}
-use Rattle.min_cost_flow.specs.Residual.{TakesMoves, IsMove}
+use Rattle.min_cost_flow.specs.Residual.{TakesMoves, IsMoveOfGroup}
 use Rattle.min_cost_flow.proofs.Products.{pays_more}
 use Rattle.shortest_path.specs.declared.arc.Arc.{Arc}
 
@@ -19,7 +19,7 @@ module _ (names g v count : ℕ) (here : ℤ) (switch_cost : ℕ → Option ℤ)
   charged : (w : ℕ) (to : ℤ) → switch_cost w ≡ Some to → charge g w ≡ pos count *ℤ to
   charged w to is = charge_is w ∙ ap (λ o. pos count *ℤ cost_or_zero o) is
 
-  move_of : (w : ℕ) (a : Arc) → w < names → new w ≡ Some a → IsOffer here g count (switch_cost w) (old w) (new w) → IsMove may charge g v w a
+  move_of : (w : ℕ) (a : Arc) → w < names → new w ≡ Some a → IsOffer here g count (switch_cost w) (old w) (new w) → IsMoveOfGroup may charge g v w a
   move_of w a w_in is o =
       let same : o.arc ≡ a = same_Some o.arc a (sym o.taken ∙ is) in
       record {

@@ -1,5 +1,5 @@
 -- The flow in which each point keeps its variant is one, and optimal by potentials of 0.
-use Rattle.std.proofs.Common.{◌≡◌, ℕ, zero, suc, ◌+◌, ◌*◌, ◌<◌, ◌≤◌, ⊎_elim, ℤ, pos, negsuc, ◌*ℤ◌, ◌≤ℤ◌, true, List, length, get_or, Option, Some, None, refl, sym, ap, ◌∙◌, subst, arith}
+use Rattle.std.proofs.Common.{◌≡◌, ℕ, zero, suc, ◌+◌, ◌*◌, ◌<◌, ◌≤◌, ⊎_elim, ℤ, pos, negsuc, ◌*ℤ◌, ◌≤ℤ◌, true, List, length, get_or, Option, Some, refl, sym, ap, ◌∙◌, subst, arith}
 use Rattle.std.proofs.lemmas.Bool.{cases_eq}
 use Rattle.std.proofs.lemmas.Int.{ints}
 use Rattle.min_cost_flow.specs.Optimal.{IsOptimal}
@@ -11,12 +11,11 @@ use Rattle.min_cost_flow.proofs.Entering.{there_is}
 use Rattle.min_cost_flow.specs.Spans.{AreSpans, IsIn, span_at}
 use Rattle.min_cost_flow.specs.declared.span.Span.{Span}
 use Rattle.min_cost_flow.specs.Flow.{IsFlowAt, cell_at, flows_at, groups_of}
-use Rattle.min_cost_flow.specs.Residual.{HasArcs, HasRootArcs, HasRow}
+use Rattle.min_cost_flow.specs.Residual.{AreRebuilt, HasArcs}
 use Rattle.min_cost_flow.specs.Initial.{at_home}
 use Rattle.min_cost_flow.proofs.Homes.{home_away, home_here}
 use Rattle.min_cost_flow.proofs.ResidualRows.{residual_of}
 use Rattle.min_cost_flow.proofs.Sums.{sum_one, sum_same}
-use Rattle.shortest_path.specs.Network.{arc_at}
 use Rattle.shortest_path.specs.declared.arc.Arc.{Arc}
 
 sum_nothing : (n : ℕ) → sum_to n (λ _. 0) ≡ 0
@@ -65,9 +64,8 @@ module _ (p : FlowProblem) (ok : IsFlowProblem p) (numbers sums : List ℕ) (hom
 
   pub stays_flow : (cells : List (Option Arc)) → length numbers ≡ groups_of p * names_of p → length sums ≡ names_of p → HasArcs (names_of p) cells
       → ((v : ℕ) → v < names_of p → get_or sums v 0 ≡ sum_to (groups_of p) (λ g. at_home p.groups.items g v))
-      → ((v : ℕ) → v < names_of p → HasRow p (λ g. cell_at numbers (names_of p) g v) v cells) → ((v : ℕ) → v < names_of p → HasRootArcs p (get_or sums v 0) v cells)
-      → arc_at cells (names_of p + 1) (names_of p) (names_of p) ≡ None → IsFlowAt p numbers sums cells
-  stays_flow cells placed totals size sum_is rows root none = record {
+      → AreRebuilt p numbers sums cells → IsFlowAt p numbers sums cells
+  stays_flow cells placed totals size sum_is arcs = record {
     placed = placed;
     totals = totals;
     arcs = size;
@@ -77,7 +75,7 @@ module _ (p : FlowProblem) (ok : IsFlowProblem p) (numbers sums : List ℕ) (hom
         sum_single (names_of p) (cell_at numbers (names_of p) g) variant v_in (λ v x_in not. homes g v g_in x_in ∙ home_away p.groups.items g v not) ∙ (homes g variant g_in v_in ∙ home_here p.groups.items g variant refl);
     columns = λ v v_in. sum_is v v_in ∙ sum_same (groups_of p) (λ g. at_home p.groups.items g v) (λ g. cell_at numbers (names_of p) g v) (λ g g_in. sym (homes g v g_in v_in));
     free = stays_may;
-    residual = residual_of p numbers sums cells rows root none;
+    residual = residual_of p numbers sums cells arcs.rows arcs.root arcs.none;
   }
 
   pub stays_spans : (spans : List Span) → length spans ≡ names_of p * names_of p → ((v a : ℕ) → v < names_of p → a < names_of p → (span_at spans (names_of p) v a).end ≤ groups_of p)

@@ -25,6 +25,14 @@ one_more groups names g spans spans' g_in variants before joins = record {
       (cases_eq h g);
 }
 
+-- a table of one value has it everywhere, and past its end
+pub get_or-filled : {A : Type 0} (n i : ℕ) (x : A) → get_or (replicate n x) i x ≡ x
+get_or-filled n i x =
+    ⊎_elim
+    (λ (below : i < n). get_or-replicate n i x x below)
+    (λ (past : n ≤ i). get_or_past (replicate n x) i x (omega (arith, past, length-replicate n x)))
+    (cases_lt i n)
+
 -- no group is in any span of a table of empty ones
 pub none_yet : (n i : ℕ) (span : Span) → span.end ≡ 0 → (get_or (replicate n span) i no_span).end ≡ 0
 none_yet n i span none =

@@ -100,13 +100,13 @@ module _ (p : FlowProblem) (old flow new : Flow) (points : ℕ) (steps : List St
             let moved : at_name v r.to points ≡ at_name v s.to points = ap (λ w. at_name v w points) (sym to_is) in
             ⊎_elim
             (λ (from_is : v ≡ s.from).
-            omega (arith, before, moved, same_name v s.from points from_is, other_name v s.to points (λ h. step.apart (sym from_is ∙ h)), pushed.left, ap (total_at new) from_is, ap (total_at flow) from_is))
+            omega (arith, before, moved, same_name v s.from points from_is, other_name v s.to points (λ h. step.apart (sym from_is ∙ h)), pushed.totals.left, ap (total_at new) from_is, ap (total_at flow) from_is))
             (λ (not_from : v ≡ s.from → ⊥).
             ⊎_elim
             (λ (is : v ≡ s.to).
-            omega (arith, before, moved, other_name v s.from points not_from, same_name v s.to points is, pushed.entered, ap (total_at new) is, ap (total_at flow) is))
+            omega (arith, before, moved, other_name v s.from points not_from, same_name v s.to points is, pushed.totals.entered, ap (total_at new) is, ap (total_at flow) is))
             (λ (not_to : v ≡ s.to → ⊥).
-            omega (arith, before, moved, other_name v s.from points not_from, other_name v s.to points not_to, pushed.others v not_from not_to))
+            omega (arith, before, moved, other_name v s.from points not_from, other_name v s.to points not_to, pushed.totals.others v not_from not_to))
             (cases_eq v s.to))
             (cases_eq v s.from);
       }

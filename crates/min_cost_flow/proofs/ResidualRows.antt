@@ -5,7 +5,7 @@ use Rattle.std.proofs.lemmas.Int.{ints}
 use Rattle.min_cost_flow.specs.Optimal.{AreResidual}
 use Rattle.min_cost_flow.specs.Problem.{names_of}
 use Rattle.min_cost_flow.specs.declared.problem.FlowProblem.{FlowProblem}
-use Rattle.min_cost_flow.specs.Residual.{IsRow, IsMove, TakesMoves}
+use Rattle.min_cost_flow.specs.Residual.{IsRow, IsMoveOfGroup, TakesMoves}
 use Rattle.min_cost_flow.specs.Flow.{cell_at, flows_at}
 use Rattle.min_cost_flow.specs.Residual.{ChangesGroup, HasRootArcs, HasRow, IsRootArc}
 use Rattle.shortest_path.specs.Network.{arc_at}
@@ -27,13 +27,13 @@ module _ (groups names : ℕ) (may : ℕ → ℕ → Bool) (charge : ℕ → ℕ
   row_takes group group_in row some changes wide =
       let keeps : (g : ℕ) → 0 < old g → 0 < now g = λ g had. ⊎_elim (λ (is : g ≡ group). omega (arith, ap now is, some)) (λ (not : g ≡ group → ⊥). omega (arith, changes g not, had)) (cases_eq g group) in
       record {
-        group = λ w a w_in is. ⊎_elim (λ (was : arc w ≡ Some a). row.group w a w_in was) (λ (move : IsMove may charge group v w a). omega (arith, move.same_group, group_in)) (wide.change w a w_in is);
-        there = λ w a w_in is. ⊎_elim (λ (was : arc w ≡ Some a). keeps a.group (row.there w a w_in was)) (λ (move : IsMove may charge group v w a). omega (arith, ap now move.same_group, some)) (wide.change w a w_in is);
-        allowed = λ w a w_in is. ⊎_elim (λ (was : arc w ≡ Some a). row.allowed w a w_in was) (λ (move : IsMove may charge group v w a). ap (λ g. may g w) move.same_group ∙ move.allowed) (wide.change w a w_in is);
+        group = λ w a w_in is. ⊎_elim (λ (was : arc w ≡ Some a). row.group w a w_in was) (λ (move : IsMoveOfGroup may charge group v w a). omega (arith, move.same_group, group_in)) (wide.change w a w_in is);
+        there = λ w a w_in is. ⊎_elim (λ (was : arc w ≡ Some a). keeps a.group (row.there w a w_in was)) (λ (move : IsMoveOfGroup may charge group v w a). omega (arith, ap now move.same_group, some)) (wide.change w a w_in is);
+        allowed = λ w a w_in is. ⊎_elim (λ (was : arc w ≡ Some a). row.allowed w a w_in was) (λ (move : IsMoveOfGroup may charge group v w a). ap (λ g. may g w) move.same_group ∙ move.allowed) (wide.change w a w_in is);
         cost = λ w a w_in is.
             ⊎_elim
             (λ (was : arc w ≡ Some a). row.cost w a w_in was)
-            (λ (move : IsMove may charge group v w a). omega (arith, ints, move.cost, ap (λ g. charge g v) move.same_group, ap (λ g. charge g w) move.same_group))
+            (λ (move : IsMoveOfGroup may charge group v w a). omega (arith, ints, move.cost, ap (λ g. charge g v) move.same_group, ap (λ g. charge g w) move.same_group))
             (wide.change w a w_in is);
         least = λ g w g_in w_in here allowed.
             ⊎_elim
@@ -51,7 +51,7 @@ module _ (groups names : ℕ) (may : ℕ → ℕ → Bool) (charge : ℕ → ℕ
 pub widened_same : (names : ℕ) (may : ℕ → ℕ → Bool) (charge : ℕ → ℕ → ℤ) (group v : ℕ) (old new old' new' : ℕ → Option Arc) → ((w : ℕ) → w < names → old' w ≡ old w) → ((w : ℕ) → w < names → new' w ≡ new w)
     → TakesMoves names may charge group v old new → TakesMoves names may charge group v old' new'
 widened_same names may charge group v old new old' new' old_is new_is wide = record {
-  change = λ w a w_in is. ⊎_elim (λ (was : old w ≡ Some a). inl (old_is w w_in ∙ was)) (λ (move : IsMove may charge group v w a). inr move) (wide.change w a w_in (sym (new_is w w_in) ∙ is));
+  change = λ w a w_in is. ⊎_elim (λ (was : old w ≡ Some a). inl (old_is w w_in ∙ was)) (λ (move : IsMoveOfGroup may charge group v w a). inr move) (wide.change w a w_in (sym (new_is w w_in) ∙ is));
   covers = λ w w_in allowed. let c = wide.covers w w_in allowed in (c.0, new_is w w_in ∙ c.1, c.2);
   less = λ w known w_in was. let c = wide.less w known w_in (sym (old_is w w_in) ∙ was) in (c.0, new_is w w_in ∙ c.1, c.2);
 }

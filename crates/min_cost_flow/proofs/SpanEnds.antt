@@ -2,7 +2,7 @@
 use Rattle.std.proofs.Common.{◌≡◌, ℕ, ◌+◌, ◌<◌, ◌≤◌, ⊎_elim, ℤ, Bool, Option, Some, sym, ap, ◌∙◌, subst, arith}
 use Rattle.std.proofs.lemmas.Bool.{cases_eq}
 use Rattle.std.proofs.lemmas.Int.{ints}
-use Rattle.min_cost_flow.specs.Residual.{AreMoves, TakesMovesOfBoth, IsCovered, IsLower, IsMove, TakesMoves}
+use Rattle.min_cost_flow.specs.Residual.{AreMoves, TakesMovesOfBoth, IsCovered, IsLower, IsMoveOfGroup, TakesMoves}
 use Rattle.shortest_path.specs.declared.arc.Arc.{Arc}
 
 -- the groups of old variants below `a` are done
@@ -24,17 +24,17 @@ module _ (groups names : ℕ) (variant count : ℕ → ℕ) (may : ℕ → ℕ �
     group = λ w a w_in is.
         ⊎_elim
         (λ (was : old w ≡ Some a). moves.group w a w_in was)
-        (λ (move : IsMove may charge g v w a). omega (arith, move.same_group, g_in))
+        (λ (move : IsMoveOfGroup may charge g v w a). omega (arith, move.same_group, g_in))
         (wide.change w a w_in is);
     there = λ w a w_in is.
         ⊎_elim
         (λ (was : old w ≡ Some a). moves.there w a w_in was)
-        (λ (move : IsMove may charge g v w a). omega (arith, ap here move.same_group, some))
+        (λ (move : IsMoveOfGroup may charge g v w a). omega (arith, ap here move.same_group, some))
         (wide.change w a w_in is);
     move = λ w a w_in is.
         ⊎_elim
         (λ (was : old w ≡ Some a). moves.move w a w_in was)
-        (λ (move : IsMove may charge g v w a). subst (λ x. IsMove may charge x v w a) (sym move.same_group) move)
+        (λ (move : IsMoveOfGroup may charge g v w a). subst (λ x. IsMoveOfGroup may charge x v w a) (sym move.same_group) move)
         (wide.change w a w_in is);
   }
 

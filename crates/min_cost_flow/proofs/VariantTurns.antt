@@ -3,7 +3,7 @@ use Rattle.std.proofs.Common.{◌≡◌, ℕ, ◌+◌, ◌-◌, ◌*◌, ◌<◌
 use Rattle.std.proofs.lemmas.Bool.{cases_lt}
 use Rattle.min_cost_flow.specs.Problem.{AreGroups, cost_at, group_at, may_take}
 use Rattle.min_cost_flow.specs.Residual.{TakesMovesOfBothIn}
-use Rattle.min_cost_flow.specs.Spans.{AreSpans, IsIn, IsThere, span_at}
+use Rattle.min_cost_flow.specs.Spans.{AreSpans, IsIn, Narrows, span_at}
 use Rattle.min_cost_flow.specs.declared.problem.Group.{Group}
 use Rattle.min_cost_flow.specs.declared.span.Span.{Span}
 use Rattle.min_cost_flow.proofs.SpanEnds.{EndsBelow, enters, skips}
@@ -17,10 +17,7 @@ RowBelow groups costs placed names v a row =
 
 -- what a turn does
 pub record IsTurn (groups : List Group) (costs : List (Option ℤ)) (placed : List ℕ) (names v a : ℕ) (spans : List Span) (span : Span) (row row' : List (Option Arc)) : Type 0 where
-  pub end : span.end ≤ length groups
-  pub keeps : (g : ℕ) → IsIn (span_at spans names v a) g → IsThere groups placed names v a g → IsIn span g
-  pub first : span.first < span.end → IsThere groups placed names v a span.first
-  pub last : span.first < span.end → IsThere groups placed names v a (span.end - 1)
+  pub narrows : Narrows groups placed names v a (span_at spans names v a) span
   pub some : span.first < span.end → TakesMovesOfBothIn groups costs names span.first (span.end - 1) v row row'
   pub none : span.end ≤ span.first → row' ≡ row
 
@@ -33,19 +30,19 @@ module _ (groups : List Group) (costs : List (Option ℤ)) (placed : List ℕ) (
 
   -- a group of the old variant with points at the name stays in the span
   stays : (g : ℕ) → g < length groups → (group_at groups g).variant ≡ a → 0 < get_or placed (g * names + v) 0 → IsIn span g
-  stays g g_in is some = turn.keeps g (subst (λ x. IsIn (span_at spans names v x) g) is (old.has g v g_in v_in some)) (record { variant = is; points = some })
+  stays g g_in is some = turn.narrows.keeps g (subst (λ x. IsIn (span_at spans names v x) g) is (old.has g v g_in v_in some)) (record { variant = is; points = some })
 
   pub row_after : RowBelow groups costs placed names v a row → RowBelow groups costs placed names v (a + 1) row'
   row_after before =
       ⊎_elim
       (λ (some : span.first < span.end).
-      let f = turn.first some in
-      let l = turn.last some in
+      let f = turn.narrows.first some in
+      let l = turn.narrows.last some in
       enters (length groups) names (λ g. (group_at groups g).variant) (λ g. (group_at groups g).count) (may_take groups costs names) (cost_at groups costs names) (λ g. get_or placed (g * names + v) 0) v a (λ w. get_or row w None) (λ w. get_or row' w None) before
-      span.first (span.end - 1) (omega (arith, some, turn.end)) (omega (arith, some, turn.end)) f.variant l.variant f.points l.points
+      span.first (span.end - 1) (omega (arith, some, turn.narrows.end)) (omega (arith, some, turn.narrows.end)) f.variant l.variant f.points l.points
       (λ g g_in is here.
       let within = stays g g_in is here in
-      (rises span.first g within.from g_in (f.variant ∙ sym is), rises g (span.end - 1) (omega (arith, within.before)) (omega (arith, some, turn.end)) (is ∙ sym l.variant)))
+      (rises span.first g within.from g_in (f.variant ∙ sym is), rises g (span.end - 1) (omega (arith, within.before)) (omega (arith, some, turn.narrows.end)) (is ∙ sym l.variant)))
       (turn.some some))
       (λ (none : span.end ≤ span.first).
       subst (λ xs. RowBelow groups costs placed names v (a + 1) xs) (sym (turn.none none))
@@ -56,4 +53,4 @@ module _ (groups : List Group) (costs : List (Option ℤ)) (placed : List ℕ) (
       (cases_lt span.first span.end)
 
   pub spans_after : AreSpans groups names placed (set spans (v * names + a) span)
-  spans_after = narrow groups names v a spans span old.size v_in a_in placed old are.variant turn.end turn.keeps
+  spans_after = narrow groups names v a spans span old.size v_in a_in placed old are.variant turn.narrows.end turn.narrows.keeps

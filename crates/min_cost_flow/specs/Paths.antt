@@ -1,14 +1,17 @@
 -- Augmenting paths of a residual network: points may move along arcs of reduced cost 0 (Ahuja, Magnanti, Orlin, Network
 -- Flows, section 9.7).
-use Rattle.std.specs.Prelude.{◌≡◌, ◌≢◌, ℕ, ◌+◌, ◌-◌, ◌<◌, ◌≤◌, ◌⊎◌, ℤ, ◌+ℤ◌, true, List, [], ◌∷◌, Option, Some, min, slice_index}
+use Rattle.std.specs.Prelude.{◌≡◌, ◌≢◌, ℕ, ◌+◌, ◌-◌, ◌<◌, ◌≤◌, ◌⊎◌, ℤ, ◌+ℤ◌, true, List, [], ◌∷◌, length, Option, Some, min, slice_index}
 use Rattle.std.specs.List.{All, AllPairs, Any}
 use Rattle.min_cost_flow.specs.Problem.{may_take, cost_at, names_of}
 use Rattle.min_cost_flow.specs.declared.problem.FlowProblem.{FlowProblem}
-use Rattle.min_cost_flow.specs.Flow.{groups_of, placed_at, total_at}
+use Rattle.min_cost_flow.specs.Flow.{flows_of, groups_of, placed_at, total_at}
+use Rattle.min_cost_flow.specs.Optimal.{AreLeast}
 use Rattle.min_cost_flow.specs.declared.flow.Flow.{Flow}
+use Rattle.shortest_path.specs.Found.{HasSize, predecessor_of, potential_of, rank_of}
 use Rattle.shortest_path.specs.Network.{arc_at}
 use Rattle.shortest_path.specs.Searched.{IsTight}
 use Rattle.shortest_path.specs.declared.arc.Arc.{Arc}
+use Rattle.shortest_path.specs.declared.search.Search.{Search}
 use Rattle.min_cost_flow.specs.declared.augmenting.Path.{Path}
 use Rattle.min_cost_flow.specs.declared.augmenting.Step.{Step}
 
@@ -53,6 +56,24 @@ pub record IsTraced (p : FlowProblem) (f : Flow) (potential : ℕ → ℤ) (rank
   pub steps : IsPath p f potential path.first last path.steps.items
   pub start : (path.first ≡ source) ⊎ ((a : Arc) × (arc_at f.arcs.items (names_of p + 1) (names_of p) path.first ≡ Some a) × (potential path.first ≡ (potential (names_of p) +ℤ a.cost)))
   pub settled : (path.first ≡ source) ⊎ (rank (names_of p) < names_of p + 1)
+
+-- A search has found a path to the last name, on which points may move: the first name of it is above its limit, and the last one
+-- below its own.
+pub record MayAugment (p : FlowProblem) (f : Flow) (s : Search) (limits : List ℕ) (source last : ℕ) : Type 0 where
+  pub least : AreLeast (flows_of p f) (potential_of s)
+  pub size : HasSize (names_of p + 1) s
+  pub many : length limits ≡ names_of p
+  pub within : last < names_of p
+  pub traced : AreTraced (names_of p) (arc_at f.arcs.items (names_of p + 1)) (potential_of s) (predecessor_of s) (rank_of s) source last
+  pub above : (v : ℕ) → v < names_of p → MayBegin p f (rank_of s) source v → slice_index limits v < total_at f v
+  pub below : total_at f last < slice_index limits last
+
+-- so many points may move along each of the steps, one after the other
+pub record MayMoveAlong (p : FlowProblem) (f : Flow) (steps : List Step) (points : ℕ) : Type 0 where
+  pub each : All (IsStep p f) steps
+  pub apart : AllPairs (λ s t. s.from ≢ t.from) steps
+  pub some : 0 < points
+  pub wide : All (λ s. points ≤ placed_at p f s.group s.from) steps
 
 -- So many points are the bottleneck, of the most that may move: each step takes them, and they are the most or a step takes no more.
 pub record IsBottleneck (p : FlowProblem) (f : Flow) (steps : List Step) (most points : ℕ) : Type 0 where

@@ -46,6 +46,18 @@ MeetsHigh p f = (v : ℕ) → v < names_of p → total_at f v ≤ slice_index p.
 abbrev pub IsEmptied : FlowProblem → Flow → Flow → Search → ℕ → Type 0
 IsEmptied p old new s from = IsInFirstPass p new s × (total_at new from ≤ slice_index p.high.items from) × StayPlaced p old new
 
+-- this name is above its high limit
+pub record IsAbove (p : FlowProblem) (f : Flow) (v : ℕ) : Type 0 where
+  pub within : v < names_of p
+  pub over : slice_index p.high.items v < total_at f v
+
+-- points moved away from the name: it has fewer, names within their high limits stay so, and in all fewer points are above them
+pub record IsFilled (p : FlowProblem) (old new : Flow) (s : Search) (from : ℕ) : Type 0 where
+  pub first_pass : IsInFirstPass p new s
+  pub fewer : total_at new from < total_at old from
+  pub placed : StayPlaced p old new
+  pub lower : excess p new < excess p old
+
 -- a search has found the shortest path to the root: its last name has room, and the flow is in the first pass by the new potentials
 pub record IsPathToRoom (p : FlowProblem) (f : Flow) (s : Search) (from last : ℕ) : Type 0 where
   pub first_pass : IsInFirstPass p f s

@@ -61,6 +61,11 @@ pub record AreSwitchCosts (names : ℕ) (costs : List (Option ℤ)) : Type 0 whe
   pub size : length costs ≡ names * names
   pub each : (i : ℕ) (switch_cost : ℤ) → i < names * names → slice_index_or costs i None ≡ Some switch_cost → IsSwitchCost switch_cost
 
+-- groups, and the switch costs by which they are charged
+pub record AreSupplies (names : ℕ) (costs : List (Option ℤ)) (groups : List Group) : Type 0 where
+  pub grouped : AreGroups names costs groups
+  pub priced : AreSwitchCosts names costs
+
 abbrev pub names_of : FlowProblem → ℕ
 names_of p = length p.high.items
 

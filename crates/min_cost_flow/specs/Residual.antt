@@ -5,6 +5,8 @@ use Rattle.min_cost_flow.specs.declared.problem.Group.{Group}
 use Rattle.shortest_path.specs.declared.arc.Arc.{Arc}
 use Rattle.min_cost_flow.specs.declared.problem.FlowProblem.{FlowProblem}
 use Rattle.min_cost_flow.specs.Flow.{cell_at, groups_of}
+use Rattle.min_cost_flow.specs.Spans.{ArePlaced}
+use Rattle.min_cost_flow.specs.declared.span.Span.{Span}
 use Rattle.shortest_path.specs.Network.{arc_at}
 
 -- Each arc from the name `v` is the cheapest move of a point there: groups and names are numbered, so many points of each group are
@@ -17,14 +19,14 @@ pub record IsRow (groups names : ℕ) (may : ℕ → ℕ → Bool) (charge : ℕ
   pub least : (g w : ℕ) → g < groups → w < names → 0 < here g → may g w ≡ true → (a : Arc) × (arc w ≡ Some a) × ((charge g v +ℤ a.cost) ≤ℤ charge g w)
 
 -- the arc is a move of a point of the group
-pub record IsMove (may : ℕ → ℕ → Bool) (charge : ℕ → ℕ → ℤ) (g v w : ℕ) (a : Arc) : Type 0 where
+pub record IsMoveOfGroup (may : ℕ → ℕ → Bool) (charge : ℕ → ℕ → ℤ) (g v w : ℕ) (a : Arc) : Type 0 where
   pub same_group : a.group ≡ g
   pub allowed : may g w ≡ true
   pub cost : (charge g v +ℤ a.cost) ≡ charge g w
 
 -- the arcs from the name take the moves of a group's points where these are cheaper
 pub record TakesMoves (names : ℕ) (may : ℕ → ℕ → Bool) (charge : ℕ → ℕ → ℤ) (g v : ℕ) (old new : ℕ → Option Arc) : Type 0 where
-  pub change : (w : ℕ) (a : Arc) → w < names → new w ≡ Some a → (old w ≡ Some a) ⊎ IsMove may charge g v w a
+  pub change : (w : ℕ) (a : Arc) → w < names → new w ≡ Some a → (old w ≡ Some a) ⊎ IsMoveOfGroup may charge g v w a
   pub covers : (w : ℕ) → w < names → may g w ≡ true → (a : Arc) × (new w ≡ Some a) × ((charge g v +ℤ a.cost) ≤ℤ charge g w)
   pub less : (w : ℕ) (known : Arc) → w < names → old w ≡ Some known → (a : Arc) × (new w ≡ Some a) × (a.cost ≤ℤ known.cost)
 
@@ -36,7 +38,7 @@ TakesMovesOfBoth names may charge g h v old new = (mid : ℕ → Option Arc) × 
 pub record AreMoves (groups names : ℕ) (may : ℕ → ℕ → Bool) (charge : ℕ → ℕ → ℤ) (here : ℕ → ℕ) (v : ℕ) (arc : ℕ → Option Arc) : Type 0 where
   pub group : (w : ℕ) (a : Arc) → w < names → arc w ≡ Some a → a.group < groups
   pub there : (w : ℕ) (a : Arc) → w < names → arc w ≡ Some a → 0 < here a.group
-  pub move : (w : ℕ) (a : Arc) → w < names → arc w ≡ Some a → IsMove may charge a.group v w a
+  pub move : (w : ℕ) (a : Arc) → w < names → arc w ≡ Some a → IsMoveOfGroup may charge a.group v w a
 
 -- no move of a point of the group is cheaper than the arcs
 abbrev pub IsCovered : ℕ → (ℕ → ℕ → Bool) → (ℕ → ℕ → ℤ) → ℕ → (ℕ → Option Arc) → ℕ → Type 0
@@ -75,6 +77,16 @@ TakesMovesOfBothIn groups costs names g h v old new = TakesMovesOfBoth names (ma
 abbrev pub HasArcs : ℕ → List (Option Arc) → Type 0
 HasArcs names arcs = length arcs ≡ (names + 1) * (names + 1)
 
+-- the name is one of those whose arcs they are
+pub record HasArcsOf (p : FlowProblem) (v : ℕ) (arcs : List (Option Arc)) : Type 0 where
+  pub size : HasArcs (names_of p) arcs
+  pub within : v < names_of p
+
+-- there are no arcs
+pub record HasNoArcs (names : ℕ) (arcs : List (Option Arc)) : Type 0 where
+  pub size : HasArcs names arcs
+  pub none : (i : ℕ) → slice_index_or arcs i None ≡ None
+
 -- the arcs from the name to others are right for the points here
 abbrev pub HasRow : FlowProblem → (ℕ → ℕ) → ℕ → List (Option Arc) → Type 0
 HasRow p here v arcs =
@@ -83,6 +95,16 @@ HasRow p here v arcs =
 -- no group has points at the name that may not be there
 abbrev pub MayBe : FlowProblem → List ℕ → ℕ → Type 0
 MayBe p placed v = (g : ℕ) → g < groups_of p → 0 < cell_at placed (names_of p) g v → may_take p.groups.items p.costs.items (names_of p) g v ≡ true
+
+-- the same of a problem, with spans of the groups
+abbrev pub ArePlacedIn : FlowProblem → List ℕ → List Span → ℕ → Type 0
+ArePlacedIn p placed spans v = ArePlaced p.groups.items p.costs.items (names_of p) placed spans v
+
+-- the tables have a number for each group and name and a total for each name, and no group has points that may not be there
+pub record MayStand (p : FlowProblem) (numbers sums : List ℕ) : Type 0 where
+  pub placed : length numbers ≡ groups_of p * names_of p
+  pub totals : length sums ≡ names_of p
+  pub free : (v : ℕ) → v < names_of p → MayBe p numbers v
 
 -- only arcs from the name to others changed
 abbrev pub ChangesRow : ℕ → ℕ → List (Option Arc) → List (Option Arc) → Type 0
@@ -107,7 +129,14 @@ ChangesRootArcs names name old new =
 abbrev pub ChangesGroup : ℕ → (ℕ → ℕ) → (ℕ → ℕ) → Type 0
 ChangesGroup group old now = (g : ℕ) → g ≢ group → now g ≡ old g
 
--- arcs from the name that were right for points which differ from these at one group alone, of which there were some, are right for these
-abbrev pub KeepsRow : FlowProblem → List ℕ → ℕ → ℕ → List (Option Arc) → List (Option Arc) → Type 0
-KeepsRow p placed group v old new = let now : ℕ → ℕ = λ g. cell_at placed (names_of p) g v in
-    (before : ℕ → ℕ) → 0 < before group → ChangesGroup group before now → HasRow p before v old → HasRow p now v new
+-- Arcs from the name that were right for points which differ from these at one group alone, of which there were some, are right
+-- for these, and no others changed.
+pub record KeepsRow (p : FlowProblem) (placed : List ℕ) (group v : ℕ) (old new : List (Option Arc)) : Type 0 where
+  pub row : (before : ℕ → ℕ) → 0 < before group → ChangesGroup group before (λ g. cell_at placed (names_of p) g v) → HasRow p before v old → HasRow p (λ g. cell_at placed (names_of p) g v) v new
+  pub others : ChangesRow (names_of p) v old new
+
+-- the arcs from each name, to the root and from it are right for points placed so, with these totals
+pub record AreRebuilt (p : FlowProblem) (placed totals : List ℕ) (arcs : List (Option Arc)) : Type 0 where
+  pub rows : (v : ℕ) → v < names_of p → HasRow p (λ g. cell_at placed (names_of p) g v) v arcs
+  pub root : (v : ℕ) → v < names_of p → HasRootArcs p (slice_index totals v) v arcs
+  pub none : arc_at arcs (names_of p + 1) (names_of p) (names_of p) ≡ None

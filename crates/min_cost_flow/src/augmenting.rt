@@ -1,16 +1,17 @@
 //! Augmentation along a path that was found.
-ghost use Rattle.std.specs.List.{All, AllPairs};
+ghost use Rattle.std.specs.List.{All};
 ghost use Rattle.std.specs.Prelude.{◌≡◌, ◌<◌, ◌≤◌, ◌+◌, ◌-◌, ℕ, OnOk, length, min, slice_index, ◌≢◌, ◌*◌, ◌⊎◌, Some, IfOk, MatchOption, ◌==◌, ℤ, if◌then◌else◌};
-ghost use Rattle.min_cost_flow.specs.Flow.{IsFlow, flows_of, total_at, placed_at};
+ghost use Rattle.min_cost_flow.specs.Flow.{IsFlow, flows_of, total_at};
 ghost use Rattle.min_cost_flow.specs.Optimal.{AreLeast};
-ghost use Rattle.min_cost_flow.specs.Paths.{AreTraced, IsAugmented, MayBegin, IsTraced, IsBottleneck, HasZeroReducedCost, IsStep, Leads};
+ghost use Rattle.min_cost_flow.specs.Paths.{AreTraced, IsAugmented, MayAugment, MayMoveAlong, IsTraced, IsBottleneck, HasZeroReducedCost, IsStep, Leads};
 ghost use Rattle.min_cost_flow.specs.Problem.{IsFlowProblem, names_of};
 ghost use Rattle.shortest_path.specs.Found.{HasSize, predecessor_of, potential_of, rank_of};
 ghost use Rattle.shortest_path.specs.Network.{arc_at};
+ghost use Rattle.shortest_path.specs.Searched.{predecessor_in};
 
 use crate::flow::Flow;
 use crate::problem::FlowProblem;
-use shortest_path::{Arc, Search};
+use shortest_path::{Arc, NodeState, Search};
 use std::alloc::{AllocError, Global};
 
 /// A step of a path: points of a group move from one name to another.
@@ -41,13 +42,7 @@ pub(crate) fn augment(
 ) -> Result<(), AllocError>
     requires problem { IsFlowProblem problem.now }
     requires flow { IsFlow problem.now flow.old }
-    requires least { AreLeast (flows_of problem.now flow.old) (potential_of search.now) }
-    requires size { HasSize (names_of problem.now + 1) search.now }
-    requires limits { length limits.now ≡ names_of problem.now }
-    requires last { last < names_of problem.now }
-    requires traced { AreTraced (names_of problem.now) (arc_at flow.old.arcs.items (names_of problem.now + 1)) (potential_of search.now) (predecessor_of search.now) (rank_of search.now) source last }
-    requires above { (v : ℕ) → v < names_of problem.now → MayBegin problem.now flow.old (rank_of search.now) source v → slice_index limits.now v < total_at flow.old v }
-    requires below { total_at flow.old last < slice_index limits.now last }
+    requires path { MayAugment problem.now flow.old search.now limits.now source last }
     ensures flow { OnOk result (IsFlow problem.now flow.new) }
     ensures least { OnOk result (AreLeast (flows_of problem.now flow.new) (potential_of search.now)) }
     ensures augmented { OnOk result (IsAugmented problem.now flow.old flow.new (potential_of search.now) (rank_of search.now) limits.now source last) }
@@ -91,7 +86,7 @@ pub(crate) fn trace(
     let names = problem.high.len();
     let mut steps = Vec::new(alloc);
     let mut to = last;
-    while let Some(from) = name_before(search.predecessors.as_slice(), names, source, to) {
+    while let Some(from) = name_before(search.nodes.as_slice(), names, source, to) {
         let group = group_between(flow.arcs.as_slice(), names, from, to);
         steps.push(Step { group, from, to })?;
         to = from;
@@ -100,16 +95,16 @@ pub(crate) fn trace(
 }
 
 /// The predecessor of a name on the path to it; none of the first name.
-fn name_before(predecessors: &[usize], names: usize, source: usize, name: usize) -> Option<usize>
-    requires { name < length predecessors.now }
+fn name_before(nodes: &[NodeState], names: usize, source: usize, name: usize) -> Option<usize>
+    requires { name < length nodes.now }
     ensures { MatchOption result
-        ((name ≡ source) ⊎ (slice_index predecessors.now name ≡ names))
-        (λ before. (before ≡ slice_index predecessors.now name) × (name ≢ source) × (before ≢ names)) }
+        ((name ≡ source) ⊎ (predecessor_in nodes.now name ≡ names))
+        (λ before. (before ≡ predecessor_in nodes.now name) × (name ≢ source) × (before ≢ names)) }
 {
-    if name == source || predecessors[name] == names {
+    if name == source || nodes[name].predecessor == names {
         None
     } else {
-        Some(predecessors[name])
+        Some(nodes[name].predecessor)
     }
 }
 
@@ -156,10 +151,7 @@ fn placed(cells: &[u32], names: usize, group: usize, name: usize) -> u32
 pub(crate) fn push_along(problem: &FlowProblem, flow: &mut Flow, steps: &[Step], points: u32)
     requires problem { IsFlowProblem problem.now }
     requires flow { IsFlow problem.now flow.old }
-    requires steps { All (IsStep problem.now flow.old) steps.now }
-    requires apart { AllPairs (λ s t. s.from ≢ t.from) steps.now }
-    requires some { 0 < points }
-    requires wide { All (λ s. points ≤ placed_at problem.now flow.old s.group s.from) steps.now }
+    requires steps { MayMoveAlong problem.now flow.old steps.now points }
     ensures flow { IsFlow problem.now flow.new }
     ensures least { (potential : ℕ → ℤ) → All (HasZeroReducedCost problem.now potential) steps.now → AreLeast (flows_of problem.now flow.old) potential → AreLeast (flows_of problem.now flow.new) potential }
     ensures totals { (first last : ℕ) → Leads first last steps.now → (v : ℕ)

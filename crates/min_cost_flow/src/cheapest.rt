@@ -1,10 +1,8 @@
 //! The cheapest flow, by both passes.
-ghost use Rattle.std.specs.Prelude.{◌≡◌, ◌≤◌, ◌+◌, ◌*◌, IfOk, OnOk};
-ghost use Rattle.min_cost_flow.specs.Cheapest.{IsCheapest};
+ghost use Rattle.std.specs.Prelude.{◌≤◌, ◌+◌, ◌*◌, IfOk};
+ghost use Rattle.min_cost_flow.specs.Cheapest.{IsPassed};
 ghost use Rattle.min_cost_flow.specs.Effort.{Searches, nodes_of, points_of};
-ghost use Rattle.min_cost_flow.specs.Flow.{IsFlow};
-ghost use Rattle.min_cost_flow.specs.Meeting.{IsStuckBelow};
-ghost use Rattle.min_cost_flow.specs.Placing.{IsInFirstPass, IsStuckAbove};
+ghost use Rattle.min_cost_flow.specs.Placing.{IsInFirstPass};
 ghost use Rattle.min_cost_flow.specs.Problem.{IsFlowProblem};
 
 use crate::flow::Flow;
@@ -43,10 +41,7 @@ pub fn cheapest_flow<L: Ledger>(
     effort: &mut Effort<L>,
 ) -> Result<Passed, AllocError>
     requires { IsFlowProblem problem.now }
-    ensures flow { IfOk result (λ r. IsFlow problem.now r.flow) }
-    ensures cheapest { IfOk result (λ r. r.outcome ≡ Outcome.Cheapest → IsCheapest problem.now r.flow r.search) }
-    ensures over { IfOk result (λ r. r.outcome ≡ Outcome.Over → IsStuckAbove problem.now r.flow r.search) }
-    ensures under { IfOk result (λ r. r.outcome ≡ Outcome.Under → IsStuckBelow problem.now r.flow r.search) }
+    ensures passed { IfOk result (λ r. IsPassed problem.now r.outcome r.flow r.search) }
     ensures augmentations { effort.new.augmentations ≤ effort.old.augmentations + 2 * points_of problem.now }
     ensures searches { Searches (nodes_of problem.now) 1 effort.old effort.new }
 {
@@ -70,10 +65,7 @@ fn pass<L: Ledger>(
 ) -> Result<Outcome, AllocError>
     requires problem { IsFlowProblem problem.now }
     requires first_pass { IsInFirstPass problem.now flow.old search.old }
-    ensures flow { OnOk result (IsFlow problem.now flow.new) }
-    ensures cheapest { IfOk result (λ outcome. outcome ≡ Outcome.Cheapest → IsCheapest problem.now flow.new search.new) }
-    ensures over { IfOk result (λ outcome. outcome ≡ Outcome.Over → IsStuckAbove problem.now flow.new search.new) }
-    ensures under { IfOk result (λ outcome. outcome ≡ Outcome.Under → IsStuckBelow problem.now flow.new search.new) }
+    ensures passed { IfOk result (λ outcome. IsPassed problem.now outcome flow.new search.new) }
     ensures augmentations { effort.new.augmentations ≤ effort.old.augmentations + 2 * points_of problem.now }
     ensures searches { Searches (nodes_of problem.now) 1 effort.old effort.new }
 {

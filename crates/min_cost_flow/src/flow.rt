@@ -1,9 +1,8 @@
 //! A flow, and its residual arcs as points move.
-ghost use Rattle.std.specs.Prelude.{◌≡◌, ◌≢◌, ◌<◌, ◌≤◌, IfOk, true, pos, ◌+◌, ◌^◌, ℕ, length, slice_index};
-ghost use Rattle.min_cost_flow.specs.Flow.{IsFlow, IsPushed, flows_of, groups_of, placed_at, IsFlowAt, IsPushedAt, cell_at};
+ghost use Rattle.std.specs.Prelude.{◌≢◌, ◌<◌, ◌≤◌, IfOk, pos, ◌+◌, ◌^◌, length, slice_index};
+ghost use Rattle.min_cost_flow.specs.Flow.{AreFlowTables, IsFlow, IsMove, IsMoveAt, IsMoved, IsPushed, IsPushedAt, flows_of};
 ghost use Rattle.min_cost_flow.specs.Optimal.{IsOptimal};
-ghost use Rattle.min_cost_flow.specs.Problem.{IsFlowProblem, may_take, names_of};
-ghost use Rattle.min_cost_flow.specs.Spans.{AreSpans};
+ghost use Rattle.min_cost_flow.specs.Problem.{IsFlowProblem};
 
 use crate::initial::begin;
 use crate::problem::FlowProblem;
@@ -57,13 +56,7 @@ impl Flow {
     pub fn push(&mut self, problem: &FlowProblem, group: usize, from: usize, to: usize, points: u32)
         requires problem { IsFlowProblem problem.now }
         requires flow { IsFlow problem.now self.old }
-        requires group { group < groups_of problem.now }
-        requires from { from < names_of problem.now }
-        requires to { to < names_of problem.now }
-        requires apart { from ≢ to }
-        requires allowed { may_take problem.now.groups.items problem.now.costs.items (names_of problem.now) group to ≡ true }
-        requires some { 0 < points }
-        requires points { points ≤ placed_at problem.now self.old group from }
+        requires points { IsMove problem.now self.old group from to points }
         ensures flow { IsFlow problem.now self.new }
         ensures pushed { IsPushed problem.now self.old self.new group from to points }
     {
@@ -94,17 +87,9 @@ pub(crate) fn push_points(
     points: u32,
 )
     requires problem { IsFlowProblem problem.now }
-    requires flow { IsFlowAt problem.now placed.old totals.old arcs.old }
-    requires spans { AreSpans problem.now.groups.items (names_of problem.now) placed.old spans.old }
-    requires group { group < groups_of problem.now }
-    requires from { from < names_of problem.now }
-    requires to { to < names_of problem.now }
-    requires apart { from ≢ to }
-    requires allowed { may_take problem.now.groups.items problem.now.costs.items (names_of problem.now) group to ≡ true }
-    requires some { 0 < points }
-    requires points { points ≤ cell_at placed.old (names_of problem.now) group from }
-    ensures flow { IsFlowAt problem.now placed.new totals.new arcs.new }
-    ensures spans { AreSpans problem.now.groups.items (names_of problem.now) placed.new spans.new }
+    requires flow { AreFlowTables problem.now placed.old totals.old arcs.old spans.old }
+    requires points { IsMoveAt problem.now placed.old group from to points }
+    ensures flow { AreFlowTables problem.now placed.new totals.new arcs.new spans.new }
     ensures pushed { IsPushedAt problem.now placed.old totals.old placed.new totals.new group from to points }
 {
     let names = problem.high.len();
@@ -127,9 +112,7 @@ fn move_points(cells: &mut [u32], from: usize, to: usize, points: u32)
     requires apart { from ≢ to }
     requires points { points ≤ slice_index cells.old from }
     requires small { slice_index cells.old to + points < 2 ^ 32 }
-    ensures left { slice_index cells.new from + points ≡ slice_index cells.old from }
-    ensures entered { slice_index cells.new to ≡ slice_index cells.old to + points }
-    ensures others { (i : ℕ) → i ≢ from → i ≢ to → slice_index cells.new i ≡ slice_index cells.old i }
+    ensures { IsMoved cells.old cells.new from to points }
 {
     cells[from] -= points;
     cells[to] += points;

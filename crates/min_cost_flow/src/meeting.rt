@@ -1,6 +1,6 @@
 //! The second pass: names below their low limits get points from names that have more than theirs.
-ghost use Rattle.std.specs.Prelude.{◌≡◌, ◌≤◌, ◌<◌, ◌+◌, IfOk, IsTrue, MatchBool, MatchOption, MatchResult, OnOk, false, length, nat_lt, slice_index, slice_index_or};
-ghost use Rattle.min_cost_flow.specs.Effort.{Searches, nodes_of};
+ghost use Rattle.std.specs.Prelude.{◌≡◌, ◌<◌, ◌+◌, IfOk, MatchBool, MatchOption, OnOk, false, length, nat_lt, slice_index, slice_index_or};
+ghost use Rattle.min_cost_flow.specs.Effort.{Augments, Spends, nodes_of};
 ghost use Rattle.min_cost_flow.specs.Flow.{IsFlow, total_at};
 ghost use Rattle.min_cost_flow.specs.Meeting.{IsBelow, IsInSecondPass, IsStuckBelow, IsStuckIfBelow, IsPathToDeficit, MeetsLow, WantsBelow, deficit};
 ghost use Rattle.min_cost_flow.specs.Problem.{IsFlowProblem, names_of};
@@ -27,9 +27,7 @@ pub(crate) fn meet_low<L: Ledger>(
     ensures met { IfOk result (λ met. MatchBool met
         (IsInSecondPass problem.now flow.new search.new × MeetsLow problem.now flow.new)
         (IsStuckBelow problem.now flow.new search.new)) }
-    ensures augmentations { effort.new.augmentations ≤ effort.old.augmentations + deficit problem.now flow.old }
-    ensures searches { Searches (nodes_of problem.now) 1 effort.old effort.new }
-    ensures found { IfOk result (λ met. IsTrue met → Searches (nodes_of problem.now) 0 effort.old effort.new) }
+    ensures effort { Spends (nodes_of problem.now) (deficit problem.now flow.old) (deficit problem.now flow.new) result effort.old effort.new }
 {
     let mut wanted = vec![in alloc; false; problem.high.len() + 1]?;
     'points: while let Some(_) = name_below(problem, flow) {
@@ -110,8 +108,7 @@ fn fill_below<L: Ledger>(
     requires path { IsPathToDeficit problem.now flow.old search.now last }
     ensures second_pass { OnOk result (IsInSecondPass problem.now flow.new search.now) }
     ensures fewer { OnOk result (deficit problem.now flow.new < deficit problem.now flow.old) }
-    ensures augmentations { MatchResult result (λ _. effort.new.augmentations ≡ effort.old.augmentations + 1) (λ _. effort.new.augmentations ≡ effort.old.augmentations) }
-    ensures settlings { effort.new.settlings ≡ effort.old.settlings }
+    ensures effort { Augments result effort.old effort.new }
 {
     augment(
         alloc,

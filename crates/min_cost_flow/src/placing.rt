@@ -1,8 +1,8 @@
 //! The first pass: all points are placed within the high limits.
-ghost use Rattle.std.specs.Prelude.{◌≤◌, ◌+◌, IfOk, IsTrue, MatchBool, ◌≡◌, ◌<◌, MatchOption, MatchResult, OnOk, slice_index};
-ghost use Rattle.min_cost_flow.specs.Effort.{Searches, nodes_of};
+ghost use Rattle.std.specs.Prelude.{◌≤◌, ◌<◌, IfOk, MatchBool, MatchOption, OnOk, slice_index};
+ghost use Rattle.min_cost_flow.specs.Effort.{Augments, Spends, nodes_of};
 ghost use Rattle.min_cost_flow.specs.Flow.{IsFlow, total_at};
-ghost use Rattle.min_cost_flow.specs.Placing.{IsInFirstPass, IsStuckAbove, MeetsHigh, WantsRoot, excess, IsEmptied, IsPathToRoom, StayPlaced};
+ghost use Rattle.min_cost_flow.specs.Placing.{IsAbove, IsFilled, IsInFirstPass, IsStuckAbove, MeetsHigh, WantsRoot, excess, IsEmptied, IsPathToRoom};
 ghost use Rattle.min_cost_flow.specs.Problem.{IsFlowProblem, names_of};
 ghost use Rattle.shortest_path.specs.Spent.{HasSettledAtMost};
 
@@ -27,9 +27,7 @@ pub(crate) fn place_within_high<L: Ledger>(
     ensures placed { IfOk result (λ placed. MatchBool placed
         (IsInFirstPass problem.now flow.new search.new × MeetsHigh problem.now flow.new)
         (IsStuckAbove problem.now flow.new search.new × IsFlow problem.now flow.new)) }
-    ensures augmentations { effort.new.augmentations ≤ effort.old.augmentations + excess problem.now flow.old }
-    ensures searches { Searches (nodes_of problem.now) 1 effort.old effort.new }
-    ensures found { IfOk result (λ placed. IsTrue placed → Searches (nodes_of problem.now) 0 effort.old effort.new) }
+    ensures effort { Spends (nodes_of problem.now) (excess problem.now flow.old) (excess problem.now flow.new) result effort.old effort.new }
 {
     let wanted = only_root(alloc, problem)?;
     for name in 0..problem.high.len() {
@@ -76,10 +74,7 @@ pub(crate) fn empty_to_high<L: Ledger>(
     ensures emptied { IfOk result (λ emptied. MatchBool emptied
         (IsEmptied problem.now flow.old flow.new search.new from)
         (IsStuckAbove problem.now flow.new search.new × IsFlow problem.now flow.new)) }
-    ensures excess { IfOk result (λ emptied. effort.new.augmentations + excess problem.now flow.new ≤ effort.old.augmentations + excess problem.now flow.old) }
-    ensures augmentations { effort.new.augmentations ≤ effort.old.augmentations + excess problem.now flow.old }
-    ensures searches { Searches (nodes_of problem.now) 1 effort.old effort.new }
-    ensures found { IfOk result (λ emptied. IsTrue emptied → Searches (nodes_of problem.now) 0 effort.old effort.new) }
+    ensures effort { Spends (nodes_of problem.now) (excess problem.now flow.old) (excess problem.now flow.new) result effort.old effort.new }
 {
     'points: while is_above(problem, flow, from) {
         let Some(last) = find_room(problem, flow, search, wanted, from, effort) else {
@@ -112,13 +107,12 @@ fn find_room<L: Ledger>(
     requires problem { IsFlowProblem problem.now }
     requires first_pass { IsInFirstPass problem.now flow.now search.old }
     requires wanted { WantsRoot problem.now wanted.now }
-    requires from { from < names_of problem.now }
-    requires above { slice_index problem.now.high.items from < total_at flow.now from }
+    requires above { IsAbove problem.now flow.now from }
     ensures path { MatchOption result (IsStuckAbove problem.now flow.now search.new) (λ last. IsPathToRoom problem.now flow.now search.new from last) }
     ensures effort { HasSettledAtMost (nodes_of problem.now) effort.old effort.new }
 {
     match search.find(flow.arcs.as_slice(), wanted, from, effort) {
-        Some(root) => Some(search.predecessors[root]),
+        Some(root) => Some(search.nodes[root].predecessor),
         None => None,
     }
 }
@@ -136,12 +130,8 @@ fn fill<L: Ledger>(
     requires problem { IsFlowProblem problem.now }
     requires path { IsPathToRoom problem.now flow.old search.now from last }
     requires above { slice_index problem.now.high.items from < total_at flow.old from }
-    ensures first_pass { OnOk result (IsInFirstPass problem.now flow.new search.now) }
-    ensures fewer { OnOk result (total_at flow.new from < total_at flow.old from) }
-    ensures placed { OnOk result (StayPlaced problem.now flow.old flow.new) }
-    ensures excess { OnOk result (excess problem.now flow.new < excess problem.now flow.old) }
-    ensures augmentations { MatchResult result (λ _. effort.new.augmentations ≡ effort.old.augmentations + 1) (λ _. effort.new.augmentations ≡ effort.old.augmentations) }
-    ensures settlings { effort.new.settlings ≡ effort.old.settlings }
+    ensures filled { OnOk result (IsFilled problem.now flow.old flow.new search.now from) }
+    ensures effort { Augments result effort.old effort.new }
 {
     augment(
         alloc,

@@ -1,10 +1,10 @@
 //! The residual arcs from a name, and between it and the root, by the points that are at the name.
-ghost use Rattle.std.specs.Prelude.{◌≡◌, ◌<◌, ◌≤◌, ◌-◌, ◌*◌, ◌+◌, ℕ, true, None, length, slice_index, slice_index_or, ◌≤ℤ◌, ℤ, pos, negsuc, ◌*ℤ◌, MatchBool, Some};
+ghost use Rattle.std.specs.Prelude.{◌≡◌, ◌<◌, ◌≤◌, ◌-◌, ◌+◌, ℕ, true, None, length, slice_index, slice_index_or, ◌≤ℤ◌, ℤ, pos, negsuc, ◌*ℤ◌, MatchBool, Some};
 ghost use Rattle.min_cost_flow.specs.Flow.{cell_at, groups_of};
 ghost use Rattle.min_cost_flow.specs.Offered.{IsSwitchCost, Offers, max_switch_cost};
-ghost use Rattle.min_cost_flow.specs.Problem.{AreGroups, AreSwitchCosts, may_take, IsFlowProblem, cost_in, may_take_in, names_of};
-ghost use Rattle.min_cost_flow.specs.Residual.{TakesMovesOfBothIn, IsRowOf, TakesMovesIn, TakesMoves, ChangesGroup, ChangesRootArcs, ChangesRow, HasArcs, HasRootArcs, HasRow, IsRootArc, KeepsRow, MayBe};
-ghost use Rattle.min_cost_flow.specs.Spans.{AreSpans};
+ghost use Rattle.min_cost_flow.specs.Problem.{AreSupplies, may_take, IsFlowProblem, cost_in, may_take_in, names_of};
+ghost use Rattle.min_cost_flow.specs.Residual.{TakesMovesOfBothIn, IsRowOf, TakesMovesIn, TakesMoves, ChangesGroup, ChangesRootArcs, ChangesRow, HasArcsOf, HasRootArcs, HasRow, IsRootArc, KeepsRow, ArePlacedIn};
+ghost use Rattle.min_cost_flow.specs.Spans.{ArePlaced, AreSpans, HasEnds};
 ghost use Rattle.shortest_path.specs.Network.{arc_at};
 
 use crate::problem::{FlowProblem, Group};
@@ -24,11 +24,8 @@ pub(crate) fn rebuild(
     name: usize,
 )
     requires name { name < length row.old }
-    requires groups { AreGroups (length row.old) costs.now groups.now }
-    requires costs { AreSwitchCosts (length row.old) costs.now }
-    requires placed { length placed.now ≡ length groups.now * length row.old }
-    requires free { (g : ℕ) → g < length groups.now → 0 < slice_index placed.now (g * length row.old + name) → may_take groups.now costs.now (length row.old) g name ≡ true }
-    requires spans { AreSpans groups.now (length row.old) placed.now spans.old }
+    requires supplies { AreSupplies (length row.old) costs.now groups.now }
+    requires placed { ArePlaced groups.now costs.now (length row.old) placed.now spans.old name }
     ensures row { IsRowOf groups.now costs.now placed.now (length row.old) name row.new }
     ensures spans { AreSpans groups.now (length row.old) placed.now spans.new }
 {
@@ -56,11 +53,8 @@ fn take_moves_of_groups(
     name: usize,
 )
     requires name { name < length row.old }
-    requires groups { AreGroups (length row.old) costs.now groups.now }
-    requires costs { AreSwitchCosts (length row.old) costs.now }
-    requires placed { length placed.now ≡ length groups.now * length row.old }
-    requires free { (g : ℕ) → g < length groups.now → 0 < slice_index placed.now (g * length row.old + name) → may_take groups.now costs.now (length row.old) g name ≡ true }
-    requires spans { AreSpans groups.now (length row.old) placed.now spans.old }
+    requires supplies { AreSupplies (length row.old) costs.now groups.now }
+    requires placed { ArePlaced groups.now costs.now (length row.old) placed.now spans.old name }
     requires none { (w : ℕ) → slice_index_or row.old w None ≡ None }
     ensures row { IsRowOf groups.now costs.now placed.now (length row.old) name row.new }
     ensures spans { AreSpans groups.now (length row.old) placed.now spans.new }
@@ -82,11 +76,8 @@ fn take_moves_of_ends(
     name: usize,
 )
     requires name { name < length row.old }
-    requires groups { AreGroups (length row.old) costs.now groups.now }
-    requires costs { AreSwitchCosts (length row.old) costs.now }
-    requires end { span.end ≤ length groups.now }
-    requires first { span.first < span.end → may_take groups.now costs.now (length row.old) span.first name ≡ true }
-    requires last { span.first < span.end → may_take groups.now costs.now (length row.old) (span.end - 1) name ≡ true }
+    requires supplies { AreSupplies (length row.old) costs.now groups.now }
+    requires span { HasEnds groups.now costs.now (length row.old) name span }
     ensures some { span.first < span.end → TakesMovesOfBothIn groups.now costs.now (length row.old) span.first (span.end - 1) name row.old row.new }
     ensures none { span.end ≤ span.first → row.new ≡ row.old }
 {
@@ -106,8 +97,7 @@ pub(crate) fn take_moves(
 )
     requires name { name < length row.old }
     requires group { group < length groups.now }
-    requires groups { AreGroups (length row.old) costs.now groups.now }
-    requires costs { AreSwitchCosts (length row.old) costs.now }
+    requires supplies { AreSupplies (length row.old) costs.now groups.now }
     requires free { may_take groups.now costs.now (length row.old) group name ≡ true }
     ensures { TakesMovesIn groups.now costs.now (length row.old) group name row.old row.new }
 {
@@ -172,11 +162,8 @@ pub(crate) fn rebuild_from(
     name: usize,
 )
     requires problem { IsFlowProblem problem.now }
-    requires arcs { HasArcs (names_of problem.now) arcs.old }
-    requires name { name < names_of problem.now }
-    requires placed { length placed.now ≡ groups_of problem.now * names_of problem.now }
-    requires free { MayBe problem.now placed.now name }
-    requires spans { AreSpans problem.now.groups.items (names_of problem.now) placed.now spans.old }
+    requires arcs { HasArcsOf problem.now name arcs.old }
+    requires placed { ArePlacedIn problem.now placed.now spans.old name }
     ensures row { HasRow problem.now (λ g. cell_at placed.now (names_of problem.now) g name) name arcs.new }
     ensures others { ChangesRow (names_of problem.now) name arcs.old arcs.new }
     ensures spans { AreSpans problem.now.groups.items (names_of problem.now) placed.now spans.new }
@@ -196,8 +183,7 @@ pub(crate) fn rebuild_from(
 /// The same of the arcs of a whole flow.
 fn take_moves_from(arcs: &mut [Option<Arc>], problem: &FlowProblem, group: usize, name: usize)
     requires problem { IsFlowProblem problem.now }
-    requires arcs { HasArcs (names_of problem.now) arcs.old }
-    requires name { name < names_of problem.now }
+    requires arcs { HasArcsOf problem.now name arcs.old }
     requires group { group < groups_of problem.now }
     requires free { may_take_in problem.now group name ≡ true }
     ensures row { TakesMoves (names_of problem.now) (may_take_in problem.now) (cost_in problem.now) group name
@@ -225,14 +211,10 @@ pub(crate) fn leave(
     name: usize,
 )
     requires problem { IsFlowProblem problem.now }
-    requires arcs { HasArcs (names_of problem.now) arcs.old }
-    requires name { name < names_of problem.now }
+    requires arcs { HasArcsOf problem.now name arcs.old }
     requires group { group < groups_of problem.now }
-    requires placed { length placed.now ≡ groups_of problem.now * names_of problem.now }
-    requires free { MayBe problem.now placed.now name }
-    requires spans { AreSpans problem.now.groups.items (names_of problem.now) placed.now spans.old }
-    ensures row { KeepsRow problem.now placed.now group name arcs.old arcs.new }
-    ensures others { ChangesRow (names_of problem.now) name arcs.old arcs.new }
+    requires placed { ArePlacedIn problem.now placed.now spans.old name }
+    ensures arcs { KeepsRow problem.now placed.now group name arcs.old arcs.new }
     ensures spans { AreSpans problem.now.groups.items (names_of problem.now) placed.now spans.new }
 {
     let names = problem.high.len();
@@ -250,8 +232,7 @@ pub(crate) fn arrive(
     before: u32,
 )
     requires problem { IsFlowProblem problem.now }
-    requires arcs { HasArcs (names_of problem.now) arcs.old }
-    requires name { name < names_of problem.now }
+    requires arcs { HasArcsOf problem.now name arcs.old }
     requires group { group < groups_of problem.now }
     requires free { may_take_in problem.now group name ≡ true }
     ensures row { (old now : ℕ → ℕ) → old group ≡ before → 0 < now group → ChangesGroup group old now → HasRow problem.now old name arcs.old → HasRow problem.now now name arcs.new }
@@ -271,8 +252,7 @@ pub(crate) fn rebuild_root_arcs(
     name: usize,
 )
     requires problem { IsFlowProblem problem.now }
-    requires arcs { HasArcs (names_of problem.now) arcs.old }
-    requires name { name < names_of problem.now }
+    requires arcs { HasArcsOf problem.now name arcs.old }
     requires totals { length totals.now ≡ names_of problem.now }
     ensures root { HasRootArcs problem.now (slice_index totals.now name) name arcs.new }
     ensures others { ChangesRootArcs (names_of problem.now) name arcs.old arcs.new }

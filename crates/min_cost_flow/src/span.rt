@@ -1,7 +1,7 @@
 //! Which groups of an old variant may have points at a name.
 ghost use Rattle.std.specs.Prelude.{◌≡◌, ◌<◌, ◌≤◌, ◌-◌, ◌*◌, ◌+◌, ℕ, MatchBool, length};
 ghost use Rattle.min_cost_flow.specs.Problem.{group_at};
-ghost use Rattle.min_cost_flow.specs.Spans.{IsIn, IsThere, Joins};
+ghost use Rattle.min_cost_flow.specs.Spans.{IsIn, IsThere, Joins, Narrows};
 
 use crate::problem::Group;
 
@@ -40,10 +40,7 @@ pub(crate) fn narrowed(
     requires name { name < names }
     requires placed { length placed.now ≡ length groups.now * names }
     requires end { span.end ≤ length groups.now }
-    ensures end { result.end ≤ length groups.now }
-    ensures keeps { (g : ℕ) → IsIn span g → IsThere groups.now placed.now names name variant g → IsIn result g }
-    ensures first { result.first < result.end → IsThere groups.now placed.now names name variant result.first }
-    ensures last { result.first < result.end → IsThere groups.now placed.now names name variant (result.end - 1) }
+    ensures { Narrows groups.now placed.now names name variant span result }
 {
     let first = first_there(groups, placed, names, name, variant, span);
     let rest = Span {

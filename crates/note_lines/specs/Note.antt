@@ -1,6 +1,7 @@
 -- A note: one hash input that reached one `fractional` operation, as a line of its own (JSON Lines, https://jsonlines.org).
 use Rattle.std.specs.Prelude.{ℕ, ◌<◌, ◌≤◌, ◌^◌, pos, List, length, IfSome}
 use Rattle.std.specs.Str.{IsUtf8}
+use Rattle.limits.specs.Limits.{input_bytes}
 use Rattle.flag_text.specs.Shape.{Shape, whole, text, list, no_items, item}
 use Rattle.book_core.specs.Page.{PageName}
 use Rattle.book_core.specs.Printing.{by_shape, line_text}
@@ -12,7 +13,7 @@ pub record Noted : Type 0 where
 
 -- the most bytes that the input of a note has
 abbrev pub most_noted : ℕ
-most_noted = 1024
+most_noted = input_bytes
 
 -- [FLAG,SITE,BY,INPUT]
 abbrev pub note_shape : Noted → Shape

@@ -1,5 +1,6 @@
 -- The evaluation context that a request's body carries (OpenFeature Remote Evaluation Protocol: evaluationRequest; OpenFeature: evaluation context).
 use Rattle.std.specs.Prelude.{ℕ, List, [], ◌∷◌, codes, Option, Some, None, Result, Ok, Err}
+use Rattle.limits.specs.Limits.{text_bytes}
 use Rattle.flag_text.specs.Reading.{doc_of, if_whole}
 use Rattle.flag_text.specs.Readers.{find_member}
 use Rattle.flag_text.specs.Shape.{Shape, null, object, no_members}
@@ -10,7 +11,7 @@ use Rattle.ofrep_contexts.specs.declared.fault.ContextFault.TheVariants.{BodyNot
 
 -- the most bytes of a body
 abbrev pub max_body : ℕ
-max_body = 4194304
+max_body = text_bytes
 
 -- the context without members
 abbrev pub empty_context : Shape

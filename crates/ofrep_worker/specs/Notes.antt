@@ -4,7 +4,7 @@ use Rattle.std.specs.List.{flat_map}
 use Rattle.flag_defs.specs.Document.{Definitions}
 use Rattle.logic_ast.specs.Expression.{Expression}
 use Rattle.logic_eval.specs.Run.{Reach}
-use Rattle.book_share.specs.Asked.{page_of, targeting_of}
+use Rattle.site_pages.specs.Keyed.{page_of, targeting_of}
 use Rattle.note_lines.specs.Note.{Noted}
 use Rattle.ofrep_answers.specs.Answer.{Answered}
 

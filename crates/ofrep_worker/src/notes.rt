@@ -6,13 +6,13 @@ ghost use Rattle.logic_eval.specs.Views.{reach_view};
 ghost use Rattle.ofrep_answers.specs.Answer.{answer_view, reached_view};
 ghost use Rattle.ofrep_worker.specs.Notes.{note_at, notes_at, notes_by, notes_in, notes_of};
 
-use book_share::{page_at, targeting_of};
 use flag_defs::Flags;
 use http::StatusCode;
 use logic_ast::Expr;
 use logic_eval::Reached;
 use note_lines::Note;
 use ofrep_answers::{Answer, FlagReached};
+use site_pages::{page_at, targeting_of};
 use std::alloc::{AllocError, Global};
 
 /// The notes that are to be recorded before an answer: of all that it reached where it is 200 or 304, and none else.

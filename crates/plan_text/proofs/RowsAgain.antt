@@ -8,7 +8,8 @@ use Rattle.flag_text.specs.Shape.{Shape, text, levels, items_levels}
 use Rattle.bucket_core.specs.Rule.{Entries}
 use Rattle.transport_instance.specs.Certificate.{alpha_view}
 use Rattle.transport_instance.specs.Groups.{GroupKey}
-use Rattle.plan_text.specs.PlanFile.{items_by, alpha_written, beta_written, entry_written, each, alpha_of, beta_of, entry_of}
+use Rattle.transport_instance.specs.WrittenCertificate.{items_by, alpha_written, beta_written}
+use Rattle.plan_text.specs.PlanFile.{entry_written, each, alpha_of, beta_of, entry_of}
 
 pub alpha_again : (rows : List (GroupKey × ℤ)) → AllByRecursion (λ a. a.0.1 < 2 ^ 32) rows → each alpha_of (items_by alpha_written rows) ≡ Some rows
 alpha_again [] h = refl

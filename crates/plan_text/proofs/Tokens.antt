@@ -21,7 +21,8 @@ use Rattle.flag_text.proofs.Printed.{members_data-rising, tree_of-written}
 use Rattle.transport_instance.specs.Groups.{GroupKey}
 use Rattle.transport_instance.specs.declared.certificate.CutKind.TheVariants.{Over, Under}
 use Rattle.plan_text.specs.Answer.{Answer, emit, none_exists}
-use Rattle.plan_text.specs.PlanFile.{items_by, alpha_written, beta_written, entry_written, planned_written}
+use Rattle.transport_instance.specs.WrittenCertificate.{items_by, alpha_written, beta_written}
+use Rattle.plan_text.specs.PlanFile.{entry_written, planned_written}
 use Rattle.plan_text.proofs.ReadBack.{planned_levels}
 
 -- ---- the text

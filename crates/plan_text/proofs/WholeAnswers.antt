@@ -9,7 +9,8 @@ use Rattle.transport_instance.specs.Certificate.{DualPrices}
 use Rattle.transport_instance.specs.declared.certificate.CutKind.{CutKind}
 use Rattle.transport_instance.specs.declared.certificate.CutKind.TheVariants.{Over, Under}
 use Rattle.plan_text.specs.Answer.{emit, none_exists}
-use Rattle.plan_text.specs.PlanFile.{items_by, alpha_written, entry_written, has_whole_numbers, IsWhole}
+use Rattle.transport_instance.specs.WrittenCertificate.{items_by, alpha_written, has_whole_numbers}
+use Rattle.plan_text.specs.PlanFile.{entry_written, IsWhole}
 use Rattle.plan_text.proofs.Orders.{weights_small}
 
 entry_whole : (e : List ℕ × ℕ) → e.1 < 2 ^ 31 → is_whole (entry_written e) ≡ true

@@ -6,6 +6,7 @@ use Rattle.std.specs.Ordering.{nat_cmp, is_lt}
 use Rattle.std.specs.Result.{result_ok}
 use Rattle.std.specs.Str.{bytes_eq}
 use Rattle.std.specs.declared.cmp.Ordering.{Ordering}
+use Rattle.limits.specs.Limits.{file_bytes}
 use Rattle.flag_text.specs.Printing.{text_of}
 use Rattle.flag_text.specs.Readers.{as_whole, as_text, as_list, member_of}
 use Rattle.flag_text.specs.Reading.{tree_of}
@@ -18,6 +19,7 @@ use Rattle.transport_instance.specs.Certificate.{DualPrices}
 use Rattle.transport_instance.specs.Groups.{GroupKey, group_cmp}
 use Rattle.transport_instance.specs.declared.certificate.CutKind.{CutKind}
 use Rattle.transport_instance.specs.declared.certificate.CutKind.TheVariants.{Over, Under}
+use Rattle.transport_instance.specs.WrittenCertificate.{items_by, alpha_written, beta_written}
 use Rattle.plan_text.specs.Answer.{Answer, emit, none_exists}
 use Rattle.plan_text.specs.Fault.{of_text}
 use Rattle.plan_text.specs.declared.fault.PlanFileFault.{PlanFileFault}
@@ -27,22 +29,9 @@ use Rattle.plan_text.specs.declared.form.Form.TheVariants.{Rule, Set}
 
 -- the largest plan file, in bytes
 abbrev pub max_plan : ℕ
-max_plan = 67108864
+max_plan = file_bytes
 
 -- ---- writing
-
--- an item for each, as f writes it
-abbrev pub items_by : {X : Type 0} → (X → Shape) → List X → Items
-items_by f [] = no_items
-items_by f (x ∷ xs) = item (f x) (items_by f xs)
-
--- `[name, count, n]`
-abbrev pub alpha_written : GroupKey × ℤ → Shape
-alpha_written a = list (item (text a.0.0) (item (whole (pos a.0.1)) (item (whole a.1) no_items)))
-
--- `[name, n]`
-abbrev pub beta_written : List ℕ × ℤ → Shape
-beta_written b = list (item (text b.0) (item (whole b.1) no_items))
 
 -- `[name, weight]`
 abbrev pub entry_written : List ℕ × ℕ → Shape
@@ -63,10 +52,6 @@ planned_written (none_exists Under names) =
 -- each number is a whole number that a file can hold
 abbrev pub IsWhole : Answer → Type 0
 IsWhole answer = is_whole (planned_written answer) ≡ true
-
--- alpha, beta and the cost are such numbers
-abbrev pub has_whole_numbers : DualPrices → Bool
-has_whole_numbers c = is_in_range (pos c.cost) && (items_are_whole (items_by alpha_written c.alpha) && items_are_whole (items_by beta_written c.beta))
 
 -- the text of an answer, unless it is too large for a file
 abbrev pub if_small : List ℕ → Result (List ℕ) PlanFileFault

@@ -10,7 +10,8 @@ ghost use Rattle.flag_text.specs.Shape.{is_whole, items_are_whole};
 ghost use Rattle.transport_instance.specs.Certificate.{alpha_row, alpha_view, beta_row, beta_view, certificate_view};
 ghost use Rattle.transport_instance.specs.Groups.{group_cmp};
 ghost use Rattle.plan_text.specs.Answer.{emit, FitsFile, planned_view};
-ghost use Rattle.plan_text.specs.PlanFile.{items_by, alpha_written, beta_written, planned_written, has_whole_numbers, rises, planned_of, answer_of, IsWhole, max_plan};
+ghost use Rattle.transport_instance.specs.WrittenCertificate.{items_by, alpha_written, beta_written, has_whole_numbers};
+ghost use Rattle.plan_text.specs.PlanFile.{planned_written, rises, planned_of, answer_of, IsWhole, max_plan};
 ghost use Rattle.plan_text.specs.declared.fault.PlanFileFault.TheVariants.{WantOfMemory};
 
 use crate::fault::PlanFileFault;

@@ -7,7 +7,8 @@ ghost use Rattle.flag_text.specs.Shape.{list, text};
 ghost use Rattle.bucket_core.specs.Rule.{names_view};
 ghost use Rattle.transport_instance.specs.Certificate.{alpha_row, alpha_view, beta_row, beta_view, certificate_view};
 ghost use Rattle.plan_text.specs.Answer.{emit, none_exists, FitsFile, planned_view};
-ghost use Rattle.plan_text.specs.PlanFile.{items_by, alpha_written, beta_written, entry_written, planned_written};
+ghost use Rattle.transport_instance.specs.WrittenCertificate.{items_by, alpha_written, beta_written};
+ghost use Rattle.plan_text.specs.PlanFile.{entry_written, planned_written};
 
 use crate::planned::Planned;
 use bucket_core::Rule;

@@ -7,6 +7,7 @@ use Rattle.std.specs.Map.{keys_of, lookup}
 use Rattle.std.specs.Ordering.{nat_cmp, ordering_then}
 use Rattle.std.specs.declared.cmp.Ordering.{Ordering}
 use Rattle.std.specs.Str.{bytes_eq}
+use Rattle.limits.specs.Limits.{largest_price}
 use denote.Ref.{Bor}
 use Rattle.price_core.specs.declared.change.Change.{Change}
 
@@ -38,7 +39,7 @@ is_forbidden p a b = not (bytes_eq a b) && list_any (is_same_pair (a, b)) p.barr
 
 -- the greatest price
 abbrev pub max_price : ℕ
-max_price = 1000000
+max_price = largest_price
 
 -- No price is above a million, and each list has each change once, in order.
 pub record IsPricing (p : Pricing) : Type 0 where

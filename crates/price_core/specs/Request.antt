@@ -7,6 +7,7 @@ use Rattle.std.specs.List.Sorted.{IsStrictlySortedBy}
 use Rattle.std.specs.Map.{keys_of}
 use Rattle.std.specs.Ordering.{nat_cmp}
 use Rattle.std.specs.Str.{bytes_eq}
+use Rattle.limits.specs.Limits.{text_bytes}
 use Rattle.flag_text.specs.Readers.{as_whole, as_text, as_list, as_object, member_of}
 use Rattle.flag_text.specs.Reading.{tree_of}
 use Rattle.flag_text.specs.Shape.{Shape, whole, list, Items, no_items, item, Members, no_members, member}
@@ -212,7 +213,7 @@ request_of t = if_judged (written_of t)
 
 -- the largest request, in bytes
 abbrev pub max_request : ℕ
-max_request = 4194304
+max_request = text_bytes
 
 -- A text that is no tree is no request.
 abbrev pub if_tree : Result Shape TextFault → Result Asked PriceFault

@@ -1,5 +1,6 @@
 //! What a new rule costs, and where it is forbidden.
 ghost use Rattle.std.specs.Prelude.{◌≡◌, ◌≤◌, ◌<◌, length, map, string_bytes, IfOk, IfSome};
+ghost use Rattle.limits.specs.Limits.{page_inputs};
 ghost use Rattle.bucket_core.specs.Rule.{total_weight};
 ghost use Rattle.price_core.specs.Cost.{cost_of, input_cost, first_forbidden_of};
 ghost use Rattle.price_core.specs.Pricing.{IsPricing};
@@ -34,7 +35,7 @@ pub fn first_forbidden(old: &Rule, new: &Rule, prices: &Prices) -> Option<u32>
 }
 
 fn cost_over(rt: &(impl Threads + Sync), switching: &Switching<'_>, inputs: &[String]) -> u64
-    requires few { length inputs.now ≤ 1000000 }
+    requires few { length inputs.now ≤ page_inputs }
     requires lawful { IsPricing switching.now.2 }
     ensures { result ≡ cost_of switching.now.0 switching.now.1 (map string_bytes inputs.now) switching.now.2 }
 {
@@ -49,7 +50,7 @@ fn cost_over(rt: &(impl Threads + Sync), switching: &Switching<'_>, inputs: &[St
 }
 
 fn cost_over_lent(rt: &(impl Threads + Sync), switching: &Switching<'_>, inputs: &[&str]) -> u64
-    requires few { length inputs.now ≤ 1000000 }
+    requires few { length inputs.now ≤ page_inputs }
     requires lawful { IsPricing switching.now.2 }
     ensures { result ≡ cost_of switching.now.0 switching.now.1 (map (λ s. s.now) inputs.now) switching.now.2 }
 {
@@ -89,7 +90,7 @@ pub fn switch_cost_of(
     inputs: &[&str],
     prices: &Prices,
 ) -> Result<u64, AllocError>
-    requires few { length inputs.now ≤ 1000000 }
+    requires few { length inputs.now ≤ page_inputs }
     ensures exact { IfOk result (λ cost. cost ≡ cost_of old.now new.now (map (λ s. s.now) inputs.now) prices.now) }
 {
     let switching = Switching::of(alloc, old, new, prices)?;

@@ -17,7 +17,7 @@ use flag_text::Tree;
 use limits::SITES;
 use std::alloc::Global;
 
-const TOTALS: i64 = 1 << 31;
+const TOTALS: i64 = bucket_core::MAX_TOTAL as i64 + 1;
 
 /// A request as it is written.
 #[derive(Drop)]

@@ -22,7 +22,7 @@ use limits::TEXT_BYTES;
 use std::alloc::Global;
 use std::marker::Model;
 
-const MAX_PRICE: i64 = 1_000_000;
+const MAX_PRICE: i64 = limits::LARGEST_PRICE as i64;
 
 /// What is asked of the new rule of a site: limits on the totals of its names, prices of changes
 /// and forbidden changes.

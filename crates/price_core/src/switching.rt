@@ -1,7 +1,7 @@
 //! What two rules come to side by side, looked up by numbers.
 ghost use Rattle.std.specs.Prelude.{◌≡◌, ◌≤◌, ◌<◌, ℕ, List, Some, IfOk, IfSome, length, sum};
+ghost use Rattle.limits.specs.Limits.{tally_inputs};
 ghost use Rattle.bucket_core.specs.Rule.{IsRun, at, end_of, entry_at, entry_name, total_weight};
-ghost use Rattle.tally_core.specs.Tally.{most_in_all};
 ghost use Rattle.price_core.specs.Cost.{first_forbidden_of, input_cost, tally_cost};
 ghost use Rattle.price_core.specs.Pricing.{IsPricing, is_forbidden, price_of, max_price};
 
@@ -98,7 +98,7 @@ impl<'a> Switching<'a> {
     pub fn tally_cost(&self, counts: &[u32]) -> u64
         requires total { total_weight self.now.1 ≡ total_weight self.now.0 }
         requires points { length counts.now ≡ total_weight self.now.0 }
-        requires few { sum counts.now ≤ most_in_all }
+        requires few { sum counts.now ≤ tally_inputs }
         ensures { result ≡ tally_cost self.now.0 self.now.1 counts.now self.now.2 }
     {
         let total = self.old.total();
@@ -179,7 +179,7 @@ fn entry_from(rule: &Rule, from: usize, point: u32) -> usize
 
 /// How many inputs fall on these points.
 fn inputs_on(counts: &[u32]) -> u64
-    requires { sum counts.now ≤ most_in_all }
+    requires { sum counts.now ≤ tally_inputs }
     ensures { result ≡ sum counts.now }
 {
     counts.iter().map(|count| u64::from(*count)).sum()

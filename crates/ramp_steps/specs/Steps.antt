@@ -3,6 +3,7 @@ use Rattle.std.specs.List.{AllByRecursion}
 use Rattle.std.specs.Prelude.{◌≡◌, ◌≤◌, length, IfOk, ℕ, suc, ◌&&◌, nat_le, Bool, List, [], ◌∷◌, map, if◌then◌else◌, Option, Some, None, is_some, option_and_then, Result, Ok, Err, codes, Vec}
 use Rattle.std.specs.Str.{bytes_eq}
 use Rattle.std.specs.declared.alloc.Global.{Global}
+use Rattle.limits.specs.Limits.{ramp_steps}
 use Rattle.flag_text.specs.Printing.{text_of}
 use Rattle.flag_text.specs.Readers.{as_list, member_of}
 use Rattle.flag_text.specs.Reading.{tree_of}
@@ -15,7 +16,7 @@ use Rattle.ramp_steps.specs.declared.fault.StepsFault.TheVariants.{Shape as NoSt
 
 -- the most steps
 abbrev pub most_steps : ℕ
-most_steps = 100
+most_steps = ramp_steps
 
 abbrev pub item_count : Items → ℕ
 item_count no_items = 0

@@ -3,7 +3,7 @@ use Rattle.std.proofs.Common.{◌≡◌, ℕ, zero, suc, ◌+◌, Bool, true, fa
 use Rattle.std.specs.List.{prefix_len}
 use Rattle.std.proofs.lemmas.Bool.Decides.{nat_tests}
 use Rattle.flag_text.proofs.Bools.{both, left, right}
-use Rattle.flagops_files.specs.Beginning.{is_mark, from_place, after_blanks, goes_on_as_tally, begins_name, begins_member, begins_object, may_begin_record}
+use Rattle.flagops_shell.specs.Beginning.{is_mark, from_place, after_blanks, goes_on_as_tally, begins_name, begins_member, begins_object, may_begin_record}
 
 -- ---- a byte at a time
 

@@ -15,7 +15,7 @@ use Rattle.flag_text.specs.declared.fault.TextFault.{TextFault}
 use Rattle.flag_text.specs.declared.fault.TextFault.TheVariants.{NotWhole, TooLarge, TooDeep}
 use Rattle.book_core.specs.Reading.{is_feed, is_book_member, is_header, is_one, lines_book, lines_in, parts_book, book_of, unended_fault}
 use Rattle.book_core.specs.declared.fault.BookFileFault.TheVariants.{Header}
-use Rattle.flagops_files.specs.Beginning.{may_begin_record}
+use Rattle.flagops_shell.specs.Beginning.{may_begin_record}
 use Rattle.record_beginnings.proofs.Lexed.{feedless, line_may_begin}
 use Rattle.record_beginnings.proofs.Members.{opens_read}
 use Rattle.record_beginnings.proofs.Tokens.{object_lexemes}

@@ -6,7 +6,7 @@ use Rattle.json.specs.Token.{Token, begin_object, end_object, begin_array, end_a
 use Rattle.json.specs.Text.{content, plain, prepend}
 use Rattle.json.specs.Word.{is_operator, is_space, head, ends_word, number_before, after_number, word}
 use Rattle.json.specs.Lex.{Lexeme, token, comma, colon, Class, quote, backslash, operator, space, other, operator_lexeme, string_token, Mode, between, lex_byte, lex}
-use Rattle.flagops_files.specs.Beginning.{is_mark, after_blanks, begins_name, begins_member, begins_object, may_begin_record}
+use Rattle.flagops_shell.specs.Beginning.{is_mark, after_blanks, begins_name, begins_member, begins_object, may_begin_record}
 use Rattle.record_beginnings.proofs.Blanks.{after_blanks-mark, after_blanks-blank}
 
 -- ---- which lexeme a byte begins

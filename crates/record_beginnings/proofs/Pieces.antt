@@ -4,9 +4,9 @@ use Rattle.std.proofs.lemmas.Bool.{true≢false, false_from_ne_true, true_from_n
 use Rattle.book_core.specs.Book.{Contents}
 use Rattle.book_core.specs.Reading.{book_of}
 use Rattle.book_core.specs.declared.fault.BookFileFault.TheVariants.{Header}
-use Rattle.flagops_files.specs.Beginning.{may_begin_record}
+use Rattle.flagops_shell.specs.Beginning.{may_begin_record}
 use Rattle.flagops_files.specs.Evidence.{begins_tally}
-use Rattle.flagops_files.specs.Files.{first_piece}
+use Rattle.flagops_shell.specs.Files.{first_piece}
 use Rattle.record_beginnings.specs.Law.{IsNoRecord}
 use Rattle.record_beginnings.proofs.Blanks.{may_begin-take}
 use Rattle.record_beginnings.proofs.Books.{no_book}

@@ -2,7 +2,7 @@
 use Rattle.std.proofs.Common.{◌≡◌, ℕ, true, ◌==◌, List, [], ◌∷◌, refl, sym, ap, ◌∙◌}
 use Rattle.std.proofs.lemmas.Bool.{false≢true, eqb-true}
 use Rattle.flag_text.proofs.Bools.{left, right}
-use Rattle.flagops_files.specs.Beginning.{begins_member, begins_object, may_begin_record}
+use Rattle.flagops_shell.specs.Beginning.{begins_member, begins_object, may_begin_record}
 use Rattle.flagops_files.specs.Evidence.{begins_tally}
 use Rattle.record_beginnings.proofs.Blanks.{after_blanks-mark}
 

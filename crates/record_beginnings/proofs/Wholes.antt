@@ -3,9 +3,9 @@ use Rattle.std.proofs.Common.{◌≡◌, ◌↔◌, ℕ, ◌+◌, ◌≤◌, Boo
 use Rattle.std.proofs.lemmas.Bool.Decides.{nat_tests}
 use Rattle.std.proofs.lemmas.List.{take_all, length-take}
 use Rattle.book_core.specs.Reading.{book_of}
-use Rattle.flagops_files.specs.Beginning.{may_begin_record}
+use Rattle.flagops_shell.specs.Beginning.{may_begin_record}
 use Rattle.flagops_files.specs.Evidence.{IsEvidenceOf, IsReadAs, begins_tally, of_book}
-use Rattle.flagops_files.specs.Files.{Holding, first_piece, front_of_book}
+use Rattle.flagops_shell.specs.Files.{Holding, first_piece, front_of_book}
 use Rattle.flagops_files.specs.Loading.{◌>>=◌, refused_by}
 use Rattle.flagops_files.specs.Question.{IsEvidenceAt, book_at, book_bytes_at, if_readable, max_book}
 use Rattle.flagops_files.specs.declared.evidence.Evidence.{Evidence}

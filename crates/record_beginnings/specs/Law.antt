@@ -3,9 +3,9 @@ use Rattle.std.specs.Prelude.{◌≡◌, ◌↔◌, ℕ, ◌≤◌, List, length
 use Rattle.book_core.specs.Book.{Contents}
 use Rattle.book_core.specs.Reading.{book_of}
 use Rattle.book_core.specs.declared.fault.BookFileFault.TheVariants.{Header}
-use Rattle.flagops_files.specs.Beginning.{may_begin_record}
+use Rattle.flagops_shell.specs.Beginning.{may_begin_record}
 use Rattle.flagops_files.specs.Evidence.{IsReadAs, begins_tally}
-use Rattle.flagops_files.specs.Files.{Holding, first_piece}
+use Rattle.flagops_shell.specs.Files.{Holding, first_piece}
 use Rattle.flagops_files.specs.Loading.{refused_by}
 use Rattle.flagops_files.specs.Question.{IsEvidenceAt, book_at, max_book}
 use Rattle.flagops_files.specs.declared.evidence.Evidence.{Evidence}

@@ -3,6 +3,7 @@ use Rattle.std.specs.Prelude.{◌≡◌, ℕ, ◌+◌, List, [], ◌∷◌, ◌+
 use Rattle.std.specs.List.{list_all}
 use Rattle.std.specs.Map.{lookup}
 use Rattle.std.specs.Str.{bytes_eq}
+use Rattle.limits.specs.Limits.{text_bytes}
 use Rattle.flag_text.specs.Reading.{tree_of}
 use Rattle.flag_text.specs.Shape.{Shape, null, object}
 use Rattle.flag_text.specs.declared.fault.TextFault.{TextFault}
@@ -107,7 +108,7 @@ is_blank line = list_all is_white line
 
 -- the most bytes that a line has
 abbrev pub most_line : ℕ
-most_line = 4194304
+most_line = text_bytes
 
 -- of one line, which is no context where it is too long; a blank one is passed over
 unfoldable pub of_line : Scene → List ℕ → Recorded

@@ -1,26 +1,15 @@
 //! The answer of the planner to a request.
-ghost use Rattle.std.specs.Prelude.{◌≡◌, ◌≤◌, ◌<◌, true, false, length, slice_index, IfOk, IfErr, IsErrOf, MatchResult};
-ghost use Rattle.std.specs.Cmp.Lexicographic.{slice_cmp};
-ghost use Rattle.std.specs.List.Sorted.{IsStrictlySortedBy};
-ghost use Rattle.std.specs.Ordering.{nat_cmp};
-ghost use Rattle.std.specs.Str.{is_utf8};
+ghost use Rattle.std.specs.Prelude.{◌≡◌, ◌<◌, IfOk, IfErr, MatchResult};
 ghost use Rattle.book_core.specs.Book.{Inputs};
-ghost use Rattle.bucket_core.specs.Rule.{names_view, total_weight};
+ghost use Rattle.bucket_core.specs.Rule.{total_weight};
 ghost use Rattle.flag_defs.specs.Flags.{flags_view};
-ghost use Rattle.price_core.specs.Request.{max_request};
-ghost use Rattle.price_core.specs.declared.fault.PriceFault.TheVariants.{BadRequest};
-ghost use Rattle.transport_instance.specs.Assignment.{IsProved};
-ghost use Rattle.transport_instance.specs.Certificate.{certificate_view};
-ghost use Rattle.transport_instance.specs.Groups.{AreSizes, AreSizesBy};
-ghost use Rattle.transport_instance.specs.Instance.{AreListed, MissTotal, max_planned_total, max_names};
 ghost use Rattle.transport_instance.specs.Tally.{IsTally};
 ghost use Rattle.plan_text.specs.Answer.{IsOrdered, planned_view};
-ghost use Rattle.rollout_checks.specs.Lawful.{IsCounted, IsRefining, problem_of, problem_view};
-ghost use Rattle.plan_text.specs.PlanFile.{has_whole_numbers, IsWhole};
+ghost use Rattle.plan_text.specs.PlanFile.{IsWhole};
+ghost use Rattle.rollout_checks.specs.Lawful.{IsCounted, problem_of, problem_view};
 ghost use Rattle.rollout.specs.Effort.{Spends, SpendsOn};
-ghost use Rattle.rollout.specs.Planned.{IsPlan, IsPlanned};
-ghost use Rattle.transport_plan.specs.Solved.{IfNone, IfPlan, IsCut, IsNeverOver};
-ghost use Rattle.transport_plan.specs.Solved.{IsPlan as IsSolved};
+ghost use Rattle.rollout.specs.Planned.{IsInstanceOf, IsPlan, IsPlannable, IsPlanned, PrintsOrRefuses};
+ghost use Rattle.transport_plan.specs.Solved.{IsSolution};
 ghost use Rattle.rollout_checks.specs.declared.fault.RolloutFault.TheVariants.{WantOfMemory};
 ghost use Rattle.rollout_checks.specs.declared.refining.Refining.TheVariants.{Times};
 
@@ -33,7 +22,7 @@ use std::alloc::{AllocError, Global};
 use std::marker::Brand;
 use std::sync::ledger::{Blank, Ledger};
 use std::thread::Threads;
-use transport_core::{CutKind, Instance};
+use transport_core::Instance;
 use transport_plan::{Solved, solve, spread};
 
 /// The rule that meets a request and costs the recorded inputs the least, with its certificate, or a set of names which
@@ -52,20 +41,9 @@ pub fn plan<R: Threads + Sync, B: Recorded>(
     book: &B,
 ) -> Result<Planned, RolloutFault>
     ensures exact { IsPlanned (problem_of (Times 1) (flags_view flags.now) request.now (B.contents book.now)) result }
-    ensures ordered { IfOk result (λ a. IsOrdered (planned_view a)) }
-    ensures whole { IfOk result (λ a. IsWhole (planned_view a)) }
-    ensures large { max_request < length request.now → IsErrOf result (RolloutFault.Request BadRequest) }
-    ensures no_text { length request.now ≤ max_request → is_utf8 request.now ≡ false → IsErrOf result (RolloutFault.Request BadRequest) }
+    ensures answer { PrintsOrRefuses request.now result }
 {
-    plan_over::<Brand, R, B>(
-        rt,
-        alloc,
-        Refining::Times(1),
-        flags,
-        request,
-        book,
-        Blank::new(2),
-    )
+    plan_refined(rt, alloc, flags, request, book, 1)
 }
 
 /// As [`plan`], on the site's rule refined by m. The condition is m from 1.
@@ -79,20 +57,9 @@ pub fn plan_refined<R: Threads + Sync, B: Recorded>(
 ) -> Result<Planned, RolloutFault>
     requires { 0 < m }
     ensures exact { IsPlanned (problem_of (Times m) (flags_view flags.now) request.now (B.contents book.now)) result }
-    ensures ordered { IfOk result (λ a. IsOrdered (planned_view a)) }
-    ensures whole { IfOk result (λ a. IsWhole (planned_view a)) }
-    ensures large { max_request < length request.now → IsErrOf result (RolloutFault.Request BadRequest) }
-    ensures no_text { length request.now ≤ max_request → is_utf8 request.now ≡ false → IsErrOf result (RolloutFault.Request BadRequest) }
+    ensures answer { PrintsOrRefuses request.now result }
 {
-    plan_over::<Brand, R, B>(
-        rt,
-        alloc,
-        Refining::Times(m),
-        flags,
-        request,
-        book,
-        Blank::new(2),
-    )
+    plan_uncounted::<Brand, R, B>(rt, alloc, flags, request, book, m, Blank::new(2))
 }
 
 /// As [`plan_refined`], with m 1 as [`plan`], for a caller that counts: what the search takes is counted as by [`solve`], at W
@@ -109,60 +76,34 @@ pub fn plan_counted<L: Ledger, R: Threads + Sync, B: Recorded>(
 ) -> Result<Planned, RolloutFault>
     requires { 0 < m }
     ensures exact { IsPlanned (problem_of (Times m) (flags_view flags.now) request.now (B.contents book.now)) result }
-    ensures ordered { IfOk result (λ a. IsOrdered (planned_view a)) }
-    ensures whole { IfOk result (λ a. IsWhole (planned_view a)) }
-    ensures large { max_request < length request.now → IsErrOf result (RolloutFault.Request BadRequest) }
-    ensures no_text { length request.now ≤ max_request → is_utf8 request.now ≡ false → IsErrOf result (RolloutFault.Request BadRequest) }
+    ensures answer { PrintsOrRefuses request.now result }
     ensures spent { Spends (problem_of (Times m) (flags_view flags.now) request.now (B.contents book.now)) effort.old effort.new }
-{
-    plan_by(rt, alloc, Refining::Times(m), flags, request, book, effort)
-}
-
-/// As [`plan_counted`], over a counter of its own.
-fn plan_over<L: Ledger, R: Threads + Sync, B: Recorded>(
-    rt: &R,
-    alloc: Global,
-    refining: Refining,
-    flags: &Flags,
-    request: &[u8],
-    book: &B,
-    blank: Blank,
-) -> Result<Planned, RolloutFault>
-    requires lawful { IsRefining refining }
-    requires name { blank.name ≡ L.name }
-    requires parts { blank.parts ≡ L.parts }
-    requires two { blank.parts ≡ 2 }
-    ensures exact { IsPlanned (problem_of refining (flags_view flags.now) request.now (B.contents book.now)) result }
-    ensures ordered { IfOk result (λ a. IsOrdered (planned_view a)) }
-    ensures whole { IfOk result (λ a. IsWhole (planned_view a)) }
-    ensures large { max_request < length request.now → IsErrOf result (RolloutFault.Request BadRequest) }
-    ensures no_text { length request.now ≤ max_request → is_utf8 request.now ≡ false → IsErrOf result (RolloutFault.Request BadRequest) }
-{
-    let mut effort = Effort::<L>::none(blank);
-    plan_by(rt, alloc, refining, flags, request, book, &mut effort)
-}
-
-fn plan_by<L: Ledger, R: Threads + Sync, B: Recorded>(
-    rt: &R,
-    alloc: Global,
-    refining: Refining,
-    flags: &Flags,
-    request: &[u8],
-    book: &B,
-    effort: &mut Effort<L>,
-) -> Result<Planned, RolloutFault>
-    requires { IsRefining refining }
-    ensures exact { IsPlanned (problem_of refining (flags_view flags.now) request.now (B.contents book.now)) result }
-    ensures ordered { IfOk result (λ a. IsOrdered (planned_view a)) }
-    ensures whole { IfOk result (λ a. IsWhole (planned_view a)) }
-    ensures large { max_request < length request.now → IsErrOf result (RolloutFault.Request BadRequest) }
-    ensures no_text { length request.now ≤ max_request → is_utf8 request.now ≡ false → IsErrOf result (RolloutFault.Request BadRequest) }
-    ensures spent { Spends (problem_of refining (flags_view flags.now) request.now (B.contents book.now)) effort.old effort.new }
 {
     // Called for what its contract says: flags have at most 64 variants.
     let _count = flags.len();
-    let problem = problem_of(rt, alloc, refining, flags, request, book)?;
+    let problem = problem_of(rt, alloc, Refining::Times(m), flags, request, book)?;
     plan_on(alloc, &problem, effort)
+}
+
+/// As [`plan_counted`], over a counter of its own.
+fn plan_uncounted<L: Ledger, R: Threads + Sync, B: Recorded>(
+    rt: &R,
+    alloc: Global,
+    flags: &Flags,
+    request: &[u8],
+    book: &B,
+    m: u32,
+    blank: Blank,
+) -> Result<Planned, RolloutFault>
+    requires some { 0 < m }
+    requires name { blank.name ≡ L.name }
+    requires parts { blank.parts ≡ L.parts }
+    requires two { blank.parts ≡ 2 }
+    ensures exact { IsPlanned (problem_of (Times m) (flags_view flags.now) request.now (B.contents book.now)) result }
+    ensures answer { PrintsOrRefuses request.now result }
+{
+    let mut effort = Effort::<L>::none(blank);
+    plan_counted(rt, alloc, flags, request, book, m, &mut effort)
 }
 
 /// The answer to what a lawful request asks.
@@ -171,10 +112,7 @@ pub(crate) fn plan_on<L: Ledger>(
     problem: &Problem,
     effort: &mut Effort<L>,
 ) -> Result<Planned, RolloutFault>
-    requires small { total_weight problem.now.old ≤ max_planned_total }
-    requires few { length problem.now.totals ≤ max_names }
-    requires listed { AreListed problem.now.old problem.now.totals }
-    requires met { ¬ (MissTotal problem.now.old problem.now.totals) }
+    requires plannable { IsPlannable problem.now.old problem.now.totals }
     requires tally { IsTally (total_weight problem.now.old) problem.now.counts.items }
     ensures exact { (inputs : Inputs) → IsCounted problem.now inputs → MatchResult result (λ a. IsPlan (problem_view problem.now inputs) (planned_view a)) (λ e. e ≡ WantOfMemory) }
     ensures decides { IfErr result (λ e. e ≡ WantOfMemory) }
@@ -203,16 +141,8 @@ fn answer(
     solved: Solved,
 ) -> Result<Planned, AllocError>
     requires tally { IsTally (total_weight problem.now.old) problem.now.counts.items }
-    requires loads { AreSizesBy problem.now.old (slice_index problem.now.counts.items) instance.now.groups }
-    requires groups { (inputs : Inputs) → IsCounted problem.now inputs → AreSizes problem.now.old inputs instance.now.groups }
-    requires limits { instance.now.limits ≡ problem.now.totals }
-    requires pricing { instance.now.pricing ≡ problem.now.request.prices }
-    requires proved { IfPlan solved (λ assignment certificate. IsProved instance.now assignment.numbers.items (certificate_view certificate)) }
-    requires least { IfPlan solved (IsSolved instance.now) }
-    requires whole { IfPlan solved (λ _ certificate. has_whole_numbers (certificate_view certificate) ≡ true) }
-    requires deficient { IfNone solved (IsCut instance.now) }
-    requires under { IfNone solved (λ cut. cut.kind ≡ CutKind.Under → IsNeverOver instance.now) }
-    requires ordered { IfNone solved (λ cut. IsStrictlySortedBy (slice_cmp nat_cmp) (names_view cut.names.items)) }
+    requires instance { IsInstanceOf problem.now instance.now }
+    requires solved { IsSolution instance.now solved }
     ensures plan { IfOk result (λ a. (inputs : Inputs) → IsCounted problem.now inputs → IsPlan (problem_view problem.now inputs) (planned_view a)) }
     ensures ordered { IfOk result (λ a. IsOrdered (planned_view a)) }
     ensures whole { IfOk result (λ a. IsWhole (planned_view a)) }

@@ -1,13 +1,9 @@
 //! The answer of the planner to a request on a tally.
-ghost use Rattle.std.specs.Prelude.{◌≡◌, ◌≤◌, ◌<◌, false, length, IfOk, IsErrOf};
-ghost use Rattle.std.specs.Str.{is_utf8};
+ghost use Rattle.std.specs.Prelude.{◌≡◌, ◌<◌};
 ghost use Rattle.flag_defs.specs.Flags.{flags_view};
-ghost use Rattle.price_core.specs.Request.{max_request};
-ghost use Rattle.price_core.specs.declared.fault.PriceFault.TheVariants.{BadRequest};
-ghost use Rattle.plan_text.specs.Answer.{IsOrdered, planned_view};
-ghost use Rattle.plan_text.specs.PlanFile.{IsWhole};
 ghost use Rattle.rollout_checks.specs.Lawful.{IsRefining};
 ghost use Rattle.rollout_checks.specs.Tallied.{tally_problem_of};
+ghost use Rattle.rollout.specs.Planned.{PrintsOrRefuses};
 ghost use Rattle.rollout.specs.Tallied.{IsTallyPlanned};
 ghost use Rattle.rollout_checks.specs.declared.refining.Refining.TheVariants.{Times};
 
@@ -35,10 +31,7 @@ pub fn plan_tally(
 ) -> Result<Planned, RolloutFault>
     requires { 0 < m }
     ensures exact { IsTallyPlanned (tally_problem_of (Times m) (flags_view flags.now) request.now tally.now) result }
-    ensures ordered { IfOk result (λ a. IsOrdered (planned_view a)) }
-    ensures whole { IfOk result (λ a. IsWhole (planned_view a)) }
-    ensures large { max_request < length request.now → IsErrOf result (RolloutFault.Request BadRequest) }
-    ensures no_text { length request.now ≤ max_request → is_utf8 request.now ≡ false → IsErrOf result (RolloutFault.Request BadRequest) }
+    ensures answer { PrintsOrRefuses request.now result }
 {
     plan_tally_over::<Brand>(
         alloc,
@@ -64,10 +57,7 @@ fn plan_tally_over<L: Ledger>(
     requires parts { blank.parts ≡ L.parts }
     requires two { blank.parts ≡ 2 }
     ensures exact { IsTallyPlanned (tally_problem_of refining (flags_view flags.now) request.now tally.now) result }
-    ensures ordered { IfOk result (λ a. IsOrdered (planned_view a)) }
-    ensures whole { IfOk result (λ a. IsWhole (planned_view a)) }
-    ensures large { max_request < length request.now → IsErrOf result (RolloutFault.Request BadRequest) }
-    ensures no_text { length request.now ≤ max_request → is_utf8 request.now ≡ false → IsErrOf result (RolloutFault.Request BadRequest) }
+    ensures answer { PrintsOrRefuses request.now result }
 {
     let mut effort = Effort::<L>::none(blank);
     // Called for what its contract says: flags have at most 64 variants.

@@ -3,6 +3,7 @@ use Rattle.std.specs.Prelude.{◌≡◌, ◌≢◌, ℕ, ◌<◌, ◌≤◌, ◌
 use Rattle.std.specs.List.{list_all}
 use Rattle.std.specs.Map.{keys_of, lookup}
 use Rattle.std.specs.Str.{bytes_eq}
+use Rattle.limits.specs.Limits.{planned_total}
 use Rattle.bucket_core.specs.Rule.{Entries, total_weight, refinement, entries_view}
 use Rattle.logic_ast.specs.Expression.{Expression}
 use Rattle.logic_ast.specs.Sites.{parts_at}
@@ -87,7 +88,7 @@ is_unmet limits total = nat_lt total (sum_by (λ l. l.1.0) limits) || nat_lt (su
 
 -- the largest total that is planned on
 abbrev pub max_planned : ℕ
-max_planned = 1000000
+max_planned = planned_total
 
 -- what the weights of the site are multiplied by: the number itself, or the one that makes a given total of the site's, and 1 where there is none
 abbrev pub factor : Refining → ℕ → ℕ

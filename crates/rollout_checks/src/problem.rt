@@ -26,7 +26,7 @@ use std::thread::Threads;
 use tally_core::PageTally;
 
 /// The largest total that is planned on: no tally has more points.
-pub(crate) const MAX_PLANNED: u128 = tally_core::MOST_POINTS as u128;
+pub(crate) const MAX_PLANNED: u128 = limits::PLANNED_TOTAL as u128;
 
 /// What a lawful request asks: what is planned on, or an answer is checked against.
 #[derive(Drop)]

@@ -2,6 +2,7 @@
 use Rattle.std.specs.Prelude.{◌≡◌, ℕ, Bool, false, cond, List, [], ◌∷◌, ◌++◌, Vec, Option, Some, None, option_map, option_and_then, Result, Ok, Err}
 use Rattle.std.specs.Borrow.{Bor}
 use Rattle.std.specs.declared.alloc.Global.{Global}
+use Rattle.limits.specs.Limits.{json_levels}
 use Rattle.flag_text.specs.Readers.{as_list}
 use Rattle.flag_text.specs.Shape.{Shape, list, Items, levels, has_other}
 use Rattle.flag_text.specs.declared.fault.TextFault.{TextFault}
@@ -32,7 +33,7 @@ GivesEntries (Err e) wanted = is_want e ≡ false → wanted ≡ Err e
 
 -- the buckets of a tree at the top of a text, and its extent
 abbrev pub found_in : Shape → Option Entries × Extent
-found_in t = (option_and_then buckets_of (as_list t), extent_at 127 (levels t) (has_other t))
+found_in t = (option_and_then buckets_of (as_list t), extent_at json_levels (levels t) (has_other t))
 
 -- the same of a list of items
 abbrev pub found_of : Items → Option Entries × Extent

@@ -4,6 +4,7 @@ use Rattle.std.proofs.lemmas.Bool.Decides.{nat_tests}
 use Rattle.std.proofs.lemmas.List.Sums.{sum_by-cons}
 use Rattle.shortest_path.specs.Spent.{Spent, HasSettled, HasSettledAtMost}
 use Rattle.shortest_path.specs.Found.{settled_nodes}
+use Rattle.shortest_path.specs.declared.node.NodeState.{NodeState}
 use Rattle.shortest_path.proofs.Rounds.{unsettled}
 
 pub settled_none : (spent : Spent) → HasSettled 0 spent spent
@@ -18,14 +19,14 @@ settled_within n m old new le h = record { augmentations = h.augmentations; sett
 one_of_both : (nodes r : ℕ) → ◌≡◌ {A = ℕ} (cond (nat_lt r nodes) 1 0 + cond (nat_le nodes r) 1 0) 1
 one_of_both nodes r = grind (arith, nat_tests)
 
-ranked : (nodes : ℕ) (settle_order : List ℕ) → count_by (λ r. nat_lt r nodes) settle_order + unsettled nodes settle_order ≡ length settle_order
-ranked nodes [] = refl
-ranked nodes (r ∷ settle_order) =
-    omega (arith, sum_by-cons (λ (x : ℕ). cond (nat_lt x nodes) 1 0) r settle_order, sum_by-cons (λ (x : ℕ). cond (nat_le nodes x) 1 0) r settle_order, one_of_both nodes r, ranked nodes settle_order)
+ranked : (count : ℕ) (nodes : List NodeState) → count_by (λ s. nat_lt s.settle_order count) nodes + unsettled count nodes ≡ length nodes
+ranked count [] = refl
+ranked count (s ∷ nodes) =
+    omega (arith, sum_by-cons (λ (t : NodeState). cond (nat_lt t.settle_order count) 1 0) s nodes, sum_by-cons (λ (t : NodeState). cond (nat_le count t.settle_order) 1 0) s nodes, one_of_both count s.settle_order, ranked count nodes)
 
-module _ (X : Type 0) (nodes count : ℕ) (settle_order : List ℕ) (many : length settle_order ≡ nodes) (left : count + unsettled nodes settle_order ≡ nodes) (old new : Spent) where
-  pub settled_all : HasSettled count old new → HasSettled (settled_nodes {X = X} nodes settle_order None) old new
-  settled_all h = record { augmentations = h.augmentations; settlings = omega (arith, h.settlings, ranked nodes settle_order, many, left) }
+module _ (X : Type 0) (count settled : ℕ) (nodes : List NodeState) (many : length nodes ≡ count) (left : settled + unsettled count nodes ≡ count) (old new : Spent) where
+  pub settled_all : HasSettled settled old new → HasSettled (settled_nodes {X = X} count nodes None) old new
+  settled_all h = record { augmentations = h.augmentations; settlings = omega (arith, h.settlings, ranked count nodes, many, left) }
 
-  pub settled_found : (found : X) → HasSettled (count + 1) old new → HasSettled (settled_nodes nodes settle_order (Some found)) old new
-  settled_found found h = record { augmentations = h.augmentations; settlings = omega (arith, h.settlings, ranked nodes settle_order, many, left) }
+  pub settled_found : (found : X) → HasSettled (settled + 1) old new → HasSettled (settled_nodes count nodes (Some found)) old new
+  settled_found found h = record { augmentations = h.augmentations; settlings = omega (arith, h.settlings, ranked count nodes, many, left) }

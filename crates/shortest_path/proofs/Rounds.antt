@@ -1,4 +1,4 @@
--- The rounds of a search, each of which settles one more node, over the tables that the search writes.
+-- The rounds of a search, each of which settles one more node.
 use Rattle.std.proofs.Common.{◌≡◌, ℕ, ◌+◌, ◌-◌, ◌*◌, ◌<◌, ◌≤◌, ⊎_elim, ℤ, pos, ◌≤ℤ◌, neg_ℤ, Bool, true, List, [], ◌∷◌, suc, length, get_or, set, take, drop, count_by, nat_le, cond, Option, Some, None, refl, sym, ap, ◌∙◌, subst, arith}
 use Rattle.std.proofs.lemmas.Bool.{cases_eq}
 use Rattle.std.proofs.lemmas.Bool.Decides.{nat_tests}
@@ -8,9 +8,10 @@ use Rattle.std.proofs.Common.{length-take, length-drop}
 use Rattle.std.proofs.lemmas.List.Sums.{sum_by-set, sum_by-cons}
 use Rattle.std.proofs.Math.Nat.{mul-le-mul_right}
 use Rattle.std.specs.List.{slice_get}
-use Rattle.shortest_path.specs.Network.{IsShort, HasNonNegativeReducedCosts, HasCostsWithin, arc_at, max_cost, max_nodes}
-use Rattle.shortest_path.specs.Searched.{Relaxes, IsSearched, IsNearest}
+use Rattle.shortest_path.specs.Network.{IsShort, HasNonNegativeReducedCosts, HasCostsWithin, arc_at, max_cost, max_nodes, potential_in}
+use Rattle.shortest_path.specs.Searched.{AreSearched, Relaxes, RelaxesAll, IsNearest, distance_in, no_node, node_at, predecessor_in, settle_order_in}
 use Rattle.shortest_path.specs.declared.arc.Arc.{Arc}
+use Rattle.shortest_path.specs.declared.node.NodeState.{NodeState}
 use Rattle.shortest_path.proofs.Settling.{settled_next}
 
 -- ---- the arcs of a node, as a part of all arcs
@@ -35,17 +36,15 @@ module _ (nodes node : ℕ) (arcs : List (Option Arc)) (square : length arcs ≡
       record { low = omega (arith, ints, costs.low node v a within inside there); high = omega (arith, ints, costs.high node v a within inside there) }
 
 -- how many nodes are not settled
-abbrev pub unsettled : ℕ → List ℕ → ℕ
-unsettled nodes settle_order = count_by (λ r. nat_le nodes r) settle_order
+abbrev pub unsettled : ℕ → List NodeState → ℕ
+unsettled nodes states = count_by (λ s. nat_le nodes s.settle_order) states
 
 -- what holds before each round
-pub record IsRound (nodes : ℕ) (arcs : List (Option Arc)) (potentials : List ℤ) (wanted : List Bool) (source count : ℕ) (distances : List (Option ℤ)) (predecessors settle_order : List ℕ) : Type 0 where
-  pub distances_many : length distances ≡ nodes
-  pub sizes : length predecessors ≡ nodes
-  pub many : length settle_order ≡ nodes
-  pub left : count + unsettled nodes settle_order ≡ nodes
-  pub searched : IsSearched nodes (arc_at arcs nodes) (λ v. get_or potentials v (pos 0)) source max_cost count (λ v. get_or distances v None) (λ v. get_or predecessors v 0) (λ v. get_or settle_order v 0)
-  pub unwanted : (v : ℕ) → v < nodes → get_or settle_order v 0 < nodes → slice_get wanted v ≡ Some true → ⊥
+pub record IsRound (nodes : ℕ) (arcs : List (Option Arc)) (potentials : List ℤ) (wanted : List Bool) (source count : ℕ) (states : List NodeState) : Type 0 where
+  pub many : length states ≡ nodes
+  pub left : count + unsettled nodes states ≡ nodes
+  pub searched : AreSearched nodes arcs potentials source count states
+  pub unwanted : (v : ℕ) → v < nodes → settle_order_in states v < nodes → slice_get wanted v ≡ Some true → ⊥
 
 -- distances are short after that few rounds
 pub short_after : (count : ℕ) (b : ℤ) → count ≤ max_nodes → neg_ℤ (pos (count * max_cost)) ≤ℤ b → b ≤ℤ pos (count * max_cost) → IsShort b
@@ -59,59 +58,110 @@ test_above nodes r le = grind (arith, nat_tests)
 test_below : (nodes r : ℕ) → r < nodes → ◌≡◌ {A = ℕ} (cond (nat_le nodes r) 1 0) 0
 test_below nodes r less = grind (arith, nat_tests)
 
-pub fewer : (nodes : ℕ) (settle_order : List ℕ) (node count : ℕ) → node < length settle_order → nodes ≤ get_or settle_order node 0 → count < nodes → unsettled nodes (set settle_order node count) + 1 ≡ unsettled nodes settle_order
-fewer nodes settle_order node count within un small =
-    omega (arith, sum_by-set (λ (r : ℕ). cond (nat_le nodes r) 1 0) settle_order node count 0 within, test_above nodes (get_or settle_order node 0) un, test_below nodes count small)
+pub fewer : (nodes : ℕ) (states : List NodeState) (node : ℕ) (state : NodeState) → node < length states → nodes ≤ settle_order_in states node → state.settle_order < nodes → unsettled nodes (set states node state) + 1 ≡ unsettled nodes states
+fewer nodes states node state within un small =
+    omega (arith, sum_by-set (λ (s : NodeState). cond (nat_le nodes s.settle_order) 1 0) states node state no_node within, test_above nodes (settle_order_in states node) un, test_below nodes state.settle_order small)
 
--- where no node has a rank, all are left
-pub all_left : (nodes : ℕ) (settle_order : List ℕ) → ((v : ℕ) → v < length settle_order → nodes ≤ get_or settle_order v 0) → unsettled nodes settle_order ≡ length settle_order
+-- as many are left where no other is settled
+same_left : (nodes : ℕ) (xs ys : List NodeState) → length xs ≡ length ys → ((v : ℕ) → settle_order_in xs v ≡ settle_order_in ys v) → unsettled nodes xs ≡ unsettled nodes ys
+same_left nodes [] [] many same = refl
+same_left nodes [] (y ∷ ys) many same = absurd (omega arith)
+same_left nodes (x ∷ xs) [] many same = absurd (omega arith)
+same_left nodes (x ∷ xs) (y ∷ ys) many same =
+    omega (
+      arith,
+      sum_by-cons (λ (s : NodeState). cond (nat_le nodes s.settle_order) 1 0) x xs,
+      sum_by-cons (λ (s : NodeState). cond (nat_le nodes s.settle_order) 1 0) y ys,
+      ap (λ (r : ℕ). cond {A = ℕ} (nat_le nodes r) 1 0) (same 0),
+      same_left nodes xs ys (omega (arith, many)) (λ v. same (suc v)),
+    )
+
+-- where no node is settled, all are left
+pub all_left : (nodes : ℕ) (states : List NodeState) → ((v : ℕ) → v < length states → nodes ≤ settle_order_in states v) → unsettled nodes states ≡ length states
 all_left nodes [] un = refl
-all_left nodes (r ∷ settle_order) un = omega (arith, sum_by-cons (λ (x : ℕ). cond (nat_le nodes x) 1 0) r settle_order, test_above nodes r (un 0 (omega arith)), all_left nodes settle_order (λ v below. un (suc v) (omega arith)))
+all_left nodes (s ∷ states) un =
+    omega (arith, sum_by-cons (λ (t : NodeState). cond (nat_le nodes t.settle_order) 1 0) s states, test_above nodes s.settle_order (un 0 (omega arith)), all_left nodes states (λ v below. un (suc v) (omega arith)))
 
-pub some_left : (nodes : ℕ) (settle_order : List ℕ) (node : ℕ) → node < length settle_order → nodes ≤ get_or settle_order node 0 → 0 < nodes → 1 ≤ unsettled nodes settle_order
-some_left nodes settle_order node within un some = omega (arith, fewer nodes settle_order node 0 within un some)
+pub some_left : (nodes : ℕ) (states : List NodeState) (node : ℕ) → node < length states → nodes ≤ settle_order_in states node → 0 < nodes → 1 ≤ unsettled nodes states
+some_left nodes states node within un some = omega (arith, fewer nodes states node (record { distance = None; predecessor = 0; settle_order = 0 }) within un some)
 
-module _ (nodes : ℕ) (arcs : List (Option Arc)) (potentials : List ℤ) (wanted : List Bool) (source count : ℕ) (distances : List (Option ℤ)) (predecessors settle_order : List ℕ) (before : IsRound nodes arcs potentials wanted source count distances predecessors settle_order) where
-  pub short_distances : nodes ≤ max_nodes → (v : ℕ) (a : ℤ) → v < nodes → get_or distances v None ≡ Some a → IsShort a
+module _ (nodes : ℕ) (arcs : List (Option Arc)) (potentials : List ℤ) (wanted : List Bool) (source count : ℕ) (states : List NodeState) (before : IsRound nodes arcs potentials wanted source count states) where
+  pub short_distances : nodes ≤ max_nodes → (v : ℕ) (a : ℤ) → v < nodes → distance_in states v ≡ Some a → IsShort a
   short_distances few v a within is = short_after count a (omega (arith, before.left)) (before.searched.low v a within is) (before.searched.high v a within is)
 
-  module _ (node : ℕ) (node_distance : ℤ) (near : IsNearest nodes (λ v. get_or potentials v (pos 0)) (λ v. get_or distances v None) (λ v. get_or settle_order v 0) node node_distance) where
+  module _ (node : ℕ) (node_distance : ℤ) (near : IsNearest nodes (potential_in potentials) (distance_in states) (settle_order_in states) node node_distance) where
     pub small : count < nodes
-    small = omega (arith, before.left, some_left nodes settle_order node (omega (arith, before.many, near.within)) near.unsettled (omega (arith, near.within)))
+    small = omega (arith, before.left, some_left nodes states node (omega (arith, before.many, near.within)) near.unsettled (omega (arith, near.within)))
 
-    pub falls : unsettled nodes (set settle_order node count) < unsettled nodes settle_order
-    falls = omega (arith, fewer nodes settle_order node count (omega (arith, before.many, near.within)) near.unsettled small)
+    -- the node is settled, and then its arcs are relaxed
+    module _ (state : NodeState) (states' : List NodeState) (same_distance : state.distance ≡ distance_in states node) (same_predecessor : state.predecessor ≡ predecessor_in states node) (settled : state.settle_order ≡ count)
+        (row : List (Option Arc)) (shown : ℤ) (many' : length states' ≡ nodes) (relaxes : RelaxesAll row node shown (set states node state) states') where
+      inside : node < length states
+      inside = omega (arith, before.many, near.within)
 
-    pub next : (distances' : List (Option ℤ)) (predecessors' : List ℕ) (row : List (Option Arc)) (shown : ℤ) → length row ≡ nodes → ((v : ℕ) → v < nodes → get_or row v None ≡ arc_at arcs nodes node v) → shown ≡ node_distance → source < nodes → (slice_get wanted node ≡ Some true → ⊥) → length distances' ≡ nodes → length predecessors' ≡ nodes
-        → HasNonNegativeReducedCosts nodes (arc_at arcs nodes) (λ v. get_or potentials v (pos 0)) → HasCostsWithin nodes (arc_at arcs nodes) max_cost
-        → ((v : ℕ) → v < length row → Relaxes (length row) node shown (get_or row v None) (get_or (set settle_order node count) v 0) (get_or distances v None) (get_or distances' v None) (get_or predecessors v 0) (get_or predecessors' v 0))
-        → IsRound nodes arcs potentials wanted source (count + 1) distances' predecessors' (set settle_order node count)
-    next distances' predecessors' row shown wide row_at shown_is source_in not_wanted distances_many predecessors_many reduced costs each =
-        let inside : node < length settle_order = omega (arith, before.many, near.within) in
-        let other : (v : ℕ) → (v ≡ node → ⊥) → get_or (set settle_order node count) v 0 ≡ get_or settle_order v 0 = λ v not. get_or-set_other settle_order node v count 0 not in
-        let here : get_or (set settle_order node count) node 0 ≡ count = get_or-set_same settle_order node count 0 inside in
-        record {
-          distances_many = distances_many;
-          sizes = predecessors_many;
-          many = length-set settle_order node count ∙ before.many;
-          left = omega (arith, before.left, fewer nodes settle_order node count inside near.unsettled small);
-          searched = settled_next nodes (arc_at arcs nodes) (λ v. get_or potentials v (pos 0)) source max_cost count (λ v. get_or distances v None) (λ v. get_or distances' v None) (λ v. get_or predecessors v 0) (λ v. get_or predecessors' v 0) (λ v. get_or settle_order v 0) (λ v. get_or (set settle_order node count) v 0) node node_distance
-              reduced costs before.searched near small here other
-              (λ v within.
-              let rank' : ℕ = get_or (set settle_order node count) v 0 in
-              subst (λ a. Relaxes nodes node node_distance a rank' (get_or distances v None) (get_or distances' v None) (get_or predecessors v 0) (get_or predecessors' v 0)) (row_at v within)
-              (subst (λ z. Relaxes nodes node z (get_or row v None) rank' (get_or distances v None) (get_or distances' v None) (get_or predecessors v 0) (get_or predecessors' v 0)) shown_is
-              (subst (λ n. Relaxes n node shown (get_or row v None) rank' (get_or distances v None) (get_or distances' v None) (get_or predecessors v 0) (get_or predecessors' v 0)) wide (each v (omega (arith, wide, within))))))
-              source_in;
-          unwanted = λ v within settled is.
-              ⊎_elim
-              (λ (same : v ≡ node). not_wanted (ap (slice_get wanted) (sym same) ∙ is))
-              (λ (not : v ≡ node → ⊥). before.unwanted v within (omega (arith, other v not, settled)) is)
-              (cases_eq v node);
-        }
+      one_fewer : unsettled nodes states' + 1 ≡ unsettled nodes states
+      one_fewer =
+          omega (
+            arith,
+            fewer nodes states node state inside near.unsettled (omega (arith, settled, small)),
+            same_left nodes states' (set states node state) (omega (arith, many', length-set states node state, before.many)) relaxes.same_order,
+          )
+
+      pub falls : unsettled nodes states' < unsettled nodes states
+      falls = omega (arith, one_fewer)
+
+      at_node : node_at (set states node state) node ≡ state
+      at_node = get_or-set_same states node state no_node inside
+
+      elsewhere : (v : ℕ) → (v ≡ node → ⊥) → node_at (set states node state) v ≡ node_at states v
+      elsewhere v not = get_or-set_other states node v state no_node not
+
+      -- only the order of the node changed before its arcs were relaxed
+      distance_is : (v : ℕ) → distance_in (set states node state) v ≡ distance_in states v
+      distance_is v =
+          ⊎_elim
+          (λ (is : v ≡ node). ap (distance_in (set states node state)) is ∙ (ap (λ (s : NodeState). s.distance) at_node ∙ (same_distance ∙ ap (distance_in states) (sym is))))
+          (λ (not : v ≡ node → ⊥). ap (λ (s : NodeState). s.distance) (elsewhere v not))
+          (cases_eq v node)
+
+      predecessor_is : (v : ℕ) → predecessor_in (set states node state) v ≡ predecessor_in states v
+      predecessor_is v =
+          ⊎_elim
+          (λ (is : v ≡ node). ap (predecessor_in (set states node state)) is ∙ (ap (λ (s : NodeState). s.predecessor) at_node ∙ (same_predecessor ∙ ap (predecessor_in states) (sym is))))
+          (λ (not : v ≡ node → ⊥). ap (λ (s : NodeState). s.predecessor) (elsewhere v not))
+          (cases_eq v node)
+
+      here : settle_order_in states' node ≡ count
+      here = relaxes.same_order node ∙ (ap (λ (s : NodeState). s.settle_order) at_node ∙ settled)
+
+      other : (v : ℕ) → (v ≡ node → ⊥) → settle_order_in states' v ≡ settle_order_in states v
+      other v not = relaxes.same_order v ∙ ap (λ (s : NodeState). s.settle_order) (elsewhere v not)
+
+      pub next : length row ≡ nodes → ((v : ℕ) → v < nodes → get_or row v None ≡ arc_at arcs nodes node v) → shown ≡ node_distance → source < nodes → (slice_get wanted node ≡ Some true → ⊥)
+          → HasNonNegativeReducedCosts nodes (arc_at arcs nodes) (potential_in potentials) → HasCostsWithin nodes (arc_at arcs nodes) max_cost → IsRound nodes arcs potentials wanted source (count + 1) states'
+      next wide row_at shown_is source_in not_wanted reduced costs = record {
+        many = many';
+        left = omega (arith, before.left, one_fewer);
+        searched = settled_next nodes (arc_at arcs nodes) (potential_in potentials) source max_cost count (distance_in states) (distance_in states') (predecessor_in states) (predecessor_in states') (settle_order_in states) (settle_order_in states') node node_distance
+            reduced costs before.searched near small here other
+            (λ v within.
+            subst (λ a. Relaxes nodes node node_distance a (settle_order_in states' v) (distance_in states v) (distance_in states' v) (predecessor_in states v) (predecessor_in states' v)) (row_at v within)
+            (subst (λ z. Relaxes nodes node z (get_or row v None) (settle_order_in states' v) (distance_in states v) (distance_in states' v) (predecessor_in states v) (predecessor_in states' v)) shown_is
+            (subst (λ n. Relaxes n node shown (get_or row v None) (settle_order_in states' v) (distance_in states v) (distance_in states' v) (predecessor_in states v) (predecessor_in states' v)) wide
+            (subst (λ r. Relaxes (length row) node shown (get_or row v None) r (distance_in states v) (distance_in states' v) (predecessor_in states v) (predecessor_in states' v)) (sym (relaxes.same_order v))
+            (subst (λ p. Relaxes (length row) node shown (get_or row v None) (settle_order_in (set states node state) v) (distance_in states v) (distance_in states' v) p (predecessor_in states' v)) (predecessor_is v)
+            (subst (λ d. Relaxes (length row) node shown (get_or row v None) (settle_order_in (set states node state) v) d (distance_in states' v) (predecessor_in (set states node state) v) (predecessor_in states' v)) (distance_is v)
+            (relaxes.each v (omega (arith, wide, within)))))))))
+            source_in;
+        unwanted = λ v within is_settled is.
+            ⊎_elim
+            (λ (same : v ≡ node). not_wanted (ap (slice_get wanted) (sym same) ∙ is))
+            (λ (not : v ≡ node → ⊥). before.unwanted v within (omega (arith, other v not, is_settled)) is)
+            (cases_eq v node);
+      }
 
   -- the bounds of the last round hold after it
-  pub widened : IsSearched nodes (arc_at arcs nodes) (λ v. get_or potentials v (pos 0)) source max_cost nodes (λ v. get_or distances v None) (λ v. get_or predecessors v 0) (λ v. get_or settle_order v 0)
+  pub widened : AreSearched nodes arcs potentials source nodes states
   widened =
       let s = before.searched in
       let few : count ≤ nodes = omega (arith, before.left) in

@@ -1,29 +1,28 @@
 -- What a search of a residual network leaves: shortest paths and potentials, or a set of nodes that no arc leaves.
-use Rattle.std.specs.Prelude.{◌≡◌, ℕ, ◌<◌, ◌≤◌, ◌+◌, ◌*◌, nat_lt, count_by, is_some, if◌then◌else◌, ◌⊎◌, ℤ, pos, ◌+ℤ◌, ◌-ℤ◌, ◌≤ℤ◌, Bool, true, List, length, MatchOption, Option, Some, slice_get, slice_index, slice_index_or}
-use Rattle.shortest_path.specs.Network.{HasNonNegativeReducedCosts, arc_at, max_cost}
-use Rattle.shortest_path.specs.Searched.{IsTight}
+use Rattle.std.specs.Prelude.{◌≡◌, ℕ, ◌<◌, ◌≤◌, ◌+◌, ◌*◌, nat_lt, count_by, is_some, if◌then◌else◌, ◌⊎◌, ℤ, pos, ◌+ℤ◌, ◌-ℤ◌, ◌≤ℤ◌, Bool, true, List, length, MatchOption, Option, Some, slice_get}
+use Rattle.shortest_path.specs.Network.{HasNonNegativeReducedCosts, arc_at, max_cost, potential_in}
+use Rattle.shortest_path.specs.Searched.{IsTight, predecessor_in, settle_order_in}
 use Rattle.shortest_path.specs.declared.arc.Arc.{Arc}
+use Rattle.shortest_path.specs.declared.node.NodeState.{NodeState}
 use Rattle.shortest_path.specs.declared.search.Search.{Search}
 
--- each table has one value for each node
-pub record HasSize (nodes : ℕ) (s : Search) : Type 0 where
-  pub potentials : length s.potentials.items ≡ nodes
-  pub distances : length s.distances.items ≡ nodes
-  pub predecessors : length s.predecessors.items ≡ nodes
-  pub settle_order : length s.settle_order.items ≡ nodes
+-- a potential for each node, and what is known of it
+pub record HasSize (count : ℕ) (s : Search) : Type 0 where
+  pub potentials : length s.potentials.items ≡ count
+  pub nodes : length s.nodes.items ≡ count
 
--- how many nodes a search has settled: those of a rank below the number of nodes, and the wanted one that it found
-abbrev pub settled_nodes : {X : Type 0} → ℕ → List ℕ → Option X → ℕ
-settled_nodes nodes settle_order found = count_by (λ rank. nat_lt rank nodes) settle_order + (if is_some found then 1 else 0)
+-- how many nodes a search has settled: those with a place in the order, and the wanted one that it found
+abbrev pub settled_nodes : {X : Type 0} → ℕ → List NodeState → Option X → ℕ
+settled_nodes count nodes found = count_by (λ s. nat_lt s.settle_order count) nodes + (if is_some found then 1 else 0)
 
 abbrev pub potential_of : Search → ℕ → ℤ
-potential_of s v = slice_index_or s.potentials.items v (pos 0)
+potential_of s v = potential_in s.potentials.items v
 
 abbrev pub predecessor_of : Search → ℕ → ℕ
-predecessor_of s v = slice_index s.predecessors.items v
+predecessor_of s v = predecessor_in s.nodes.items v
 
 abbrev pub rank_of : Search → ℕ → ℕ
-rank_of s v = slice_index s.settle_order.items v
+rank_of s v = settle_order_in s.nodes.items v
 
 -- No wanted node can be reached: the source is settled, no arc leaves the settled nodes, and none of these is wanted.
 pub record IsStuck (nodes : ℕ) (arc : ℕ → ℕ → Option Arc) (wanted : List Bool) (source : ℕ) (potential potential' : ℕ → ℤ) (rank : ℕ → ℕ) : Type 0 where

@@ -1,16 +1,26 @@
 -- What a search of a residual network knows while it settles nodes: the distance of each node from the source, its predecessor on
 -- the shortest path, and its rank: how many nodes were settled before it. Unsettled nodes have the number of nodes or more.
-use Rattle.std.specs.Prelude.{◌≡◌, ℕ, ◌<◌, ◌≤◌, ◌*◌, ◌⊎◌, ℤ, pos, ◌+ℤ◌, ◌-ℤ◌, ◌≤ℤ◌, List, length, Option, Some, None, slice_index, slice_index_or}
+use Rattle.std.specs.Prelude.{◌≡◌, ◌≢◌, ℕ, ◌<◌, ◌≤◌, ◌*◌, ◌⊎◌, ℤ, pos, ◌+ℤ◌, ◌-ℤ◌, ◌≤ℤ◌, Bool, true, List, length, MatchOption, Option, Some, None, slice_get, slice_index_or}
 use Rattle.std.proofs.Common.{neg_ℤ}
-use Rattle.shortest_path.specs.Network.{arc_at, max_cost}
+use Rattle.shortest_path.specs.Network.{IsShort, arc_at, max_cost, potential_in}
 use Rattle.shortest_path.specs.declared.arc.Arc.{Arc}
+use Rattle.shortest_path.specs.declared.node.NodeState.{NodeState}
 
--- what tables by node say of one
-abbrev pub potential_in : List ℤ → ℕ → ℤ
-potential_in potentials v = slice_index_or potentials v (pos 0)
+-- what a list of the nodes says of one
+abbrev pub no_node : NodeState
+no_node = record { distance = None; predecessor = 0; settle_order = 0 }
 
-abbrev pub distance_in : List (Option ℤ) → ℕ → Option ℤ
-distance_in distances v = slice_index_or distances v None
+abbrev pub node_at : List NodeState → ℕ → NodeState
+node_at nodes v = slice_index_or nodes v no_node
+
+abbrev pub distance_in : List NodeState → ℕ → Option ℤ
+distance_in nodes v = (node_at nodes v).distance
+
+abbrev pub predecessor_in : List NodeState → ℕ → ℕ
+predecessor_in nodes v = (node_at nodes v).predecessor
+
+abbrev pub settle_order_in : List NodeState → ℕ → ℕ
+settle_order_in nodes v = (node_at nodes v).settle_order
 
 -- the distance and the predecessor of a node stay
 pub record Stays (distance distance' : Option ℤ) (predecessor predecessor' : ℕ) : Type 0 where
@@ -31,10 +41,15 @@ pub record Relaxes (nodes node : ℕ) (node_distance : ℤ) (arc : Option Arc) (
   pub change : Stays distance distance' predecessor predecessor' ⊎ Improves nodes node node_distance arc rank distance distance' predecessor'
   pub covers : (a : Arc) → nodes ≤ rank → arc ≡ Some a → (known : ℤ) × (distance' ≡ Some known) × (known ≤ℤ (node_distance +ℤ a.cost))
 
--- the same of the arc to one node, by tables before and after
-abbrev pub RelaxesTo : List (Option Arc) → List ℕ → ℕ → ℤ → List (Option ℤ) → List (Option ℤ) → List ℕ → List ℕ → ℕ → Type 0
-RelaxesTo arcs settle_order node node_distance distances distances' predecessors predecessors' v = Relaxes (length arcs) node node_distance (slice_index_or arcs v None) (slice_index settle_order v)
-    (slice_index_or distances v None) (slice_index_or distances' v None) (slice_index predecessors v) (slice_index predecessors' v)
+-- the same of the arc to one node, by what is known of the nodes before and after
+abbrev pub RelaxesTo : List (Option Arc) → ℕ → ℤ → List NodeState → List NodeState → ℕ → Type 0
+RelaxesTo arcs node node_distance nodes nodes' v =
+    Relaxes (length arcs) node node_distance (slice_index_or arcs v None) (settle_order_in nodes v) (distance_in nodes v) (distance_in nodes' v) (predecessor_in nodes v) (predecessor_in nodes' v)
+
+-- all arcs from a settled node are relaxed, and no other node is settled
+pub record RelaxesAll (arcs : List (Option Arc)) (node : ℕ) (node_distance : ℤ) (nodes nodes' : List NodeState) : Type 0 where
+  pub each : (v : ℕ) → v < length arcs → RelaxesTo arcs node node_distance nodes nodes' v
+  pub same_order : (v : ℕ) → settle_order_in nodes' v ≡ settle_order_in nodes v
 
 -- a node that was reached has a settled predecessor, and its distance is the predecessor's and the cost of the arc
 pub record HasPredecessor (nodes : ℕ) (arc : ℕ → ℕ → Option Arc) (distance : ℕ → Option ℤ) (predecessor rank : ℕ → ℕ) (v : ℕ) (known : ℤ) : Type 0 where
@@ -60,10 +75,28 @@ pub record IsSearched (nodes : ℕ) (arc : ℕ → ℕ → Option Arc) (potentia
   pub low : (v : ℕ) (b : ℤ) → v < nodes → distance v ≡ Some b → neg_ℤ (pos (count * most)) ≤ℤ b
   pub high : (v : ℕ) (b : ℤ) → v < nodes → distance v ≡ Some b → b ≤ℤ pos (count * most)
 
--- the same by tables by node, over arcs within the limit of costs
-abbrev pub AreSearched : ℕ → List (Option Arc) → List ℤ → ℕ → ℕ → List (Option ℤ) → List ℕ → List ℕ → Type 0
-AreSearched nodes arcs potentials source count distances predecessors settle_order =
-    IsSearched nodes (arc_at arcs nodes) (potential_in potentials) source max_cost count (distance_in distances) (slice_index predecessors) (slice_index settle_order)
+-- the same of a list of the nodes, over arcs within the limit of costs
+abbrev pub AreSearched : ℕ → List (Option Arc) → List ℤ → ℕ → ℕ → List NodeState → Type 0
+AreSearched nodes arcs potentials source count states =
+    IsSearched nodes (arc_at arcs nodes) (potential_in potentials) source max_cost count (distance_in states) (predecessor_in states) (settle_order_in states)
+
+-- the source has the distance 0, no other node is reached, and none is settled
+pub record AreBegun (nodes source : ℕ) (states : List NodeState) : Type 0 where
+  pub unsettled : (v : ℕ) → v < nodes → settle_order_in states v ≡ nodes
+  pub unreached : (v : ℕ) → v < nodes → v ≢ source → distance_in states v ≡ None
+  pub start : distance_in states source ≡ Some (pos 0)
+
+-- what holds before a node is settled
+pub record BeginsSearch (nodes : ℕ) (arcs : List (Option Arc)) (potentials : List ℤ) (source : ℕ) (states : List NodeState) : Type 0 where
+  pub within : source < nodes
+  pub unsettled : (v : ℕ) → v < nodes → nodes ≤ settle_order_in states v
+  pub searched : AreSearched nodes arcs potentials source 0 states
+
+-- as many potentials as nodes, and these and the distances are short
+pub record AreShort (potentials : List ℤ) (states : List NodeState) : Type 0 where
+  pub many : length potentials ≡ length states
+  pub potential : (v : ℕ) → v < length states → IsShort (potential_in potentials v)
+  pub distance : (v : ℕ) (a : ℤ) → v < length states → distance_in states v ≡ Some a → IsShort a
 
 -- every node that was reached is settled
 abbrev pub IsExhausted : ℕ → (ℕ → Option ℤ) → (ℕ → ℕ) → Type 0
@@ -76,12 +109,18 @@ pub record IsNearest (nodes : ℕ) (potential : ℕ → ℤ) (distance : ℕ →
   pub reached : distance node ≡ Some node_distance
   pub least : (v : ℕ) (b : ℤ) → v < nodes → nodes ≤ rank v → distance v ≡ Some b → (node_distance +ℤ potential v) ≤ℤ (b +ℤ potential node)
 
--- the same two by tables, of a node with its distance
-abbrev pub AreExhausted : List (Option ℤ) → List ℕ → ℕ → Type 0
-AreExhausted distances settle_order nodes = IsExhausted nodes (distance_in distances) (slice_index settle_order)
+-- the same two of a list of the nodes, and of a node with its distance
+abbrev pub AreExhausted : List NodeState → ℕ → Type 0
+AreExhausted states nodes = IsExhausted nodes (distance_in states) (settle_order_in states)
 
-abbrev pub IsNearestOf : List ℤ → List (Option ℤ) → List ℕ → ℕ → ℕ × ℤ → Type 0
-IsNearestOf potentials distances settle_order nodes r = IsNearest nodes (potential_in potentials) (distance_in distances) (slice_index settle_order) r.0 r.1
+abbrev pub IsNearestOf : List ℤ → List NodeState → ℕ → ℕ × ℤ → Type 0
+IsNearestOf potentials states nodes r = IsNearest nodes (potential_in potentials) (distance_in states) (settle_order_in states) r.0 r.1
+
+-- no settled node is wanted, and the nearest of the others is, or none of these can be reached
+pub record EndsSearch (nodes : ℕ) (arcs : List (Option Arc)) (potentials : List ℤ) (wanted : List Bool) (source : ℕ) (states : List NodeState) (result : Option (ℕ × ℤ)) : Type 0 where
+  pub searched : AreSearched nodes arcs potentials source nodes states
+  pub unwanted : (v : ℕ) → v < nodes → settle_order_in states v < nodes → slice_get wanted v ≡ Some true → ⊥
+  pub found : MatchOption result (AreExhausted states nodes) (λ r. IsNearestOf potentials states nodes r × (slice_get wanted r.0 ≡ Some true))
 
 -- the arc from the predecessor has the reduced cost 0
 pub record IsTight (nodes : ℕ) (arc : ℕ → ℕ → Option Arc) (potential : ℕ → ℤ) (predecessor rank : ℕ → ℕ) (v : ℕ) : Type 0 where

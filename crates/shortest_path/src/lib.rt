@@ -26,8 +26,10 @@
 
 mod arc;
 mod effort;
+mod node;
 mod search;
 
 pub use arc::Arc;
 pub use effort::Effort;
+pub use node::NodeState;
 pub use search::Search;

@@ -1,25 +1,20 @@
-ghost use Rattle.std.specs.Prelude.{IfOk, MatchBool, MatchOption, ◌≡◌, ◌≤◌, ◌<◌, ◌+◌, ◌*◌, ℕ, ℤ, pos, Some, None, ◌≤ℤ◌, ◌+ℤ◌, ◌-ℤ◌, length, slice_index, slice_index_or, slice_get, true, ◌≢◌};
+ghost use Rattle.std.specs.Prelude.{IfOk, MatchBool, MatchOption, ◌≡◌, ◌≤◌, ◌<◌, ◌+◌, ◌*◌, ℕ, ℤ, pos, Some, None, ◌≤ℤ◌, ◌+ℤ◌, ◌-ℤ◌, length, slice_index_or};
 ghost use Rattle.shortest_path.specs.Found.{HasSize, Finds, settled_nodes, potential_of, predecessor_of, rank_of};
-ghost use Rattle.shortest_path.specs.Network.{IsShort, HasNonNegativeReducedCosts, HasCostsWithin, arc_at, max_cost, max_nodes};
-ghost use Rattle.shortest_path.specs.Searched.{RelaxesTo, AreSearched, IsNearestOf, AreExhausted, Lowers, distance_in, potential_in};
+ghost use Rattle.shortest_path.specs.Network.{IsNetwork, IsShort, potential_in};
+ghost use Rattle.shortest_path.specs.Searched.{AreBegun, AreShort, BeginsSearch, EndsSearch, RelaxesAll, IsNearestOf, AreExhausted, Lowers, distance_in, settle_order_in};
 ghost use Rattle.shortest_path.specs.Spent.{HasSettled, HasSettledAtMost};
 
 use crate::arc::Arc;
 use crate::effort::Effort;
+use crate::node::NodeState;
 use std::alloc::{AllocError, Global};
 use std::sync::ledger::Ledger;
 
-/// The potentials of the nodes of a residual network, and what the last search found of each node.
+/// The potentials of the nodes of a residual network, and what the last search knows of each node.
 #[derive(Drop)]
 pub struct Search {
     pub potentials: Vec<i64>,
-    /// The distance of each node from the source, by the costs of the arcs on the shortest path that was found to it; none where
-    /// it was not reached.
-    pub distances: Vec<Option<i64>>,
-    /// The predecessor of each settled node on the shortest path to it.
-    pub predecessors: Vec<usize>,
-    /// How many nodes were settled before each settled node; for the others, the number of all nodes.
-    pub settle_order: Vec<usize>,
+    pub nodes: Vec<NodeState>,
 }
 
 impl Search {
@@ -30,9 +25,7 @@ impl Search {
     {
         Ok(Search {
             potentials: vec![in alloc; 0; nodes]?,
-            distances: vec![in alloc; None; nodes]?,
-            predecessors: vec![in alloc; 0; nodes]?,
-            settle_order: vec![in alloc; nodes; nodes]?,
+            nodes: vec![in alloc; unreached(nodes); nodes]?,
         })
     }
 
@@ -46,36 +39,21 @@ impl Search {
         source: usize,
         effort: &mut Effort<L>,
     ) -> Option<usize>
-        requires few { length wanted.now ≤ max_nodes }
+        requires network { IsNetwork (length wanted.now) arcs.now self.old.potentials.items }
         requires size { HasSize (length wanted.now) self.old }
-        requires arcs { length arcs.now ≡ length wanted.now * length wanted.now }
         requires source { source < length wanted.now }
-        requires short { (v : ℕ) → v < length wanted.now → IsShort (slice_index_or self.old.potentials.items v (pos 0)) }
-        requires costs { HasCostsWithin (length wanted.now) (arc_at arcs.now (length wanted.now)) max_cost }
-        requires reduced { HasNonNegativeReducedCosts (length wanted.now) (arc_at arcs.now (length wanted.now)) (λ v. slice_index_or self.old.potentials.items v (pos 0)) }
         ensures size { HasSize (length wanted.now) self.new }
         ensures found { Finds (length wanted.now) arcs.now wanted.now source
             (potential_of self.old) (potential_of self.new) (predecessor_of self.new) (rank_of self.new) result }
-        ensures settled { HasSettled (settled_nodes (length wanted.now) self.new.settle_order.items result) effort.old effort.new }
+        ensures settled { HasSettled (settled_nodes (length wanted.now) self.new.nodes.items result) effort.old effort.new }
         ensures effort { HasSettledAtMost (length wanted.now) effort.old effort.new }
     {
         let potentials = self.potentials.as_mut_slice();
-        let distances = self.distances.as_mut_slice();
-        let predecessors = self.predecessors.as_mut_slice();
-        let settle_order = self.settle_order.as_mut_slice();
-        begin(distances, settle_order, source);
-        match settle(
-            distances,
-            predecessors,
-            settle_order,
-            arcs,
-            potentials,
-            wanted,
-            source,
-            effort,
-        ) {
+        let nodes = self.nodes.as_mut_slice();
+        begin(nodes, source);
+        match settle(nodes, arcs, potentials, wanted, source, effort) {
             Some((node, node_distance)) => {
-                lower(potentials, distances, settle_order, node, node_distance);
+                lower(potentials, nodes, node, node_distance);
                 Some(node)
             }
             None => None,
@@ -83,102 +61,74 @@ impl Search {
     }
 }
 
+/// A node that was not reached, of so many.
+fn unreached(nodes: usize) -> NodeState
+    ensures distance { result.distance ≡ None }
+    ensures settle_order { result.settle_order ≡ nodes }
+{
+    NodeState {
+        distance: None,
+        predecessor: 0,
+        settle_order: nodes,
+    }
+}
+
 /// Settles nodes in the order of their distance by reduced costs, up to the first that is wanted. Answers that one with its
 /// distance.
 fn settle<L: Ledger>(
-    distances: &mut [Option<i64>],
-    predecessors: &mut [usize],
-    settle_order: &mut [usize],
+    nodes: &mut [NodeState],
     arcs: &[Option<Arc>],
     potentials: &[i64],
     wanted: &[bool],
     source: usize,
     effort: &mut Effort<L>,
 ) -> Option<(usize, i64)>
-    requires few { length settle_order.old ≤ max_nodes }
-    requires distances { length distances.old ≡ length settle_order.old }
-    requires predecessors { length predecessors.old ≡ length settle_order.old }
-    requires potentials { length potentials.now ≡ length settle_order.old }
-    requires wanted { length wanted.now ≡ length settle_order.old }
-    requires arcs { length arcs.now ≡ length settle_order.old * length settle_order.old }
-    requires source { source < length settle_order.old }
-    requires short { (v : ℕ) → v < length settle_order.old → IsShort (slice_index_or potentials.now v (pos 0)) }
-    requires costs { HasCostsWithin (length settle_order.old) (arc_at arcs.now (length settle_order.old)) max_cost }
-    requires reduced { HasNonNegativeReducedCosts (length settle_order.old) (arc_at arcs.now (length settle_order.old)) (potential_in potentials.now) }
-    requires unsettled { (v : ℕ) → v < length settle_order.old → length settle_order.old ≤ slice_index settle_order.old v }
-    requires start { AreSearched (length settle_order.old) arcs.now potentials.now source 0 distances.old predecessors.old settle_order.old }
-    ensures distances { length distances.new ≡ length settle_order.old }
-    ensures predecessors { length predecessors.new ≡ length settle_order.old }
-    ensures settle_order { length settle_order.new ≡ length settle_order.old }
-    ensures searched { AreSearched (length settle_order.old) arcs.now potentials.now source (length settle_order.old) distances.new predecessors.new settle_order.new }
-    ensures unwanted { (v : ℕ) → v < length settle_order.old → slice_index settle_order.new v < length settle_order.old → slice_get wanted.now v ≡ Some true → ⊥ }
-    ensures found { MatchOption result (AreExhausted distances.new settle_order.new (length settle_order.old))
-        (λ r. IsNearestOf potentials.now distances.new settle_order.new (length settle_order.old) r × (slice_get wanted.now r.0 ≡ Some true)) }
-    ensures settled { HasSettled (settled_nodes (length settle_order.old) settle_order.new result) effort.old effort.new }
-    ensures effort { HasSettledAtMost (length settle_order.old) effort.old effort.new }
+    requires network { IsNetwork (length nodes.old) arcs.now potentials.now }
+    requires wanted { length wanted.now ≡ length nodes.old }
+    requires begun { BeginsSearch (length nodes.old) arcs.now potentials.now source nodes.old }
+    ensures search { EndsSearch (length nodes.old) arcs.now potentials.now wanted.now source nodes.new result }
+    ensures settled { HasSettled (settled_nodes (length nodes.old) nodes.new result) effort.old effort.new }
+    ensures effort { HasSettledAtMost (length nodes.old) effort.old effort.new }
 {
-    let nodes = settle_order.len();
-    let mut count = 0;
-    while let Some((node, node_distance)) = nearest(distances, potentials, settle_order) {
+    let count = nodes.len();
+    let mut settled = 0;
+    while let Some((node, node_distance)) = nearest(nodes, potentials) {
         effort.count_settling();
         if wanted[node] {
             return Some((node, node_distance));
         }
-        settle_order[node] = count;
-        let first = node * nodes;
-        relax(
-            distances,
-            predecessors,
-            settle_order,
-            &arcs[first..first + nodes],
-            node,
-            node_distance,
-        );
-        count += 1;
+        nodes[node].settle_order = settled;
+        let first = node * count;
+        relax(nodes, &arcs[first..first + count], node, node_distance);
+        settled += 1;
     }
     None
 }
 
 /// The source has the distance 0, and no other node is reached; none is settled.
-fn begin(distances: &mut [Option<i64>], settle_order: &mut [usize], source: usize)
-    requires distances { length distances.old ≡ length settle_order.old }
-    requires source { source < length settle_order.old }
-    ensures distances { length distances.new ≡ length settle_order.old }
-    ensures settle_order { length settle_order.new ≡ length settle_order.old }
-    ensures unsettled { (v : ℕ) → v < length settle_order.old → slice_index settle_order.new v ≡ length settle_order.old }
-    ensures unreached { (v : ℕ) → v < length settle_order.old → v ≢ source → slice_index_or distances.new v None ≡ None }
-    ensures start { slice_index_or distances.new source None ≡ Some (pos 0) }
+fn begin(nodes: &mut [NodeState], source: usize)
+    requires { source < length nodes.old }
+    ensures { AreBegun (length nodes.old) source nodes.new }
 {
-    for v in 0..settle_order.len() {
-        distances[v] = None;
-        settle_order[v] = settle_order.len();
+    for v in 0..nodes.len() {
+        nodes[v] = unreached(nodes.len());
     }
-    distances[source] = Some(0);
+    nodes[source].distance = Some(0);
 }
 
 /// The potential of each settled node falls by as much as the node is nearer by reduced costs than the wanted one, which was
 /// found at this distance.
-fn lower(
-    potentials: &mut [i64],
-    distances: &[Option<i64>],
-    settle_order: &[usize],
-    node: usize,
-    node_distance: i64,
-)
-    requires distances { length distances.now ≡ length settle_order.now }
-    requires potentials { length potentials.old ≡ length settle_order.now }
-    requires node { node < length settle_order.now }
-    requires unsettled { length settle_order.now ≤ slice_index settle_order.now node }
+fn lower(potentials: &mut [i64], nodes: &[NodeState], node: usize, node_distance: i64)
+    requires short { AreShort potentials.old nodes.now }
+    requires node { node < length nodes.now }
+    requires unsettled { length nodes.now ≤ settle_order_in nodes.now node }
     requires node_distance { IsShort node_distance }
-    requires short_distances { (v : ℕ) (a : ℤ) → v < length settle_order.now → slice_index_or distances.now v None ≡ Some a → IsShort a }
-    requires short { (v : ℕ) → v < length settle_order.now → IsShort (slice_index_or potentials.old v (pos 0)) }
-    ensures size { length potentials.new ≡ length settle_order.now }
-    ensures lowers { Lowers (length settle_order.now) (potential_in potentials.old) (potential_in potentials.new) (distance_in distances.now) (slice_index settle_order.now) node node_distance }
+    ensures { Lowers (length nodes.now) (potential_in potentials.old) (potential_in potentials.new) (distance_in nodes.now) (settle_order_in nodes.now) node node_distance }
 {
     let node_potential = potentials[node];
-    for v in 0..settle_order.len() {
-        if settle_order[v] < settle_order.len() {
-            if let Some(distance) = distances[v] {
+    for v in 0..nodes.len() {
+        if nodes[v].settle_order < nodes.len() {
+            if let Some(distance) = nodes[v].distance {
                 potentials[v] = lowered(node_potential, distance, node_distance);
             }
         }
@@ -198,24 +148,16 @@ fn lowered(node_potential: i64, distance: i64, node_distance: i64) -> i64
 }
 
 /// The nearest by reduced costs of the unsettled nodes that were reached, with its distance.
-fn nearest(
-    distances: &[Option<i64>],
-    potentials: &[i64],
-    settle_order: &[usize],
-) -> Option<(usize, i64)>
-    requires distances { length distances.now ≡ length settle_order.now }
-    requires potentials { length potentials.now ≡ length settle_order.now }
-    requires short_distances { (v : ℕ) (a : ℤ) → v < length settle_order.now → slice_index_or distances.now v None ≡ Some a → IsShort a }
-    requires short { (v : ℕ) → v < length settle_order.now → IsShort (slice_index_or potentials.now v (pos 0)) }
-    ensures { MatchOption result (AreExhausted distances.now settle_order.now (length settle_order.now))
-        (λ r. IsNearestOf potentials.now distances.now settle_order.now (length settle_order.now) r) }
+fn nearest(nodes: &[NodeState], potentials: &[i64]) -> Option<(usize, i64)>
+    requires { AreShort potentials.now nodes.now }
+    ensures { MatchOption result (AreExhausted nodes.now (length nodes.now)) (λ r. IsNearestOf potentials.now nodes.now (length nodes.now) r) }
 {
     let mut least = None;
     let mut node = 0;
     let mut node_distance = 0;
-    for v in 0..settle_order.len() {
-        if settle_order[v] >= settle_order.len() {
-            if let Some(distance) = distances[v] {
+    for v in 0..nodes.len() {
+        if nodes[v].settle_order >= nodes.len() {
+            if let Some(distance) = nodes[v].distance {
                 let reduced = distance - potentials[v];
                 if is_nearer(reduced, least) {
                     least = Some(reduced);
@@ -233,28 +175,22 @@ fn nearest(
 
 /// Relaxes the arcs that leave a settled node: each unsettled node that is nearer over it gets this distance and this
 /// predecessor.
-fn relax(
-    distances: &mut [Option<i64>],
-    predecessors: &mut [usize],
-    settle_order: &[usize],
-    arcs: &[Option<Arc>],
-    node: usize,
-    node_distance: i64,
-)
-    requires distances { length distances.old ≡ length arcs.now }
-    requires predecessors { length predecessors.old ≡ length arcs.now }
-    requires settle_order { length settle_order.now ≡ length arcs.now }
+fn relax(nodes: &mut [NodeState], arcs: &[Option<Arc>], node: usize, node_distance: i64)
+    requires nodes { length nodes.old ≡ length arcs.now }
     requires costs { (v : ℕ) (a : Arc) → v < length arcs.now → slice_index_or arcs.now v None ≡ Some a → IsShort a.cost }
     requires node_distance { IsShort node_distance }
-    ensures each { (v : ℕ) → v < length arcs.now → RelaxesTo arcs.now settle_order.now node node_distance distances.old distances.new predecessors.old predecessors.new v }
+    ensures { RelaxesAll arcs.now node node_distance nodes.old nodes.new }
 {
     for v in 0..arcs.len() {
-        if settle_order[v] >= arcs.len() {
+        if nodes[v].settle_order >= arcs.len() {
             if let Some(arc) = arcs[v] {
                 let distance = node_distance + arc.cost;
-                if is_nearer(distance, distances[v]) {
-                    distances[v] = Some(distance);
-                    predecessors[v] = node;
+                if is_nearer(distance, nodes[v].distance) {
+                    nodes[v] = NodeState {
+                        distance: Some(distance),
+                        predecessor: node,
+                        ..nodes[v]
+                    };
                 }
             }
         }

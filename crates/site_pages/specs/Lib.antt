@@ -1,3 +1,4 @@
+pub mod Keyed
 pub mod Pages
 pub mod Sites
 pub mod Text

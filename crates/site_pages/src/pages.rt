@@ -32,13 +32,13 @@ fn pages_at(alloc: Global, flag: &str, places: &[Place<'_>]) -> Result<Vec<Page>
 {
     let mut pages = Vec::with_capacity(alloc, places.len())?;
     for place in places {
-        pages.push(page_at(alloc, flag, place)?)?;
+        pages.push(page_on(alloc, flag, place)?)?;
     }
     Ok(pages)
 }
 
 /// The page of a flag's site.
-fn page_at(alloc: Global, flag: &str, place: &Place<'_>) -> Result<Page, AllocError>
+fn page_on(alloc: Global, flag: &str, place: &Place<'_>) -> Result<Page, AllocError>
     requires { by_is_whole (by_view place.now.by) ≡ true }
     ensures { IfOk result (λ page. page ≡ page_with flag.now (place_view place.now)) }
 {

@@ -2,6 +2,7 @@
 use Rattle.std.specs.Prelude.{ℕ, List, [], ◌∷◌, length, map, Bool, false, ◌||◌, if◌then◌else◌, nat_lt, nat_eq, Option, Some, None}
 use Rattle.std.specs.List.{list_any}
 use Rattle.std.specs.Str.{bytes_eq}
+use Rattle.limits.specs.Limits as limit
 use Rattle.source_merge.specs.Sources.{SourceList, most_sources}
 use Rattle.snap_core.specs.World.{State}
 use Rattle.snap_core.specs.declared.fault.WorldFault.{WorldFault}
@@ -17,7 +18,7 @@ has_double [] = false
 has_double (name ∷ names) = list_any (bytes_eq name) names || has_double names
 
 abbrev pub most_seats : ℕ
-most_seats = 64
+most_seats = limit.seats
 
 -- nothing is published, nobody has joined, nothing is noted
 abbrev pub opening : List (List ℕ) → ℕ → State

@@ -3,6 +3,7 @@ use Rattle.std.specs.Prelude.{◌≡◌, ℕ, List, [], ◌∷◌, ◌++◌, len
 use Rattle.std.specs.Map.{lookup, set_value}
 use Rattle.std.specs.Str.{bytes_eq}
 use Rattle.std.specs.declared.alloc.Global.{Global}
+use Rattle.limits.specs.Limits as limit
 use Rattle.flag_defs.specs.Document.{Definitions, DocumentMeans}
 use Rattle.flag_defs.specs.Flags.{flags_view}
 use Rattle.flag_defs.specs.declared.fault.DefFault.{DefFault}
@@ -19,7 +20,7 @@ abbrev pub SourceList : Type 0
 SourceList = List Source
 
 abbrev pub most_sources : ℕ
-most_sources = 16
+most_sources = limit.sources
 
 abbrev pub is_source : List ℕ → SourceList → Bool
 is_source name sources = is_some (lookup (bytes_eq name) sources)

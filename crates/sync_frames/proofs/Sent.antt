@@ -1,16 +1,14 @@
 -- What comes out of frames that were sent.
-use Rattle.std.proofs.Common.{◌≡◌, ◌≢◌, ℕ, ◌<◌, Bool, true, false, cond, eqb, List, [], ◌∷◌, ◌++◌, ⊎_elim, refl, sym, ap, ap₂, subst, ◌∙◌, arith, append_assoc, Ok, Some, Option}
+use Rattle.std.proofs.Common.{◌≡◌, ◌≢◌, ℕ, ◌<◌, Bool, true, false, cond, eqb, List, [], ◌∷◌, ◌++◌, ⊎_elim, refl, sym, ap, ap₂, subst, ◌∙◌, arith, append_assoc, Ok, Some}
 use Rattle.std.specs.List.{All}
 use Rattle.std.proofs.lemmas.Bool.{eq-eqb}
 use Rattle.std.proofs.lemmas.Bool.Decides.{eqb_tells}
 use Rattle.std.proofs.lemmas.List.Elements.{All-weaker, All-nil, All-cons}
 use Rattle.flag_defs.specs.Document.{Definitions, DocumentMeans}
 use Rattle.flag_defs.proofs.Meanings.{one_meaning}
-use Rattle.flag_resolve.specs.Resolution.{Asked, resolution_of}
-use Rattle.logic_eval.specs.Scope.{Situation}
 use Rattle.snap_core.specs.Hub.{Numbered}
 use Rattle.sync_frames.specs.Frames.{frame_of, Frames}
-use Rattle.sync_frames.specs.Resolves.{AreFramesOf, IsFirstSent, GivesWhatWasSent, ResolvesAsSent, first_sent}
+use Rattle.sync_frames.specs.Sent.{AreFramesOf, IsFirstSent, GivesWhatWasSent, first_sent}
 use Rattle.sync_frames.proofs.Headers.{same_frames, length-frame}
 use Rattle.sync_frames.proofs.Streams.{numbered}
 use Rattle.std.proofs.Common.{length, length-append}
@@ -49,7 +47,3 @@ gives sent stream later framed ss rest reading =
     let prefix = sent_first 0 ss sent reading.front (rest ++ later) reading.frames (subst (λ (l : List ℕ). AreFramesOf sent l) (ap (λ (l : List ℕ). l ++ later) reading.whole ∙ append_assoc reading.front rest later) framed) in
     subst (λ (l : List Numbered). All (IsFirstSent l) ss) (sym prefix.1)
     (All-weaker (Follows 0 (ss ++ prefix.0)) (IsFirstSent (ss ++ prefix.0)) (λ t h. h.1) ss (first_ones 0 ss prefix.0 reading.front reading.frames))
-
-pub resolves : ResolvesAsSent
-resolves sent stream later framed ss rest reading =
-    All-weaker (IsFirstSent sent) (λ (s : Numbered). (a : Asked) (situation : Situation) → resolution_of (Some s.flags) a situation ≡ resolution_of (first_sent s.number sent) a situation) (λ s h a situation. ap (λ (o : Option Definitions). resolution_of o a situation) (sym h)) ss (gives sent stream later framed ss rest reading)

@@ -1,6 +1,7 @@
 -- Frames of numbered flags, and what a stream of them means.
 use Rattle.std.specs.Prelude.{◌≡◌, ℕ, ◌+◌, ◌-◌, ◌<◌, ◌≤◌, ◌^◌, ◌⊎◌, List, [], ◌∷◌, ◌++◌, length, take, drop, Ok, Err}
 use Rattle.std.specs.Int.{w32, w64, to_be_bytes, from_be_bytes}
+use Rattle.limits.specs.Limits.{text_bytes}
 use Rattle.flag_defs.specs.Document.{DocumentMeans}
 use Rattle.flag_defs.specs.declared.fault.DefFault.{DefFault}
 use Rattle.snap_core.specs.Hub.{Numbered}
@@ -9,7 +10,7 @@ use Rattle.sync_frames.specs.declared.fault.FrameFault.TheVariants.{Length, NotR
 
 -- the most that the length of a frame may say: a number's 8 bytes and the longest document
 abbrev pub max_length : ℕ
-max_length = 4194312
+max_length = 8 + text_bytes
 
 -- The frame of a numbered document: how many bytes follow, in 4 bytes, the number in 8, and the document. Both numbers have their high byte first.
 unfoldable pub frame_of : ℕ → List ℕ → List ℕ

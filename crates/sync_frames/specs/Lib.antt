@@ -4,5 +4,5 @@ pub mod Framed
 pub mod Frames
 pub mod Header
 pub mod Received
-pub mod Resolves
+pub mod Sent
 pub mod Stage

@@ -25,7 +25,7 @@
 //!   frames have become whole, or else the fault that the rest shows, or else nothing; after a fault it stays failed
 //!   (`Feed`). Where memory runs out it is as it was, and the piece can be given again.
 //! - [`streams_give_what_was_sent`]: where frames of snapshots are fed, each that comes out has the flags of the first that
-//!   was framed with its number, and so resolves everything as that one does (`Resolves`).
+//!   was framed with its number (`Sent`).
 #![tactic(auto)]
 
 mod fault;

@@ -1,19 +1,20 @@
 -- A tally: how many inputs of one page fall on each of so many points.
 use Rattle.std.specs.Prelude.{◌≡◌, ℕ, ◌<◌, ◌≤◌, List, length, get_or, sum, true, Option, Some, None}
 use Rattle.std.specs.Ordering.{is_le}
+use Rattle.limits.specs.Limits.{planned_total, point_inputs, tally_inputs}
 use Rattle.book_core.specs.Page.{PageName, bytes_cmp}
 use Rattle.note_lines.specs.Note.{Noted, IsNote, note_line}
 
 -- the most points of a tally
 abbrev pub most_points : ℕ
-most_points = 1000000
+most_points = planned_total
 
 -- the most inputs on one point, and in all
 abbrev pub most_at_point : ℕ
-most_at_point = 67108864
+most_at_point = point_inputs
 
 abbrev pub most_in_all : ℕ
-most_in_all = 8589934592
+most_in_all = tally_inputs
 
 -- the page and the number of points; the least and the greatest line that were counted, none where there was none; how many were, and how many on each point
 pub record PageTally : Type 0 where

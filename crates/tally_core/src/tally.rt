@@ -3,13 +3,13 @@ use book_core::Page;
 use std::marker::Model;
 
 /// The most inputs on one point.
-pub const MOST_AT_POINT: u32 = 67_108_864;
+pub const MOST_AT_POINT: u32 = limits::POINT_INPUTS;
 
 /// The most inputs in all.
-pub const MOST_IN_ALL: u64 = 8_589_934_592;
+pub const MOST_IN_ALL: u64 = limits::TALLY_INPUTS;
 
 /// The most points.
-pub const MOST_POINTS: u32 = 1_000_000;
+pub const MOST_POINTS: u32 = limits::PLANNED_TOTAL;
 
 /// How many inputs of one page fall on each of so many points.
 #[derive(Debug, Drop)]

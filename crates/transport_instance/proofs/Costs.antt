@@ -7,7 +7,7 @@ use Rattle.book_core.specs.Counts.{counts_of}
 use Rattle.bucket_core.specs.Rule.{Entries, total_weight}
 use Rattle.price_core.specs.Cost.{cost_of, point_cost, tally_cost}
 use Rattle.price_core.specs.Pricing.{Pricing}
-use Rattle.tally_core.specs.Tally.{most_at_point}
+use Rattle.limits.specs.Limits.{point_inputs}
 use Rattle.transport_instance.specs.Dual.{inputs_at}
 use Rattle.transport_instance.specs.Tally.{IsTally}
 use Rattle.transport_instance.proofs.Duality.{cost-by_points}
@@ -39,7 +39,7 @@ one_of_sum (count ∷ counts) zero = omega (arith, sum_by-cons (λ n. n) count c
 one_of_sum (count ∷ counts) (suc p) = omega (arith, sum_by-cons (λ n. n) count counts, one_of_sum counts p)
 
 -- a list of inputs that is not too long has a tally
-pub tally_of : (inputs : List (List ℕ)) (total : ℕ) (counts : List ℕ) → counts ≡ counts_of inputs total → length inputs ≤ most_at_point → IsTally total counts
+pub tally_of : (inputs : List (List ℕ)) (total : ℕ) (counts : List ℕ) → counts ≡ counts_of inputs total → length inputs ≤ point_inputs → IsTally total counts
 tally_of inputs zero counts is few = subst (IsTally zero) (sym is) none
   where
     none : IsTally zero []

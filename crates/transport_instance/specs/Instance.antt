@@ -3,10 +3,10 @@ use Rattle.std.specs.Prelude.{ℕ, ◌*◌, ◌<◌, ◌≤◌, ◌⊎◌, List,
 use Rattle.std.specs.List.{All, Contains}
 use Rattle.std.specs.List.Sorted.{IsStrictlySortedBy}
 use Rattle.std.specs.Map.{keys_of}
+use Rattle.limits.specs.Limits.{planned_total, variants, point_inputs, tally_inputs}
 use Rattle.bucket_core.specs.Rule.{Entries, total_weight}
 use Rattle.price_core.specs.Limits.{Limits, AreLimits}
 use Rattle.price_core.specs.Pricing.{Pricing}
-use Rattle.tally_core.specs.Tally.{most_at_point, most_in_all}
 use Rattle.transport_instance.specs.Groups.{GroupKey, group_cmp}
 use Rattle.transport_instance.specs.Rows.{whole_amount}
 
@@ -18,10 +18,10 @@ pub record TransportProblem : Type 0 where
 
 -- the largest total that may be planned, and the most names
 abbrev pub max_planned_total : ℕ
-max_planned_total = 1000000
+max_planned_total = planned_total
 
 abbrev pub max_names : ℕ
-max_names = 64
+max_names = variants
 
 -- what holds of each instance: groups in order, none of them empty, each of a name that has limits, with no more inputs at a point
 -- and at all of them than a tally has, and limits that these points can meet in number
@@ -31,8 +31,8 @@ pub record IsProblem (p : TransportProblem) : Type 0 where
   pub rise : IsStrictlySortedBy group_cmp (keys_of p.groups)
   pub sizes : All (λ g. 0 < g.1) p.groups
   pub listed : All (λ g. Contains (keys_of p.limits) g.0.0) p.groups
-  pub counts : All (λ g. g.0.1 ≤ most_at_point) p.groups
-  pub inputs : sum_by (λ g. g.0.1 * g.1) p.groups ≤ most_in_all
+  pub counts : All (λ g. g.0.1 ≤ point_inputs) p.groups
+  pub inputs : sum_by (λ g. g.0.1 * g.1) p.groups ≤ tally_inputs
   pub some : 0 < whole_amount p.groups
   pub small : whole_amount p.groups ≤ max_planned_total
   pub lows : sum_by (λ l. l.1.0) p.limits ≤ whole_amount p.groups

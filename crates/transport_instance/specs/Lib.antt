@@ -11,3 +11,4 @@ pub mod Refusals
 pub mod Rows
 pub mod Sum
 pub mod Tally
+pub mod WrittenCertificate

@@ -9,7 +9,7 @@ use Rattle.flag_text.specs.Shape.{is_in_range}
 use Rattle.transport_plan.specs.Slackness.{certificate_of}
 use Rattle.transport_plan.proofs.ProvedFlow.{proved}
 use Rattle.min_cost_flow.specs.Cheapest.{IsCheapest}
-use Rattle.plan_text.specs.PlanFile.{has_whole_numbers}
+use Rattle.transport_instance.specs.WrittenCertificate.{has_whole_numbers}
 use Rattle.min_cost_flow.specs.Problem.{IsFlowProblem, group_at, names_of, switch_cost_at}
 use Rattle.min_cost_flow.specs.declared.problem.FlowProblem.{FlowProblem}
 use Rattle.min_cost_flow.specs.declared.problem.Group.{Group}

@@ -5,14 +5,14 @@ use Rattle.std.proofs.lemmas.List.{get_or-set_same, get_or-set_other, length-set
 use Rattle.min_cost_flow.specs.Problem.{group_at, is_allowed, switch_cost_at}
 use Rattle.min_cost_flow.specs.declared.problem.Group.{Group}
 
-pub record Holding (k : ℕ) (groups : List Group) (costs : List (Option ℤ)) (placed settle_order : List ℕ) (marks : List Bool) (i : ℕ) : Type 0 where
+pub record Holding (k : ℕ) (groups : List Group) (costs : List (Option ℤ)) (placed : List ℕ) (rank : ℕ → ℕ) (marks : List Bool) (i : ℕ) : Type 0 where
   pub size : length marks ≡ k
-  pub held : (g v : ℕ) → g < i → v < k → 0 < get_or placed (g * k + v) 0 → get_or settle_order v 0 < k + 1 → get_or marks (group_at groups g).variant false ≡ true
-  pub closed : (u w : ℕ) → u < k → w < k → get_or marks u false ≡ true → is_allowed (switch_cost_at costs k u w) ≡ true → get_or settle_order w 0 < k + 1
+  pub held : (g v : ℕ) → g < i → v < k → 0 < get_or placed (g * k + v) 0 → rank v < k + 1 → get_or marks (group_at groups g).variant false ≡ true
+  pub closed : (u w : ℕ) → u < k → w < k → get_or marks u false ≡ true → is_allowed (switch_cost_at costs k u w) ≡ true → rank w < k + 1
 
-module _ (k : ℕ) (groups : List Group) (costs : List (Option ℤ)) (placed settle_order : List ℕ) (marks marks' : List Bool) (i : ℕ) (before : Holding k groups costs placed settle_order marks i) where
-  pub holds_no : marks' ≡ marks → ((v : ℕ) → v < k → 0 < get_or placed (i * k + v) 0 → get_or settle_order v 0 < k + 1 → ⊥) → Holding k groups costs placed settle_order marks' (i + 1)
-  holds_no same none = subst (λ ms. Holding k groups costs placed settle_order ms (i + 1)) (sym same) (record {
+module _ (k : ℕ) (groups : List Group) (costs : List (Option ℤ)) (placed : List ℕ) (rank : ℕ → ℕ) (marks marks' : List Bool) (i : ℕ) (before : Holding k groups costs placed rank marks i) where
+  pub holds_no : marks' ≡ marks → ((v : ℕ) → v < k → 0 < get_or placed (i * k + v) 0 → rank v < k + 1 → ⊥) → Holding k groups costs placed rank marks' (i + 1)
+  holds_no same none = subst (λ ms. Holding k groups costs placed rank ms (i + 1)) (sym same) (record {
     size = before.size;
     held = λ g v below v_in some settled.
         ⊎_elim
@@ -22,12 +22,12 @@ module _ (k : ℕ) (groups : List Group) (costs : List (Option ℤ)) (placed set
     closed = before.closed;
   })
 
-  pub holds_yes : (v : ℕ) → marks' ≡ set marks (group_at groups i).variant true → (group_at groups i).variant < k → v < k → 0 < get_or placed (i * k + v) 0 → get_or settle_order v 0 < k + 1
-      → ((w : ℕ) → w < k → is_allowed (switch_cost_at costs k (group_at groups i).variant w) ≡ true → get_or settle_order w 0 < k + 1) → Holding k groups costs placed settle_order marks' (i + 1)
+  pub holds_yes : (v : ℕ) → marks' ≡ set marks (group_at groups i).variant true → (group_at groups i).variant < k → v < k → 0 < get_or placed (i * k + v) 0 → rank v < k + 1
+      → ((w : ℕ) → w < k → is_allowed (switch_cost_at costs k (group_at groups i).variant w) ≡ true → rank w < k + 1) → Holding k groups costs placed rank marks' (i + 1)
   holds_yes v is variant v_in some settled closed =
       let x = (group_at groups i).variant in
       let here : get_or (set marks x true) x false ≡ true = get_or-set_same marks x true false (omega (arith, variant, before.size)) in
-      subst (λ ms. Holding k groups costs placed settle_order ms (i + 1)) (sym is) (record {
+      subst (λ ms. Holding k groups costs placed rank ms (i + 1)) (sym is) (record {
         size = length-set marks x true ∙ before.size;
         held = λ g w below w_in there inside.
             ⊎_elim

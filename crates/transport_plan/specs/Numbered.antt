@@ -2,7 +2,9 @@
 use Rattle.std.specs.Prelude.{◌≡◌, ℕ, ℤ, ◌<◌, List, [], length, Option, Some, slice_index, slice_index_or}
 use Rattle.std.specs.Map.{keys_of}
 use Rattle.min_cost_flow.specs.Offered.{IsSwitchCost}
-use Rattle.min_cost_flow.specs.Problem.{group_at, names_of, switch_cost_at}
+use Rattle.min_cost_flow.specs.Flow.{IsFlow}
+use Rattle.min_cost_flow.specs.Problem.{IsFlowProblem, group_at, names_of, switch_cost_at}
+use Rattle.min_cost_flow.specs.declared.flow.Flow.{Flow}
 use Rattle.min_cost_flow.specs.declared.problem.FlowProblem.{FlowProblem}
 use Rattle.transport_instance.specs.Groups.{GroupKey}
 use Rattle.transport_instance.specs.Instance.{TransportProblem}
@@ -32,3 +34,9 @@ pub record IsNumbered (p : TransportProblem) (q : FlowProblem) : Type 0 where
   pub count : (g : ℕ) → g < length p.groups → (group_at q.groups.items g).count ≡ (row_at p g).0.1
   pub points : (g : ℕ) → g < length p.groups → (group_at q.groups.items g).points ≡ (row_at p g).1
   pub costs : (v w : ℕ) → v < length p.limits → w < length p.limits → switch_cost_at q.costs.items (names_of q) v w ≡ switch_price p.pricing (name_at p v) (name_at p w)
+
+-- a flow of the instance, in numbers
+pub record IsFlowOf (p : TransportProblem) (q : FlowProblem) (f : Flow) : Type 0 where
+  pub numbered : IsNumbered p q
+  pub lawful : IsFlowProblem q
+  pub flow : IsFlow q f

@@ -1,6 +1,8 @@
 -- Where the groups of points in a row stand.
-use Rattle.std.specs.Prelude.{◌≡◌, ℕ, ◌+◌, ◌<◌, List, length, slice_get, slice_index, Some}
-use Rattle.transport_instance.specs.Groups.{GroupKey}
+use Rattle.std.specs.Prelude.{◌≡◌, ℕ, ◌+◌, ◌<◌, ◌≤◌, List, length, slice_get, slice_index, Some}
+use Rattle.std.specs.List.Sorted.{IsStrictlySortedBy}
+use Rattle.transport_instance.specs.Groups.{GroupKey, group_cmp}
+use Rattle.transport_instance.specs.Instance.{max_planned_total}
 
 -- Behind what was there, for each of the first numbers the place among the keys of its group of this name.
 pub record AddsPlaces (keys : List GroupKey) (name counts : List ℕ) (many : ℕ) (before after : List ℕ) : Type 0 where
@@ -11,3 +13,10 @@ pub record AddsPlaces (keys : List GroupKey) (name counts : List ℕ) (many : �
 -- groups that have one number are of one name
 abbrev pub AreFamilies : List GroupKey → List ℕ → Type 0
 AreFamilies keys families = (i j : ℕ) (g h : GroupKey) → slice_get keys i ≡ Some g → slice_get keys j ≡ Some h → slice_index families i ≡ slice_index families j → g.0 ≡ h.0
+
+-- groups of which there are few, and which rise, each with its family
+pub record HaveFamilies (many : ℕ) (keys : List GroupKey) (families : List ℕ) : Type 0 where
+  pub few : many ≤ max_planned_total
+  pub rise : IsStrictlySortedBy group_cmp keys
+  pub each : length families ≡ many
+  pub apart : AreFamilies keys families

@@ -1,7 +1,10 @@
 -- What the planner answers: a plan with the certificate that proves its cost, or a cut that shows that there is none.
-use Rattle.std.specs.Prelude.{ℕ, List}
+use Rattle.std.specs.Prelude.{◌≡◌, ℕ, true, List}
+use Rattle.std.specs.Cmp.Lexicographic.{slice_cmp}
+use Rattle.std.specs.List.Sorted.{IsStrictlySortedBy}
+use Rattle.std.specs.Ordering.{nat_cmp}
 use Rattle.bucket_core.specs.Rule.{Entries, names_view}
-use Rattle.transport_instance.specs.Assignment.{HasAssignment, flows_of}
+use Rattle.transport_instance.specs.Assignment.{HasAssignment, IsProved, flows_of}
 use Rattle.transport_instance.specs.Certificate.{IsCertified, certificate_view}
 use Rattle.transport_instance.specs.Deficient.{IsDeficient, IsOver}
 use Rattle.transport_instance.specs.Fits.{IsLeast}
@@ -10,6 +13,8 @@ use Rattle.transport_instance.specs.Instance.{TransportProblem}
 use Rattle.transport_instance.specs.declared.assignment.Assignment.{Assignment}
 use Rattle.transport_instance.specs.declared.certificate.Certificate.{Certificate}
 use Rattle.transport_instance.specs.declared.certificate.Cut.{Cut}
+use Rattle.transport_instance.specs.declared.certificate.CutKind.TheVariants.{Under}
+use Rattle.transport_instance.specs.WrittenCertificate.{has_whole_numbers}
 use Rattle.transport_plan.specs.declared.solving.Solved.{Solved}
 use Rattle.transport_plan.specs.declared.solving.Solved.TheVariants.{Plan, None}
 
@@ -35,3 +40,13 @@ IsCut p cut = (old : Entries) (inputs : List (List ℕ)) → AreSizes old inputs
 -- No set of names is deficient over its high limits.
 abbrev pub IsNeverOver : TransportProblem → Type 0
 IsNeverOver p = (old : Entries) (inputs : List (List ℕ)) (names : List (List ℕ)) → AreSizes old inputs p.groups → IsOver old p.limits p.pricing names → ⊥
+
+-- What the planner answers of an instance. A plan is proved, costs the least, and a file can hold its certificate. A cut shows that
+-- there is none; it is under the low limits only where no set is over the high ones, and its names are sorted and distinct.
+pub record IsSolution (p : TransportProblem) (s : Solved) : Type 0 where
+  pub proved : IfPlan s (λ assignment certificate. IsProved p assignment.numbers.items (certificate_view certificate))
+  pub least : IfPlan s (IsPlan p)
+  pub whole : IfPlan s (λ _ certificate. has_whole_numbers (certificate_view certificate) ≡ true)
+  pub deficient : IfNone s (IsCut p)
+  pub under : IfNone s (λ cut. cut.kind ≡ Under → IsNeverOver p)
+  pub ordered : IfNone s (λ cut. IsStrictlySortedBy (slice_cmp nat_cmp) (names_view cut.names.items))

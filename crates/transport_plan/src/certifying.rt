@@ -3,14 +3,12 @@ ghost use Rattle.std.specs.List.{zip};
 ghost use Rattle.std.specs.Map.{keys_of};
 ghost use Rattle.std.specs.Prelude.{◌≡◌, IfOk, length, true};
 ghost use Rattle.min_cost_flow.specs.Cheapest.{IsCheapest};
-ghost use Rattle.min_cost_flow.specs.Flow.{IsFlow};
-ghost use Rattle.min_cost_flow.specs.Problem.{IsFlowProblem};
-ghost use Rattle.plan_text.specs.PlanFile.{has_whole_numbers};
+ghost use Rattle.transport_instance.specs.WrittenCertificate.{has_whole_numbers};
 ghost use Rattle.price_core.specs.Limits.{limits_view};
 ghost use Rattle.transport_instance.specs.Assignment.{IsProved};
 ghost use Rattle.transport_instance.specs.Certificate.{alpha_view, beta_view, certificate_view};
 ghost use Rattle.transport_instance.specs.Groups.{rows_view};
-ghost use Rattle.transport_plan.specs.Numbered.{IsNumbered};
+ghost use Rattle.transport_plan.specs.Numbered.{IsFlowOf};
 
 use crate::cost::cost_of;
 use crate::dual_prices::{group_dual_prices, name_dual_prices};
@@ -29,9 +27,7 @@ pub(crate) fn certificate(
     flow: &Flow,
     search: &Search,
 ) -> Result<Certificate, AllocError>
-    requires numbered { IsNumbered instance.now problem.now }
-    requires lawful { IsFlowProblem problem.now }
-    requires flow { IsFlow problem.now flow.now }
+    requires flow { IsFlowOf instance.now problem.now flow.now }
     requires cheapest { IsCheapest problem.now flow.now search.now }
     ensures proved { IfOk result (λ c. IsProved instance.now flow.now.placed.items (certificate_view c)) }
     ensures whole { IfOk result (λ c. has_whole_numbers (certificate_view c) ≡ true) }

@@ -2,8 +2,8 @@
 ghost use Rattle.std.specs.Prelude.{◌≡◌, ◌<◌, ◌≤◌, ◌*◌, ℕ, ℤ, Some, length};
 ghost use Rattle.min_cost_flow.specs.Flow.{cell_at};
 ghost use Rattle.min_cost_flow.specs.Offered.{IsSwitchCost};
-ghost use Rattle.min_cost_flow.specs.Problem.{AreGroups, AreSwitchCosts, group_at, inputs_of, max_count, sum_to};
-ghost use Rattle.transport_plan.specs.Costs.{all_cost, row_cost, unit_of};
+ghost use Rattle.min_cost_flow.specs.Problem.{AreGroups, AreSupplies, AreSwitchCosts, group_at, max_count, sum_to};
+ghost use Rattle.transport_plan.specs.Costs.{IsRowCost, all_cost, unit_of};
 
 use min_cost_flow::Group;
 
@@ -33,12 +33,10 @@ fn cost_of_row(
 ) -> u64
     requires few { names ≤ 64 }
     requires g { g < length groups.now }
-    requires groups { AreGroups names costs.now groups.now }
-    requires costs { AreSwitchCosts names costs.now }
+    requires supplies { AreSupplies names costs.now groups.now }
     requires placed { length placed.now ≡ length groups.now * names }
     requires spent { sum_to names (cell_at placed.now names g) ≡ (group_at groups.now g).points }
-    ensures value { result ≡ row_cost groups.now costs.now placed.now names g names }
-    ensures small { result ≤ inputs_of groups.now g * 1000000 }
+    ensures { IsRowCost groups.now costs.now placed.now names g result }
 {
     let Group { variant, count, .. } = groups[g];
     let mut cost = 0;

@@ -4,13 +4,12 @@ ghost use Rattle.std.specs.List.Sorted.{IsStrictlySortedBy};
 ghost use Rattle.std.specs.Ordering.{nat_cmp};
 ghost use Rattle.std.specs.Prelude.{◌<◌, ℕ, IfOk, List, false};
 ghost use Rattle.bucket_core.specs.Rule.{Entries, names_view};
-ghost use Rattle.min_cost_flow.specs.Flow.{IsFlow};
 ghost use Rattle.min_cost_flow.specs.Meeting.{IsStuckBelow};
 ghost use Rattle.min_cost_flow.specs.Placing.{IsStuckAbove};
-ghost use Rattle.min_cost_flow.specs.Problem.{IsFlowProblem};
 ghost use Rattle.transport_instance.specs.Deficient.{IsOver, IsUnder};
 ghost use Rattle.transport_instance.specs.Groups.{AreSizes};
-ghost use Rattle.transport_plan.specs.Numbered.{IsNumbered};
+ghost use Rattle.transport_plan.specs.Numbered.{IsFlowOf};
+ghost use Rattle.transport_plan.specs.Solved.{IsNeverOver};
 
 use crate::marks::{mark_held, mark_unsettled, marked};
 use min_cost_flow::{Flow, FlowProblem};
@@ -27,9 +26,7 @@ pub(crate) fn names_over(
     flow: &Flow,
     search: &Search,
 ) -> Result<Vec<String>, AllocError>
-    requires numbered { IsNumbered instance.now problem.now }
-    requires lawful { IsFlowProblem problem.now }
-    requires flow { IsFlow problem.now flow.now }
+    requires flow { IsFlowOf instance.now problem.now flow.now }
     requires stuck { IsStuckAbove problem.now flow.now search.now }
     ensures over { IfOk result (λ v. (old : Entries) (inputs : List (List ℕ)) → AreSizes old inputs instance.now.groups → IsOver old instance.now.limits instance.now.pricing (names_view v.items)) }
     ensures ordered { IfOk result (λ v. IsStrictlySortedBy (slice_cmp nat_cmp) (names_view v.items)) }
@@ -50,12 +47,10 @@ pub(crate) fn names_under(
     flow: &Flow,
     search: &Search,
 ) -> Result<Vec<String>, AllocError>
-    requires numbered { IsNumbered instance.now problem.now }
-    requires lawful { IsFlowProblem problem.now }
-    requires flow { IsFlow problem.now flow.now }
+    requires flow { IsFlowOf instance.now problem.now flow.now }
     requires stuck { IsStuckBelow problem.now flow.now search.now }
     ensures under { IfOk result (λ v. (old : Entries) (inputs : List (List ℕ)) → AreSizes old inputs instance.now.groups → IsUnder old instance.now.limits instance.now.pricing (names_view v.items)) }
-    ensures never { (old : Entries) (inputs : List (List ℕ)) (names : List (List ℕ)) → AreSizes old inputs instance.now.groups → IsOver old instance.now.limits instance.now.pricing names → ⊥ }
+    ensures never { IsNeverOver instance.now }
     ensures ordered { IfOk result (λ v. IsStrictlySortedBy (slice_cmp nat_cmp) (names_view v.items)) }
 {
     let limits = instance.totals().entries();

@@ -1,7 +1,7 @@
 //! Dealing: each point is given one of the names that its group has left.
 ghost use Rattle.std.specs.List.{All};
-ghost use Rattle.std.specs.Prelude.{◌≡◌, ◌≤◌, ◌<◌, ◌+◌, ◌*◌, ◌^◌, ℕ, IfOk, length, sum, count_by, ◌==◌, slice_index};
-ghost use Rattle.transport_plan.specs.Dealing.{row, IsDealt, DealsTo};
+ghost use Rattle.std.specs.Prelude.{◌≡◌, ◌≤◌, ◌<◌, ◌+◌, ◌*◌, ◌^◌, ℕ, IfOk, length, sum, slice_index};
+ghost use Rattle.transport_plan.specs.Dealing.{row, AreDealt, AreNames, DealsTo, HasStretch, MayDeal};
 
 use crate::stretches::{Stretch, other};
 use crate::thresholds::{Threshold, thresholds_of};
@@ -18,17 +18,12 @@ pub(crate) fn deal(
     groups: usize,
     names: usize,
 ) -> Result<Vec<u32>, AllocError>
-    requires shape { length numbers.items ≡ groups * names }
+    requires numbers { MayDeal groups names numbers.items points.items }
     requires some { 0 < names }
     requires few { names ≤ 64 }
     requires small { length points.items < 2 ^ 32 }
     requires short { groups < 2 ^ 32 }
-    requires groups { All (λ g. g < groups) points.items }
-    requires rows { (g : ℕ) → g < groups → sum (row names numbers.items g) ≡ count_by (λ p. p == g) points.items }
-    requires whole { sum numbers.items ≡ length points.items }
-    ensures many { IfOk result (λ v. length v.items ≡ length points.items) }
-    ensures named { IfOk result (λ v. All (λ i. i < names) v.items) }
-    ensures dealt { IfOk result (λ v. IsDealt groups names numbers.items points.items v.items) }
+    ensures { IfOk result (λ v. AreDealt groups names numbers.items points.items v.items) }
 {
     let bases = bases_of(alloc, numbers.as_slice(), groups, names)?;
     let bases = bases.as_slice();
@@ -97,16 +92,11 @@ fn deal_by(
     ranks: &[u8],
     names: usize,
 )
-    requires shape { length left.old ≡ length bases.now * names }
+    requires numbers { MayDeal (length bases.now) names left.old points.old }
     requires few { names ≤ 64 }
     requires thresholds { length thresholds.old ≡ length bases.now }
-    requires groups { All (λ g. g < length bases.now) points.old }
     requires base { All (λ w. w < names) bases.now }
-    requires rows { (g : ℕ) → g < length bases.now → sum (row names left.old g) ≡ count_by (λ p. p == g) points.old }
-    requires whole { sum left.old ≡ length points.old }
-    ensures many { length points.new ≡ length points.old }
-    ensures named { All (λ i. i < names) points.new }
-    ensures dealt { IsDealt (length bases.now) names left.old points.old points.new }
+    ensures { AreDealt (length bases.now) names left.old points.old points.new }
 {
     let mut start = 0;
     let mut seen = 0;
@@ -155,13 +145,8 @@ fn deal_stretch(
     changes: usize,
 )
     requires few { names ≤ 64 }
-    requires inside { start + stretch.now.points ≤ length points.old }
-    requires room { stretch.now.group * names + names ≤ length left.old }
-    requires base { stretch.now.base < names }
-    requires before { stretch.now.before < names }
-    requires after { stretch.now.after < names }
+    requires stretch { HasStretch names start stretch.now left.old points.old }
     requires changes { changes ≤ stretch.now.points }
-    requires enough { stretch.now.points ≤ sum (row names left.old stretch.now.group) }
     ensures { DealsTo names stretch.now.group start (start + stretch.now.points) left.old left.new points.old points.new }
 {
     let end = start + stretch.points;
@@ -182,13 +167,8 @@ fn deal_parts(
     changes: usize,
 )
     requires few { names ≤ 64 }
-    requires inside { start + stretch.now.points ≤ length points.old }
-    requires room { stretch.now.group * names + names ≤ length left.old }
-    requires base { stretch.now.base < names }
-    requires before { stretch.now.before < names }
-    requires after { stretch.now.after < names }
+    requires stretch { HasStretch names start stretch.now left.old points.old }
     requires changes { changes ≤ stretch.now.points }
-    requires enough { stretch.now.points ≤ sum (row names left.old stretch.now.group) }
     ensures { DealsTo names stretch.now.group start (start + stretch.now.points) left.old left.new points.old points.new }
 {
     let row = stretch.group * names;
@@ -215,12 +195,10 @@ fn deal_run(
     stretch: &Stretch,
     name: usize,
 )
-    requires few { names ≤ 64 }
+    requires names { AreNames names stretch.now.base name }
     requires order { start ≤ end }
     requires inside { end ≤ length points.old }
     requires room { stretch.now.group * names + names ≤ length left.old }
-    requires base { stretch.now.base < names }
-    requires name { name < names }
     requires enough { end ≤ start + sum (row names left.old stretch.now.group) }
     ensures { DealsTo names stretch.now.group start end left.old left.new points.old points.new }
 {
@@ -247,11 +225,9 @@ fn deal_point(
     base: usize,
     name: usize,
 )
-    requires few { names ≤ 64 }
+    requires names { AreNames names base name }
     requires inside { point < length points.old }
     requires room { group * names + names ≤ length left.old }
-    requires base { base < names }
-    requires name { name < names }
     requires enough { 0 < sum (row names left.old group) }
     ensures { DealsTo names group point (point + 1) left.old left.new points.old points.new }
 {

@@ -41,7 +41,7 @@ fn stands_inside(problem: &FlowProblem, flow: &Flow, search: &Search, group: usi
 {
     let names = problem.high.len();
     for v in 0..names {
-        if flow.placed[group * names + v] > 0 && search.settle_order[v] <= names {
+        if flow.placed[group * names + v] > 0 && search.nodes[v].settle_order <= names {
             return true;
         }
     }
@@ -56,7 +56,7 @@ pub(crate) fn mark_unsettled(marks: &mut [bool], problem: &FlowProblem, search: 
 {
     let names = problem.high.len();
     for name in 0..names {
-        marks[name] = names < search.settle_order[name];
+        marks[name] = names < search.nodes[name].settle_order;
     }
 }
 

@@ -7,7 +7,7 @@ ghost use Rattle.std.specs.Prelude.{◌≡◌, ◌≤◌, ◌<◌, ℕ, List, So
 ghost use Rattle.bucket_core.specs.Rule.{total_weight};
 ghost use Rattle.transport_instance.specs.Groups.{AreSizesBy, group_by, group_cmp, rows_view};
 ghost use Rattle.transport_instance.specs.Instance.{max_planned_total};
-ghost use Rattle.transport_plan.specs.Placing.{AddsPlaces, AreFamilies};
+ghost use Rattle.transport_plan.specs.Placing.{AddsPlaces, AreFamilies, HaveFamilies};
 
 use bucket_core::Rule;
 use std::alloc::{AllocError, Global};
@@ -70,10 +70,7 @@ fn push_groups(
     name: &str,
     counts: &[u32],
 ) -> Result<(), AllocError>
-    requires few { length groups.now ≤ max_planned_total }
-    requires rise { IsStrictlySortedBy group_cmp (keys_of (rows_view groups.now)) }
-    requires many { length families.now ≡ length groups.now }
-    requires families { AreFamilies (keys_of (rows_view groups.now)) families.now }
+    requires families { HaveFamilies (length groups.now) (keys_of (rows_view groups.now)) families.now }
     requires stand { All (λ n. Contains (keys_of (rows_view groups.now)) (name.now, n)) counts.now }
     ensures { OnOk result (AddsPlaces (keys_of (rows_view groups.now)) name.now counts.now (length counts.now) points.old.items points.new.items) }
 {
@@ -100,10 +97,7 @@ fn group_beside(
     known: u32,
     place: usize,
 ) -> usize
-    requires few { length groups.now ≤ max_planned_total }
-    requires rise { IsStrictlySortedBy group_cmp (keys_of (rows_view groups.now)) }
-    requires many { length families.now ≡ length groups.now }
-    requires families { AreFamilies (keys_of (rows_view groups.now)) families.now }
+    requires families { HaveFamilies (length groups.now) (keys_of (rows_view groups.now)) families.now }
     requires inside { place < length groups.now }
     requires known { slice_get (keys_of (rows_view groups.now)) place ≡ Some (name.now, known) }
     requires stands { Contains (keys_of (rows_view groups.now)) (name.now, count) }

@@ -1,20 +1,12 @@
 //! The planner.
-ghost use Rattle.std.specs.Cmp.Lexicographic.{slice_cmp};
-ghost use Rattle.std.specs.List.Sorted.{IsStrictlySortedBy};
-ghost use Rattle.std.specs.Ordering.{nat_cmp};
-ghost use Rattle.std.specs.Prelude.{◌≡◌, ◌+◌, ◌*◌, ◌≤◌, IfOk, length, true};
-ghost use Rattle.bucket_core.specs.Rule.{names_view};
-ghost use Rattle.min_cost_flow.specs.Cheapest.{IsCheapest};
-ghost use Rattle.min_cost_flow.specs.Flow.{IsFlow};
+ghost use Rattle.std.specs.Prelude.{◌+◌, ◌*◌, ◌≤◌, IfOk, length};
+ghost use Rattle.min_cost_flow.specs.Cheapest.{IsCheapest, IsPassed};
 ghost use Rattle.min_cost_flow.specs.Meeting.{IsStuckBelow};
 ghost use Rattle.min_cost_flow.specs.Placing.{IsStuckAbove};
 ghost use Rattle.min_cost_flow.specs.Problem.{IsFlowProblem};
-ghost use Rattle.plan_text.specs.PlanFile.{has_whole_numbers};
-ghost use Rattle.transport_instance.specs.Assignment.{IsProved};
-ghost use Rattle.transport_instance.specs.Certificate.{certificate_view};
 ghost use Rattle.transport_instance.specs.Rows.{whole_amount};
-ghost use Rattle.transport_plan.specs.Numbered.{IsNumbered};
-ghost use Rattle.transport_plan.specs.Solved.{IfPlan, IfNone, IsPlan, IsCut, IsNeverOver};
+ghost use Rattle.transport_plan.specs.Numbered.{IsFlowOf, IsNumbered};
+ghost use Rattle.transport_plan.specs.Solved.{IsSolution};
 
 use crate::certifying::certificate;
 use crate::cuts::{names_over, names_under};
@@ -44,12 +36,7 @@ pub fn solve<L: Ledger>(
     instance: &Instance<'_>,
     effort: &mut Effort<L>,
 ) -> Result<Solved, AllocError>
-    ensures proved { IfOk result (λ s. IfPlan s (λ assignment certificate. IsProved instance.now assignment.numbers.items (certificate_view certificate))) }
-    ensures least { IfOk result (λ s. IfPlan s (IsPlan instance.now)) }
-    ensures deficient { IfOk result (λ s. IfNone s (IsCut instance.now)) }
-    ensures under { IfOk result (λ s. IfNone s (λ cut. cut.kind ≡ CutKind.Under → IsNeverOver instance.now)) }
-    ensures whole { IfOk result (λ s. IfPlan s (λ _ certificate. has_whole_numbers (certificate_view certificate) ≡ true)) }
-    ensures ordered { IfOk result (λ s. IfNone s (λ cut. IsStrictlySortedBy (slice_cmp nat_cmp) (names_view cut.names.items))) }
+    ensures solved { IfOk result (IsSolution instance.now) }
     ensures augmentations { effort.new.augmentations ≤ effort.old.augmentations + 2 * whole_amount instance.now.groups }
     ensures settlings { effort.new.settlings ≤ effort.old.settlings + (2 * whole_amount instance.now.groups + 2) * (length instance.now.groups + length instance.now.limits) }
 {
@@ -75,10 +62,7 @@ fn find_flow<L: Ledger>(
 ) -> Result<Passed, AllocError>
     requires numbered { IsNumbered instance.now problem.now }
     requires lawful { IsFlowProblem problem.now }
-    ensures flow { IfOk result (λ r. IsFlow problem.now r.flow) }
-    ensures cheapest { IfOk result (λ r. r.outcome ≡ Outcome.Cheapest → IsCheapest problem.now r.flow r.search) }
-    ensures over { IfOk result (λ r. r.outcome ≡ Outcome.Over → IsStuckAbove problem.now r.flow r.search) }
-    ensures under { IfOk result (λ r. r.outcome ≡ Outcome.Under → IsStuckBelow problem.now r.flow r.search) }
+    ensures passed { IfOk result (λ r. IsPassed problem.now r.outcome r.flow r.search) }
     ensures augmentations { effort.new.augmentations ≤ effort.old.augmentations + 2 * whole_amount instance.now.groups }
     ensures settlings { effort.new.settlings ≤ effort.old.settlings + (2 * whole_amount instance.now.groups + 2) * (length instance.now.groups + length instance.now.limits) }
 {
@@ -95,14 +79,9 @@ fn planned(
     flow: Flow,
     search: &Search,
 ) -> Result<Solved, AllocError>
-    requires numbered { IsNumbered instance.now problem.now }
-    requires lawful { IsFlowProblem problem.now }
-    requires flow { IsFlow problem.now flow }
+    requires flow { IsFlowOf instance.now problem.now flow }
     requires cheapest { IsCheapest problem.now flow search.now }
-    ensures proved { IfOk result (λ s. IfPlan s (λ assignment certificate. IsProved instance.now assignment.numbers.items (certificate_view certificate))) }
-    ensures least { IfOk result (λ s. IfPlan s (IsPlan instance.now)) }
-    ensures whole { IfOk result (λ s. IfPlan s (λ _ certificate. has_whole_numbers (certificate_view certificate) ≡ true)) }
-    ensures plan { IfOk result (λ s. IfNone s (λ _. ⊥)) }
+    ensures { IfOk result (IsSolution instance.now) }
 {
     // Called for what its contract says of the points and of the limits, on which what is proved of each rule rests.
     let _groups = instance.groups();
@@ -119,18 +98,14 @@ fn cut_over(
     flow: &Flow,
     search: &Search,
 ) -> Result<Solved, AllocError>
-    requires numbered { IsNumbered instance.now problem.now }
-    requires lawful { IsFlowProblem problem.now }
-    requires flow { IsFlow problem.now flow.now }
+    requires flow { IsFlowOf instance.now problem.now flow.now }
     requires stuck { IsStuckAbove problem.now flow.now search.now }
-    ensures deficient { IfOk result (λ s. IfNone s (IsCut instance.now)) }
-    ensures over { IfOk result (λ s. IfNone s (λ cut. cut.kind ≡ CutKind.Over)) }
-    ensures ordered { IfOk result (λ s. IfNone s (λ cut. IsStrictlySortedBy (slice_cmp nat_cmp) (names_view cut.names.items))) }
-    ensures none { IfOk result (λ s. IfPlan s (λ _ _. ⊥)) }
+    ensures { IfOk result (IsSolution instance.now) }
 {
+    let names = names_over(alloc, instance, problem, flow, search)?;
     Ok(Solved::None(Cut {
         kind: CutKind::Over,
-        names: names_over(alloc, instance, problem, flow, search)?,
+        names,
     }))
 }
 
@@ -142,17 +117,13 @@ fn cut_under(
     flow: &Flow,
     search: &Search,
 ) -> Result<Solved, AllocError>
-    requires numbered { IsNumbered instance.now problem.now }
-    requires lawful { IsFlowProblem problem.now }
-    requires flow { IsFlow problem.now flow.now }
+    requires flow { IsFlowOf instance.now problem.now flow.now }
     requires stuck { IsStuckBelow problem.now flow.now search.now }
-    ensures deficient { IfOk result (λ s. IfNone s (IsCut instance.now)) }
-    ensures never { IfOk result (λ s. IfNone s (λ _. IsNeverOver instance.now)) }
-    ensures ordered { IfOk result (λ s. IfNone s (λ cut. IsStrictlySortedBy (slice_cmp nat_cmp) (names_view cut.names.items))) }
-    ensures none { IfOk result (λ s. IfPlan s (λ _ _. ⊥)) }
+    ensures { IfOk result (IsSolution instance.now) }
 {
+    let names = names_under(alloc, instance, problem, flow, search)?;
     Ok(Solved::None(Cut {
         kind: CutKind::Under,
-        names: names_under(alloc, instance, problem, flow, search)?,
+        names,
     }))
 }

@@ -1,6 +1,6 @@
 //! Which points of a group change: those of its stretches whose change costs the fewest entries.
-ghost use Rattle.std.specs.List.{All};
 ghost use Rattle.std.specs.Prelude.{◌≡◌, ◌≤◌, ◌<◌, ◌*◌, ◌^◌, IfOk, length, sum};
+ghost use Rattle.transport_plan.specs.Dealing.{HaveBases};
 
 use crate::stretches::{RANKS, Stretch, other};
 use std::alloc::{AllocError, Global};
@@ -45,12 +45,10 @@ pub(crate) fn thresholds_of(
     bases: &[usize],
     names: usize,
 ) -> Result<(Vec<Threshold>, Vec<u8>), AllocError>
-    requires shape { length numbers.now ≡ length bases.now * names }
+    requires bases { HaveBases names numbers.now bases.now points.now }
     requires few { names ≤ 64 }
     requires small { length points.now < 2 ^ 32 }
     requires short { length bases.now < 2 ^ 32 }
-    requires groups { All (λ g. g < length bases.now) points.now }
-    requires named { All (λ w. w < names) bases.now }
     ensures many { IfOk result (λ v. length v.0.items ≡ length bases.now) }
 {
     let mut thresholds = Vec::with_capacity(alloc, bases.len())?;
@@ -90,11 +88,9 @@ fn ranks_of(
     names: usize,
     thresholds: &[Threshold],
 ) -> Result<(Vec<u32>, Vec<u8>), AllocError>
-    requires shape { length numbers.now ≡ length bases.now * names }
+    requires bases { HaveBases names numbers.now bases.now points.now }
     requires small { length points.now < 2 ^ 32 }
     requires short { length bases.now < 2 ^ 32 }
-    requires groups { All (λ g. g < length bases.now) points.now }
-    requires named { All (λ w. w < names) bases.now }
     requires thresholds { length thresholds.now ≡ length bases.now }
     ensures many { IfOk result (λ v. length v.0.items ≡ length bases.now * RANKS) }
 {

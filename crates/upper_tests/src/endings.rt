@@ -1,7 +1,8 @@
 //! Outputs that fail midway, and want of memory.
 use super::memory::{MemoryFiles, MemoryOutlet};
-use flagops_commands::run;
-use flagops_files::{Call, FileSet, want};
+use flagops_commands::Listed;
+use flagops_files::Call;
+use flagops_shell::{Console, FileSet, run, want};
 use std::alloc::Global;
 use std::sync::Wait;
 use std::thread::Threads;
@@ -18,13 +19,16 @@ fn is_cut(
     if files.write(rt.alloc(), "f", file).is_err() {
         return false;
     }
-    let mut out = MemoryOutlet::new(rt.alloc(), count);
-    let mut err = MemoryOutlet::new(rt.alloc(), usize::MAX);
-    let status = run(rt, &["bucket", "f", "test"], &mut files, &mut out, &mut err);
+    let out = MemoryOutlet::new(rt.alloc(), count);
+    let err = MemoryOutlet::new(rt.alloc(), usize::MAX);
+    let mut console = Console::new(out, err);
+    let words = ["bucket", "f", "test"];
+    let status = run::<_, _, _, Listed<'_>, _, _>(rt, words.as_slice(), &mut files, &mut console);
+    let (printed, told) = (&console.out.bytes, &console.err.bytes);
     status == 1
-        && out.bytes.len() == count
-        && report.starts_with(out.bytes.as_slice())
-        && err.bytes.is_empty() == report.starts_with(b"h")
+        && printed.len() == count
+        && report.starts_with(printed.as_slice())
+        && told.is_empty() == report.starts_with(b"h")
 }
 
 /// A rule file and the report.
@@ -48,10 +52,14 @@ fn failing_outputs(rt: HostRuntime) {
 
 /// Whether the line on want of memory is cut after so many bytes, and the status is 1.
 fn is_wanting(alloc: Global, call: Call, line: &[u8], count: usize) -> bool {
-    let mut out = MemoryOutlet::new(alloc, count);
-    let mut err = MemoryOutlet::new(alloc, count);
-    let status = want(&mut out, &mut err, call);
-    status == 1 && out.bytes.len() == count && line.starts_with(out.bytes.as_slice())
+    let (out, err) = (
+        MemoryOutlet::new(alloc, count),
+        MemoryOutlet::new(alloc, count),
+    );
+    let mut console = Console::new(out, err);
+    let status = want(&mut console, call.name());
+    let printed = &console.out.bytes;
+    status == 1 && printed.len() == count && line.starts_with(printed.as_slice())
 }
 
 /// A call, and the line on its want of memory.

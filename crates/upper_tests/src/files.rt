@@ -1,6 +1,7 @@
 //! Files of the system, and files in memory.
 use super::memory::MemoryFiles;
-use flagops_files::{FileSet, LoadFault, StoreFault, SystemFiles};
+use flagops_files::SystemFiles;
+use flagops_shell::{FileSet, LoadFault, StoreFault};
 use std::alloc::Global;
 use std::test::Fail;
 use std::{env, fs, process};

@@ -1,10 +1,10 @@
 //! Files and an outlet in memory.
 ghost use Rattle.std.specs.Prelude.{◌≡◌, ◌+◌, ◌∷◌, Ok, Some, false, option_map, string_bytes, take, IfOk, OnErr};
-ghost use Rattle.flagops_files.specs.Files.{first_piece, front_of_book, front_of_notes, notes_piece};
+ghost use Rattle.flagops_shell.specs.Files.{first_piece, front_of_book, front_of_notes, notes_piece};
 ghost use Rattle.upper_tests.specs.Memory.{held_in};
 
 use flag_text::Outlet;
-use flagops_files::{FileSet, LoadFault, StoreFault, may_begin_record, may_note};
+use flagops_shell::{FileSet, LoadFault, StoreFault, may_begin_record, may_note};
 use std::alloc::{AllocError, Global};
 use std::io;
 

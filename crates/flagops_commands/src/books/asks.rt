@@ -5,12 +5,14 @@ ghost use Rattle.flagops_drive.specs.File.{file_view};
 ghost use Rattle.flagops_files.specs.Loading.{max_text, tree_at};
 ghost use Rattle.flagops_files.specs.Refusal.{ComesFrom, GivesUnlessWant, is_file_fault, loads_tree};
 ghost use Rattle.flagops_files.specs.Told.{TellsOf, file};
-ghost use Rattle.flagops_remarks.specs.Named.{Names};
+ghost use Rattle.file_diagnostics.specs.Named.{Names};
 
+use crate::books::ask_diagnostics::{of_asks, of_unread_asks};
+use file_diagnostics::of_text;
 use flag_text::Tree;
 use flagops_drive::{AsksFile, read_asks};
-use flagops_files::{FileSet, Refusal, Refused, Remark, TEXT_LIMIT, load, make_room_for};
-use flagops_remarks::{of_asks, of_text, of_unread_asks};
+use flagops_files::{Refusal, Refused, TEXT_LIMIT, load, make_room_for};
+use flagops_shell::{FileSet, Remark};
 use json::Scratch;
 use std::alloc::{AllocError, Global};
 

@@ -3,21 +3,22 @@ ghost use Rattle.std.specs.Prelude.{◌≡◌, ◌||◌, true, IfOk, IfSome, Ok,
 ghost use Rattle.flagops_drive.specs.Driven.{drive_output_view, workers_refusal};
 ghost use Rattle.flagops_drive.specs.declared.fault.DriveRefusal.{DriveRefusal as Reason};
 ghost use Rattle.flagops_commands.specs.Calls.{drive_calls};
-ghost use Rattle.flagops_commands.specs.Drive.{HasNoAsks, HasUnreadAsk, IsDriveReport, IsRefusedByName, IsWritten, KeepsUnlessDone, LeavesBook, before_at};
-ghost use Rattle.flagops_files.specs.Files.{KeepsOthers};
+ghost use Rattle.flagops_commands.specs.Drive.{HasNoAsks, HasUnreadAsk, IsDriveReport, IsRefusedByName, IsWritten, LeavesBook, before_at};
+ghost use Rattle.flagops_shell.specs.Ending.{KeepsUnlessDone};
+ghost use Rattle.flagops_shell.specs.Files.{KeepsOthers};
 ghost use Rattle.flagops_files.specs.Refusal.{ComesFrom, GivesOne, GivesUnlessWant, is_file_fault, loads_book, stores_file};
-ghost use Rattle.flagops_files.specs.Report.{outcome_view};
-ghost use Rattle.flagops_files.specs.Told.{Says, TellsOf, TellsOfOne, by, file};
-ghost use Rattle.flagops_remarks.specs.Named.{Names};
+ghost use Rattle.flagops_shell.specs.Report.{outcome_view};
+ghost use Rattle.flagops_files.specs.Told.{TellsOf, TellsOfOne, by, file};
+ghost use Rattle.flagops_shell.specs.Diagnostic.{Says};
+ghost use Rattle.file_diagnostics.specs.Named.{Names};
 ghost use Rattle.flagops_commands.specs.Subjects.{drive_subjects};
 
 use crate::books::asks::load_asks;
 use crate::books::driving::{drive_output, remark_on};
 use book_core::Book;
 use flagops_drive::DriveOutput;
-use flagops_files::{
-    FileSet, Outcome, Refused, Remark, Status, check_replaceable, load_book, load_flags, store,
-};
+use flagops_files::{Refused, check_replaceable, load_book, load_flags, store};
+use flagops_shell::{FileSet, Outcome, Remark, Status};
 use json::Scratch;
 use std::alloc::Global;
 use std::mem;

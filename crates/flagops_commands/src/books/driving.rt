@@ -6,25 +6,28 @@ ghost use Rattle.flagops_drive.specs.Asks.{asks_of};
 ghost use Rattle.flagops_drive.specs.Driven.{drive_output_view, refusal_of};
 ghost use Rattle.flagops_drive.specs.File.{file_view};
 ghost use Rattle.flagops_commands.specs.Calls.{drive_itself};
-ghost use Rattle.flagops_commands.specs.Doubts.{settle};
+ghost use Rattle.flagops_rollouts.specs.Doubts.{settle};
 ghost use Rattle.flagops_commands.specs.Drive.{IsDriveOutputOf, admitted, doubt_of_asks, recorded};
 ghost use Rattle.flagops_commands.specs.Subjects.{NamesDriven, driven_subjects, is_of_asks};
 ghost use Rattle.flagops_files.specs.Refusal.{ComesFrom, GivesOne, GivesUnlessWant, is_file_fault};
-ghost use Rattle.flagops_files.specs.Told.{Says, TellsOfOne, file};
+ghost use Rattle.flagops_files.specs.Told.{TellsOfOne, file};
+ghost use Rattle.flagops_shell.specs.Diagnostic.{Says};
 ghost use Rattle.flagops_files.specs.declared.refusal.Call.TheVariants as call;
 ghost use Rattle.flagops_files.specs.declared.refusal.Refusal.{Refusal as Reason};
 ghost use Rattle.flagops_files.specs.declared.refusal.Refusal.TheVariants.{Doubted, Drive};
-ghost use Rattle.flagops_remarks.specs.Named.{Names};
+ghost use Rattle.file_diagnostics.specs.Named.{Names};
 
+use crate::books::ask_diagnostics::{DriveSummary, of_driven, of_unrecorded_asks, of_workers};
 use crate::books::asks::{of_no_asks, of_unread};
-use crate::rollouts::doubts::joined;
 use book_core::Book;
+use file_diagnostics::of_full_book;
 use flag_defs::Flags;
 use flagops_drive::{
     AsksFile, DriveOutput, DriveRefusal, Endings, Tally, drive_asks, has_unread_ask, refusal_of,
 };
-use flagops_files::{Call, Doubt, Refusal, Refused, Remark};
-use flagops_remarks::{of_driven, of_full_book, of_unrecorded_asks, of_workers};
+use flagops_files::{Call, Doubt, Refusal, Refused};
+use flagops_rollouts::joined;
+use flagops_shell::Remark;
 use progress::Meter;
 use std::alloc::{AllocError, Global};
 use std::sync::Wait;
@@ -168,7 +171,7 @@ fn lines_on(alloc: Global, path: &str, tally: Tally) -> Result<String, AllocErro
     ensures { IfOk result (λ s. Names path.now (string_bytes s)) }
 {
     let endings = words_of(&tally.endings);
-    let drive = flagops_remarks::Drive {
+    let drive = DriveSummary {
         endings: &endings,
         reached: tally.reached,
         had: tally.had,

@@ -8,18 +8,17 @@ ghost use Rattle.flagops_files.specs.Loading.{max_text, refused_by};
 ghost use Rattle.flagops_commands.specs.Resolve.{IsResolveReport, resolve_text};
 ghost use Rattle.flagops_commands.specs.Calls.{resolve_calls};
 ghost use Rattle.flagops_files.specs.Refusal.{ComesFrom, GivesOne, GivesUnlessWant, is_file_fault, loads_tree};
-ghost use Rattle.flagops_files.specs.Report.{outcome_view};
+ghost use Rattle.flagops_shell.specs.Report.{outcome_view};
 ghost use Rattle.flagops_files.specs.declared.refusal.Refusal.TheVariants.{ReadTree};
 ghost use Rattle.flagops_files.specs.Told.{TellsOf, TellsOfOne, word};
 ghost use Rattle.flagops_commands.specs.Subjects.{resolve_subjects};
 
+use file_diagnostics::of_word;
 use flag_defs::Flags;
 use flag_resolve::{Kind, print_resolution};
 use flag_text::{Tree, read_tree};
-use flagops_files::{
-    Call, FileSet, Outcome, Refusal, Refused, Remark, Status, TEXT_LIMIT, load_flags, load_tree,
-};
-use flagops_remarks::of_word;
+use flagops_files::{Call, Refusal, Refused, TEXT_LIMIT, load_flags, load_tree, out_of_memory};
+use flagops_shell::{FileSet, Outcome, Remark, Status};
 use flagops_words::Moment;
 use std::alloc::{AllocError, Global};
 
@@ -46,7 +45,7 @@ pub fn resolve<F: FileSet>(
     let context = load_tree(alloc, files, context, TEXT_LIMIT)?;
     match line(alloc, &flags, key, kind, &default, &context, moment) {
         Ok(text) => Ok(Outcome::plain(text.into_bytes(), Status::Done)),
-        Err(AllocError) => Err(Refused::out_of_memory(Call::Resolve)),
+        Err(AllocError) => Err(out_of_memory(Call::Resolve)),
     }
 }
 

@@ -6,34 +6,37 @@ ghost use Rattle.flag_text.specs.Shape.{members_are_whole, object, whole};
 ghost use Rattle.flag_text.specs.View.{view};
 ghost use Rattle.flagops_commands.specs.Price.{request_at, are_short, are_taken, exposed, price_report, weighed, weighed_bytes, weighed_keys, with_doubt, price_json, price_lines, price_members, price_text, number_or_null, total_lines, total_members, forbidden_line, cost_line};
 ghost use Rattle.flagops_commands.specs.Calls.{loads_keys, loads_request, notes_keys, price_calls, price_itself, weighs_keys};
-ghost use Rattle.flagops_files.specs.Files.{load_of};
+ghost use Rattle.flagops_shell.specs.Files.{load_of};
 ghost use Rattle.flagops_files.specs.Loading.{refused_by, max_text};
 ghost use Rattle.flagops_files.specs.Refusal.{ComesFrom, GivesUnlessWant, is_file_fault};
-ghost use Rattle.flagops_files.specs.Report.{outcome_view};
+ghost use Rattle.flagops_shell.specs.Report.{outcome_view};
 ghost use Rattle.flagops_files.specs.declared.refusal.PriceMismatch.TheVariants.{BadKeys};
 ghost use Rattle.flagops_files.specs.declared.refusal.Refusal.TheVariants.{Load, Price, ReadRequest};
-ghost use Rattle.flagops_files.specs.Told.{NamesSubject, Says, TellsOf, TellsOfOne, file, word};
+ghost use Rattle.flagops_files.specs.Told.{NamesSubject, TellsOf, TellsOfOne, file, word};
+ghost use Rattle.flagops_shell.specs.Diagnostic.{Says};
 ghost use Rattle.flagops_commands.specs.Subjects.{is_of_keys, is_of_rules, old_weights, price_subjects};
-ghost use Rattle.flagops_remarks.specs.Named.{Names};
+ghost use Rattle.file_diagnostics.specs.Named.{Names};
 ghost use Rattle.book_core.specs.Page.{bytes_cmp};
 ghost use Rattle.price_core.specs.Pricing.{Pricing};
 ghost use Rattle.price_core.specs.Request.{asked_of};
 ghost use Rattle.rule_text.specs.Texts.{AreTexts, texts_view};
 
-use crate::rollouts::doubts::unread;
+use crate::rules::price_diagnostics::{of_keys, of_noted, of_weights};
 use crate::rules::totals::totals_by_name;
 use book_core::{Book, Exposure, Page};
 use bucket_core::Rule;
+use file_diagnostics::of_text;
 use flag_text::{Tree, print_tree, read_tree};
 use flagops_files::{
-    Call, FileSet, Outcome, PriceMismatch, Refusal, Refused, Remark, Status, TEXT_LIMIT, load,
-    load_rule, quoted,
+    Call, PriceMismatch, Refusal, Refused, TEXT_LIMIT, load, load_rule, out_of_memory, quoted,
 };
-use flagops_remarks::{of_keys, of_noted, of_request, of_text, of_weights};
+use flagops_rollouts::unread;
+use flagops_shell::{FileSet, Outcome, Remark, Status};
 use json::Scratch;
 use limits::{INPUT_BYTES, PAGE_INPUTS};
 use price_core::{Prices, Request, first_forbidden, switch_cost_of};
 use rayon::prelude::par_sort_unstable;
+use rollout_diagnostics::of_request;
 use rule_text::read_texts;
 use std::alloc::{AllocError, AllocFailed, Global};
 use std::thread::Threads;
@@ -118,7 +121,7 @@ fn request_in(alloc: Global, path: &str, bytes: &[u8]) -> Result<NotedRequest, R
     match Request::read(alloc, bytes) {
         Ok(request) => match unread(alloc, path, bytes) {
             Ok(remark) => Ok(NotedRequest { request, remark }),
-            Err(AllocError) => Err(Refused::out_of_memory(Call::ReadRequest)),
+            Err(AllocError) => Err(out_of_memory(Call::ReadRequest)),
         },
         Err(fault) => Err(Refused {
             refusal: Refusal::ReadRequest(fault),
@@ -160,7 +163,7 @@ fn weigh_file<R: Threads + Sync>(
     match read_texts(alloc, bytes, TEXT_LIMIT as usize, &mut scratch) {
         Ok(Some(keys)) => weigh_keys(rt, alloc, path, keys, old, new, prices, json),
         Ok(None) => refuse_keys(alloc, path, bytes),
-        Err(AllocError) => Err(Refused::out_of_memory(Call::Price)),
+        Err(AllocError) => Err(out_of_memory(Call::Price)),
     }
 }
 
@@ -245,7 +248,7 @@ fn weigh_keys<R: Threads + Sync>(
     let exposure = noted(alloc, path, keys.as_slice())?;
     match lent(alloc, exposure.inputs()) {
         Ok(inputs) => priced(rt, alloc, old, new, prices, inputs.as_slice(), json),
-        Err(AllocError) => Err(Refused::out_of_memory(Call::Price)),
+        Err(AllocError) => Err(out_of_memory(Call::Price)),
     }
 }
 
@@ -301,7 +304,7 @@ fn noted(alloc: Global, path: &str, keys: &[&str]) -> Result<Exposure, Refused>
     }
     match book.exposure(alloc, &page) {
         Ok(exposure) => Ok(exposure),
-        Err(AllocError) => Err(Refused::out_of_memory(Call::Price)),
+        Err(AllocError) => Err(out_of_memory(Call::Price)),
     }
 }
 
@@ -330,7 +333,7 @@ fn priced(
     }
     match answer(rt, alloc, old, new, prices, inputs, json) {
         Ok(text) => Ok(Outcome::plain(text.into_bytes(), Status::Done)),
-        Err(AllocError) => Err(Refused::out_of_memory(Call::Price)),
+        Err(AllocError) => Err(out_of_memory(Call::Price)),
     }
 }
 

@@ -2,7 +2,7 @@ use Rattle.std.proofs.Common.{◌≡◌, List, Some, Bor, option_map, ap, sym, �
 use Rattle.flag_defs.specs.Flags.{flags_view}
 use Rattle.logic_ast.specs.Expr.{view}
 use Rattle.logic_ast.specs.declared.expr.Expr.{Expr}
-use Rattle.book_share.specs.Asked.{targeting_of}
+use Rattle.site_pages.specs.Keyed.{targeting_of}
 use Rattle.book_share.specs.Known.{AreKnown, AreSitePages, Entry}
 use Rattle.book_share.proofs.Made.{known_more, site_pages_of}
 use Rattle.book_share.proofs.known.add_pages.Goals as goal

@@ -1,6 +1,6 @@
 use Rattle.std.proofs.Common.{arith}
 use Rattle.flag_defs.specs.Flags.{flags_view}
-use Rattle.book_share.specs.Asked.{targeting_of}
+use Rattle.site_pages.specs.Keyed.{targeting_of}
 use Rattle.book_share.proofs.Reaching.{notes_before, notes_more}
 use Rattle.book_share.proofs.reach.note_reached.Goals as goal
 

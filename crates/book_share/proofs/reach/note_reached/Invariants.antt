@@ -2,7 +2,8 @@ use Rattle.std.proofs.Common.{◌+◌, ◌≤◌, length, map, take}
 use Rattle.flag_defs.specs.Flags.{flags_view}
 use Rattle.logic_eval.specs.Views.{reach_view}
 use Rattle.book_lock.specs.Counts.{own}
-use Rattle.book_share.specs.Asked.{mentions_in, targeting_of}
+use Rattle.site_pages.specs.Keyed.{targeting_of}
+use Rattle.book_share.specs.Asked.{mentions_in}
 use Rattle.book_share.specs.Driven.{Notes}
 use Rattle.book_share.proofs.reach.note_reached.Given as goal
 

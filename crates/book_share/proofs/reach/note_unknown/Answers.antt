@@ -2,7 +2,7 @@ use Rattle.std.proofs.Common.{string_bytes, ap, ◌∙◌}
 use Rattle.std.specs.Arc.{arc_value}
 use Rattle.std.proofs.lemmas.Result.{IfOk-weaker}
 use Rattle.flag_defs.specs.Flags.{flags_view}
-use Rattle.book_share.specs.Asked.{targeting_of}
+use Rattle.site_pages.specs.Keyed.{targeting_of}
 use Rattle.book_share.specs.Driven.{Notes}
 use Rattle.book_share.proofs.Reaching.{one_as, page_named}
 use Rattle.book_share.proofs.reach.note_unknown.Goals as goal

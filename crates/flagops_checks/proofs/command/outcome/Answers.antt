@@ -4,8 +4,8 @@ use Rattle.std.specs.Prelude.{Result}
 use Rattle.flagops_checks.specs.Report.{IsCheckReport}
 use Rattle.flagops_checks.specs.Words.{checking_view}
 use Rattle.flagops_files.specs.Refusal.{GivesOne}
-use Rattle.flagops_files.specs.Report.{outcome_view}
-use Rattle.flagops_files.specs.declared.outcome.Outcome.{Outcome}
+use Rattle.flagops_shell.specs.Report.{outcome_view}
+use Rattle.flagops_shell.specs.declared.outcome.Outcome.{Outcome}
 use Rattle.flagops_files.specs.Refusal.{Refused}
 use Rattle.flagops_checks.proofs.Ending.{a_remark, a_report, given, no_report}
 use Rattle.flagops_checks.proofs.command.outcome.Goals as goal

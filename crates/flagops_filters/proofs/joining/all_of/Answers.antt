@@ -1,10 +1,11 @@
-use Rattle.std.proofs.Common.{◌≡◌, ◌∷◌, ◌∙◌, IfSome, map, Result, Err, ap, sym, subst}
+use Rattle.std.proofs.Common.{rules, ◌≡◌, ◌∷◌, ◌∙◌, IfSome, map, Result, Err, ap, sym, subst}
 use Rattle.std.proofs.lemmas.Result.{err_from_is_err_and}
 use Rattle.tally_core.specs.Tally.{PageTally}
 use Rattle.flagops_filters.specs.Join.{JoinsAllFiles}
 use Rattle.flagops_filters.specs.Joined.{JoinsUnless}
 use Rattle.flagops_filters.specs.Report.{Told}
 use Rattle.flagops_filters.proofs.Joins.{from_first, no_first}
+use Rattle.flagops_filters.proofs.Naming.{all_named, first_named}
 use Rattle.flagops_filters.proofs.joining.all_of.Goals as goal
 
 pub returns-in_err-one-clause-exact : goal.returns-in_err-one-clause-exact
@@ -20,3 +21,11 @@ pub returns-clause-exact : goal.returns-clause-exact
 returns-clause-exact g c =
     from_first c.args.first.now (map (λ p. p.now) c.args.others.now) (g.F.FileSet.holding c.args.files.now) (g.F.FileSet.holding c.one_of.new.files) c.in_ok-one.one c.all_with.result
     c.one_of.ensures.kept c.in_ok-one.ensures.exact c.all_with.ensures.exact
+
+pub returns-in_err-one-clause-names : goal.returns-in_err-one-clause-names
+returns-in_err-one-clause-names g c =
+    let told = c.in_err-one.field-0.0 in
+    let named = first_named c.args.first.now (map (λ p. p.now) c.args.others.now) told c.in_err-one.ensures.names in search rules
+
+pub returns-clause-names : goal.returns-clause-names
+returns-clause-names g c = all_named c.args.first.now (map (λ p. p.now) c.args.others.now) c.all_with.result c.all_with.ensures.names

@@ -1,4 +1,4 @@
-use Rattle.std.proofs.Common.{arith, ◌+◌, ◌≡◌, ◌∙◌, IfSome, Result, Err, ap, drop, map, refl, sym, subst}
+use Rattle.std.proofs.Common.{rules, arith, ◌+◌, ◌≡◌, ◌∙◌, IfSome, Result, Err, ap, drop, map, refl, sym, subst}
 use Rattle.std.proofs.lemmas.List.{drop_all}
 use Rattle.std.proofs.lemmas.Result.{err_from_is_err_and}
 use Rattle.tally_core.specs.Tally.{PageTally}
@@ -6,11 +6,13 @@ use Rattle.flagops_filters.specs.Join.{JoinsFiles}
 use Rattle.flagops_filters.specs.Joined.{JoinsUnless}
 use Rattle.flagops_filters.specs.Report.{Told}
 use Rattle.flagops_filters.proofs.Joins.{all_files, first_left, leads_all, next_file, no_next}
+use Rattle.flagops_filters.proofs.Naming.{one_named}
 use Rattle.flagops_filters.proofs.joining.all_with.Goals as goal
 
 pub loop-path-init : goal.loop-path-init
 loop-path-init g c = record {
   leads = leads_all (g.F.FileSet.holding c.args.files.now) c.args.one (map (λ p. p.now) c.args.paths.now);
+  failed = refl;
   kept = refl;
 }
 
@@ -21,6 +23,7 @@ loop-path-preserved g c =
     record {
       leads = next_file c.args.one (map (λ p. p.now) paths) (g.F.FileSet.holding c.args.files.now) (g.F.FileSet.holding before.files) before.all c.in_ok-all.all _ (map (λ p. p.now) (drop (before.path-index + 1) paths)) (map (λ p. p.now) (drop before.path-index paths))
           before.invariant.kept before.invariant.leads c.in_ok-all.ensures.exact (first_left (λ p. p.now) paths before.path-index _ (omega arith));
+      failed = search rules;
       kept = c.with_next.ensures.kept ∙ before.invariant.kept;
     }
 
@@ -41,3 +44,8 @@ returns-clause-exact g c =
     let l = c.loop-path in
     let paths = c.args.paths.now in
     all_files c.args.one (map (λ p. p.now) paths) (g.F.FileSet.holding c.args.files.now) l.all (map (λ p. p.now) (drop l.path-index paths)) (ap (map (λ p. p.now)) (drop_all l.path-index paths c.loop-path-test.false)) l.invariant.leads
+
+pub returns-in_err-all-clause-names : goal.returns-in_err-all-clause-names
+returns-in_err-all-clause-names g c =
+    let told = c.in_err-all.field-0.0 in
+    let named = one_named (λ p. p.now) c.args.paths.now c.loop-path.path-index _ told (omega arith) c.in_err-all.ensures.names in search rules

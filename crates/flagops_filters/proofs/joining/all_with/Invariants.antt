@@ -6,5 +6,6 @@ use Rattle.flagops_filters.proofs.joining.all_with.Given as goal
 abbrev pub invariant-loop-path : goal.invariant-loop-path
 invariant-loop-path g l = record {
   leads : Known (g.F.FileSet.holding l.fn.files) l.fn.one (map (λ p. p.now) l.paths) l.all (map (λ p. p.now) (drop l.path-index l.paths));
+  failed : g.F.FileSet.has_failed l.files ≡ g.F.FileSet.has_failed l.fn.files;
   kept : g.F.FileSet.holding l.files ≡ g.F.FileSet.holding l.fn.files;
 }

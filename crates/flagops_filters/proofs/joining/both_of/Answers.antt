@@ -1,7 +1,7 @@
 use Rattle.flagops_filters.proofs.joining.both_of.Goals as goal
 
-pub returns-in-Ok : goal.returns-in-Ok
-returns-in-Ok c = c.in-Ok.ensures
+pub returns-in-Ok-clause-exact : goal.returns-in-Ok-clause-exact
+returns-in-Ok-clause-exact c = c.in-Ok.ensures
 
-pub returns-in-Err : goal.returns-in-Err
-returns-in-Err c = λ no_want. (c.in-Err.fault, c.in-Err.ensures, c.unjoined.ensures)
+pub returns-in-Err-clause-exact : goal.returns-in-Err-clause-exact
+returns-in-Err-clause-exact c = λ no_want. (c.in-Err.fault, c.in-Err.ensures, c.unjoined.ensures.refusal)

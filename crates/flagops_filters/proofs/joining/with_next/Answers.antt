@@ -15,4 +15,4 @@ returns-in_err-next-clause-exact g c =
     subst (λ (r : Result PageTally Told). IfSome h (λ at. JoinsUnless r (JoinsNext at c.args.one c.args.path.now))) (sym is) (next_refused c.args.one c.args.path.now h told c.in_err-next.ensures.exact)
 
 pub returns-clause-exact : goal.returns-clause-exact
-returns-clause-exact g c = next_joined c.args.one c.args.path.now (g.F.FileSet.holding c.args.files.now) c.in_ok-next.next c.both_of.result c.in_ok-next.ensures.exact c.both_of.ensures
+returns-clause-exact g c = next_joined c.args.one c.args.path.now (g.F.FileSet.holding c.args.files.now) c.in_ok-next.next c.both_of.result c.in_ok-next.ensures.exact c.both_of.ensures.exact

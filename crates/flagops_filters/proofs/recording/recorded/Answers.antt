@@ -1,15 +1,27 @@
-use Rattle.std.proofs.Common.{option_map, refl, unwrap_or}
+use Rattle.std.proofs.Common.{ap, option_map, refl, unwrap_or, ◌∙◌}
 use Rattle.flag_defs.specs.Flags.{flags_view}
+use Rattle.flagops_files.specs.Refusal as files
+use Rattle.flagops_filters.specs.Record.{record_call}
+use Rattle.flagops_filters.specs.Refusal.{is_unread}
 use Rattle.flagops_filters.specs.Words.{recording_view}
+use Rattle.flagops_filters.proofs.Ending.{failed_now, fails_so, unread_shown}
 use Rattle.flagops_filters.proofs.Recorded.{over_document, unloaded}
 use Rattle.flagops_filters.proofs.recording.recorded.Goals as goal
 
 pub returns-in-Ok-clause-answers : goal.returns-in-Ok-clause-answers
 returns-in-Ok-clause-answers g c =
-    over_document (g.O.Outlet.bytes c.args.out.now) (g.O.Outlet.bytes c.over.new.out) (g.O.Outlet.is_broken c.over.new.out) (g.E.Outlet.bytes c.args.err.now) (g.E.Outlet.bytes c.over.new.err) (g.E.Outlet.is_broken c.over.new.err) c.over.result
-    (recording_view c.args.asked.now) (g.I.Inlet.is_broken c.over.new.input) (g.F.FileSet.holding c.args.files.now) (g.I.Inlet.bytes c.args.input.now) (flags_view c.in-Ok.flags) (unwrap_or (option_map (λ m. m.number) c.args.asked.now.moment) 0) c.in-Ok.ensures.exact refl c.over.ensures
+    over_document c.args.console.now c.over.new.console c.over.result (recording_view c.args.asked.now) (g.I.Inlet.is_broken c.over.new.input) (g.F.FileSet.has_failed c.load_flags.new.files)
+    (g.F.FileSet.holding c.args.files.now) (g.I.Inlet.bytes c.args.input.now) (flags_view c.in-Ok.flags) (unwrap_or (option_map (λ m. m.number) c.args.asked.now.moment) 0) c.in-Ok.ensures.exact refl c.over.ensures
 
 pub returns-in-Err-clause-answers : goal.returns-in-Err-clause-answers
 returns-in-Err-clause-answers g c =
-    unloaded (g.O.Outlet.bytes c.args.out.now) (g.O.Outlet.bytes c.refused.new.out) (g.O.Outlet.is_broken c.refused.new.out) (g.E.Outlet.bytes c.args.err.now) (g.E.Outlet.bytes c.refused.new.err) (g.E.Outlet.is_broken c.refused.new.err) c.refused.result
-    (recording_view c.args.asked.now) (g.I.Inlet.is_broken c.args.input.now) (g.F.FileSet.holding c.args.files.now) (g.I.Inlet.bytes c.args.input.now) c.in-Err.unread c.of.result.refusal c.in-Err.ensures.exact c.of.ensures.refusal c.refused.ensures
+    let e = c.in-Err.unread in
+    unloaded c.args.console.now c.refuse.new.console c.refuse.result (recording_view c.args.asked.now) (g.I.Inlet.is_broken c.args.input.now) (g.F.FileSet.has_failed c.load_flags.new.files)
+    (g.F.FileSet.holding c.args.files.now) (g.I.Inlet.bytes c.args.input.now) e c.of.result c.in-Err.ensures.exact c.of.ensures.refusal c.of.ensures.remark c.in-Err.ensures.names
+    (fails_so (g.F.FileSet.has_failed c.args.files.now) (g.F.FileSet.has_failed c.load_flags.new.files) (files.is_unread e.refusal) c.in-Err.ensures.failed) c.refuse.ensures
+
+pub returns-in-Err-clause-unread : goal.returns-in-Err-clause-unread
+returns-in-Err-clause-unread g c = λ none failed.
+    let e = c.in-Err.unread in
+    let unread = ap is_unread c.of.ensures.refusal ∙ failed_now (g.F.FileSet.has_failed c.args.files.now) (g.F.FileSet.has_failed c.load_flags.new.files) (files.is_unread e.refusal) c.in-Err.ensures.failed none failed in
+    unread_shown c.args.console.now c.refuse.new.console c.refuse.result record_call c.of.result.refusal c.of.result.remark unread c.refuse.ensures

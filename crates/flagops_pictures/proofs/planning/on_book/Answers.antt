@@ -1,6 +1,6 @@
 use Rattle.std.proofs.Common.{◌≢◌, ℕ, option_map, rules, sym, ap, ◌∙◌, subst, string_bytes}
 use Rattle.flagops_files.specs.Question.{question_view}
-use Rattle.flagops_files.specs.Report.{outcome_view}
+use Rattle.flagops_shell.specs.Report.{outcome_view}
 use Rattle.flagops_pictures.specs.Pictured.{IsDrawn}
 use Rattle.flagops_pictures.proofs.Planned.{drawn_on, read_right, reads}
 use Rattle.plan_text.specs.Answer.{planned_view}

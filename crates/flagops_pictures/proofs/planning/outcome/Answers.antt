@@ -1,10 +1,10 @@
 use Rattle.std.proofs.Common.{◌≡◌, Err, IfSome, inl, rules, subst}
 use Rattle.flagops_files.specs.Question.{Question, book_question_view}
-use Rattle.flagops_files.specs.Refusal.{GivesOne}
-use Rattle.flagops_files.specs.Report.{outcome_view}
+use Rattle.flagops_files.specs.Refusal.{GivesOne, is_file_fault}
+use Rattle.flagops_shell.specs.Report.{outcome_view}
 use Rattle.flagops_pictures.specs.Planning.{IsPlanWith}
 use Rattle.flagops_pictures.specs.Words.{planning_view}
-use Rattle.flagops_pictures.proofs.Planned.{asked_of, kept_behind, left_behind, unasked}
+use Rattle.flagops_pictures.proofs.Planned.{asked_of, failed_behind, kept_behind, left_behind, unasked}
 use Rattle.flagops_pictures.proofs.planning.outcome.Goals as goal
 
 pub returns-clause-exact : goal.returns-clause-exact
@@ -28,3 +28,8 @@ returns-clause-left g c =
 pub returns-clause-kept : goal.returns-clause-kept
 returns-clause-kept g c =
     kept_behind c.planned.result (g.F.FileSet.holding c.args.files.now) (g.F.FileSet.holding c.load_book_question.new.files) (g.F.FileSet.holding c.planned.new.files) c.load_book_question.ensures.kept c.planned.ensures.kept
+
+pub returns-clause-failed : goal.returns-clause-failed
+returns-clause-failed g c =
+    failed_behind (g.F.FileSet.has_failed c.args.files.now) (g.F.FileSet.has_failed c.load_book_question.new.files) (g.F.FileSet.has_failed c.planned.new.files) (is_file_fault c.planned.result)
+    c.in_ok-question.ensures.failed c.planned.ensures.failed

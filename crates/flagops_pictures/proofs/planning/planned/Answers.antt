@@ -1,9 +1,10 @@
-use Rattle.std.proofs.Common.{◌≡◌, Err, List, ℕ, refl, rules, string_bytes, subst}
-use Rattle.flagops_files.specs.Files.{Stores}
+use Rattle.std.proofs.Common.{◌≡◌, Err, List, ℕ, inr, option_map, refl, rules, string_bytes, subst}
+use Rattle.flagops_shell.specs.Files.{Stores}
 use Rattle.flagops_files.specs.Question.{question_view}
+use Rattle.flagops_shell.specs.Report.{outcome_view}
 use Rattle.flagops_files.specs.declared.refusal.Call.TheVariants as call
 use Rattle.flagops_pictures.specs.Words.{planning_view}
-use Rattle.flagops_pictures.proofs.Planned.{planned_with, unplanned, unwritten, want_alone}
+use Rattle.flagops_pictures.proofs.Planned.{planned_with, status_of, unplanned, unwritten, want_alone}
 use Rattle.flagops_pictures.proofs.planning.planned.Goals as goal
 
 pub returns-clause-exact : goal.returns-clause-exact
@@ -36,3 +37,8 @@ returns-in_err-store-clause-exact g c =
     let new = g.F.FileSet.holding c.store.new.files in
     let is : c.from_residual-in_err-store.result ≡ Err c.in_err-store.field-0.0 = search rules in
     unwritten (planning_view a) (question_view c.args.question.now) old new c.in_err-store.field-0.0 c.from_residual-in_err-store.result is c.in_err-store.ensures.fault c.in_err-store.ensures.refused
+
+pub returns-clause-kept : goal.returns-clause-kept
+returns-clause-kept g c =
+    let a = c.args.asked.now in
+    inr (status_of a.strict a.explain (option_map (λ m. m.number) a.refine) (question_view c.args.question.now) (outcome_view c.in_ok-outcome.outcome) c.in_ok-outcome.ensures.exact)

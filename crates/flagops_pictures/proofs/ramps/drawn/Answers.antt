@@ -7,10 +7,10 @@ use Rattle.flagops_pictures.proofs.ramps.drawn.Goals as goal
 pub sheet-requires-clause-right : goal.sheet-requires-clause-right
 sheet-requires-clause-right g c = λ κs within. subst (λ (f : Option ℕ). AreRightAnswers f c.args.right.now) (sym c.factor_number.ensures.value) c.requires
 
-pub returns : goal.returns
-returns g c =
+pub returns-clause-drawn : goal.returns-clause-drawn
+returns-clause-drawn g c =
     let made : List ℕ → Bool → Came = λ t b. Ok (record { text = t; status = 0; is_told = b }) in
     let bytes : c.into_bytes.result.items ≡ string_bytes c.in_ok-text.text = ap (λ (v : Vec ℕ Global). v.items) c.into_bytes.ensures.value in
-    let told = c.remark_in.ensures ∙ ap is_some (rw c.as_slice-steps.ensures.value at c.in_ok-doubted.ensures) in
+    let told = c.remark_in.ensures.told ∙ ap is_some (rw c.as_slice-steps.ensures.value at c.in_ok-doubted.ensures.doubt) in
     let drawn = subst (λ (f : Option ℕ). IsRampDrawn f (answered_view c.args.right.now) (string_bytes c.in_ok-text.text)) c.factor_number.ensures.value c.in_ok-text.ensures in
     (string_bytes c.in_ok-text.text, drawn, ap₂ made bytes told)

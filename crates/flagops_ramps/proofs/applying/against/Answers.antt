@@ -1,6 +1,6 @@
 use Rattle.std.proofs.Common.{List, Ok, map, subst}
 use Rattle.flag_defs.specs.Flags.{flags_view}
-use Rattle.flagops_files.specs.Report.{outcome_view}
+use Rattle.flagops_shell.specs.Report.{outcome_view}
 use Rattle.plan_text.specs.Answer.{planned_view}
 use Rattle.plan_text.specs.declared.planned.Planned.{Planned}
 use Rattle.flagops_ramps.specs.Apply.{IsStepApplied}
@@ -12,7 +12,7 @@ pub returns-in-Ok-clause-exact : goal.returns-in-Ok-clause-exact
 returns-in-Ok-clause-exact g c =
     let a = c.args.asked.now in
     let flags = flags_view c.args.flags.now in
-    let gives = subst (λ (xs : List Planned). GivesOne outcome_view c.put.result (IsStepApplied a.key.now a.site a.step (Ok flags) (Ok (map planned_view xs)))) c.as_slice.ensures.value c.put.ensures in
+    let gives = subst (λ (xs : List Planned). GivesOne outcome_view c.put.result (IsStepApplied a.key.now a.site a.step (Ok flags) (Ok (map planned_view xs)))) c.as_slice.ensures.value c.put.ensures.exact in
     answered_so a.key.now a.site a.step flags (g.F.FileSet.holding c.args.files.now) a.ramp.now (map planned_view c.in-Ok.answers.items) c.put.result c.in-Ok.ensures.exact gives
 
 pub returns-in-Err-clause-exact : goal.returns-in-Err-clause-exact

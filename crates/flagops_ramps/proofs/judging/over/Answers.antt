@@ -31,4 +31,4 @@ returns-in-Err-clause-exact g c =
     let one = subst (λ (f : Option ℕ). IsTold (Ok flags) f (requests_view c.as_slice-2.result.now) made.book (map planned_view c.as_slice-3.result.now) (Err fault)) c.factor_number.ensures.value c.in-Err.ensures in
     let two = subst (λ (s : List (Vec ℕ Global)). IsTold (Ok flags) refine (requests_view s) made.book (map planned_view c.as_slice-3.result.now) (Err fault)) c.as_slice-2.ensures.value one in
     let told = subst (λ (s : List Planned). IsTold (Ok flags) refine requests made.book (map planned_view s) (Err fault)) c.as_slice-3.ensures.value two in
-    found_wrong refine (book_question_view c.args.question) made requests answers fault c.wrong.result c.count.ensures.kept told c.wrong.ensures
+    found_wrong refine (book_question_view c.args.question) made requests answers fault c.wrong.result c.count.ensures.kept told c.wrong.ensures.refusal

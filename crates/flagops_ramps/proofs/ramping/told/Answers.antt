@@ -8,12 +8,12 @@ use Rattle.flagops_ramps.specs.declared.refusal.StepCall.TheVariants as call
 use Rattle.flagops_ramps.proofs.Besides.{refused_so, told_so}
 use Rattle.flagops_ramps.proofs.ramping.told.Goals as goal
 
-pub returns-in-Ok : goal.returns-in-Ok
-returns-in-Ok g c =
+pub returns-in-Ok-clause-exact : goal.returns-in-Ok-clause-exact
+returns-in-Ok-clause-exact g c =
     let doubt = doubt_of_steps (book_question_view c.args.question.now) (requests_view c.args.steps.now) in
-    told_so (settle call.Ramp c.args.asked.now.strict doubt) (is_some c.in-Ok.remark) (report_ramp (map planned_view c.args.answers.now)) c.printed.result c.in-Ok.ensures c.printed.ensures
+    told_so (settle call.Ramp c.args.asked.now.strict doubt) (is_some c.in-Ok.remark) (report_ramp (map planned_view c.args.answers.now)) c.printed.result c.in-Ok.ensures.exact c.printed.ensures.exact
 
-pub returns-in-Err : goal.returns-in-Err
-returns-in-Err g c =
+pub returns-in-Err-clause-exact : goal.returns-in-Err-clause-exact
+returns-in-Err-clause-exact g c =
     let doubt = doubt_of_steps (book_question_view c.args.question.now) (requests_view c.args.steps.now) in
-    refused_so (settle call.Ramp c.args.asked.now.strict doubt) (report_ramp (map planned_view c.args.answers.now)) c.in-Err.told c.in-Err.ensures
+    refused_so (settle call.Ramp c.args.asked.now.strict doubt) (report_ramp (map planned_view c.args.answers.now)) c.in-Err.told c.in-Err.ensures.exact

@@ -8,14 +8,14 @@ use Rattle.flagops_ramps.specs.declared.refusal.StepCall.TheVariants as call
 use Rattle.flagops_ramps.proofs.Besides.{refused_so, told_so}
 use Rattle.flagops_ramps.proofs.verifying.reported.Goals as goal
 
-pub returns-in-Ok : goal.returns-in-Ok
-returns-in-Ok g c =
+pub returns-in-Ok-clause-exact : goal.returns-in-Ok-clause-exact
+returns-in-Ok-clause-exact g c =
     let a = c.args.right.now in
     let doubt = doubt_of_steps (book_question_view a.question) (requests_view a.steps.items) in
-    told_so (settle call.VerifyRamp c.args.asked.now.rollout.strict doubt) (is_some c.in-Ok.remark) (report_valid (map planned_view a.answers.items)) c.valid.result (rw c.as_slice-steps.ensures.value at c.in-Ok.ensures) (rw c.as_slice.ensures.value at c.valid.ensures)
+    told_so (settle call.VerifyRamp c.args.asked.now.rollout.strict doubt) (is_some c.in-Ok.remark) (report_valid (map planned_view a.answers.items)) c.valid.result (rw c.as_slice-steps.ensures.value at c.in-Ok.ensures.exact) (rw c.as_slice.ensures.value at c.valid.ensures.exact)
 
-pub returns-in-Err : goal.returns-in-Err
-returns-in-Err g c =
+pub returns-in-Err-clause-exact : goal.returns-in-Err-clause-exact
+returns-in-Err-clause-exact g c =
     let a = c.args.right.now in
     let doubt = doubt_of_steps (book_question_view a.question) (requests_view a.steps.items) in
-    refused_so (settle call.VerifyRamp c.args.asked.now.rollout.strict doubt) (report_valid (map planned_view a.answers.items)) c.in-Err.told (rw c.as_slice-steps.ensures.value at c.in-Err.ensures)
+    refused_so (settle call.VerifyRamp c.args.asked.now.rollout.strict doubt) (report_valid (map planned_view a.answers.items)) c.in-Err.told (rw c.as_slice-steps.ensures.value at c.in-Err.ensures.exact)

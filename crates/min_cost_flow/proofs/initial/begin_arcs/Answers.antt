@@ -13,8 +13,13 @@ loop-name-preserved c =
       c.rebuild_from.ensures.spans,
     )
 
-pub returns-clause-rows : goal.returns-clause-rows
-returns-clause-rows c =
+pub returns-clause-arcs : goal.returns-clause-arcs
+returns-clause-arcs c =
     let p = c.args.problem.now in
     let k_is : c.len-name-end.result ≡ names_of p = c.len-name-end.ensures ∙ p.high.ok.0 in
-    λ v v_in. c.loop-name.invariant.0.rows v (omega (arith, k_is, v_in, c.loop-name-test.false)) v_in
+    let done = c.loop-name.invariant.0 in
+    record {
+      rows = λ v v_in. done.rows v (omega (arith, k_is, v_in, c.loop-name-test.false)) v_in;
+      root = λ v v_in. done.root v (omega (arith, k_is, v_in, c.loop-name-test.false)) v_in;
+      none = done.none;
+    }

@@ -11,27 +11,25 @@ use Rattle.min_cost_flow.proofs.Filled.{short_potential}
 use Rattle.min_cost_flow.proofs.Reached.{found_below}
 use Rattle.min_cost_flow.proofs.meeting.find_below.Goals as goal
 
-pub find-requires-clause-arcs : goal.find-requires-clause-arcs
-find-requires-clause-arcs g c = ap (λ (xs : List (Option Arc)). length xs) c.as_slice.ensures.value ∙ (c.requires.second_pass.flow.tables.arcs ∙ ap (λ n. n * n) (sym c.requires.wanted.size))
-
-pub find-requires-clause-short : goal.find-requires-clause-short
-find-requires-clause-short g c =
-    λ v v_in. short_potential (potential_of c.args.search.now v) (c.requires.second_pass.low v (omega (arith, v_in, c.requires.wanted.size))) (c.requires.second_pass.high v (omega (arith, v_in, c.requires.wanted.size)))
-
-pub find-requires-clause-costs : goal.find-requires-clause-costs
-find-requires-clause-costs g c =
+pub find-requires-clause-network : goal.find-requires-clause-network
+find-requires-clause-network g c =
     let p = c.args.problem.now in
     let f = c.args.flow.now in
-    subst (λ n. HasCostsWithin n (arc_at c.as_slice.result.now n) max_cost) (sym c.requires.wanted.size)
-    (subst (λ xs. HasCostsWithin (names_of p + 1) (arc_at xs (names_of p + 1)) max_cost) (sym c.as_slice.ensures.value) (cheap_arcs p c.requires.problem f.placed.items f.totals.items f.arcs.items c.requires.second_pass.flow.tables))
-
-pub find-requires-clause-reduced : goal.find-requires-clause-reduced
-find-requires-clause-reduced g c =
-    let p = c.args.problem.now in
-    let f = c.args.flow.now in
+    let pass = c.requires.second_pass in
+    let same = sym c.requires.wanted.size in
     let potential = potential_of c.args.search.now in
-    subst (λ n. HasNonNegativeReducedCosts n (arc_at c.as_slice.result.now n) potential) (sym c.requires.wanted.size)
-    (subst (λ xs. HasNonNegativeReducedCosts (names_of p + 1) (arc_at xs (names_of p + 1)) potential) (sym c.as_slice.ensures.value) (reduced_from_optimal (flows_of p f) (arc_at f.arcs.items (names_of p + 1)) potential c.requires.second_pass.flow.tables.residual c.requires.second_pass.optimal))
+    record {
+      few = omega (arith, c.requires.wanted.size, c.requires.problem.names);
+      square = ap (λ (xs : List (Option Arc)). length xs) c.as_slice.ensures.value ∙ (pass.flow.tables.arcs ∙ ap (λ n. n * n) same);
+      many = pass.size.potentials ∙ same;
+      short = λ v v_in. short_potential (potential v) (pass.low v (omega (arith, v_in, c.requires.wanted.size))) (pass.high v (omega (arith, v_in, c.requires.wanted.size)));
+      costs =
+          subst (λ n. HasCostsWithin n (arc_at c.as_slice.result.now n) max_cost) same
+          (subst (λ xs. HasCostsWithin (names_of p + 1) (arc_at xs (names_of p + 1)) max_cost) (sym c.as_slice.ensures.value) (cheap_arcs p c.requires.problem f.placed.items f.totals.items f.arcs.items pass.flow.tables));
+      reduced =
+          subst (λ n. HasNonNegativeReducedCosts n (arc_at c.as_slice.result.now n) potential) same
+          (subst (λ xs. HasNonNegativeReducedCosts (names_of p + 1) (arc_at xs (names_of p + 1)) potential) (sym c.as_slice.ensures.value) (reduced_from_optimal (flows_of p f) (arc_at f.arcs.items (names_of p + 1)) potential pass.flow.tables.residual pass.optimal));
+    }
 
 pub returns-clause-path : goal.returns-clause-path
 returns-clause-path g c =

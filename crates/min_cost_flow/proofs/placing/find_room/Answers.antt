@@ -7,31 +7,31 @@ use Rattle.min_cost_flow.specs.Flow.{flows_of}
 use Rattle.min_cost_flow.proofs.ArcCosts.{cheap_arcs}
 use Rattle.shortest_path.specs.Found.{HasFound, HasSize, IsStuck, predecessor_of, potential_of, rank_of}
 use Rattle.shortest_path.specs.Network.{HasNonNegativeReducedCosts, HasCostsWithin, arc_at, max_cost}
+use Rattle.shortest_path.specs.Searched.{no_node}
 use Rattle.shortest_path.specs.declared.arc.Arc.{Arc}
+use Rattle.shortest_path.specs.declared.node.NodeState.{NodeState}
 use Rattle.min_cost_flow.proofs.Filled.{short_potential, stuck_of, path_of}
 use Rattle.min_cost_flow.proofs.placing.find_room.Goals as goal
 
-pub find-requires-clause-arcs : goal.find-requires-clause-arcs
-find-requires-clause-arcs g c = ap (λ (xs : List (Option Arc)). length xs) c.as_slice.ensures.value ∙ (c.requires.first_pass.flow.tables.arcs ∙ ap (λ n. n * n) (sym c.requires.wanted.size))
-
-pub find-requires-clause-short : goal.find-requires-clause-short
-find-requires-clause-short g c =
-    λ v v_in. short_potential (potential_of c.args.search.now v) (c.requires.first_pass.low v (omega (arith, v_in, c.requires.wanted.size))) (c.requires.first_pass.high v (omega (arith, v_in, c.requires.wanted.size)))
-
-pub find-requires-clause-costs : goal.find-requires-clause-costs
-find-requires-clause-costs g c =
+pub find-requires-clause-network : goal.find-requires-clause-network
+find-requires-clause-network g c =
     let p = c.args.problem.now in
     let f = c.args.flow.now in
-    subst (λ n. HasCostsWithin n (arc_at c.as_slice.result.now n) max_cost) (sym c.requires.wanted.size)
-    (subst (λ xs. HasCostsWithin (names_of p + 1) (arc_at xs (names_of p + 1)) max_cost) (sym c.as_slice.ensures.value) (cheap_arcs p c.requires.problem f.placed.items f.totals.items f.arcs.items c.requires.first_pass.flow.tables))
-
-pub find-requires-clause-reduced : goal.find-requires-clause-reduced
-find-requires-clause-reduced g c =
-    let p = c.args.problem.now in
-    let f = c.args.flow.now in
+    let pass = c.requires.first_pass in
+    let same = sym c.requires.wanted.size in
     let potential = potential_of c.args.search.now in
-    subst (λ n. HasNonNegativeReducedCosts n (arc_at c.as_slice.result.now n) potential) (sym c.requires.wanted.size)
-    (subst (λ xs. HasNonNegativeReducedCosts (names_of p + 1) (arc_at xs (names_of p + 1)) potential) (sym c.as_slice.ensures.value) (reduced_from_optimal (flows_of p f) (arc_at f.arcs.items (names_of p + 1)) potential c.requires.first_pass.flow.tables.residual c.requires.first_pass.optimal))
+    record {
+      few = omega (arith, c.requires.wanted.size, c.requires.problem.names);
+      square = ap (λ (xs : List (Option Arc)). length xs) c.as_slice.ensures.value ∙ (pass.flow.tables.arcs ∙ ap (λ n. n * n) same);
+      many = pass.size.potentials ∙ same;
+      short = λ v v_in. short_potential (potential v) (pass.low v (omega (arith, v_in, c.requires.wanted.size))) (pass.high v (omega (arith, v_in, c.requires.wanted.size)));
+      costs =
+          subst (λ n. HasCostsWithin n (arc_at c.as_slice.result.now n) max_cost) same
+          (subst (λ xs. HasCostsWithin (names_of p + 1) (arc_at xs (names_of p + 1)) max_cost) (sym c.as_slice.ensures.value) (cheap_arcs p c.requires.problem f.placed.items f.totals.items f.arcs.items pass.flow.tables));
+      reduced =
+          subst (λ n. HasNonNegativeReducedCosts n (arc_at c.as_slice.result.now n) potential) same
+          (subst (λ xs. HasNonNegativeReducedCosts (names_of p + 1) (arc_at xs (names_of p + 1)) potential) (sym c.as_slice.ensures.value) (reduced_from_optimal (flows_of p f) (arc_at f.arcs.items (names_of p + 1)) potential pass.flow.tables.residual pass.optimal));
+    }
 
 pub returns-in-Some-clause-path : goal.returns-in-Some-clause-path
 returns-in-Some-clause-path g c =
@@ -49,9 +49,9 @@ returns-in-Some-clause-path g c =
     subst (λ k. HasFound (names_of p + 1) (arc_at f.arcs.items (names_of p + 1)) wanted from (potential_of s) (potential_of s') (predecessor_of s') (rank_of s') k) node_is
     (subst (λ (xs : List (Option Arc)). HasFound (names_of p + 1) (arc_at xs (names_of p + 1)) wanted from (potential_of s) (potential_of s') (predecessor_of s') (rank_of s') c.in-Some.root) c.as_slice.ensures.value
     (subst (λ n. HasFound n (arc_at c.as_slice.result.now n) wanted from (potential_of s) (potential_of s') (predecessor_of s') (rank_of s') c.in-Some.root) wants.size e.found)) in
-    let last_is : c.index.result.now ≡ predecessor_of s' (names_of p) =
-    c.index.ensures ∙ (get_or_default s'.predecessors.items c.in-Some.root c.index.result.now 0 (omega (arith, node_is, size.predecessors)) ∙ ap (predecessor_of s') node_is) in
-    path_of p c.requires.problem f s s' wanted from c.index.result.now c.requires.first_pass c.requires.from size found last_is
+    let last_is : c.index.result.now.predecessor ≡ predecessor_of s' (names_of p) =
+    ap (λ (n : NodeState). n.predecessor) (c.index.ensures ∙ get_or_default s'.nodes.items c.in-Some.root c.index.result.now no_node (omega (arith, node_is, size.nodes))) ∙ ap (predecessor_of s') node_is in
+    path_of p c.requires.problem f s s' wanted from c.index.result.now.predecessor c.requires.first_pass c.requires.above.within size found last_is
 
 pub returns-in-None-clause-path : goal.returns-in-None-clause-path
 returns-in-None-clause-path g c =
@@ -65,4 +65,4 @@ returns-in-None-clause-path g c =
     let stuck : IsStuck (names_of p + 1) (arc_at f.arcs.items (names_of p + 1)) wanted from (potential_of s) (potential_of s') (rank_of s') =
     subst (λ (xs : List (Option Arc)). IsStuck (names_of p + 1) (arc_at xs (names_of p + 1)) wanted from (potential_of s) (potential_of s') (rank_of s')) c.as_slice.ensures.value
     (subst (λ n. IsStuck n (arc_at c.as_slice.result.now n) wanted from (potential_of s) (potential_of s') (rank_of s')) wants.size c.in-None.ensures.found) in
-    stuck_of p f s s' wanted from c.requires.first_pass wants c.requires.from c.requires.above (subst (λ n. HasSize n s') wants.size c.find.ensures.size) stuck
+    stuck_of p f s s' wanted from c.requires.first_pass wants c.requires.above.within c.requires.above.over (subst (λ n. HasSize n s') wants.size c.find.ensures.size) stuck

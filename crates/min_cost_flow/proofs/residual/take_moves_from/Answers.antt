@@ -1,6 +1,6 @@
 -- The arcs from the name are a part of all arcs.
 use Rattle.std.proofs.Common.{◌≡◌, ℕ, ◌+◌, ◌<◌, sym, ◌∙◌, subst, arith}
-use Rattle.min_cost_flow.specs.Problem.{AreSwitchCosts, cost_at, may_take, names_of}
+use Rattle.min_cost_flow.specs.Problem.{AreSupplies, cost_at, may_take, names_of}
 use Rattle.min_cost_flow.specs.Residual.{TakesMoves}
 use Rattle.min_cost_flow.specs.Residual.{ChangesRow, HasArcs}
 use Rattle.min_cost_flow.proofs.RowParts.{part_entered, put_row}
@@ -8,16 +8,16 @@ use Rattle.min_cost_flow.proofs.WrittenArcs.{part_size, row_changes}
 use Rattle.shortest_path.specs.Network.{arc_at}
 use Rattle.min_cost_flow.proofs.residual.take_moves_from.Goals as goal
 
-pub take_moves-requires-clause-costs : goal.take_moves-requires-clause-costs
-take_moves-requires-clause-costs c =
+pub take_moves-requires-clause-supplies : goal.take_moves-requires-clause-supplies
+take_moves-requires-clause-supplies c =
     let p = c.args.problem.now in
-    let name = c.args.name in
     let arcs = c.args.arcs.now in
-    let k : ℕ = c.len-names.result in
-    let k_is : k ≡ names_of p = c.len-names.ensures ∙ p.high.ok.0 in
-    let name_in : name < k = omega (arith, k_is, c.requires.name) in
-    let size : HasArcs k arcs = subst (λ n. HasArcs n arcs) (sym k_is) c.requires.arcs in
-    subst (λ n. AreSwitchCosts n c.deref-2.result.now) (sym (part_size k name arcs name_in size ∙ k_is)) (subst (λ x. AreSwitchCosts (names_of p) x) (sym c.deref-2.ensures.value) c.requires.problem.costs)
+    let k_is : c.len-names.result ≡ names_of p = c.len-names.ensures ∙ p.high.ok.0 in
+    let name_in : c.args.name < c.len-names.result = omega (arith, k_is, c.requires.arcs.within) in
+    let size : HasArcs c.len-names.result arcs = subst (λ n. HasArcs n arcs) (sym k_is) c.requires.arcs.size in
+    let all : AreSupplies (names_of p) p.costs.items p.groups.items = record { grouped = c.requires.problem.groups; priced = c.requires.problem.costs } in
+    subst (λ n. AreSupplies n c.deref-2.result.now c.deref.result.now) (sym (part_size c.len-names.result c.args.name arcs name_in size ∙ k_is))
+    (subst (λ x. AreSupplies (names_of p) x c.deref.result.now) (sym c.deref-2.ensures.value) (subst (λ x. AreSupplies (names_of p) p.costs.items x) (sym c.deref.ensures.value) all))
 
 pub returns-clause-row : goal.returns-clause-row
 returns-clause-row c =
@@ -30,8 +30,8 @@ returns-clause-row c =
     let k_is : k ≡ names_of p = c.len-names.ensures ∙ p.high.ok.0 in
     let gs = c.deref.result.now in
     let ps = c.deref-2.result.now in
-    let name_in : name < k = omega (arith, k_is, c.requires.name) in
-    let size : HasArcs k arcs = subst (λ n. HasArcs n arcs) (sym k_is) c.requires.arcs in
+    let name_in : name < k = omega (arith, k_is, c.requires.arcs.within) in
+    let size : HasArcs k arcs = subst (λ n. HasArcs n arcs) (sym k_is) c.requires.arcs.size in
     subst (λ n. TakesMoves n (may_take p.groups.items p.costs.items n) (cost_at p.groups.items p.costs.items n) group name (arc_at arcs (n + 1) name) (arc_at (put_row k name arcs row) (n + 1) name)) k_is
     (subst (λ x. TakesMoves k (may_take p.groups.items x k) (cost_at p.groups.items x k) group name (arc_at arcs (k + 1) name) (arc_at (put_row k name arcs row) (k + 1) name)) c.deref-2.ensures.value
     (subst (λ x. TakesMoves k (may_take x ps k) (cost_at x ps k) group name (arc_at arcs (k + 1) name) (arc_at (put_row k name arcs row) (k + 1) name)) c.deref.ensures.value
@@ -45,6 +45,6 @@ returns-clause-others c =
     let row = c.take_moves.new.row in
     let k : ℕ = c.len-names.result in
     let k_is : k ≡ names_of p = c.len-names.ensures ∙ p.high.ok.0 in
-    let name_in : name < k = omega (arith, k_is, c.requires.name) in
-    let size : HasArcs k arcs = subst (λ n. HasArcs n arcs) (sym k_is) c.requires.arcs in
+    let name_in : name < k = omega (arith, k_is, c.requires.arcs.within) in
+    let size : HasArcs k arcs = subst (λ n. HasArcs n arcs) (sym k_is) c.requires.arcs.size in
     subst (λ n. ChangesRow n name arcs (put_row k name arcs row)) k_is (row_changes k name arcs name_in size row (c.take_moves.auto.row ∙ part_size k name arcs name_in size))

@@ -19,7 +19,7 @@ loop-variant-init c =
         firsts = λ g g_in below some. absurd (omega (arith, below));
         lasts = λ g g_in below some. absurd (omega (arith, below));
       },
-      c.requires.spans,
+      c.requires.placed.spans,
     )
 
 pub loop-variant-preserved : goal.loop-variant-preserved
@@ -38,16 +38,13 @@ loop-variant-preserved c =
     let turn : IsTurn groups costs placed n v a spans span row row' =
     subst (λ k. IsTurn groups costs placed k v a spans span row row') many
     (record {
-      end = c.narrowed-span.ensures.end;
-      keeps = c.narrowed-span.ensures.keeps;
-      first = c.narrowed-span.ensures.first;
-      last = c.narrowed-span.ensures.last;
+      narrows = c.narrowed-span.ensures;
       some = c.take_moves_of_ends.ensures.some;
       none = c.take_moves_of_ends.ensures.none;
     }) in
     subst (λ k. RowBelow groups costs placed n v (a + 1) row' × AreSpans groups n placed (set spans (v * k + a) span)) (sym many) (
-      row_after groups costs placed n v a spans span row row' c.requires.name c.loop-variant-test.true c.requires.groups c.loop-variant.invariant.1 turn c.loop-variant.invariant.0,
-      spans_after groups costs placed n v a spans span row row' c.requires.name c.loop-variant-test.true c.requires.groups c.loop-variant.invariant.1 turn,
+      row_after groups costs placed n v a spans span row row' c.requires.name c.loop-variant-test.true c.requires.supplies.grouped c.loop-variant.invariant.1 turn c.loop-variant.invariant.0,
+      spans_after groups costs placed n v a spans span row row' c.requires.name c.loop-variant-test.true c.requires.supplies.grouped c.loop-variant.invariant.1 turn,
     )
 
 pub returns-clause-row : goal.returns-clause-row
@@ -61,7 +58,7 @@ returns-clause-row c =
     let row = c.loop-variant.row in
     let done = c.loop-variant.invariant.0 in
     let arc : ℕ → Option Arc = λ w. get_or row w None in
-    let below : (g : ℕ) → g < length groups → variant g < c.loop-variant.variant = λ g g_in. omega (arith, c.requires.groups.variant g g_in, c.loop-variant-test.false) in
+    let below : (g : ℕ) → g < length groups → variant g < c.loop-variant.variant = λ g g_in. omega (arith, c.requires.supplies.grouped.variant g g_in, c.loop-variant-test.false) in
     cheapest (length groups) n variant (λ g. (group_at groups g).count) (switch_cost_at costs n) (may_take groups costs n) (cost_at groups costs n) (λ g. get_or placed (g * n + v) 0) v c.requires.name arc arc (λ g w. refl) (λ g w. refl)
-    (λ g w z g_in w_in is. c.requires.costs.each (variant g * n + w) z (cell_in n n (variant g) w (c.requires.groups.variant g g_in) w_in) is)
-    c.requires.free done.moves (λ g g_in some. done.firsts g g_in (below g g_in) some) (λ w known w_in was. (known, was, omega (arith, ints))) (λ g g_in some. done.lasts g g_in (below g g_in) some)
+    (λ g w z g_in w_in is. c.requires.supplies.priced.each (variant g * n + w) z (cell_in n n (variant g) w (c.requires.supplies.grouped.variant g g_in) w_in) is)
+    c.requires.placed.free done.moves (λ g g_in some. done.firsts g g_in (below g g_in) some) (λ w known w_in was. (known, was, omega (arith, ints))) (λ g g_in some. done.lasts g g_in (below g g_in) some)

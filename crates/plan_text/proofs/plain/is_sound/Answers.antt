@@ -7,7 +7,8 @@ use Rattle.bucket_core.specs.Canonical.{IsCanonical}
 use Rattle.bucket_core.specs.Rule.{IsRuleTotal}
 use Rattle.transport_instance.specs.Certificate.{certificate_view}
 use Rattle.transport_instance.specs.Groups.{group_cmp}
-use Rattle.plan_text.specs.PlanFile.{has_whole_numbers, rises}
+use Rattle.transport_instance.specs.WrittenCertificate.{has_whole_numbers}
+use Rattle.plan_text.specs.PlanFile.{rises}
 use Rattle.plan_text.proofs.ReadBack.{emit_by_tests}
 use Rattle.plan_text.proofs.WholeAnswers.{emit_whole}
 use Rattle.plan_text.proofs.plain.is_sound.Goals as goal

@@ -5,7 +5,7 @@ use Rattle.json.specs.Tree.{json_tokens}
 use Rattle.flag_text.specs.Grammar.{written}
 use Rattle.flag_text.specs.Shape.{list}
 use Rattle.transport_instance.specs.Certificate.{alpha_view, beta_view}
-use Rattle.plan_text.specs.PlanFile.{items_by, alpha_written, beta_written}
+use Rattle.transport_instance.specs.WrittenCertificate.{items_by, alpha_written, beta_written}
 use Rattle.plan_text.proofs.Writes.{behind}
 use Rattle.plan_text.proofs.writing.write_rule.Goals as goal
 

@@ -1,8 +1,20 @@
 -- What is solved is spent, whatever comes after.
-use Rattle.std.proofs.Common.{inr, ◌∙◌}
+use Rattle.std.proofs.Common.{inr, ◌∙◌, rules, subst}
+use Rattle.std.specs.List.{slice_index}
+use Rattle.transport_instance.specs.Groups.{AreSizesBy}
 use Rattle.rollout_checks.specs.Lawful.{problem_view}
 use Rattle.rollout.proofs.Effort.{bounded}
 use Rattle.rollout.proofs.planner.plan_on.Goals as goal
+
+pub answer-requires-clause-instance : goal.answer-requires-clause-instance
+answer-requires-clause-instance g c =
+    let made = c.in_ok-instance.ensures in
+    record {
+      loads = subst (λ xs. AreSizesBy c.args.problem.now.old (slice_index xs) c.in_ok-instance.instance.groups) c.as_slice-counts.ensures.value made.loads;
+      groups = λ inputs counted. made.groups inputs (c.as_slice-counts.ensures.value ∙ counted);
+      limits = made.limits;
+      pricing = search rules;
+    }
 
 pub returns-in_err-solved-clause-spent : goal.returns-in_err-solved-clause-spent
 returns-in_err-solved-clause-spent g c = λ inputs counted.

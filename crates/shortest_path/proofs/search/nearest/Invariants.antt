@@ -1,6 +1,8 @@
-use Rattle.std.proofs.Common.{length, get_or, None, pos}
+use Rattle.std.proofs.Common.{length}
+use Rattle.shortest_path.specs.Network.{potential_in}
+use Rattle.shortest_path.specs.Searched.{distance_in, settle_order_in}
 use Rattle.shortest_path.proofs.Nearest.{IsNearestBelow}
 use Rattle.shortest_path.proofs.search.nearest.Given as goal
 
 abbrev pub invariant-loop-v : goal.invariant-loop-v
-invariant-loop-v l = IsNearestBelow (length l.settle_order) (λ v. get_or l.potentials v (pos 0)) (λ v. get_or l.distances v None) (λ v. get_or l.settle_order v 0) l.least l.node l.node_distance l.v
+invariant-loop-v l = IsNearestBelow (length l.nodes) (potential_in l.potentials) (distance_in l.nodes) (settle_order_in l.nodes) l.least l.node l.node_distance l.v

@@ -1,12 +1,13 @@
 -- Each turn of the loop looks at one more node.
-use Rattle.std.proofs.Common.{◌≡◌, ℕ, ℤ, Option, Some, None, ◌+ℤ◌, ◌≤ℤ◌, length, get_or, to_z, of_z, arith, sym, ap, ◌∙◌}
+use Rattle.std.proofs.Common.{◌≡◌, ℕ, ℤ, Option, Some, None, ◌+ℤ◌, ◌≤ℤ◌, length, get_or, to_z, of_z, arith, refl, sym, ap, ◌∙◌}
 use Rattle.std.proofs.lemmas.Int.{ints}
 use Rattle.std.specs.Int.{w64}
 use Rattle.shortest_path.specs.Network.{IsShort}
+use Rattle.shortest_path.specs.Searched.{distance_in}
 use Rattle.shortest_path.specs.declared.arc.Arc.{Arc}
 use Rattle.shortest_path.proofs.Relaxing.{keeps, takes}
 use Rattle.shortest_path.proofs.search.relax.Goals as goal
-use Rattle.shortest_path.proofs.search.relax.Goals.{then-settle_order-v+in-Some+then-is_nearer, then-settle_order-v+in-Some+else-is_nearer, then-settle_order-v+in_default, else-settle_order-v}
+use Rattle.shortest_path.proofs.search.relax.Goals.{then-nodes-v+in-Some+then-is_nearer, then-nodes-v+in-Some+else-is_nearer, then-nodes-v+in_default, else-nodes-v}
 
 sum_is : (node_distance cost : ℤ) → IsShort node_distance → IsShort cost → to_z w64 (of_z w64 (to_z w64 (of_z w64 node_distance) +ℤ to_z w64 (of_z w64 cost))) ≡ to_z w64 (of_z w64 node_distance) +ℤ cost
 sum_is node_distance cost a b = omega (arith, ints, a.low, a.high, b.low, b.high)
@@ -24,13 +25,13 @@ loop-v-preserved c =
     let n : ℕ = length arcs in
     let v = c.loop-v.v in
     let node_distance : ℤ = to_z w64 (of_z w64 c.args.node_distance) in
-    let keep = keeps n c.args.node node_distance arcs c.args.settle_order.now c.args.distances.now c.loop-v.distances c.if-settle_order-v.distances c.args.predecessors.now c.loop-v.predecessors c.if-settle_order-v.predecessors v c.loop-v-test.true c.loop-v.invariant in
-    let take = takes n c.args.node node_distance arcs c.args.settle_order.now c.args.distances.now c.loop-v.distances c.if-settle_order-v.distances c.args.predecessors.now c.loop-v.predecessors c.if-settle_order-v.predecessors v c.loop-v-test.true c.loop-v.invariant in
-    elim c.if-settle_order-v.branch [
-      | then-settle_order-v+in-Some+then-is_nearer w ↦
-          take w.in-Some.arc _ w.distances-is w.predecessors-is w.if-settle_order-v.true w.in-Some.is (sum_is c.args.node_distance w.in-Some.arc.cost c.requires.node_distance (c.requires.costs v w.in-Some.arc c.loop-v-test.true w.in-Some.is)) w.if-is_nearer.ensures
-      | then-settle_order-v+in-Some+else-is_nearer w ↦
-          keep w.distances-is w.predecessors-is (λ a un there. covered (get_or arcs v None) w.in-Some.arc (get_or c.loop-v.distances v None) node_distance _ w.in-Some.is (sum_is c.args.node_distance w.in-Some.arc.cost c.requires.node_distance (c.requires.costs v w.in-Some.arc c.loop-v-test.true w.in-Some.is)) w.if-is_nearer.ensures a there)
-      | then-settle_order-v+in_default w ↦ keep w.distances-is w.predecessors-is (λ a un there. absurd (w.in_default.not-Some a there))
-      | else-settle_order-v w ↦ keep w.distances-is w.predecessors-is (λ a un there. absurd (omega (arith, un, w.if-settle_order-v.false)))
+    let keep = keeps n c.args.node node_distance arcs c.args.nodes.now c.loop-v.nodes c.if-nodes-v.nodes v c.loop-v-test.true c.loop-v.invariant in
+    let take = takes n c.args.node node_distance arcs c.args.nodes.now c.loop-v.nodes c.if-nodes-v.nodes v c.loop-v-test.true c.loop-v.invariant in
+    elim c.if-nodes-v.branch [
+      | then-nodes-v+in-Some+then-is_nearer w ↦
+          take w.in-Some.arc _ _ w.nodes-is refl refl refl w.if-nodes-v.true w.in-Some.is (sum_is c.args.node_distance w.in-Some.arc.cost c.requires.node_distance (c.requires.costs v w.in-Some.arc c.loop-v-test.true w.in-Some.is)) w.if-is_nearer.ensures
+      | then-nodes-v+in-Some+else-is_nearer w ↦
+          keep w.nodes-is (λ a un there. covered (get_or arcs v None) w.in-Some.arc (distance_in c.loop-v.nodes v) node_distance _ w.in-Some.is (sum_is c.args.node_distance w.in-Some.arc.cost c.requires.node_distance (c.requires.costs v w.in-Some.arc c.loop-v-test.true w.in-Some.is)) w.if-is_nearer.ensures a there)
+      | then-nodes-v+in_default w ↦ keep w.nodes-is (λ a un there. absurd (w.in_default.not-Some a there))
+      | else-nodes-v w ↦ keep w.nodes-is (λ a un there. absurd (omega (arith, un, w.if-nodes-v.false)))
     ]

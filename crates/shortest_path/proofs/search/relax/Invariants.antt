@@ -3,4 +3,4 @@ use Rattle.shortest_path.proofs.Relaxing.{RelaxesBelow}
 use Rattle.shortest_path.proofs.search.relax.Given as goal
 
 abbrev pub invariant-loop-v : goal.invariant-loop-v
-invariant-loop-v l = RelaxesBelow (length l.arcs) l.node l.node_distance l.arcs l.settle_order l.initial.distances l.distances l.initial.predecessors l.predecessors l.v
+invariant-loop-v l = RelaxesBelow (length l.arcs) l.node l.node_distance l.arcs l.initial.nodes l.nodes l.v

@@ -5,9 +5,9 @@ use Rattle.shortest_path.proofs.search.settle.Given as goal
 
 abbrev pub invariant-loop-node : goal.invariant-loop-node
 invariant-loop-node g l = record {
-  round : IsRound (length l.initial.settle_order) l.arcs l.potentials l.wanted l.source l.count l.distances l.predecessors l.settle_order;
-  effort : HasSettled l.count l.initial.effort l.effort;
+  round : IsRound (length l.initial.nodes) l.arcs l.potentials l.wanted l.source l.settled l.nodes;
+  effort : HasSettled l.settled l.initial.effort l.effort;
 }
 
 abbrev pub decreases-loop-node : goal.decreases-loop-node
-decreases-loop-node g l = unsettled (length l.initial.settle_order) l.settle_order
+decreases-loop-node g l = unsettled (length l.initial.nodes) l.nodes

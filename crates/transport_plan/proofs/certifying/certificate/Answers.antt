@@ -2,7 +2,7 @@
 use Rattle.std.proofs.Common.{◌≡◌, ℕ, List, true, sym, ap, ◌∙◌, subst, arith}
 use Rattle.std.specs.List.{zip}
 use Rattle.std.specs.Map.{keys_of}
-use Rattle.plan_text.specs.PlanFile.{has_whole_numbers}
+use Rattle.transport_instance.specs.WrittenCertificate.{has_whole_numbers}
 use Rattle.price_core.specs.Limits.{Limits}
 use Rattle.min_cost_flow.specs.Problem.{names_of}
 use Rattle.transport_instance.specs.Assignment.{IsProved}
@@ -30,6 +30,6 @@ returns c =
     ∙ (ap (λ (ls : Limits). zip (keys_of ls) c.deref-9.result.now) (c.entries.ensures.value ∙ c.totals.ensures.value) ∙ ap (zip (keys_of p.limits)) c.deref-9.ensures.value) in
     let same = same_certificate p alpha beta cost (alpha_view c.in_ok-alpha.alpha.items) (beta_view c.in_ok-beta.beta.items) rows names in
     record {
-      proved = subst (λ (d : DualPrices). IsProved p f.placed.items d) (sym same) (is_proved p q f s alpha beta cost problem c.requires.numbered c.requires.lawful c.requires.flow c.requires.cheapest costs cost_is);
-      whole = subst (λ (d : DualPrices). has_whole_numbers d ≡ true) (sym same) (is_whole p q f s alpha beta cost problem c.requires.numbered c.requires.lawful c.requires.flow c.requires.cheapest costs cost_is);
+      proved = subst (λ (d : DualPrices). IsProved p f.placed.items d) (sym same) (is_proved p q f s alpha beta cost problem c.requires.flow.numbered c.requires.flow.lawful c.requires.flow.flow c.requires.cheapest costs cost_is);
+      whole = subst (λ (d : DualPrices). has_whole_numbers d ≡ true) (sym same) (is_whole p q f s alpha beta cost problem c.requires.flow.numbered c.requires.flow.lawful c.requires.flow.flow c.requires.cheapest costs cost_is);
     }

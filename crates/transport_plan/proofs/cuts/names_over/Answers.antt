@@ -23,7 +23,7 @@ returns-clause-over c =
     IfOk-weaker c.marked.result (λ v. names_view v.items ≡ chosen (keys_of (limits_view c.entries-limits.result.now)) (λ i. get_or marks i false)) (λ v. (old : Entries) (inputs : List (List ℕ)) → AreSizes old inputs p.groups → IsOver old p.limits p.pricing (names_view v.items))
     (λ v is old inputs sizes.
     subst (λ ns. IsOver old p.limits p.pricing ns) (sym (is ∙ ap (λ ls. chosen (keys_of ls) (λ i. get_or marks i false)) same))
-    (over_set p c.args.problem.now lawful c.requires.numbered c.args.flow.now c.args.search.now c.requires.flow c.requires.stuck marks c.mark_held.ensures old inputs sizes))
+    (over_set p c.args.problem.now lawful c.requires.flow.numbered c.args.flow.now c.args.search.now c.requires.flow.flow c.requires.stuck marks c.mark_held.ensures old inputs sizes))
     c.marked.ensures
 
 pub returns-clause-ordered : goal.returns-clause-ordered

@@ -17,12 +17,12 @@ use Rattle.transport_plan.proofs.cuts.names_under.Goals as goal
 pub returns-in_err-unsettled-clause-never : goal.returns-in_err-unsettled-clause-never
 returns-in_err-unsettled-clause-never c =
     let lawful : AreLimits c.args.instance.now.limits = subst AreLimits c.totals.ensures.value c.entries-limits.ensures.lawful in
-    λ old inputs names sizes over. never_over c.args.instance.now c.args.problem.now lawful c.requires.lawful c.requires.numbered c.args.flow.now c.args.search.now c.requires.stuck old inputs names sizes over
+    λ old inputs names sizes over. never_over c.args.instance.now c.args.problem.now lawful c.requires.flow.lawful c.requires.flow.numbered c.args.flow.now c.args.search.now c.requires.stuck old inputs names sizes over
 
 pub returns-clause-never : goal.returns-clause-never
 returns-clause-never c =
     let lawful : AreLimits c.args.instance.now.limits = subst AreLimits c.totals.ensures.value c.entries-limits.ensures.lawful in
-    λ old inputs names sizes over. never_over c.args.instance.now c.args.problem.now lawful c.requires.lawful c.requires.numbered c.args.flow.now c.args.search.now c.requires.stuck old inputs names sizes over
+    λ old inputs names sizes over. never_over c.args.instance.now c.args.problem.now lawful c.requires.flow.lawful c.requires.flow.numbered c.args.flow.now c.args.search.now c.requires.stuck old inputs names sizes over
 
 pub returns-clause-under : goal.returns-clause-under
 returns-clause-under c =
@@ -33,7 +33,7 @@ returns-clause-under c =
     IfOk-weaker c.marked.result (λ v. names_view v.items ≡ chosen (keys_of (limits_view c.entries-limits.result.now)) (λ i. get_or marks i false)) (λ v. (old : Entries) (inputs : List (List ℕ)) → AreSizes old inputs p.groups → IsUnder old p.limits p.pricing (names_view v.items))
     (λ v is old inputs sizes.
     subst (λ ns. IsUnder old p.limits p.pricing ns) (sym (is ∙ ap (λ ls. chosen (keys_of ls) (λ i. get_or marks i false)) same))
-    (under_set p c.args.problem.now lawful c.requires.lawful c.requires.numbered c.args.flow.now c.args.search.now c.requires.stuck marks c.mark_unsettled.ensures old inputs sizes))
+    (under_set p c.args.problem.now lawful c.requires.flow.lawful c.requires.flow.numbered c.args.flow.now c.args.search.now c.requires.stuck marks c.mark_unsettled.ensures old inputs sizes))
     c.marked.ensures
 
 pub returns-clause-ordered : goal.returns-clause-ordered

@@ -3,5 +3,12 @@ use Rattle.transport_instance.specs.Certificate.{certificate_view}
 use Rattle.transport_plan.proofs.Plans.{plan_of}
 use Rattle.transport_plan.proofs.solving.planned.Goals as goal
 
-pub returns-clause-least : goal.returns-clause-least
-returns-clause-least c = plan_of c.args.instance.now c.args.flow.placed.items (certificate_view c.in_ok-certificate.certificate) c.groups-groups.ensures.lawful c.in_ok-certificate.ensures.proved
+pub returns : goal.returns
+returns c = record {
+  proved = c.in_ok-certificate.ensures.proved;
+  least = plan_of c.args.instance.now c.args.flow.placed.items (certificate_view c.in_ok-certificate.certificate) c.groups-groups.ensures.lawful c.in_ok-certificate.ensures.proved;
+  whole = c.in_ok-certificate.ensures.whole;
+  deficient = tt;
+  under = tt;
+  ordered = tt;
+}

@@ -24,28 +24,24 @@ groups_of-requires-clause-whole c = c.requires.tally.whole
 shape : (groups : List ((Bor (List ℕ) × ℕ) × ℕ)) (names : ℕ) (numbers : List ℕ) → spends_all (rows_view groups) names numbers ≡ true → length numbers ≡ length groups * names
 shape groups names numbers spent = spends_shape (rows_view groups) names numbers spent ∙ ap (λ n. n * names) (length-map groups row_view)
 
-pub deal-requires-clause-shape : goal.deal-requires-clause-shape
-deal-requires-clause-shape c = shape c.args.groups.now (length c.args.names.now) c.args.numbers.items c.requires.spent
-
-pub deal-requires-clause-groups : goal.deal-requires-clause-groups
-deal-requires-clause-groups c =
-    let groups = c.args.groups.now in
-    let within = group_within c.args.old.now (slice_index c.args.counts.now) (rows_view groups) c.requires.sizes c.in_ok-points.points.items c.in_ok-points.ensures.many c.in_ok-points.ensures.grouped in
-    subst (λ n. All (λ g. g < n) c.in_ok-points.points.items) (length-map groups row_view) within
-
-pub deal-requires-clause-rows : goal.deal-requires-clause-rows
-deal-requires-clause-rows c = λ g below.
-    let groups = c.args.groups.now in
-    let here : g < length (rows_view groups) = omega (arith, below, length-map groups row_view) in
-    spends_row (rows_view groups) (length c.args.names.now) c.args.numbers.items g (no_key, 0) c.requires.spent here
-    ∙ group_points c.args.old.now (slice_index c.args.counts.now) (rows_view groups) c.requires.sizes c.in_ok-points.points.items c.in_ok-points.ensures.many c.in_ok-points.ensures.grouped g (no_key, 0) here
-
 whole : (old : Entries) (groups : List (GroupKey × ℕ)) (names : ℕ) (load : ℕ → ℕ) (numbers points : List ℕ) → AreSizesBy old load groups → spends_all groups names numbers ≡ true → length points ≡ total_weight old → sum numbers ≡ length points
 whole old groups names load numbers points sizes spent many = spends_sum groups names numbers spent ∙ (whole-sizes old load groups sizes ∙ sym many)
 
-pub deal-requires-clause-whole : goal.deal-requires-clause-whole
-deal-requires-clause-whole c =
-    whole c.args.old.now (rows_view c.args.groups.now) (length c.args.names.now) (slice_index c.args.counts.now) c.args.numbers.items c.in_ok-points.points.items c.requires.sizes c.requires.spent c.in_ok-points.ensures.many
+pub deal-requires-clause-numbers : goal.deal-requires-clause-numbers
+deal-requires-clause-numbers c =
+    let groups = c.args.groups.now in
+    let names : ℕ = length c.args.names.now in
+    let points = c.in_ok-points in
+    let within = group_within c.args.old.now (slice_index c.args.counts.now) (rows_view groups) c.requires.sizes points.points.items points.ensures.many points.ensures.grouped in
+    record {
+      shape = shape groups names c.args.numbers.items c.requires.spent;
+      within = subst (λ n. All (λ g. g < n) points.points.items) (length-map groups row_view) within;
+      rows = λ g below.
+          let here : g < length (rows_view groups) = omega (arith, below, length-map groups row_view) in
+          spends_row (rows_view groups) names c.args.numbers.items g (no_key, 0) c.requires.spent here
+          ∙ group_points c.args.old.now (slice_index c.args.counts.now) (rows_view groups) c.requires.sizes points.points.items points.ensures.many points.ensures.grouped g (no_key, 0) here;
+      whole = whole c.args.old.now (rows_view groups) names (slice_index c.args.counts.now) c.args.numbers.items points.points.items c.requires.sizes c.requires.spent points.ensures.many;
+    }
 
 -- no names have no numbers
 some_names : (groups names : ℕ) (numbers : List ℕ) → length numbers ≡ groups * names → 0 < sum numbers → 0 < names

@@ -3,7 +3,8 @@ use Rattle.flagops_drive.specs.Driven.{drive_output_view}
 use Rattle.flagops_drive.specs.File.{file_view}
 use Rattle.flagops_files.specs.Refusal.{loads_book, loads_flags, loads_tree}
 use Rattle.flagops_commands.specs.Drive.{HasNoAsks, HasUnreadAsk}
-use Rattle.flagops_commands.proofs.Driving.{at_first, driven, kept_after, left_by_storing, no_asks, no_book, no_document, not_driven, others_after}
+use Rattle.flagops_commands.proofs.Driving.{at_first, driven, left_by_storing, no_asks, no_book, no_document, not_driven}
+use Rattle.flagops_shell.proofs.Kept.{kept_after, others_after}
 use Rattle.flagops_commands.proofs.Refusing.{by_another, by_name, failed_last, for_no_asks, for_unread, in_any_case, in_any_mode, none_driven, wrong_workers}
 use Rattle.std.proofs.Common.{◌∙◌, inl, refl, rules}
 use Rattle.flagops_commands.proofs.books.drive.drive.Goals as goal

@@ -3,7 +3,7 @@ use Rattle.flagops_files.specs.Refusal.{is_want, loads_rule}
 use Rattle.flagops_files.specs.Told.{NamesOne, by, file, word}
 use Rattle.flagops_commands.specs.Calls.{loads_request}
 use Rattle.flagops_commands.specs.Subjects.{is_of_keys, is_of_rules, old_weights, price_subjects}
-use Rattle.flagops_commands.proofs.Telling.{told_among}
+use Rattle.flagops_rollouts.proofs.Telling.{told_among}
 use Rattle.flagops_commands.proofs.rules.price.price.Goals as goal
 
 pub returns-in_err-keys-clause-names : goal.returns-in_err-keys-clause-names

@@ -4,14 +4,14 @@ use Rattle.std.specs.Str.{bytes_eq}
 use Rattle.std.proofs.lemmas.List.Filters.{dedup_is}
 use Rattle.flagops_files.specs.Loading.{◌>>=◌}
 use Rattle.flagops_files.specs.Refusal.{GivesUnlessWant, is_want}
-use Rattle.flagops_files.specs.Report.{outcome_view}
+use Rattle.flagops_shell.specs.Report.{outcome_view}
 use Rattle.rule_text.specs.Texts.{texts_view}
 use Rattle.flagops_commands.specs.Price.{are_taken, weighed}
 use Rattle.flagops_commands.proofs.Distinct.{exposed-apart}
 use Rattle.flagops_files.specs.Told.{NamesOne, file, word}
 use Rattle.flagops_commands.specs.Subjects.{is_of_keys, is_of_rules, old_weights}
 use Rattle.flagops_commands.proofs.Gathered.{few_taken}
-use Rattle.flagops_commands.proofs.Telling.{told_among}
+use Rattle.flagops_rollouts.proofs.Telling.{told_among}
 use Rattle.flagops_commands.proofs.rules.price.weigh_keys.Goals as goal
 
 pub returns-then-are_taken-clause-exact : goal.returns-then-are_taken-clause-exact

@@ -1,20 +1,21 @@
 -- The search begins with its source alone, and ends stuck or with a node that is wanted.
-use Rattle.std.proofs.Common.{◌≡◌, ◌≤◌, ◌<◌, ℕ, ℤ, pos, Bool, Option, Some, None, List, length, get_or, MatchOption, to_z, of_z, arith, sym, ap, ◌∙◌, subst}
+use Rattle.std.proofs.Common.{◌≡◌, ◌≤◌, ◌<◌, ℕ, ℤ, Bool, Option, Some, None, List, length, MatchOption, to_z, of_z, arith, sym, ap, ◌∙◌, subst}
 use Rattle.std.proofs.lemmas.Int.{ints}
 use Rattle.std.proofs.lemmas.List.{with_items_is}
 use Rattle.std.specs.Int.{w64}
 use Rattle.std.specs.Vec.{with_items}
 use Rattle.shortest_path.specs.Found.{HasFound, IsStuck, settled_nodes}
-use Rattle.shortest_path.specs.Network.{IsShort, HasNonNegativeReducedCosts, arc_at, max_cost, max_nodes}
-use Rattle.shortest_path.specs.Searched.{IsSearched, IsNearest, IsExhausted, Lowers}
+use Rattle.shortest_path.specs.Network.{IsNetwork, IsShort, arc_at, max_cost, max_nodes, potential_in}
+use Rattle.shortest_path.specs.Searched.{AreSearched, EndsSearch, IsSearched, Lowers, distance_in, predecessor_in, settle_order_in}
 use Rattle.shortest_path.specs.Spent.{HasSettled}
 use Rattle.shortest_path.specs.declared.arc.Arc.{Arc}
-use Rattle.shortest_path.proofs.Finding.{stuck, found}
+use Rattle.shortest_path.specs.declared.node.NodeState.{NodeState}
+use Rattle.shortest_path.proofs.Finding.{begun, stuck, found}
 use Rattle.shortest_path.proofs.Rounds.{short_after}
 use Rattle.shortest_path.proofs.search.Search.find.Goals as goal
 
-short_found : (n : ℕ) (arc : ℕ → ℕ → Option Arc) (pot : ℕ → ℤ) (source : ℕ) (distance : ℕ → Option ℤ) (predecessor rank : ℕ → ℕ) → n ≤ max_nodes → IsSearched n arc pot source max_cost n distance predecessor rank → (v : ℕ) (a : ℤ) → v < n → distance v ≡ Some a → IsShort a
-short_found n arc pot source distance predecessor rank few search v a within is = short_after n a few (search.low v a within is) (search.high v a within is)
+short_found : (n : ℕ) (arcs : List (Option Arc)) (potentials : List ℤ) (source : ℕ) (states : List NodeState) → n ≤ max_nodes → AreSearched n arcs potentials source n states → (v : ℕ) (a : ℤ) → v < n → distance_in states v ≡ Some a → IsShort a
+short_found n arcs potentials source states few search v a within is = short_after n a few (search.low v a within is) (search.high v a within is)
 
 shown_short : (a : ℤ) → IsShort a → IsShort (to_z w64 (of_z w64 a))
 shown_short a s = record { low = omega (arith, ints, s.low, s.high); high = omega (arith, ints, s.low, s.high) }
@@ -22,102 +23,104 @@ shown_short a s = record { low = omega (arith, ints, s.low, s.high); high = omeg
 shown_is : (a : ℤ) → IsShort a → to_z w64 (of_z w64 a) ≡ a
 shown_is a s = omega (arith, ints, s.low, s.high)
 
--- what a search finds, by the tables as slices and as they stand in the search
-same_tables : (result : Option ℕ) (arcs : List (Option Arc)) (wanted : List Bool) (source n : ℕ) (old old' new new' : List ℤ) (predecessors predecessors' settle_order settle_order' : List ℕ) → old ≡ old' → new ≡ new' → predecessors ≡ predecessors' → settle_order ≡ settle_order'
-    → MatchOption result (IsStuck n (arc_at arcs n) wanted source (λ v. get_or old v (pos 0)) (λ v. get_or new v (pos 0)) (λ v. get_or settle_order v 0))
-    (HasFound n (arc_at arcs n) wanted source (λ v. get_or old v (pos 0)) (λ v. get_or new v (pos 0)) (λ v. get_or predecessors v 0) (λ v. get_or settle_order v 0))
-    → MatchOption result (IsStuck n (arc_at arcs n) wanted source (λ v. get_or old' v (pos 0)) (λ v. get_or new' v (pos 0)) (λ v. get_or settle_order' v 0))
-    (HasFound n (arc_at arcs n) wanted source (λ v. get_or old' v (pos 0)) (λ v. get_or new' v (pos 0)) (λ v. get_or predecessors' v 0) (λ v. get_or settle_order' v 0))
-same_tables result arcs wanted source n old old' new new' predecessors predecessors' settle_order settle_order' same_old same_new same_predecessors same_ranks known =
-    subst (λ (xs : List ℕ). MatchOption result (IsStuck n (arc_at arcs n) wanted source (λ v. get_or old' v (pos 0)) (λ v. get_or new' v (pos 0)) (λ v. get_or xs v 0))
-    (HasFound n (arc_at arcs n) wanted source (λ v. get_or old' v (pos 0)) (λ v. get_or new' v (pos 0)) (λ v. get_or predecessors' v 0) (λ v. get_or xs v 0))) same_ranks
-    (subst (λ (xs : List ℕ). MatchOption result (IsStuck n (arc_at arcs n) wanted source (λ v. get_or old' v (pos 0)) (λ v. get_or new' v (pos 0)) (λ v. get_or settle_order v 0))
-    (HasFound n (arc_at arcs n) wanted source (λ v. get_or old' v (pos 0)) (λ v. get_or new' v (pos 0)) (λ v. get_or xs v 0) (λ v. get_or settle_order v 0))) same_predecessors
-    (subst (λ (xs : List ℤ). MatchOption result (IsStuck n (arc_at arcs n) wanted source (λ v. get_or old' v (pos 0)) (λ v. get_or xs v (pos 0)) (λ v. get_or settle_order v 0))
-    (HasFound n (arc_at arcs n) wanted source (λ v. get_or old' v (pos 0)) (λ v. get_or xs v (pos 0)) (λ v. get_or predecessors v 0) (λ v. get_or settle_order v 0))) same_new
-    (subst (λ (xs : List ℤ). MatchOption result (IsStuck n (arc_at arcs n) wanted source (λ v. get_or xs v (pos 0)) (λ v. get_or new v (pos 0)) (λ v. get_or settle_order v 0))
-    (HasFound n (arc_at arcs n) wanted source (λ v. get_or xs v (pos 0)) (λ v. get_or new v (pos 0)) (λ v. get_or predecessors v 0) (λ v. get_or settle_order v 0))) same_old known)))
+-- what a search finds, by potentials and nodes as slices
+abbrev pub FindsIn : Option ℕ → List (Option Arc) → List Bool → ℕ → ℕ → List ℤ → List ℤ → List NodeState → Type 0
+FindsIn result arcs wanted source n old new states = MatchOption result
+    (IsStuck n (arc_at arcs n) wanted source (potential_in old) (potential_in new) (settle_order_in states))
+    (HasFound n (arc_at arcs n) wanted source (potential_in old) (potential_in new) (predecessor_in states) (settle_order_in states))
+
+-- the same as they stand in the search
+same_tables : (result : Option ℕ) (arcs : List (Option Arc)) (wanted : List Bool) (source n : ℕ) (old old' new new' : List ℤ) (states states' : List NodeState) → old ≡ old' → new ≡ new' → states ≡ states'
+    → FindsIn result arcs wanted source n old new states → FindsIn result arcs wanted source n old' new' states'
+same_tables result arcs wanted source n old old' new new' states states' same_old same_new same_states known =
+    subst (λ (xs : List NodeState). FindsIn result arcs wanted source n old' new' xs) same_states
+    (subst (λ (xs : List ℤ). FindsIn result arcs wanted source n old' xs states) same_new (subst (λ (xs : List ℤ). FindsIn result arcs wanted source n xs new states) same_old known))
+
+pub settle-requires-clause-network : goal.settle-requires-clause-network
+settle-requires-clause-network g c =
+    let arcs = c.args.arcs.now in
+    let many : length c.begin.new.nodes ≡ length c.args.wanted.now = omega (arith, c.begin.auto.nodes, ap length c.as_mut_slice-nodes.ensures.value, c.requires.size.nodes) in
+    subst (λ n. IsNetwork n arcs c.as_mut_slice-potentials.result.now) (sym many) (subst (λ (xs : List ℤ). IsNetwork (length c.args.wanted.now) arcs xs) (sym c.as_mut_slice-potentials.ensures.value) c.requires.network)
+
+pub settle-requires-clause-begun : goal.settle-requires-clause-begun
+settle-requires-clause-begun g c =
+    let nodes = c.begin.new.nodes in
+    let m : ℕ = length nodes in
+    let same : m ≡ length c.as_mut_slice-nodes.result.now = c.begin.auto.nodes in
+    let begins = c.begin.ensures in
+    let source_in : c.args.source < m = omega (arith, same, ap length c.as_mut_slice-nodes.ensures.value, c.requires.size.nodes, c.requires.source) in
+    record {
+      within = source_in;
+      unsettled = λ v v_in. omega (arith, same, begins.unsettled v (omega (arith, same, v_in)));
+      searched = begun m (arc_at c.args.arcs.now m) (potential_in c.as_mut_slice-potentials.result.now) c.args.source (distance_in nodes) (predecessor_in nodes) (settle_order_in nodes) source_in
+          (λ v v_in. begins.unsettled v (omega (arith, same, v_in)) ∙ sym same) (λ v v_in not. begins.unreached v (omega (arith, same, v_in)) not) begins.start;
+    }
 
 pub lower-requires-clause-node_distance : goal.lower-requires-clause-node_distance
 lower-requires-clause-node_distance g c =
-    let n : ℕ = length c.begin.new.settle_order in
-    let pot : ℕ → ℤ = λ v. get_or c.as_mut_slice-potentials.result.now v (pos 0) in
-    let few : n ≤ max_nodes = omega (arith, c.begin.ensures.settle_order, ap length c.as_mut_slice-settle_order.ensures.value, c.requires.size.settle_order, c.requires.few) in
-    let s = c.in-Some.ensures in
-    let near : IsNearest n pot (λ v. get_or c.settle.new.distances v None) (λ v. get_or c.settle.new.settle_order v 0) c.in-Some.node c.in-Some.node_distance = s.found.0 in
-    shown_short c.in-Some.node_distance
-    (short_found n (arc_at c.args.arcs.now n) pot c.args.source (λ v. get_or c.settle.new.distances v None) (λ v. get_or c.settle.new.predecessors v 0) (λ v. get_or c.settle.new.settle_order v 0) few s.searched c.in-Some.node c.in-Some.node_distance near.within near.reached)
+    let n : ℕ = length c.begin.new.nodes in
+    let few : n ≤ max_nodes = omega (arith, c.begin.auto.nodes, ap length c.as_mut_slice-nodes.ensures.value, c.requires.size.nodes, c.requires.network.few) in
+    let s = c.in-Some.ensures.search in
+    shown_short c.in-Some.node_distance (short_found n c.args.arcs.now c.as_mut_slice-potentials.result.now c.args.source c.settle.new.nodes few s.searched c.in-Some.node c.in-Some.node_distance s.found.0.within s.found.0.reached)
 
-pub lower-requires-clause-short_distances : goal.lower-requires-clause-short_distances
-lower-requires-clause-short_distances g c =
-    let n : ℕ = length c.begin.new.settle_order in
-    let pot : ℕ → ℤ = λ v. get_or c.as_mut_slice-potentials.result.now v (pos 0) in
-    let few : n ≤ max_nodes = omega (arith, c.begin.ensures.settle_order, ap length c.as_mut_slice-settle_order.ensures.value, c.requires.size.settle_order, c.requires.few) in
-    let s = c.in-Some.ensures in
-    λ v a within is.
-    short_found n (arc_at c.args.arcs.now n) pot c.args.source (λ v. get_or c.settle.new.distances v None) (λ v. get_or c.settle.new.predecessors v 0) (λ v. get_or c.settle.new.settle_order v 0) few s.searched v a (omega (arith, s.settle_order, within)) is
+pub lower-requires-clause-short : goal.lower-requires-clause-short
+lower-requires-clause-short g c =
+    let n : ℕ = length c.begin.new.nodes in
+    let old = c.as_mut_slice-potentials.result.now in
+    let many : n ≡ length c.args.wanted.now = omega (arith, c.begin.auto.nodes, ap length c.as_mut_slice-nodes.ensures.value, c.requires.size.nodes) in
+    let settled : length c.settle.new.nodes ≡ n = c.settle.auto.nodes in
+    let network = c.requires.network in
+    let few : n ≤ max_nodes = omega (arith, many, network.few) in
+    let s = c.in-Some.ensures.search in
+    record {
+      many = omega (arith, ap length c.as_mut_slice-potentials.ensures.value, network.many, many, settled);
+      potential = λ v within. subst (λ (xs : List ℤ). IsShort (potential_in xs v)) (sym c.as_mut_slice-potentials.ensures.value) (network.short v (omega (arith, settled, many, within)));
+      distance = λ v a within is. short_found n c.args.arcs.now old c.args.source c.settle.new.nodes few s.searched v a (omega (arith, settled, within)) is;
+    }
 
 pub returns-in-Some-clause-found : goal.returns-in-Some-clause-found
 returns-in-Some-clause-found g c =
     let t = c.args.self.now in
     let n : ℕ = length c.args.wanted.now in
-    let m : ℕ = length c.begin.new.settle_order in
-    let many : m ≡ n = omega (arith, c.begin.ensures.settle_order, ap length c.as_mut_slice-settle_order.ensures.value, c.requires.size.settle_order) in
+    let many : length c.begin.new.nodes ≡ n = omega (arith, c.begin.auto.nodes, ap length c.as_mut_slice-nodes.ensures.value, c.requires.size.nodes) in
     let arcs = c.args.arcs.now in
+    let source = c.args.source in
     let old = c.as_mut_slice-potentials.result.now in
-    let pot : ℕ → ℤ = λ v. get_or old v (pos 0) in
-    let pot' : ℕ → ℤ = λ v. get_or c.lower.new.potentials v (pos 0) in
-    let distance : ℕ → Option ℤ = λ v. get_or c.settle.new.distances v None in
-    let predecessor : ℕ → ℕ = λ v. get_or c.settle.new.predecessors v 0 in
-    let rank : ℕ → ℕ = λ v. get_or c.settle.new.settle_order v 0 in
+    let new = c.lower.new.potentials in
+    let states = c.settle.new.nodes in
     let node = c.in-Some.node in
     let far = c.in-Some.node_distance in
-    let s = c.in-Some.ensures in
-    let near_m : IsNearest m pot distance rank node far = s.found.0 in
-    let near : IsNearest n pot distance rank node far = subst (λ k. IsNearest k pot distance rank node far) many near_m in
-    let search : IsSearched n (arc_at arcs n) pot c.args.source max_cost n distance predecessor rank = subst (λ k. IsSearched k (arc_at arcs k) pot c.args.source max_cost k distance predecessor rank) many s.searched in
-    let lowers : Lowers n pot pot' distance rank node (to_z w64 (of_z w64 far)) = subst (λ k. Lowers k pot pot' distance rank node (to_z w64 (of_z w64 far))) (s.settle_order ∙ many) c.lower.ensures.lowers in
-    let reduced : HasNonNegativeReducedCosts n (arc_at arcs n) pot = subst (λ (xs : List ℤ). HasNonNegativeReducedCosts n (arc_at arcs n) (λ v. get_or xs v (pos 0))) (sym c.as_mut_slice-potentials.ensures.value) c.requires.reduced in
-    let is = found n (arc_at arcs n) c.args.wanted.now c.args.source pot pot' distance predecessor rank node far (to_z w64 (of_z w64 far)) reduced search near lowers
-    (shown_is far (short_found n (arc_at arcs n) pot c.args.source distance predecessor rank c.requires.few search node far near.within near.reached))
-    s.found.1 (λ v within settled. s.unwanted v (omega (arith, many, within)) (omega (arith, many, settled))) in
-    same_tables (Some node) arcs c.args.wanted.now c.args.source n
-    old t.potentials.items c.lower.new.potentials (with_items t.potentials c.lower.new.potentials).items c.settle.new.predecessors (with_items t.predecessors c.settle.new.predecessors).items c.settle.new.settle_order (with_items t.settle_order c.settle.new.settle_order).items
-    c.as_mut_slice-potentials.ensures.value
-    (sym (with_items_is t.potentials c.lower.new.potentials (omega (arith, c.lower.ensures.size, s.settle_order, many, c.requires.size.potentials, t.potentials.ok.0))))
-    (sym (with_items_is t.predecessors c.settle.new.predecessors (omega (arith, s.predecessors, many, c.requires.size.predecessors, t.predecessors.ok.0))))
-    (sym (with_items_is t.settle_order c.settle.new.settle_order (omega (arith, s.settle_order, many, c.requires.size.settle_order, t.settle_order.ok.0))))
-    is
+    let s : EndsSearch n arcs old c.args.wanted.now source states (Some (node, far)) = subst (λ k. EndsSearch k arcs old c.args.wanted.now source states (Some (node, far))) many c.in-Some.ensures.search in
+    let near = s.found.0 in
+    let lowers : Lowers n (potential_in old) (potential_in new) (distance_in states) (settle_order_in states) node (to_z w64 (of_z w64 far)) =
+    subst (λ k. Lowers k (potential_in old) (potential_in new) (distance_in states) (settle_order_in states) node (to_z w64 (of_z w64 far))) (c.settle.auto.nodes ∙ many) c.lower.ensures in
+    let network = subst (λ (xs : List ℤ). IsNetwork n arcs xs) (sym c.as_mut_slice-potentials.ensures.value) c.requires.network in
+    let is = found n (arc_at arcs n) c.args.wanted.now source (potential_in old) (potential_in new) (distance_in states) (predecessor_in states) (settle_order_in states) node far (to_z w64 (of_z w64 far)) network.reduced s.searched near lowers
+    (shown_is far (short_found n arcs old source states network.few s.searched node far near.within near.reached)) s.found.1 s.unwanted in
+    same_tables (Some node) arcs c.args.wanted.now source n old t.potentials.items new (with_items t.potentials new).items states (with_items t.nodes states).items c.as_mut_slice-potentials.ensures.value
+    (sym (with_items_is t.potentials new (omega (arith, c.lower.auto.potentials, network.many, c.requires.size.potentials, t.potentials.ok.0))))
+    (sym (with_items_is t.nodes states (omega (arith, c.settle.auto.nodes, many, c.requires.size.nodes, t.nodes.ok.0)))) is
 
 pub returns-in-None-clause-found : goal.returns-in-None-clause-found
 returns-in-None-clause-found g c =
     let t = c.args.self.now in
     let n : ℕ = length c.args.wanted.now in
-    let m : ℕ = length c.begin.new.settle_order in
-    let many : m ≡ n = omega (arith, c.begin.ensures.settle_order, ap length c.as_mut_slice-settle_order.ensures.value, c.requires.size.settle_order) in
+    let many : length c.begin.new.nodes ≡ n = omega (arith, c.begin.auto.nodes, ap length c.as_mut_slice-nodes.ensures.value, c.requires.size.nodes) in
     let arcs = c.args.arcs.now in
+    let source = c.args.source in
     let old = c.as_mut_slice-potentials.result.now in
-    let pot : ℕ → ℤ = λ v. get_or old v (pos 0) in
-    let distance : ℕ → Option ℤ = λ v. get_or c.settle.new.distances v None in
-    let predecessor : ℕ → ℕ = λ v. get_or c.settle.new.predecessors v 0 in
-    let rank : ℕ → ℕ = λ v. get_or c.settle.new.settle_order v 0 in
-    let s = c.in-None.ensures in
-    let search : IsSearched n (arc_at arcs n) pot c.args.source max_cost n distance predecessor rank = subst (λ k. IsSearched k (arc_at arcs k) pot c.args.source max_cost k distance predecessor rank) many s.searched in
-    let none : IsExhausted n distance rank = subst (λ k. IsExhausted k distance rank) many s.found in
-    let is = stuck n (arc_at arcs n) c.args.wanted.now c.args.source n pot distance predecessor rank c.requires.source search none (λ v within settled. s.unwanted v (omega (arith, many, within)) (omega (arith, many, settled))) in
-    same_tables None arcs c.args.wanted.now c.args.source n
-    old t.potentials.items old (with_items t.potentials old).items c.settle.new.predecessors (with_items t.predecessors c.settle.new.predecessors).items c.settle.new.settle_order (with_items t.settle_order c.settle.new.settle_order).items
-    c.as_mut_slice-potentials.ensures.value
+    let states = c.settle.new.nodes in
+    let s : EndsSearch n arcs old c.args.wanted.now source states None = subst (λ k. EndsSearch k arcs old c.args.wanted.now source states None) many c.in-None.ensures.search in
+    let is = stuck n (arc_at arcs n) c.args.wanted.now source n (potential_in old) (distance_in states) (predecessor_in states) (settle_order_in states) c.requires.source s.searched s.found s.unwanted in
+    same_tables None arcs c.args.wanted.now source n old t.potentials.items old (with_items t.potentials old).items states (with_items t.nodes states).items c.as_mut_slice-potentials.ensures.value
     (sym (with_items_is t.potentials old (omega (arith, ap length c.as_mut_slice-potentials.ensures.value, t.potentials.ok.0))))
-    (sym (with_items_is t.predecessors c.settle.new.predecessors (omega (arith, s.predecessors, many, c.requires.size.predecessors, t.predecessors.ok.0))))
-    (sym (with_items_is t.settle_order c.settle.new.settle_order (omega (arith, s.settle_order, many, c.requires.size.settle_order, t.settle_order.ok.0))))
-    is
+    (sym (with_items_is t.nodes states (omega (arith, c.settle.auto.nodes, many, c.requires.size.nodes, t.nodes.ok.0)))) is
 
 pub returns-in-Some-clause-settled : goal.returns-in-Some-clause-settled
 returns-in-Some-clause-settled g c =
     let t = c.args.self.now in
-    let s = c.in-Some.ensures in
-    let many : length c.begin.new.settle_order ≡ length c.args.wanted.now = omega (arith, c.begin.ensures.settle_order, ap length c.as_mut_slice-settle_order.ensures.value, c.requires.size.settle_order) in
-    subst (λ (rs : List ℕ). HasSettled (settled_nodes (length c.args.wanted.now) rs (Some c.in-Some.node)) c.args.effort.now c.settle.new.effort)
-    (sym (with_items_is t.settle_order c.settle.new.settle_order (omega (arith, s.settle_order, many, c.requires.size.settle_order, t.settle_order.ok.0))))
-    (subst (λ n. HasSettled (settled_nodes n c.settle.new.settle_order (Some c.in-Some.node)) c.args.effort.now c.settle.new.effort) many s.settled)
+    let states = c.settle.new.nodes in
+    let many : length c.begin.new.nodes ≡ length c.args.wanted.now = omega (arith, c.begin.auto.nodes, ap length c.as_mut_slice-nodes.ensures.value, c.requires.size.nodes) in
+    subst (λ (xs : List NodeState). HasSettled (settled_nodes (length c.args.wanted.now) xs (Some c.in-Some.node)) c.args.effort.now c.settle.new.effort)
+    (sym (with_items_is t.nodes states (omega (arith, c.settle.auto.nodes, many, c.requires.size.nodes, t.nodes.ok.0))))
+    (subst (λ n. HasSettled (settled_nodes n states (Some c.in-Some.node)) c.args.effort.now c.settle.new.effort) many c.in-Some.ensures.settled)

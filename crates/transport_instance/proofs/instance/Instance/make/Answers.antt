@@ -3,7 +3,7 @@ use Rattle.std.specs.List.{range_with_len, slice_index}
 use Rattle.std.specs.Map.{keys_of}
 use Rattle.std.proofs.lemmas.Option.{get_or_from_slice_get}
 use Rattle.bucket_core.specs.Rule.{total_weight}
-use Rattle.tally_core.specs.Tally.{most_at_point}
+use Rattle.limits.specs.Limits.{point_inputs}
 use Rattle.transport_instance.specs.Groups.{rows_view}
 use Rattle.transport_instance.proofs.Grouped.{listed_groups, few_inputs}
 use Rattle.transport_instance.proofs.Inputs.{group_inputs, sum_places}
@@ -30,7 +30,7 @@ invariant_of-result c =
       rise = sizes.rise;
       sizes = sizes.some;
       listed = listed_groups old load groups sizes (keys_of c.args.totals.now) c.requires.listed;
-      counts = few_inputs old load groups sizes most_at_point tally.small;
+      counts = few_inputs old load groups sizes point_inputs tally.small;
       inputs = omega (arith, group_inputs old load groups sizes, at_points, tally.few);
       some = omega (arith, whole, c.total.ensures.value, c.total.ensures.allowed.some);
       small = omega (arith, whole, c.requires.small);

@@ -1,0 +1,3 @@
+mod Broken
+mod Separated
+mod Shown

@@ -1,0 +1,45 @@
+//! Diagnostics of tallies.
+ghost use Rattle.std.specs.Prelude.{IfOk, string_bytes};
+ghost use Rattle.file_diagnostics.specs.Named.{Names};
+
+use crate::books::put_misread;
+use crate::ends::Ends;
+use crate::lines::{Lines, Opening};
+use std::alloc::{AllocError, Global};
+use tally_text::TallyFileFault;
+
+/// Explains why the file at `path`, which begins as a tally, is none.
+pub fn of_tally(
+    alloc: Global,
+    path: &str,
+    ends: Ends,
+    fault: TallyFileFault,
+) -> Result<String, AllocError>
+    ensures names { IfOk result (λ s. Names path.now (string_bytes s)) }
+{
+    let is_cut = match fault {
+        TallyFileFault::Line(line) => ends.is_cut_at(u64::from(line)),
+        _ => false,
+    };
+    let mut lines = Lines::new(alloc);
+    put_misread(&mut lines, "tally", is_cut, fault, taken(fault));
+    lines.headed(Opening::Error, path)
+}
+
+/// What is taken in place of a fault.
+fn taken(fault: TallyFileFault) -> &'static str {
+    match fault {
+        TallyFileFault::Header => {
+            "it begins with the line {\"tally\":1}, and a book with {\"book\":1}"
+        }
+        TallyFileFault::Page => {
+            "docs/FORMATS.md has its members; it is spelled without blanks, and ends with a line feed"
+        }
+        TallyFileFault::Line(_) => {
+            "a point is [POINT,INPUTS], POINT below the total and INPUTS above 0, with its line end"
+        }
+        TallyFileFault::Order(_) => "points rise, each stands once",
+        TallyFileFault::Inputs => "the file may be cut short; tally the notes again",
+        TallyFileFault::WantOfMemory => "there was no memory to read it",
+    }
+}

@@ -1,5 +1,0 @@
-use Rattle.flagops_commands.proofs.Valid.{plans_are_valid}
-use Rattle.flagops_commands.proofs.laws.printed_plans_are_valid.Goals as goal
-
-pub returns : goal.returns
-returns c = plans_are_valid

@@ -1,5 +1,0 @@
-use Rattle.flagops_commands.proofs.Passed.{passed_over}
-use Rattle.flagops_commands.proofs.laws.unread_members_are_passed_over.Goals as goal
-
-pub returns : goal.returns
-returns c = passed_over

@@ -1,0 +1,74 @@
+-- Of which file a person is told.
+use Rattle.std.proofs.Common.{◌≡◌, ◌<◌, ℕ, zero, suc, Bool, true, false, List, [], ◌∷◌, IfErr, Result, Ok, Err, arith, ap, get_or, length, map, inl, inr, refl, string_bytes, subst, sym}
+use Rattle.flagops_files.specs.Refusal as files
+use Rattle.flagops_files.specs.Refusal.{Refused}
+use Rattle.flagops_files.specs.declared.refusal.Refusal as files_refusal
+use Rattle.file_diagnostics.specs.Named.{Names}
+use Rattle.flagops_shell.specs.Diagnostic.{Says}
+use Rattle.flagops_shell.specs.declared.refused.Remark.{Remark}
+use Rattle.flagops_shell.specs.declared.refused.Remark.TheVariants.{Short, Lines}
+use Rattle.flagops_filters.specs.Refusal.{is_unread, is_want}
+use Rattle.flagops_filters.specs.Remarks.{BeginsWith, NamesOnePath, NamesPath, NamesRefused, NotesIf, RemarksBy, RemarksOnePath}
+use Rattle.flagops_filters.specs.Report.{Told, is_file_fault}
+use Rattle.flagops_filters.specs.Stopping.{IsStopped}
+use Rattle.flagops_filters.specs.declared.refusal.FilterRefusal.{FilterRefusal}
+use Rattle.flagops_filters.specs.declared.refusal.FilterRefusal.TheVariants.{Load}
+use Rattle.flagops_filters.proofs.Loaded.{not_want}
+
+-- what follows from what a remark says, it says too
+pub says_so : (P Q : List ℕ → Type 0) (remark : Remark) → ((lines : List ℕ) → P lines → Q lines) → Says P remark → Says Q remark
+says_so P Q Short f says = tt
+says_so P Q (Lines lines) f says = f (string_bytes lines) says
+
+-- ---- a file that was loaded
+
+-- a file that is refused is named, as every other command names it
+pub loaded_named : (path : List ℕ) (e : Refused) (t : Told) → t.refusal ≡ Load e.refusal → t.remark ≡ e.remark → (files.is_want e.refusal ≡ false → Says (Names path) e.remark) → is_want t.refusal ≡ false → Says (NamesPath path) t.remark
+loaded_named path e t is same names no_want = subst (Says (NamesPath path)) (sym same) (says_so (Names path) (NamesPath path) e.remark (λ lines named. inl named) (names (not_want t e is no_want)))
+
+pub document_named : (path : List ℕ) (e : Refused) (t : Told) → t.refusal ≡ Load e.refusal → t.remark ≡ e.remark → (files.is_want e.refusal ≡ false → Says (Names path) e.remark) → is_want t.refusal ≡ false
+    → Says (NamesRefused path t.refusal) t.remark
+document_named path e t is same names no_want = subst (λ (r : FilterRefusal). Says (NamesRefused path r) t.remark) (sym is) (loaded_named path e t is same names no_want)
+
+-- ---- one of several files
+
+no_less : {Y : Type 0} (i : ℕ) → i < 0 → Y
+no_less i less = absurd (omega (arith, less))
+
+less : (i n : ℕ) → suc i < suc n → i < n
+less i n h = omega (arith, h)
+
+named_at : {X : Type 0} (now : X → List ℕ) (xs : List X) (i : ℕ) (z : X) (lines : List ℕ) → i < length xs → NamesPath (now (get_or xs i z)) lines → NamesOnePath (map now xs) lines
+named_at now [] i z lines inside names = no_less i inside
+named_at now (x ∷ xs) zero z lines inside names = inl names
+named_at now (x ∷ xs) (suc i) z lines inside names = inr (named_at now xs i z lines (less i (length xs) inside) names)
+
+pub one_named : {X : Type 0} (now : X → List ℕ) (xs : List X) (i : ℕ) (z : X) (t : Told) → i < length xs → (is_want t.refusal ≡ false → Says (NamesPath (now (get_or xs i z))) t.remark) → is_want t.refusal ≡ false → Says (NamesOnePath (map now xs)) t.remark
+one_named now xs i z t inside names no_want =
+    says_so (NamesPath (now (get_or xs i z))) (NamesOnePath (map now xs)) t.remark (λ lines named. named_at now xs i z lines inside named) (names no_want)
+
+pub first_named : (path : List ℕ) (paths : List (List ℕ)) (t : Told) → (is_want t.refusal ≡ false → Says (NamesPath path) t.remark) → is_want t.refusal ≡ false → Says (NamesOnePath (path ∷ paths)) t.remark
+first_named path paths t names no_want = says_so (NamesPath path) (NamesOnePath (path ∷ paths)) t.remark (λ lines named. inl named) (names no_want)
+
+pub all_named : {X : Type 0} (path : List ℕ) (paths : List (List ℕ)) (r : Result X Told) → RemarksOnePath paths r → RemarksOnePath (path ∷ paths) r
+all_named path paths (Ok x) names = tt
+all_named path paths (Err t) names = λ no_want. says_so (NamesOnePath paths) (NamesOnePath (path ∷ paths)) t.remark (λ lines named. inr named) (names no_want)
+
+-- ---- a flag, or the standard input
+
+pub flag_named : (path : List ℕ) (t : Told) (e : files_refusal.Refusal) → t.refusal ≡ Load e → Says (NamesPath path) t.remark → is_want t.refusal ≡ false → Says (NamesRefused path t.refusal) t.remark
+flag_named path t e is says no_want = subst (λ (r : FilterRefusal). Says (NamesRefused path r) t.remark) (sym is) says
+
+-- a stream that was not tallied to its end
+pub stream_named : {X : Type 0} (path : List ℕ) (r : Result X Told) → IfErr r IsStopped → RemarksBy (NamesRefused path) r
+stream_named path (Ok x) stops = tt
+stream_named path (Err t) stops = λ no_want. subst (λ (r : FilterRefusal). Says (NamesRefused path r) t.remark) (sym stops.0.1) stops.1
+
+pub stream_read : {X : Type 0} (r : Result X Told) → IfErr r IsStopped → is_file_fault r ≡ false
+stream_read (Ok x) stops = refl
+stream_read (Err t) stops = ap is_unread stops.0.1
+
+-- ---- what is told beside
+
+pub noted_so : (b : Bool) (opening lines : List ℕ) → NotesIf b opening lines → b ≡ true → BeginsWith opening lines
+noted_so b opening lines notes is = subst (λ (x : Bool). NotesIf x opening lines) is notes

@@ -1,0 +1,206 @@
+-- What a person is told of what a command on steps comes to.
+use Rattle.std.proofs.Common.{◌≡◌, ◌++◌, ◌||◌, ◌∙◌, ℕ, Bool, List, [], ◌∷◌, Option, Some, None, Result, Ok, Err, IfErr, IfOk, IfSome, inl, inr, refl, sym, ap, subst, append_assoc}
+use Rattle.std.specs.Prelude.{true, false, codes, decimal, is_some}
+use Rattle.flag_text.specs.Printing.{text_of}
+use Rattle.flag_text.specs.Shape.{text}
+use Rattle.flagops_rollouts.specs.Doubts.{NamesDoubt, NamesDoubted}
+use Rattle.flagops_files.specs.Lines.{NamesFile}
+use Rattle.flagops_rollouts.specs.declared.doubts.NotedDoubt.{NotedDoubt}
+use Rattle.flagops_files.specs.Question.{book_question_subjects}
+use Rattle.flagops_files.specs.Refusal as files
+use Rattle.flagops_files.specs.Refusal.{loads_file, loads_flags}
+use Rattle.flagops_files.specs.Told.{NamesOne, Subjects, TellsOf, TellsOfOne, by, file}
+use Rattle.flagops_files.specs.declared.refusal.Call.{Call}
+use Rattle.flagops_files.specs.declared.refusal.Doubt.{Doubt}
+use Rattle.flagops_files.specs.declared.refusal.Refusal.{Refusal}
+use Rattle.flagops_files.proofs.Told.{told_left, told_right}
+use Rattle.file_diagnostics.specs.Named.{Names, opening_words, quoted}
+use Rattle.flagops_shell.specs.Diagnostic.{Says}
+use Rattle.flagops_shell.specs.Ending.{KeepsUnlessDone, Remarks}
+use Rattle.flagops_shell.specs.Files.{Holding}
+use Rattle.flagops_shell.specs.Report.{outcome_view}
+use Rattle.flagops_shell.specs.declared.outcome.Outcome.{Outcome}
+use Rattle.flagops_shell.specs.declared.refused.Remark.{Remark}
+use Rattle.flagops_shell.specs.declared.refused.Remark.TheVariants.{Short, Lines}
+use Rattle.flagops_ramps.specs.Commands.{ramp_told, step_told, verify_told}
+use Rattle.flagops_ramps.specs.Diagnostics.{Diagnoses, Diagnosis, IsOfAnswers, IsOfDoubted, IsOfRamp, IsOfSize, IsOfStep, IsOfVerify, NamesPath, NamesStep, answered_subjects, is_of_rule, judged_path, told_by}
+use Rattle.flagops_ramps.specs.Refusal.{is_unread, is_want}
+use Rattle.flagops_ramps.specs.Judging.{refused_as}
+use Rattle.flagops_ramps.proofs.Loaded.{not_want}
+use Rattle.rollout_checks.specs.declared.fault.RolloutFault.{RolloutFault}
+use Rattle.rollout_checks.specs.declared.verify_fault.VerifyFault.TheVariants as verdict
+use Rattle.flagops_ramps.specs.Report.{Told}
+use Rattle.flagops_ramps.specs.Words.{Applying, Ramping, Verifying}
+use Rattle.flagops_ramps.specs.declared.refusal.RampRefusal.{RampRefusal}
+use Rattle.flagops_ramps.specs.declared.refusal.RampRefusal.TheVariants as refusal
+
+-- ---- lines
+
+pub name_path : (path lines : List ℕ) → Names path lines → NamesPath path lines
+name_path path lines named = inl named
+
+pub file_path : (path lines : List ℕ) → NamesFile path lines → NamesPath path lines
+file_path path lines named = inr named
+
+-- a line that names a step of a file names the file
+pub step_path : (path : List ℕ) (step : ℕ) (lines : List ℕ) → NamesStep path step lines → NamesPath path lines
+step_path path step lines (rest, is) = inr (codes ", step " ++ (decimal step ++ rest), is)
+
+-- lines that begin with a name do so with more behind them
+named_behind : (name lines more whole : List ℕ) → Names name lines → whole ≡ lines ++ more → Names name whole
+unfolding Names
+named_behind name lines more whole (opening, rest, is) behind = (
+  opening,
+  rest ++ more,
+  behind ∙ ap (λ (l : List ℕ). l ++ more) is ∙ append_assoc (opening_words opening) (quoted name ++ rest) more
+      ∙ ap (λ (l : List ℕ). opening_words opening ++ l) (append_assoc (quoted name) rest more),
+)
+
+pub named_still : (name lines more whole : List ℕ) → Names name lines → whole ≡ lines ++ more → Names name whole
+named_still = named_behind
+
+-- ---- doubts
+
+-- what is told of a doubt is of one of the two
+pub doubt_said : (steps book : List ℕ) (d : Doubt) (remark : Remark) → Says (NamesDoubt steps book d) remark → Says (NamesDoubted steps book) remark
+doubt_said steps book d Short said = tt
+doubt_said steps book d (Lines lines) said = (d, said)
+
+-- what is told of a doubt beside each request is told beside this one
+pub for_request : (request book : List ℕ) (o : Option NotedDoubt) → IfSome o (λ d. (r : List ℕ) → Says (NamesDoubt r book d.doubt) d.remark) → IfSome o (λ d. Says (NamesDoubt request book d.doubt) d.remark)
+for_request request book None told = tt
+for_request request book (Some d) told = told request
+
+-- ---- refusals
+
+-- memory that ran out is told of nothing
+pub wanting : (Is : Diagnosis) (t : Told) → is_want t.refusal ≡ true → is_want t.refusal ≡ false → Is t.refusal t.remark
+wanting Is t want no_want = absurd (let both : true ≡ false = sym want ∙ no_want in cc)
+
+-- what refuses a load is told as every other command tells it
+loaded : (Is : Diagnosis) (t : Told) (e : files.Refused) → t.refusal ≡ refusal.Load e.refusal → t.remark ≡ e.remark → (files.is_want e.refusal ≡ false → Is (refusal.Load e.refusal) e.remark) → is_want t.refusal ≡ false → Is t.refusal t.remark
+loaded Is t e is same named no_want =
+    subst (λ (x : RampRefusal). Is x t.remark) (sym is) (subst (λ (m : Remark). Is (refusal.Load e.refusal) m) (sym same) (named (not_want t e is no_want)))
+
+pub ramp_loaded : (a : Ramping) (t : Told) (e : files.Refused) → t.refusal ≡ refusal.Load e.refusal → t.remark ≡ e.remark
+    → (files.is_want e.refusal ≡ false → NamesOne (book_question_subjects a.document a.steps a.book) e.refusal e.remark) → is_want t.refusal ≡ false → IsOfRamp a t.refusal t.remark
+ramp_loaded a t e is same named = loaded (IsOfRamp a) t e is same named
+
+pub verify_loaded : (v : Verifying) (t : Told) (e : files.Refused) → t.refusal ≡ refusal.Load e.refusal → t.remark ≡ e.remark
+    → (files.is_want e.refusal ≡ false → NamesOne (book_question_subjects v.rollout.document v.rollout.steps v.rollout.book) e.refusal e.remark) → is_want t.refusal ≡ false → IsOfVerify v t.refusal t.remark
+verify_loaded v t e is same named =
+    loaded (IsOfVerify v) t e is same (λ wanted. told_left (book_question_subjects v.rollout.document v.rollout.steps v.rollout.book) ((file v.ramp, by loads_file) ∷ []) e.refusal e.remark (named wanted))
+
+pub step_loaded : (a : Applying) (t : Told) (e : files.Refused) → t.refusal ≡ refusal.Load e.refusal → t.remark ≡ e.remark → loads_flags (files.call_of e.refusal) ≡ true
+    → (files.is_want e.refusal ≡ false → Says (Names a.document) e.remark) → is_want t.refusal ≡ false → IsOfStep a t.refusal t.remark
+step_loaded a t e is same comes named = loaded (IsOfStep a) t e is same (λ wanted. inl (comes, named wanted))
+
+pub answers_loaded : (path : List ℕ) (t : Told) (e : files.Refused) → t.refusal ≡ refusal.Load e.refusal → t.remark ≡ e.remark → loads_file (files.call_of e.refusal) ≡ true
+    → (files.is_want e.refusal ≡ false → Says (Names path) e.remark) → is_want t.refusal ≡ false → IsOfAnswers path t.refusal t.remark
+answers_loaded path t e is same comes named = loaded (IsOfAnswers path) t e is same (λ wanted. inl (comes, named wanted))
+
+-- and a file could not be read as every other command sees it
+pub failed_load : (old new : Bool) (t : Told) (e : files.Refused) → t.refusal ≡ refusal.Load e.refusal → new ≡ (old || files.is_unread e.refusal) → new ≡ (old || is_unread t.refusal)
+failed_load old new t e is failed = failed ∙ ap (λ b. old || b) (sym (ap is_unread is))
+
+-- answers that are no answers
+of_answers : (v : Verifying) (e : RampRefusal) (remark : Remark) → IsOfAnswers v.ramp e remark → IsOfVerify v e remark
+of_answers v (refusal.Load e) remark named = told_right (book_question_subjects v.rollout.document v.rollout.steps v.rollout.book) ((file v.ramp, by loads_file) ∷ []) e remark named
+of_answers v (refusal.Read f) remark named = named
+of_answers v (refusal.Ramp f) remark named = absurd named
+of_answers v (refusal.Print f) remark named = absurd named
+of_answers v (refusal.Verify f) remark named = absurd named
+of_answers v refusal.Lines remark named = absurd named
+of_answers v refusal.NoStep remark named = absurd named
+of_answers v (refusal.Doubted c d) remark named = absurd named
+
+pub verify_answers : {X : Type 0} (v : Verifying) (t : Told) (r : Result X Told) → r ≡ Err t → (is_want t.refusal ≡ false → IsOfAnswers v.ramp t.refusal t.remark) → Diagnoses (IsOfVerify v) r
+verify_answers {X} v t r is named = subst (λ (s : Result X Told). Diagnoses (IsOfVerify v) s) (sym is) (λ wanted. of_answers v t.refusal t.remark (named wanted))
+
+pub step_answers : (a : Applying) (e : RampRefusal) (remark : Remark) → IsOfAnswers a.ramp e remark → IsOfStep a e remark
+step_answers a (refusal.Load e) remark (inl named) = inr (inl named)
+step_answers a (refusal.Load e) remark (inr none) = absurd none
+step_answers a (refusal.Read f) remark named = named
+step_answers a (refusal.Ramp f) remark named = absurd named
+step_answers a (refusal.Print f) remark named = absurd named
+step_answers a (refusal.Verify f) remark named = absurd named
+step_answers a refusal.Lines remark named = absurd named
+step_answers a refusal.NoStep remark named = absurd named
+step_answers a (refusal.Doubted c d) remark named = absurd named
+
+-- answers that are doubted, or too large
+pub ramp_doubted : (a : Ramping) (e : RampRefusal) (remark : Remark) → IsOfDoubted a.steps a.book e remark → IsOfRamp a e remark
+ramp_doubted a (refusal.Doubted c d) remark named = named
+ramp_doubted a (refusal.Load e) remark named = absurd named
+ramp_doubted a (refusal.Ramp f) remark named = absurd named
+ramp_doubted a (refusal.Print f) remark named = absurd named
+ramp_doubted a (refusal.Read f) remark named = absurd named
+ramp_doubted a (refusal.Verify f) remark named = absurd named
+ramp_doubted a refusal.Lines remark named = absurd named
+ramp_doubted a refusal.NoStep remark named = absurd named
+
+pub verify_doubted : (v : Verifying) (e : RampRefusal) (remark : Remark) → IsOfDoubted v.rollout.steps v.rollout.book e remark → IsOfVerify v e remark
+verify_doubted v (refusal.Doubted c d) remark named = named
+verify_doubted v (refusal.Load e) remark named = absurd named
+verify_doubted v (refusal.Ramp f) remark named = absurd named
+verify_doubted v (refusal.Print f) remark named = absurd named
+verify_doubted v (refusal.Read f) remark named = absurd named
+verify_doubted v (refusal.Verify f) remark named = absurd named
+verify_doubted v refusal.Lines remark named = absurd named
+verify_doubted v refusal.NoStep remark named = absurd named
+
+pub ramp_large : (a : Ramping) (e : RampRefusal) (remark : Remark) → IsOfSize e remark → IsOfRamp a e remark
+ramp_large a (refusal.Print f) remark named = named
+ramp_large a (refusal.Load e) remark named = absurd named
+ramp_large a (refusal.Ramp f) remark named = absurd named
+ramp_large a (refusal.Read f) remark named = absurd named
+ramp_large a (refusal.Verify f) remark named = absurd named
+ramp_large a refusal.Lines remark named = absurd named
+ramp_large a refusal.NoStep remark named = absurd named
+ramp_large a (refusal.Doubted c d) remark named = absurd named
+
+-- a step that is refused
+pub ramp_refused : (a : Ramping) (t : Told) (f : RolloutFault) → t.refusal ≡ refusal.Ramp f → Says (NamesPath a.steps) t.remark → IsOfRamp a t.refusal t.remark
+ramp_refused a t f is said = subst (λ (x : RampRefusal). IsOfRamp a x t.remark) (sym is) said
+
+pub ramp_read : (t : Told) (f : RolloutFault) → t.refusal ≡ refusal.Ramp f → is_unread t.refusal ≡ false
+ramp_read t f is = ap is_unread is
+
+-- lines that name a step, told
+pub step_said : (path : List ℕ) (step : ℕ) (remark : Remark) → Says (NamesStep path step) remark → Says (NamesPath path) remark
+step_said path step Short said = tt
+step_said path step (Lines lines) said = step_path path step _ said
+
+-- ---- what a command tells of what it comes to
+
+remarks : (Notes : List ℕ → Type 0) (Is : Diagnosis) (files : Option Holding) (r : Result Outcome Told) → Diagnoses Is r → IfOk r (λ o. IfSome o.remark (Says Notes)) → IfSome files (λ at. Remarks is_want (told_by Notes Is) r)
+remarks Notes Is None r names notes = tt
+remarks Notes Is (Some at) (Ok o) names notes = λ remark is. subst (λ (m : Option Remark). IfSome m (Says Notes)) is notes
+remarks Notes Is (Some at) (Err t) names notes = names
+
+pub ramp_remarks : (a : Ramping) (files : Option Holding) (r : Result Outcome Told) → Diagnoses (IsOfRamp a) r → IfOk r (λ o. IfSome o.remark (Says (NamesDoubted a.steps a.book))) → IfSome files (λ at. Remarks is_want (ramp_told a) r)
+ramp_remarks a files r names notes = remarks (NamesDoubted a.steps a.book) (IsOfRamp a) files r names notes
+
+pub verify_remarks : (v : Verifying) (files : Option Holding) (r : Result Outcome Told) → Diagnoses (IsOfVerify v) r → IfOk r (λ o. IfSome o.remark (Says (NamesDoubted v.rollout.steps v.rollout.book))) → IfSome files (λ at. Remarks is_want (verify_told v) r)
+verify_remarks v files r names notes = remarks (NamesDoubted v.rollout.steps v.rollout.book) (IsOfVerify v) files r names notes
+
+no_remark : (r : Result Outcome Told) → IfOk r (λ o. o.remark ≡ None) → IfOk r (λ o. IfSome o.remark (Says (λ lines. ⊥)))
+no_remark (Ok o) none = subst (λ (m : Option Remark). IfSome m (Says (λ lines. ⊥))) (sym none) tt
+no_remark (Err t) none = tt
+
+pub step_remarks : (a : Applying) (files : Option Holding) (r : Result Outcome Told) → Diagnoses (IsOfStep a) r → IfOk r (λ o. o.remark ≡ None) → IfSome files (λ at. Remarks is_want (step_told a) r)
+step_remarks a files r names none = remarks (λ lines. ⊥) (IsOfStep a) files r names (no_remark r none)
+
+-- each want of memory is reported by the command's name
+pub wants : {X E : Type 0} (name : List ℕ) (r : Result X E) → IfErr r (λ e. name ≡ name)
+wants name (Ok x) = tt
+wants name (Err e) = refl
+
+-- files that stay
+pub all_kept : {E : Type 0} (old new : Option Holding) (r : Result Outcome E) → new ≡ old → KeepsUnlessDone old new r
+all_kept old new r same = inl same
+
+-- an outcome of which nothing is told has no remark
+pub plain : (o : Option Remark) → is_some o ≡ false → o ≡ None
+plain None is = refl
+plain (Some remark) is = cc

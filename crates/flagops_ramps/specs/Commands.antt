@@ -1,0 +1,47 @@
+-- What is known of each command on steps.
+use Rattle.std.specs.Prelude.{◌≡◌, List, ℕ, Option, codes}
+use Rattle.clap.specs.Kinds.{Kinds}
+use Rattle.clap.specs.Walk.{Text}
+use Rattle.flagops_rollouts.specs.Doubts.{NamesDoubted}
+use Rattle.flagops_shell.specs.Diagnostic.{RemarksOf}
+use Rattle.flagops_shell.specs.Files.{Holding}
+use Rattle.flagops_shell.specs.Running.{Description}
+use Rattle.flagops_ramps.specs.Apply.{IsStepReport}
+use Rattle.flagops_ramps.specs.Diagnostics.{IsOfRamp, IsOfStep, IsOfVerify, told_by}
+use Rattle.flagops_ramps.specs.Ramp.{IsRampReport}
+use Rattle.flagops_ramps.specs.Report.{Came}
+use Rattle.flagops_ramps.specs.Verify.{IsVerdictReport}
+use Rattle.flagops_ramps.specs.Words.{Applying, Ramping, Verifying, ramp_by, ramp_faults, step_by, step_faults, verify_by, verify_faults}
+use Rattle.flagops_ramps.specs.declared.refusal.RampRefusal.{RampRefusal}
+
+-- a command that leaves all files as they are, and reports each want of memory by its own name
+abbrev pub reading : {A : Type 0} → List ℕ → (List Text → Option A) → (List Text → Kinds) → (A → Holding → Came → Type 0) → (A → RemarksOf RampRefusal) → Description A RampRefusal
+reading name asked_by faults_of MayCome MayTell = record {
+  asked_by = asked_by;
+  faults_of = faults_of;
+  MayCome = λ a at after. MayCome a at;
+  MayTell = λ a at. MayTell a;
+  call_of = λ a e. name;
+  MayWant = λ a call. call ≡ name;
+  MayLeave = λ a old new. new ≡ old;
+  IsDone = λ status. status ≡ 0;
+}
+
+-- what a person is told of each command; beside a document nothing is
+abbrev pub ramp_told : Ramping → RemarksOf RampRefusal
+ramp_told a = told_by (NamesDoubted a.steps a.book) (IsOfRamp a)
+
+abbrev pub verify_told : Verifying → RemarksOf RampRefusal
+verify_told v = told_by (NamesDoubted v.rollout.steps v.rollout.book) (IsOfVerify v)
+
+abbrev pub step_told : Applying → RemarksOf RampRefusal
+step_told a = told_by (λ lines. ⊥) (IsOfStep a)
+
+abbrev pub ramp_description : Description Ramping RampRefusal
+ramp_description = reading (codes "ramp") ramp_by ramp_faults (λ a at. IsRampReport at a) ramp_told
+
+abbrev pub verify_description : Description Verifying RampRefusal
+verify_description = reading (codes "verify-ramp") verify_by verify_faults (λ v at. IsVerdictReport at v) verify_told
+
+abbrev pub step_description : Description Applying RampRefusal
+step_description = reading (codes "apply") step_by step_faults (λ a at. IsStepReport at a.document a.ramp a.key a.site a.step) step_told

@@ -1,2 +1,0 @@
-mod Broken
-mod Shown

@@ -1,3 +1,0 @@
-pub mod Broken
-pub mod Ends
-pub mod Named

@@ -1,0 +1,8 @@
+mod Asked
+mod Doubting
+mod Edited
+mod Passed
+mod Tallies
+pub mod Telling
+pub mod Valid
+pub mod Verdicts

@@ -1,0 +1,59 @@
+-- What was loaded in turn and then told, as one report.
+use Rattle.std.proofs.Common.{◌≡◌, ℕ, Bool, List, Option, Some, None, IfOk, IfSome, subst, sym}
+use Rattle.std.specs.Prelude.{Result, Ok, Err}
+use Rattle.flag_defs.specs.Document.{Definitions}
+use Rattle.plan_text.specs.Answer.{Answer}
+use Rattle.flagops_rollouts.specs.Apply.{IsApplyReport, IsLocalReport, applied_report}
+use Rattle.flagops_files.specs.Documents.{IsDocumentAt}
+use Rattle.flagops_shell.specs.Files.{Holding}
+use Rattle.flagops_rollouts.specs.Plan.{IsPlanOf, IsPlanReport}
+use Rattle.flagops_files.specs.PlanFile.{plan_at}
+use Rattle.flagops_files.specs.Question.{Question, IsQuestionAt}
+use Rattle.flagops_files.specs.Refusal.{GivesOne, GivesUnlessWant}
+use Rattle.flagops_shell.specs.Report.{outcome_view}
+use Rattle.flagops_rollouts.specs.Verify.{IsVerdict, IsVerifyReport}
+use Rattle.flagops_shell.specs.declared.outcome.Outcome.{Outcome}
+use Rattle.flagops_files.specs.Refusal.{Refused}
+
+-- two loads in turn, of which the first leaves the files as they are
+joined : {P Q R : Holding → Type 0} (old kept : Option Holding) → kept ≡ old → IfSome old P → IfSome kept Q → ((at : Holding) → P at → Q at → R at) → IfSome old R
+joined {P} {Q} {R} old kept same p q both = go old p (subst (λ (h : Option Holding). IfSome h Q) same q)
+  where
+    go : (h : Option Holding) → IfSome h P → IfSome h Q → IfSome h R
+    go None a b = tt
+    go (Some at) a b = both at a b
+
+module _ (document request book plan : List ℕ) (refine : Option ℕ) (strict json : Bool) (q : Question) (answer : Answer) where
+  verified_over : (at : Holding) (r : Result Outcome Refused) → IsQuestionAt at document request book (Ok q) → plan_at at plan ≡ Ok answer
+      → GivesOne outcome_view r (IsVerdict strict json refine (Ok q) (Ok answer)) → GivesOne outcome_view r (IsVerifyReport at document request book plan refine strict json)
+  unfolding IsVerifyReport
+  verified_over at (Ok o) asked answered told = (Ok q, asked, rw answered told)
+  verified_over at (Err e) asked answered told = λ no. (Ok q, asked, rw answered (told no))
+
+  pub verified : (old kept : Option Holding) (r : Result Outcome Refused) → kept ≡ old → IfSome old (λ at. IsQuestionAt at document request book (Ok q))
+      → IfSome kept (λ at. plan_at at plan ≡ Ok answer) → GivesOne outcome_view r (IsVerdict strict json refine (Ok q) (Ok answer))
+      → IfSome old (λ at. GivesOne outcome_view r (IsVerifyReport at document request book plan refine strict json))
+  verified old kept r same asked answered told = joined old kept same asked answered (λ at a b. verified_over at r a b told)
+
+module _ (document request book : List ℕ) (refine : Option ℕ) (strict explain : Bool) (q : Question) where
+  planned_over : (at : Holding) (r : Result Outcome Refused) → IsQuestionAt at document request book (Ok q) → GivesOne outcome_view r (IsPlanOf strict explain refine (Ok q))
+      → GivesOne outcome_view r (IsPlanReport at document request book refine strict explain)
+  unfolding IsPlanReport
+  planned_over at (Ok o) asked told = (Ok q, asked, told)
+  planned_over at (Err e) asked told = λ no. (Ok q, asked, told no)
+
+  pub planned : (old : Option Holding) (r : Result Outcome Refused) → IfSome old (λ at. IsQuestionAt at document request book (Ok q)) → GivesOne outcome_view r (IsPlanOf strict explain refine (Ok q))
+      → IfSome old (λ at. GivesOne outcome_view r (IsPlanReport at document request book refine strict explain))
+  planned None r asked told = tt
+  planned (Some at) r asked told = planned_over at r asked told
+
+module _ (path plan key : List ℕ) (site : ℕ) (flags : Definitions) (answer : Answer) where
+  applied_over : (at : Holding) (r : Result Outcome Refused) → IsDocumentAt at path (Ok flags) → plan_at at plan ≡ Ok answer
+      → GivesUnlessWant outcome_view r (applied_report flags key site answer) → IfOk r (λ o. IsLocalReport flags key site answer (outcome_view o)) → GivesOne outcome_view r (IsApplyReport at path plan key site)
+  unfolding IsApplyReport
+  applied_over at (Ok o) loaded answered told local = (Ok flags, loaded, rw answered (sym told, local))
+  applied_over at (Err e) loaded answered told local = λ no. (Ok flags, loaded, rw answered (sym (told no), tt))
+
+  pub applied : (old kept : Option Holding) (r : Result Outcome Refused) → kept ≡ old → IfSome old (λ at. IsDocumentAt at path (Ok flags)) → IfSome kept (λ at. plan_at at plan ≡ Ok answer)
+      → GivesUnlessWant outcome_view r (applied_report flags key site answer) → IfOk r (λ o. IsLocalReport flags key site answer (outcome_view o)) → IfSome old (λ at. GivesOne outcome_view r (IsApplyReport at path plan key site))
+  applied old kept r same loaded answered told local = joined old kept same loaded answered (λ at a b. applied_over at r a b told local)

@@ -1,0 +1,47 @@
+use Rattle.std.proofs.Common.{◌∙◌, inl, option_map, rules}
+use Rattle.plan_text.specs.Answer.{planned_view}
+use Rattle.flagops_files.specs.Question.{question_view}
+use Rattle.flagops_shell.proofs.Kept.{kept_after}
+use Rattle.flagops_rollouts.proofs.Edited.{failed_after, kept_whole, left_after, no_plan, no_question}
+use Rattle.flagops_rollouts.proofs.keeping.keep.Goals as goal
+
+pub returns-in_err-question-clause-exact : goal.returns-in_err-question-clause-exact
+returns-in_err-question-clause-exact g c =
+    let told =
+    no_question c.args.document.now c.args.plan.now c.args.request.now c.args.book.now c.args.write c.args.strict (option_map (λ m. m.number) c.args.refine) _ _ c.in_err-question.field-0.0 c.load_question.ensures.kept
+    c.in_err-question.ensures.exact in
+    search rules
+
+pub returns-in_err-question-clause-left : goal.returns-in_err-question-clause-left
+returns-in_err-question-clause-left g c = inl c.load_question.ensures.kept
+
+pub returns-in_err-question-clause-kept : goal.returns-in_err-question-clause-kept
+returns-in_err-question-clause-kept g c = inl c.load_question.ensures.kept
+
+pub returns-in_err-planned-clause-exact : goal.returns-in_err-planned-clause-exact
+returns-in_err-planned-clause-exact g c =
+    let told =
+    no_plan c.args.document.now c.args.plan.now c.args.request.now c.args.book.now c.args.write c.args.strict (option_map (λ m. m.number) c.args.refine) (question_view c.in_ok-question.question) _ _ _
+    c.in_err-planned.field-0.0 c.load_question.ensures.kept c.load_planned.ensures.kept c.in_ok-question.ensures.exact c.in_err-planned.ensures.exact in
+    search rules
+
+pub returns-in_err-planned-clause-left : goal.returns-in_err-planned-clause-left
+returns-in_err-planned-clause-left g c = inl (c.load_planned.ensures.kept ∙ c.load_question.ensures.kept)
+
+pub returns-in_err-planned-clause-kept : goal.returns-in_err-planned-clause-kept
+returns-in_err-planned-clause-kept g c = inl (c.load_planned.ensures.kept ∙ c.load_question.ensures.kept)
+
+pub returns-clause-exact : goal.returns-clause-exact
+returns-clause-exact g c =
+    kept_whole c.args.document.now c.args.plan.now c.args.request.now c.args.book.now c.args.write c.args.strict (option_map (λ m. m.number) c.args.refine) (question_view c.in_ok-question.question)
+    c.in_ok-question.question.document.items (planned_view c.in_ok-planned.planned) _ _ _ _ c.answer.result c.load_question.ensures.kept c.load_planned.ensures.kept c.in_ok-question.ensures.exact
+    c.in_ok-question.ensures.bytes c.in_ok-planned.ensures.exact c.answer.ensures.exact
+
+pub returns-clause-failed : goal.returns-clause-failed
+returns-clause-failed g c = failed_after _ _ _ _ _ c.in_ok-question.ensures.failed c.in_ok-planned.ensures.failed c.answer.ensures.failed
+
+pub returns-clause-left : goal.returns-clause-left
+returns-clause-left g c = left_after _ _ _ _ c.args.document.now c.args.write c.load_question.ensures.kept c.load_planned.ensures.kept c.answer.ensures.left
+
+pub returns-clause-kept : goal.returns-clause-kept
+returns-clause-kept g c = kept_after _ _ _ _ _ c.load_question.ensures.kept c.load_planned.ensures.kept c.answer.ensures.kept

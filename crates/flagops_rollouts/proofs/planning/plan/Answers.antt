@@ -1,0 +1,9 @@
+use Rattle.std.proofs.Common.{option_map}
+use Rattle.flagops_files.specs.Question.{question_view}
+use Rattle.flagops_rollouts.proofs.Verdicts.{planned}
+use Rattle.flagops_rollouts.proofs.planning.plan.Goals as goal
+
+pub returns-clause-exact : goal.returns-clause-exact
+returns-clause-exact g c =
+    planned c.args.document.now c.args.request.now c.args.book.now (option_map (λ m. m.number) c.args.refine) c.args.strict c.args.explain (question_view c.in_ok-question.question) _ c.answer-outcome.result
+    c.in_ok-question.ensures.exact c.answer-outcome.ensures.exact

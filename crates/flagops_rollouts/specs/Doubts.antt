@@ -1,0 +1,74 @@
+-- What is doubted of an answer to a rollout request, and what becomes of it.
+use Rattle.std.specs.Prelude.{ℕ, Bool, true, false, List, [], ◌∷◌, Option, Some, None, is_some, if◌then◌else◌, Result, Ok, Err}
+use Rattle.book_core.specs.Book.{Contents}
+use Rattle.book_core.specs.Page.{PageName}
+use Rattle.flag_text.specs.Reading.{tree_of}
+use Rattle.flag_text.specs.Shape.{Shape}
+use Rattle.flag_text.specs.declared.fault.TextFault.{TextFault}
+use Rattle.unread_members.specs.Unread.{unread_of}
+use Rattle.unread_members.specs.declared.reader.Reader.TheVariants as reader
+use Rattle.flagops_rollouts.specs.Foreign.{is_foreign, is_mixed}
+use Rattle.flagops_rollouts.specs.Unrecorded.{is_bare, is_unrecorded}
+use Rattle.flagops_files.specs.Loading.{max_text}
+use Rattle.flagops_files.specs.Question.{Question}
+use Rattle.flagops_files.specs.Told.{Subjects, file}
+use Rattle.flagops_files.specs.declared.evidence.Evidence.TheVariants.{Book}
+use Rattle.flagops_files.specs.declared.refusal.Call.{Call}
+use Rattle.flagops_files.specs.declared.refusal.Doubt.{Doubt}
+use Rattle.flagops_files.specs.declared.refusal.Doubt.TheVariants as doubt
+use Rattle.flagops_files.specs.declared.refusal.Refusal.{Refusal}
+use Rattle.flagops_files.specs.declared.refusal.Refusal.TheVariants.{Doubted}
+use Rattle.file_diagnostics.specs.Named.{Names}
+
+-- a tree has a member that the reader of requests passes over
+abbrev pub has_unread : Result Shape TextFault → Bool
+has_unread (Ok t) = is_some (unread_of reader.Request t)
+has_unread (Err e) = false
+
+-- the bytes of a request have one
+abbrev pub is_unread : List ℕ → Bool
+is_unread bytes = has_unread (tree_of bytes max_text)
+
+-- what is doubted of what was recorded: there is no input, or one is none of the flag
+abbrev pub recorded_doubt : Bool → Bool → Option Doubt
+recorded_doubt unrecorded foreign = if unrecorded then Some doubt.Unrecorded else (if foreign then Some doubt.Foreign else None)
+
+-- what is doubted of what a book has on a page, where there is one: it has no input, or one that is none of the flag
+abbrev pub doubt_in : Contents → Option PageName → Option Doubt
+doubt_in book page = recorded_doubt (is_bare (Book book) page) (is_mixed (Book book) page)
+
+abbrev pub first_doubt : Bool → Option Doubt → Option Doubt
+first_doubt unread recorded = if unread then Some doubt.Unread else recorded
+
+-- the first that is doubted of a question: a member of its request is not read, no recorded input counts, or one that does is none of the flag
+abbrev pub doubt_of : Question → Option Doubt
+doubt_of q = first_doubt (is_unread q.request) (recorded_doubt (is_unrecorded q) (is_foreign q))
+
+-- whether a person is told of a doubt; with `--strict` the call refuses it
+abbrev pub settle : Call → Bool → Option Doubt → Result Bool Refusal
+settle c false d = Ok (is_some d)
+settle c true None = Ok false
+settle c true (Some d) = Err (Doubted c d)
+
+-- what is said of a doubt begins with the path of the request, or of the book
+abbrev pub NamesDoubt : List ℕ → List ℕ → Doubt → List ℕ → Type 0
+NamesDoubt request book doubt.Unread lines = Names request lines
+NamesDoubt request book doubt.Unrecorded lines = Names book lines
+NamesDoubt request book doubt.Foreign lines = Names book lines
+
+-- and so does what is said beside an answer, of one of the two
+abbrev pub NamesDoubted : List ℕ → List ℕ → List ℕ → Type 0
+NamesDoubted request book lines = (d : Doubt) × NamesDoubt request book d lines
+
+abbrev pub is_of_unread : Refusal → Bool
+is_of_unread (Doubted c doubt.Unread) = true
+is_of_unread e = false
+
+abbrev pub is_of_recorded : Refusal → Bool
+is_of_recorded (Doubted c doubt.Unrecorded) = true
+is_of_recorded (Doubted c doubt.Foreign) = true
+is_of_recorded e = false
+
+-- a request is refused for a member that is not read, and a book for a page that has no input, or one that is none of its flag
+abbrev pub doubt_subjects : List ℕ → List ℕ → Subjects
+doubt_subjects request book = (file request, is_of_unread) ∷ (file book, is_of_recorded) ∷ []

@@ -1,0 +1,119 @@
+-- What the command `apply --keep` answers, and the document that it writes.
+use Rattle.std.specs.Prelude.{◌≡◌, ◌⊎◌, ℕ, Bool, true, false, List, ◌++◌, length, codes, decimal, option_map, Option, Some, None, Result, Ok, Err, Vec}
+use Rattle.std.specs.declared.alloc.Global.{Global}
+use Rattle.bucket_core.specs.Rule.{Entries}
+use Rattle.flag_defs.specs.Document.{Definitions, DocumentMeans}
+use Rattle.kept_document.specs.Kept.{IsRefused, KeptAt, place_in}
+use Rattle.kept_document.specs.declared.fault.KeepFault.{KeepFault}
+use Rattle.plan_text.specs.Answer.{Answer, emit, none_exists}
+use Rattle.price_core.specs.Request.{Asked, asked_of}
+use Rattle.rollout.specs.Applied.{applied}
+use Rattle.rollout_checks.specs.declared.fault.RolloutFault.{RolloutFault}
+use Rattle.rollout_checks.specs.declared.verify_fault.VerifyFault.{VerifyFault}
+use Rattle.site_places.specs.Place.{SitePlace}
+use Rattle.flagops_rollouts.specs.Apply.{none_report}
+use Rattle.flagops_rollouts.specs.Doubts.{doubt_of, settle}
+use Rattle.flagops_rollouts.specs.Verify.{MayBeTold}
+use Rattle.flagops_shell.specs.Files.{Holding, KeepsOthers, Stores, load_of}
+use Rattle.flagops_files.specs.Loading.{max_text}
+use Rattle.flagops_files.specs.PlanFile.{plan_at}
+use Rattle.flagops_files.specs.Question.{Question, IsQuestionAt}
+use Rattle.flagops_files.specs.Refusal.{unwritable}
+use Rattle.flagops_files.specs.Report.{Outcomes, beside, done}
+use Rattle.flagops_files.specs.declared.keeping.KeepRefusal.TheVariants.{Verify, Document}
+use Rattle.flagops_files.specs.declared.refusal.Call.TheVariants as call
+use Rattle.flagops_files.specs.declared.refusal.Refusal.{Refusal}
+use Rattle.flagops_files.specs.declared.refusal.Refusal.TheVariants.{Apply, Keep}
+
+-- ---- the document
+
+-- the text of the changed document, or none where no rule fits
+abbrev pub Kept : Type 0
+Kept = Option (List ℕ)
+
+-- the same, without where it lies in memory
+abbrev pub kept_view : Option (Vec ℕ Global) → Kept
+kept_view o = option_map (λ v. v.items) o
+
+abbrev pub some_view : Vec ℕ Global → Kept
+some_view v = Some v.items
+
+-- The document with the rule in place of the buckets at a place and all else as it was, which means these flags; or a refusal.
+abbrev pub IsEdited : List ℕ → SitePlace → Entries → Definitions → Result Kept Refusal → Type 0
+IsEdited document place rule wanted (Ok None) = ⊥
+IsEdited document place rule wanted (Ok (Some text)) = KeptAt document place rule text × DocumentMeans text (Ok wanted)
+IsEdited document place rule wanted (Err e) = (fault : KeepFault) × IsRefused document place rule wanted fault × (e ≡ Keep (Document fault))
+
+-- the flags that are wanted are those that `apply` gives
+abbrev pub IsEditedTo : List ℕ → SitePlace → Entries → Result Definitions RolloutFault → Result Kept Refusal → Type 0
+IsEditedTo document place rule (Err e) r = r ≡ Err (Apply e)
+IsEditedTo document place rule (Ok wanted) r = IsEdited document place rule wanted r
+
+-- the document with the rule at a site
+abbrev pub IsKeptAt : List ℕ → Definitions → List ℕ → ℕ → Entries → Result Kept Refusal → Type 0
+IsKeptAt document flags key site rule r = IsEditedTo document (place_in document flags key site) rule (applied flags key site rule) r
+
+-- at the site of a request
+abbrev pub IsKeptFor : List ℕ → Question → Entries → Result Kept Refusal → Type 0
+IsKeptFor document q rule r = (asked : Asked) × (asked_of q.request ≡ Ok asked) × IsKeptAt document q.flags asked.flag asked.site rule r
+
+-- by a right answer
+abbrev pub IsKeptWith : List ℕ → Question → Answer → Result Kept Refusal → Type 0
+IsKeptWith document q (emit rule c) r = IsKeptFor document q rule r
+IsKeptWith document q (none_exists kind names) r = r ≡ Ok None
+
+-- An answer that is not right changes nothing.
+abbrev pub IsKeptBy : List ℕ → Question → Answer → Result (Unit {0}) VerifyFault → Result Kept Refusal → Type 0
+IsKeptBy document q answer (Err e) r = r ≡ Err (Keep (Verify e))
+IsKeptBy document q answer (Ok u) r = IsKeptWith document q answer r
+
+-- What may become of the document by an answer. Where it is right its rule costs the recorded inputs the least of all that fit.
+abbrev pub MayBeKept : Option ℕ → List ℕ → Question → Answer → Result Kept Refusal → Type 0
+MayBeKept refine document q answer r = (verdict : Result (Unit {0}) VerifyFault) × MayBeTold refine q answer verdict × IsKeptBy document q answer verdict r
+
+-- ---- the report
+
+-- how many bytes were written
+unfoldable pub written_text : ℕ → List ℕ
+written_text n = codes "written " ++ (decimal n ++ codes "\n")
+
+-- The document at a path is replaced by this text, and no other file is changed; none is where it is refused to be written.
+abbrev pub IsWritten : Holding → Option Holding → List ℕ → Bool → List ℕ → Outcomes
+IsWritten at after path told text r =
+    ((r ≡ beside told (done (written_text (length text)))) × Stores (Some at) after path text × KeepsOthers (Some at) after path) ⊎ ((r ≡ Err unwritable) × (after ≡ Some at))
+
+-- The text is printed, or with `--write` written over the document.
+abbrev pub IsTextPut : Holding → Option Holding → List ℕ → Bool → Bool → List ℕ → Outcomes
+IsTextPut at after path false told text r = (r ≡ beside told (done text)) × (after ≡ Some at)
+IsTextPut at after path true told text r = IsWritten at after path told text r
+
+-- Nothing is changed where there is none.
+abbrev pub IsKeptPut : Holding → Option Holding → List ℕ → Bool → Bool → Kept → Outcomes
+IsKeptPut at after path write told None r = (r ≡ beside told (Ok none_report)) × (after ≡ Some at)
+IsKeptPut at after path write told (Some text) r = IsTextPut at after path write told text r
+
+-- Nor where it is refused, or doubted and `--strict` refuses that.
+abbrev pub IsPut : Holding → Option Holding → List ℕ → Bool → Result Bool Refusal → Result Kept Refusal → Outcomes
+IsPut at after path write settled (Err e) r = (r ≡ Err e) × (after ≡ Some at)
+IsPut at after path write (Err e) (Ok kept) r = (r ≡ Err e) × (after ≡ Some at)
+IsPut at after path write (Ok told) (Ok kept) r = IsKeptPut at after path write told kept r
+
+-- The same, of what becomes of the document. A person is told of a doubt.
+abbrev pub IsKeepWith : Holding → Option Holding → List ℕ → Bool → Bool → Option ℕ → List ℕ → Question → Answer → Outcomes
+IsKeepWith at after path write strict refine document q answer r =
+    (kept : Result Kept Refusal) × MayBeKept refine document q answer kept × IsPut at after path write (settle call.Apply strict (doubt_of q)) kept r
+
+-- The same over what was read.
+abbrev pub IsKeepOf : Holding → Option Holding → List ℕ → Bool → Bool → Option ℕ → Result Question Refusal → Result Answer Refusal → Outcomes
+IsKeepOf at after path write strict refine (Err e) answer r = (r ≡ Err e) × (after ≡ Some at)
+IsKeepOf at after path write strict refine (Ok q) (Err e) r = (r ≡ Err e) × (after ≡ Some at)
+IsKeepOf at after path write strict refine (Ok q) (Ok answer) r =
+    (document : List ℕ) × (load_of at path max_text ≡ Ok document) × IsKeepWith at after path write strict refine document q answer r
+
+unfoldable pub IsKeepReport : Holding → Option Holding → List ℕ → List ℕ → List ℕ → List ℕ → Bool → Option ℕ → Bool → Outcomes
+IsKeepReport at after document plan request book write refine strict r =
+    (question : Result Question Refusal) × IsQuestionAt at document request book question × IsKeepOf at after document write strict refine question (plan_at at plan) r
+
+-- The files stay as they are; or they are to be written, and the document alone changes.
+abbrev pub LeavesDocument : Option Holding → Option Holding → List ℕ → Bool → Type 0
+LeavesDocument old new path write = (new ≡ old) ⊎ ((write ≡ true) × KeepsOthers old new path)

@@ -1,0 +1,12 @@
+pub mod Apply
+pub mod Calls
+pub mod Doubts
+pub mod Foreign
+pub mod Keep
+pub mod Passed
+pub mod Plan
+pub mod Subjects
+pub mod Tallies
+pub mod Unrecorded
+pub mod Valid
+pub mod Verify

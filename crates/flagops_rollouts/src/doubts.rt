@@ -1,0 +1,157 @@
+//! What is doubted of an answer to a rollout request: a person is told, and `--strict` refuses it.
+ghost use Rattle.std.specs.Prelude.{◌≡◌, false, is_some, IfErr, IfOk, IfSome, option_map};
+ghost use Rattle.flagops_rollouts.specs.Doubts.{NamesDoubt, NamesDoubted, doubt_of, doubt_subjects, first_doubt, is_unread, settle};
+ghost use Rattle.flagops_files.specs.Question.{question_view};
+ghost use Rattle.flagops_files.specs.Refusal.{GivesUnlessWant, call_of, is_file_fault};
+ghost use Rattle.flagops_files.specs.Told.{TellsOfOne};
+ghost use Rattle.flagops_shell.specs.Diagnostic.{Says};
+ghost use Rattle.file_diagnostics.specs.Named.{Names};
+
+use crate::recorded::doubt_of_recorded;
+use file_diagnostics::of_unread;
+use flag_text::{TextFault, read_tree};
+use flagops_files::{Call, Doubt, Question, Refusal, Refused, TEXT_LIMIT, out_of_memory};
+use flagops_shell::Remark;
+use std::alloc::{AllocError, Global};
+use std::thread::Threads;
+use unread_members::Reader;
+
+/// What is doubted, with what a person is told of it.
+#[derive(Debug, Drop)]
+pub struct NotedDoubt {
+    pub doubt: Doubt,
+    pub remark: Remark,
+}
+
+/// What a person is told beside the answer to a question, whose request and book were loaded from these paths; or that the
+/// answer is refused by this call, where it is doubted and that is to be refused.
+pub fn settled<R: Threads>(
+    rt: &R,
+    alloc: Global,
+    call: Call,
+    request: &str,
+    book: &str,
+    question: &Question,
+    strict: bool,
+) -> Result<Option<Remark>, Refused>
+    ensures exact { GivesUnlessWant (λ r. is_some r) result (settle call strict (doubt_of (question_view question.now))) }
+    ensures calls { IfErr result (λ r. call_of r.refusal ≡ call) }
+    ensures read { is_file_fault result ≡ false }
+    ensures names { TellsOfOne (doubt_subjects request.now book.now) result }
+    ensures notes { IfOk result (λ r. IfSome r (Says (NamesDoubted request.now book.now))) }
+{
+    match doubted(rt, alloc, request, book, question) {
+        Ok(doubted) => settle(call, request, book, doubted, strict),
+        Err(AllocError) => Err(out_of_memory(call)),
+    }
+}
+
+/// The remark on a doubt, or its refusal.
+#[tactic(auto, using(crate::proofs::Doubting::said, crate::proofs::Doubting::named))]
+fn settle(
+    call: Call,
+    request: &str,
+    book: &str,
+    doubted: Option<NotedDoubt>,
+    strict: bool,
+) -> Result<Option<Remark>, Refused>
+    requires { IfSome doubted (λ d. Says (NamesDoubt request.now book.now d.doubt) d.remark) }
+    ensures exact { GivesUnlessWant (λ r. is_some r) result (settle call strict (option_map (λ d. d.doubt) doubted)) }
+    ensures calls { IfErr result (λ r. call_of r.refusal ≡ call) }
+    ensures read { is_file_fault result ≡ false }
+    ensures names { TellsOfOne (doubt_subjects request.now book.now) result }
+    ensures notes { IfOk result (λ r. IfSome r (Says (NamesDoubted request.now book.now))) }
+{
+    match doubted {
+        Some(NotedDoubt { doubt, remark }) => if strict {
+            Err(Refused {
+                refusal: Refusal::Doubted(call, doubt),
+                remark,
+            })
+        } else {
+            Ok(Some(remark))
+        },
+        None => Ok(None),
+    }
+}
+
+/// The first that is doubted of the answer to a question; all that is doubted is told.
+fn doubted<R: Threads>(
+    rt: &R,
+    alloc: Global,
+    request: &str,
+    book: &str,
+    question: &Question,
+) -> Result<Option<NotedDoubt>, AllocError>
+    ensures doubt { IfOk result (λ o. option_map (λ d. d.doubt) o ≡ doubt_of (question_view question.now)) }
+    ensures notes { IfOk result (λ o. IfSome o (λ d. Says (NamesDoubt request.now book.now d.doubt) d.remark)) }
+{
+    let unread = unread(alloc, request, question.request.as_slice())?;
+    let recorded = doubt_of_recorded(rt, alloc, book, question)?;
+    Ok(first_of(request, book, unread, recorded))
+}
+
+/// The first of two doubts, with what is told of both.
+fn first_of(
+    request: &str,
+    book: &str,
+    unread: Option<Remark>,
+    recorded: Option<NotedDoubt>,
+) -> Option<NotedDoubt>
+    requires unread { IfSome unread (Says (Names request.now)) }
+    requires recorded { IfSome recorded (λ d. Says (NamesDoubt request.now book.now d.doubt) d.remark) }
+    ensures doubt { option_map (λ d. d.doubt) result ≡ first_doubt (is_some unread) (option_map (λ d. d.doubt) recorded) }
+    ensures notes { IfSome result (λ d. Says (NamesDoubt request.now book.now d.doubt) d.remark) }
+{
+    match unread {
+        Some(remark) => Some(NotedDoubt {
+            doubt: Doubt::Unread,
+            remark: joined(request, remark, remark_in(recorded)),
+        }),
+        None => recorded,
+    }
+}
+
+/// What a person is told of a doubt, where there is one.
+pub fn remark_in(noted: Option<NotedDoubt>) -> Option<Remark>
+    ensures told { is_some result ≡ is_some (option_map (λ d. d.doubt) noted) }
+    ensures remark { result ≡ option_map (λ d. d.remark) noted }
+{
+    match noted {
+        Some(NotedDoubt { remark, .. }) => Some(remark),
+        None => None,
+    }
+}
+
+/// A remark on a name with another behind it.
+#[tactic(auto, using(crate::proofs::Doubting::named_still))]
+pub fn joined(name: &str, remark: Remark, more: Option<Remark>) -> Remark
+    requires { Says (Names name.now) remark }
+    ensures { Says (Names name.now) result }
+{
+    match (remark, more) {
+        (Remark::Lines(mut lines), Some(Remark::Lines(more))) => {
+            match lines.push_str(more.as_str()) {
+                Ok(()) => Remark::Lines(lines),
+                Err(AllocError) => Remark::Short,
+            }
+        }
+        (remark, _) => remark,
+    }
+}
+
+/// What is told of members of a request that are not read, where there are any.
+#[tactic(auto, using(flagops_files::proofs::Told::says))]
+pub fn unread(alloc: Global, path: &str, bytes: &[u8]) -> Result<Option<Remark>, AllocError>
+    ensures told { IfOk result (λ r. is_some r ≡ is_unread bytes.now) }
+    ensures notes { IfOk result (λ r. IfSome r (Says (Names path.now))) }
+{
+    match read_tree(alloc, bytes, TEXT_LIMIT as usize) {
+        Ok(tree) => match Reader::Request.unread(&tree) {
+            Some(_) => Ok(Some(Remark::of(of_unread(alloc, path, &tree, Reader::Request)))),
+            None => Ok(None),
+        },
+        Err(TextFault::WantOfMemory) => Err(AllocError),
+        Err(_) => Ok(None),
+    }
+}

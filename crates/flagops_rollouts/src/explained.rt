@@ -1,0 +1,125 @@
+//! The answer to a request in words: what its rule changes, or what stands in the way of any.
+ghost use Rattle.std.specs.Prelude.{◌≡◌, ◌||◌, is_some, IfOk, IfSome, string_bytes};
+ghost use Rattle.bucket_core.specs.Rule.{IsRuleTotal};
+ghost use Rattle.flagops_rollouts.specs.Doubts.{NamesDoubted};
+ghost use Rattle.flagops_shell.specs.Diagnostic.{Says};
+ghost use Rattle.file_diagnostics.specs.Named.{Names};
+
+use crate::doubts::joined;
+use crate::recorded::page_asked;
+use flagops_files::{Evidence, Question};
+use flagops_shell::Remark;
+use flagops_words::{Factor, factor_of};
+use page_tally::{BookFile, Recorded};
+use plan_text::Planned;
+use price_core::{PriceFault, Request};
+use rollout_diagnostics::of_planned;
+use std::alloc::{AllocError, Global};
+use std::thread::Threads;
+
+/// What a person is told beside an answer to the request of a path: what is noted of it, and before that, where it is asked
+/// for, the answer in words.
+#[tactic(auto, using(crate::proofs::Doubting::of_request))]
+pub fn told(
+    rt: &(impl Threads + Sync),
+    alloc: Global,
+    request: &str,
+    book: &str,
+    question: &Question,
+    planned: &Planned,
+    refine: Option<Factor>,
+    explain: bool,
+    noted: Option<Remark>,
+) -> Option<Remark>
+    requires { IfSome noted (Says (NamesDoubted request.now book.now)) }
+    ensures told { is_some result ≡ (explain || is_some noted) }
+    ensures notes { IfSome result (Says (NamesDoubted request.now book.now)) }
+{
+    if explain {
+        let words = explained(rt, alloc, request, question, planned, refine);
+        Some(joined(request, words, noted))
+    } else {
+        noted
+    }
+}
+
+/// The answer in words.
+#[tactic(auto, using(flagops_files::proofs::Told::says))]
+fn explained(
+    rt: &(impl Threads + Sync),
+    alloc: Global,
+    path: &str,
+    question: &Question,
+    planned: &Planned,
+    refine: Option<Factor>,
+) -> Remark
+    ensures { Says (Names path.now) result }
+{
+    Remark::of(lines(rt, alloc, path, question, planned, refine))
+}
+
+fn lines(
+    rt: &(impl Threads + Sync),
+    alloc: Global,
+    path: &str,
+    question: &Question,
+    planned: &Planned,
+    refine: Option<Factor>,
+) -> Result<String, AllocError>
+    ensures { IfOk result (λ s. Names path.now (string_bytes s)) }
+{
+    match (planned, &question.evidence) {
+        (Planned::Emit(rule, _), Evidence::Book(book)) => {
+            let counts = counts(rt, alloc, question, book, rule.total())?;
+            words(alloc, path, question, planned, refine, counts.as_slice())
+        }
+        (_, Evidence::Tally(tally)) => {
+            let counts = tally.counts.as_slice();
+            words(alloc, path, question, planned, refine, counts)
+        }
+        _ => words(alloc, path, question, planned, refine, &[]),
+    }
+}
+
+/// The answer in words, by the number of recorded inputs at each point.
+fn words(
+    alloc: Global,
+    path: &str,
+    question: &Question,
+    planned: &Planned,
+    refine: Option<Factor>,
+    counts: &[u32],
+) -> Result<String, AllocError>
+    ensures { IfOk result (λ s. Names path.now (string_bytes s)) }
+{
+    let (flags, bytes) = (&question.flags, question.request.as_slice());
+    of_planned(
+        alloc,
+        path,
+        flags,
+        bytes,
+        factor_of(refine),
+        counts,
+        planned,
+    )
+}
+
+/// How many inputs of a book fall on each point.
+fn counts(
+    rt: &(impl Threads + Sync),
+    alloc: Global,
+    question: &Question,
+    book: &BookFile,
+    total: u32,
+) -> Result<Vec<u32>, AllocError>
+    requires { IsRuleTotal total }
+{
+    match Request::read(alloc, question.request.as_slice()) {
+        Ok(request) => match page_asked(alloc, &question.flags, &request)? {
+            Some(page) => book.tally(rt, alloc, &page, total),
+            None => Ok(Vec::new(alloc)),
+        },
+        Err(PriceFault::WantOfMemory) => Err(AllocError),
+        Err(_) => Ok(Vec::new(alloc)),
+    }
+}

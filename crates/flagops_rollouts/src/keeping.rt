@@ -1,0 +1,182 @@
+//! The command `apply --keep`: a document with the rule of a plan file at the site of its request, and all else as it was.
+ghost use Rattle.std.specs.Prelude.{◌≡◌, ◌||◌, [], ◌∷◌, false, is_some, IfErr, IfOk, IfSome, Ok, Some, option_map, string_bytes};
+ghost use Rattle.plan_text.specs.Answer.{planned_view};
+ghost use Rattle.flagops_rollouts.specs.Apply.{none_report};
+ghost use Rattle.flagops_rollouts.specs.Calls.{apply_itself, keep_calls, puts_document};
+ghost use Rattle.flagops_shell.specs.Ending.{KeepsUnlessDone};
+ghost use Rattle.flagops_rollouts.specs.Keep.{IsKeepReport, IsKeepWith, IsKeptPut, IsWritten, LeavesDocument, kept_view, written_text};
+ghost use Rattle.flagops_rollouts.specs.Subjects.{is_of_kept_answer, is_of_kept_document, is_of_kept_request, keep_subjects};
+ghost use Rattle.flagops_rollouts.specs.Doubts.{NamesDoubted, doubt_subjects};
+ghost use Rattle.flagops_shell.specs.Files.{KeepsOthers};
+ghost use Rattle.flagops_files.specs.Question.{question_view};
+ghost use Rattle.flagops_files.specs.Refusal.{ComesFrom, GivesOne, GivesUnlessWant, is_file_fault};
+ghost use Rattle.flagops_files.specs.Report.{beside};
+ghost use Rattle.flagops_shell.specs.Report.{outcome_view};
+ghost use Rattle.flagops_files.specs.Told.{TellsOfOne, file};
+ghost use Rattle.flagops_shell.specs.Diagnostic.{Says};
+ghost use Rattle.flagops_files.specs.declared.refusal.Call.TheVariants.{Apply};
+ghost use Rattle.flagops_files.specs.declared.refusal.Refusal.TheVariants.{WantOfMemory};
+
+use crate::doubts::settled;
+use crate::kept::kept;
+use crate::verifying::Paths;
+use flagops_files::{Call, Question, Refused, load_planned, load_question, out_of_memory, store};
+use flagops_shell::{FileSet, Outcome, Remark, Status};
+use flagops_words::{Factor, factor_of};
+use plan_text::Planned;
+use std::alloc::{AllocError, Global};
+use std::thread::Threads;
+
+/// The document with the rule of a plan file, where `verify` tells that it is right, at the site of the request; or the
+/// number of its bytes, once they were written over the document. `none` where the plan has no rule.
+#[tactic(auto, unfolding(crate::specs::Keep::IsKeepReport))]
+pub fn keep<R: Threads + Sync, F: FileSet>(
+    rt: &R,
+    alloc: Global,
+    files: &mut F,
+    document: &str,
+    plan: &str,
+    request: &str,
+    book: &str,
+    write: bool,
+    refine: Option<Factor>,
+    strict: bool,
+) -> Result<Outcome, Refused>
+    ensures exact { IfSome (F.holding files.old) (λ at. GivesOne outcome_view result (IsKeepReport at (F.holding files.new) document.now plan.now request.now book.now write (option_map (λ m. m.number) refine) strict)) }
+    ensures calls { ComesFrom keep_calls result }
+    ensures failed { F.has_failed files.new ≡ (F.has_failed files.old || is_file_fault result) }
+    ensures left { LeavesDocument (F.holding files.old) (F.holding files.new) document.now write }
+    ensures kept { KeepsUnlessDone (F.holding files.old) (F.holding files.new) result }
+    ensures names { TellsOfOne (keep_subjects document.now plan.now request.now book.now) result }
+    ensures notes { IfOk result (λ o. IfSome o.remark (Says (NamesDoubted request.now book.now))) }
+{
+    let question = load_question(rt, alloc, files, document, request, book, factor_of(refine))?;
+    let planned = load_planned(alloc, files, plan)?;
+    let paths = Paths {
+        request,
+        book,
+        plan,
+    };
+    answer(
+        rt, alloc, files, document, write, paths, &question, &planned, refine, strict,
+    )
+}
+
+/// The report on an answer to a question, whose document was loaded from a path.
+fn answer<F: FileSet>(
+    rt: &(impl Threads + Sync),
+    alloc: Global,
+    files: &mut F,
+    document: &str,
+    write: bool,
+    paths: Paths<'_>,
+    question: &Question,
+    planned: &Planned,
+    refine: Option<Factor>,
+    strict: bool,
+) -> Result<Outcome, Refused>
+    ensures exact { IfSome (F.holding files.old) (λ at. GivesOne outcome_view result (IsKeepWith at (F.holding files.new) document.now write strict (option_map (λ m. m.number) refine) question.now.document.items (question_view question.now) (planned_view planned.now))) }
+    ensures calls { ComesFrom puts_document result }
+    ensures failed { F.has_failed files.new ≡ (F.has_failed files.old || is_file_fault result) }
+    ensures left { LeavesDocument (F.holding files.old) (F.holding files.new) document.now write }
+    ensures kept { KeepsUnlessDone (F.holding files.old) (F.holding files.new) result }
+    ensures names { TellsOfOne ((file paths.entry.request.now, is_of_kept_request) ∷ (file paths.entry.plan.now, is_of_kept_answer) ∷ (file document.now, is_of_kept_document) ∷ doubt_subjects paths.entry.request.now paths.entry.book.now) result }
+    ensures notes { IfOk result (λ o. IfSome o.remark (Says (NamesDoubted paths.entry.request.now paths.entry.book.now))) }
+{
+    let text = kept(rt, alloc, document, paths, question, planned, refine)?;
+    let (request, book) = (paths.request, paths.book);
+    let remark = settled(rt, alloc, Call::Apply, request, book, question, strict)?;
+    put(alloc, files, document, write, text, remark)
+}
+
+/// Puts the text where it goes: to the output, or over the document; `none` where there is no text.
+fn put<F: FileSet>(
+    alloc: Global,
+    files: &mut F,
+    document: &str,
+    write: bool,
+    text: Option<Vec<u8>>,
+    remark: Option<Remark>,
+) -> Result<Outcome, Refused>
+    ensures exact { IfSome (F.holding files.old) (λ at. GivesOne outcome_view result (IsKeptPut at (F.holding files.new) document.now write (is_some remark) (kept_view text))) }
+    ensures calls { ComesFrom puts_document result }
+    ensures failed { F.has_failed files.new ≡ (F.has_failed files.old || is_file_fault result) }
+    ensures left { LeavesDocument (F.holding files.old) (F.holding files.new) document.now write }
+    ensures kept { KeepsUnlessDone (F.holding files.old) (F.holding files.new) result }
+    ensures names { TellsOfOne ((file document.now, is_of_kept_document) ∷ []) result }
+    ensures remark { IfOk result (λ o. o.remark ≡ remark) }
+{
+    match text {
+        None => none(alloc, remark),
+        Some(text) => if write {
+            written(alloc, files, document, text.as_slice(), remark)
+        } else {
+            Ok(Outcome {
+                text,
+                status: Status::Done,
+                remark,
+            })
+        },
+    }
+}
+
+/// The report of a plan without a rule.
+fn none(alloc: Global, remark: Option<Remark>) -> Result<Outcome, Refused>
+    ensures exact { GivesUnlessWant outcome_view result (beside (is_some remark) (Ok none_report)) }
+    ensures calls { ComesFrom apply_itself result }
+    ensures read { is_file_fault result ≡ false }
+    ensures wants { IfErr result (λ r. r.refusal ≡ WantOfMemory Apply) }
+    ensures remark { IfOk result (λ o. o.remark ≡ remark) }
+{
+    match Vec::from_slice(alloc, b"none\n") {
+        Ok(text) => Ok(Outcome {
+            text,
+            status: Status::NoneExists,
+            remark,
+        }),
+        Err(AllocError) => Err(out_of_memory(Call::Apply)),
+    }
+}
+
+/// Writes the text over the document, and reports the number of its bytes.
+fn written<F: FileSet>(
+    alloc: Global,
+    files: &mut F,
+    document: &str,
+    text: &[u8],
+    remark: Option<Remark>,
+) -> Result<Outcome, Refused>
+    ensures exact { IfSome (F.holding files.old) (λ at. GivesOne outcome_view result (IsWritten at (F.holding files.new) document.now (is_some remark) text.now)) }
+    ensures calls { ComesFrom puts_document result }
+    ensures failed { F.has_failed files.new ≡ (F.has_failed files.old || is_file_fault result) }
+    ensures others { KeepsOthers (F.holding files.old) (F.holding files.new) document.now }
+    ensures kept { KeepsUnlessDone (F.holding files.old) (F.holding files.new) result }
+    ensures names { TellsOfOne ((file document.now, is_of_kept_document) ∷ []) result }
+    ensures remark { IfOk result (λ o. o.remark ≡ remark) }
+{
+    // The report is made first, so that what was written is reported.
+    let line = written_line(alloc, text.len())?;
+    store(alloc, files, document, text)?;
+    Ok(Outcome {
+        text: line.into_bytes(),
+        status: Status::Done,
+        remark,
+    })
+}
+
+fn written_line(alloc: Global, count: usize) -> Result<String, Refused>
+    ensures exact { IfOk result (λ s. string_bytes s ≡ written_text count) }
+    ensures wants { IfErr result (λ r. r.refusal ≡ WantOfMemory Apply) }
+{
+    match written_text(alloc, count) {
+        Ok(line) => Ok(line),
+        Err(AllocError) => Err(out_of_memory(Call::Apply)),
+    }
+}
+
+#[tactic(auto, unfolding(crate::specs::Keep::written_text))]
+fn written_text(alloc: Global, count: usize) -> Result<String, AllocError>
+    ensures { IfOk result (λ s. string_bytes s ≡ written_text count) }
+{
+    format!(in alloc; "written {count}\n")
+}

@@ -1,0 +1,37 @@
+//! The commands on rollouts, `plan`, `verify` and `apply`, over whatever files they are given: each is one function from the files
+//! and its words to its whole output or its refusal.
+//!
+//! ```rust
+//! use flagops_files::SystemFiles;
+//! use flagops_rollouts::plan;
+//!
+//! let mut files = SystemFiles::new(&rt);
+//! match plan(&rt, alloc, &mut files, "flags.json", "request.json", "book.jsonl", None, false, false) {
+//!     Ok(outcome) => print_all(&rt, outcome.text.as_slice())?,
+//!     Err(refused) => print!(rt; "{}", refused.refusal.line(alloc)?)?,
+//! }
+//! ```
+//!
+//! Proved: what a command comes to is what its definition (`specs/Plan.antt`, `Verify`, `Apply`, `Keep`) gives over the files, unless
+//! memory ran out. `plan` and `verify` answer on a tally as on the book whose inputs it counts ([`tallies_answer_as_books`]). What
+//! is doubted of an answer is told, or refused with `--strict` (`specs/Doubts.antt`), and what a person is told of a refusal begins with
+//! the path or the word that was refused (`specs/Subjects.antt`).
+#![tactic(auto)]
+
+mod applying;
+mod doubts;
+mod explained;
+mod keeping;
+mod kept;
+mod laws;
+mod planning;
+mod recorded;
+mod verifying;
+
+pub use applying::apply;
+pub use doubts::{NotedDoubt, joined, remark_in, unread};
+pub use keeping::keep;
+pub use laws::{printed_plans_are_valid, tallies_answer_as_books, unread_members_are_passed_over};
+pub use planning::{answer as plan_answer, plan};
+pub use recorded::doubt_in_book;
+pub use verifying::verify;

@@ -1,0 +1,264 @@
+//! The command `verify`: whether the answer of a plan file is right.
+ghost use Rattle.std.specs.Prelude.{◌≡◌, ◌||◌, [], ◌∷◌, false, is_some, Ok, IfOk, IfSome, OnOk, option_map, string_bytes};
+ghost use Rattle.flag_defs.specs.Flags.{flags_view};
+ghost use Rattle.plan_text.specs.Answer.{planned_view};
+ghost use Rattle.flagops_files.specs.Question.{question_view};
+ghost use Rattle.flagops_rollouts.specs.Calls.{verify_calls, verify_itself};
+ghost use Rattle.flagops_files.specs.Refusal.{ComesFrom, GivesOne, GivesUnlessWant, is_file_fault};
+ghost use Rattle.flagops_files.specs.Report.{beside, done};
+ghost use Rattle.flagops_shell.specs.Report.{outcome_view};
+ghost use Rattle.flagops_rollouts.specs.Verify.{IsShownOn, IsToldOn, IsVerdict, IsVerifyReport, MayBeTold, valid_as, valid_json, valid_text};
+ghost use Rattle.flagops_files.specs.declared.evidence.Evidence.TheVariants.{Book, Tally};
+ghost use Rattle.flagops_files.specs.Told.{TellsOfOne, file};
+ghost use Rattle.flagops_shell.specs.Diagnostic.{Says};
+ghost use Rattle.flagops_rollouts.specs.Subjects.{NamesVerified, is_of_answer, is_of_request, verify_subjects};
+ghost use Rattle.flagops_rollouts.specs.Doubts.{NamesDoubted, doubt_subjects};
+ghost use Rattle.file_diagnostics.specs.Named.{Names};
+
+use crate::doubts::settled;
+use crate::planning::lines_on_request;
+use flag_defs::Flags;
+use flagops_files::{
+    Call, Evidence, Question, Refusal, Refused, load_planned, load_question, out_of_memory,
+};
+use flagops_shell::{FileSet, Outcome, Remark, Status};
+use flagops_words::{Factor, factor_of};
+use page_tally::BookFile;
+use plan_text::Planned;
+use rollout::{PageTally, VerifyFault, verify_refined, verify_tally, verify_tally_refined};
+use rollout_diagnostics::of_check;
+use std::alloc::{AllocError, Global};
+use std::mem;
+use std::thread::Threads;
+
+/// What the answer of a plan file proves, where it is right for the request: a line, or with `json` a JSON text.
+#[tactic(auto, unfolding(crate::specs::Verify::IsVerifyReport))]
+pub fn verify<R: Threads + Sync, F: FileSet>(
+    rt: &R,
+    alloc: Global,
+    files: &mut F,
+    document: &str,
+    request: &str,
+    book: &str,
+    plan: &str,
+    refine: Option<Factor>,
+    strict: bool,
+    json: bool,
+) -> Result<Outcome, Refused>
+    ensures exact { IfSome (F.holding files.old) (λ at. GivesOne outcome_view result (IsVerifyReport at document.now request.now book.now plan.now (option_map (λ m. m.number) refine) strict json)) }
+    ensures calls { ComesFrom verify_calls result }
+    ensures failed { F.has_failed files.new ≡ (F.has_failed files.old || is_file_fault result) }
+    ensures kept { F.holding files.new ≡ F.holding files.old }
+    ensures names { TellsOfOne (verify_subjects document.now request.now book.now plan.now) result }
+    ensures notes { IfOk result (λ o. IfSome o.remark (Says (NamesDoubted request.now book.now))) }
+{
+    let question = load_question(rt, alloc, files, document, request, book, factor_of(refine))?;
+    let planned = load_planned(alloc, files, plan)?;
+    let paths = Paths {
+        request,
+        book,
+        plan,
+    };
+    let outcome = verdict(rt, alloc, paths, &question, &planned, refine, strict, json);
+    // The program ends soon, and its memory with it.
+    mem::forget((question, planned));
+    outcome
+}
+
+/// Where what is verified was loaded from.
+#[derive(Clone, Copy)]
+pub struct Paths<'a> {
+    pub request: &'a str,
+    pub book: &'a str,
+    pub plan: &'a str,
+}
+
+/// What is printed of an answer that is right.
+#[tactic(auto, using(flagops_files::proofs::Told::says, crate::proofs::Doubting::verdict_doubted, crate::proofs::Doubting::verdict_told))]
+fn verdict(
+    rt: &(impl Threads + Sync),
+    alloc: Global,
+    paths: Paths<'_>,
+    question: &Question,
+    planned: &Planned,
+    refine: Option<Factor>,
+    strict: bool,
+    json: bool,
+) -> Result<Outcome, Refused>
+    ensures exact { GivesOne outcome_view result (IsVerdict strict json (option_map (λ m. m.number) refine) (Ok (question_view question.now)) (Ok (planned_view planned.now))) }
+    ensures calls { ComesFrom verify_itself result }
+    ensures read { is_file_fault result ≡ false }
+    ensures names { TellsOfOne ((file paths.entry.request.now, is_of_request) ∷ (file paths.entry.plan.now, is_of_answer) ∷ doubt_subjects paths.entry.request.now paths.entry.book.now) result }
+    ensures notes { IfOk result (λ o. IfSome o.remark (Says (NamesDoubted paths.entry.request.now paths.entry.book.now))) }
+{
+    if let Err(fault) = verified(rt, alloc, question, planned, refine) {
+        let lines = lines_on(alloc, paths, question, planned, refine, &fault);
+        return Err(Refused {
+            refusal: Refusal::Verify(fault),
+            remark: Remark::of(lines),
+        });
+    }
+    let (request, book) = (paths.request, paths.book);
+    let remark = settled(rt, alloc, Call::Verify, request, book, question, strict)?;
+    valid(alloc, planned, json, remark)
+}
+
+/// The report of an answer that is right.
+fn valid(
+    alloc: Global,
+    planned: &Planned,
+    json: bool,
+    remark: Option<Remark>,
+) -> Result<Outcome, Refused>
+    ensures exact { GivesUnlessWant outcome_view result (beside (is_some remark) (done (valid_as json (planned_view planned.now)))) }
+    ensures calls { ComesFrom verify_itself result }
+    ensures read { is_file_fault result ≡ false }
+    ensures remark { IfOk result (λ o. o.remark ≡ remark) }
+{
+    match valid_as(alloc, planned, json) {
+        Ok(text) => Ok(Outcome {
+            text: text.into_bytes(),
+            status: Status::Done,
+            remark,
+        }),
+        Err(AllocError) => Err(out_of_memory(Call::Verify)),
+    }
+}
+
+/// What a person is told of an answer that is not right, or of a request that is refused.
+pub fn lines_on(
+    alloc: Global,
+    paths: Paths<'_>,
+    question: &Question,
+    planned: &Planned,
+    refine: Option<Factor>,
+    fault: &VerifyFault,
+) -> Result<String, AllocError>
+    ensures { IfOk result (λ s. NamesVerified paths.entry.request.now paths.entry.plan.now fault.now (string_bytes s)) }
+{
+    match fault {
+        VerifyFault::Request(fault) => {
+            lines_on_request(alloc, paths.request, paths.book, question, refine, *fault)
+        }
+        VerifyFault::Check(fault) => {
+            let (flags, bytes) = (&question.flags, question.request.as_slice());
+            of_check(alloc, paths.plan, flags, bytes, planned, fault)
+        }
+    }
+}
+
+/// Whether the answer is right, on the site's rule refined by the factor where one is given.
+pub fn verified(
+    rt: &(impl Threads + Sync),
+    alloc: Global,
+    question: &Question,
+    planned: &Planned,
+    refine: Option<Factor>,
+) -> Result<(), VerifyFault>
+    ensures { MayBeTold (option_map (λ m. m.number) refine) (question_view question.now) (planned_view planned.now) result }
+{
+    let flags = &question.flags;
+    let request = question.request.as_slice();
+    verified_on(
+        rt,
+        alloc,
+        flags,
+        request,
+        &question.evidence,
+        planned,
+        refine,
+    )
+}
+
+/// The same over what was recorded.
+fn verified_on(
+    rt: &(impl Threads + Sync),
+    alloc: Global,
+    flags: &Flags,
+    request: &[u8],
+    evidence: &Evidence,
+    planned: &Planned,
+    refine: Option<Factor>,
+) -> Result<(), VerifyFault>
+    ensures told { IsToldOn (option_map (λ m. m.number) refine) (planned_view planned.now) (flags_view flags.now) request.now evidence.now result }
+    ensures shown { OnOk result (IsShownOn (option_map (λ m. m.number) refine) (planned_view planned.now) (flags_view flags.now) request.now evidence.now) }
+{
+    match evidence {
+        Evidence::Book(book) => by_book(rt, alloc, flags, request, book, planned, refine),
+        Evidence::Tally(tally) => by_tally(alloc, flags, request, tally, planned, refine),
+    }
+}
+
+/// The same over the inputs of a book.
+fn by_book(
+    rt: &(impl Threads + Sync),
+    alloc: Global,
+    flags: &Flags,
+    request: &[u8],
+    book: &BookFile,
+    planned: &Planned,
+    refine: Option<Factor>,
+) -> Result<(), VerifyFault>
+    ensures told { IsToldOn (option_map (λ m. m.number) refine) (planned_view planned.now) (flags_view flags.now) request.now (Book book.now) result }
+    ensures shown { OnOk result (IsShownOn (option_map (λ m. m.number) refine) (planned_view planned.now) (flags_view flags.now) request.now (Book book.now)) }
+{
+    match refine {
+        None => rollout::verify(rt, alloc, flags, request, book, planned),
+        Some(m) => verify_refined(rt, alloc, flags, request, book, planned, m.number),
+    }
+}
+
+/// The same over all inputs of which so many fall on each point as a tally says.
+fn by_tally(
+    alloc: Global,
+    flags: &Flags,
+    request: &[u8],
+    tally: &PageTally,
+    planned: &Planned,
+    refine: Option<Factor>,
+) -> Result<(), VerifyFault>
+    ensures told { IsToldOn (option_map (λ m. m.number) refine) (planned_view planned.now) (flags_view flags.now) request.now (Tally tally.now) result }
+    ensures shown { OnOk result (IsShownOn (option_map (λ m. m.number) refine) (planned_view planned.now) (flags_view flags.now) request.now (Tally tally.now)) }
+{
+    match refine {
+        None => verify_tally(alloc, flags, request, tally, planned),
+        Some(m) => verify_tally_refined(alloc, flags, request, tally, planned, m.number),
+    }
+}
+
+/// The line, or with `json` the JSON text.
+fn valid_as(alloc: Global, planned: &Planned, json: bool) -> Result<String, AllocError>
+    ensures { IfOk result (λ s. string_bytes s ≡ valid_as json (planned_view planned.now)) }
+{
+    if json {
+        valid_json(alloc, planned)
+    } else {
+        valid_line(alloc, planned)
+    }
+}
+
+#[tactic(auto, unfolding(crate::specs::Verify::valid_text))]
+fn valid_line(alloc: Global, planned: &Planned) -> Result<String, AllocError>
+    ensures { IfOk result (λ s. string_bytes s ≡ valid_text (planned_view planned.now)) }
+{
+    match planned {
+        Planned::Emit(_, certificate) => {
+            let cost = certificate.cost;
+            format!(in alloc; "valid cost {cost}\n")
+        }
+        Planned::NoneExists(_) => String::from_str(alloc, "valid none\n"),
+    }
+}
+
+#[tactic(auto, unfolding(crate::specs::Verify::valid_json))]
+fn valid_json(alloc: Global, planned: &Planned) -> Result<String, AllocError>
+    ensures { IfOk result (λ s. string_bytes s ≡ valid_json (planned_view planned.now)) }
+{
+    match planned {
+        Planned::Emit(_, certificate) => {
+            let cost = certificate.cost;
+            format!(in alloc; "{{\"cost\":{cost},\"valid\":true}}\n")
+        }
+        Planned::NoneExists(_) => String::from_str(alloc, "{\"cost\":null,\"valid\":true}\n"),
+    }
+}

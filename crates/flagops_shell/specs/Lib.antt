@@ -1,0 +1,10 @@
+pub mod Apart
+pub mod Beginning
+pub mod Console
+pub mod Diagnostic
+pub mod Ending
+pub mod Files
+pub mod Given
+pub mod Report
+pub mod Running
+pub mod Usage

@@ -1,0 +1,75 @@
+//! Diagnostics of a tally that has no input, or is of another page or total than a request.
+ghost use Rattle.std.specs.Prelude.{IfOk, string_bytes};
+ghost use Rattle.file_diagnostics.specs.Named.{Names};
+
+use crate::pages::whole_page;
+use crate::place::Place;
+use book_core::Page;
+use file_diagnostics::{Lines, Opening};
+use flag_defs::Flags;
+use logic_ast::LogicFault;
+use price_core::{PriceFault, Request};
+use std::alloc::{AllocError, Global};
+use tally_core::PageTally;
+
+/// Says that the tally at `path` has no input.
+pub fn of_empty_tally(alloc: Global, path: &str, page: &Page) -> Result<String, AllocError>
+    ensures names { IfOk result (λ s. Names path.now (string_bytes s)) }
+{
+    let page = whole_page(alloc, page)?;
+    let mut lines = Lines::new(alloc);
+    write!(
+        lines,
+        " counts no input of the page of the request, so no recorded user counts:\n  {page}\n",
+    );
+    lines.headed(Opening::Note, path)
+}
+
+/// Explains why the tally at `tally_path` doesn't serve the request at `path`: it is of another page or total.
+pub fn of_other_tally(
+    alloc: Global,
+    path: &str,
+    flags: &Flags,
+    request: &[u8],
+    tally_path: &str,
+    tally: &PageTally,
+) -> Result<String, AllocError>
+    ensures names { IfOk result (λ s. Names path.now (string_bytes s)) }
+{
+    let mut lines = Lines::new(alloc);
+    write!(
+        lines,
+        " is for another page or total than the tally {}:\n",
+        lines.name(tally_path),
+    );
+    match Request::read(alloc, request) {
+        Ok(asked) => put_asked(&mut lines, Place::of(alloc, flags, &asked))?,
+        Err(PriceFault::WantOfMemory) => return Err(AllocError),
+        Err(_) => {}
+    }
+    write!(
+        lines,
+        "  the tally is of {}, at {} points\n  tally the page of the request, with the --refine that it is planned with\n",
+        whole_page(alloc, &tally.page)?,
+        tally.total,
+    );
+    lines.headed(Opening::Request, path)
+}
+
+/// The page that is asked for, and the points of its rule.
+fn put_asked(lines: &mut Lines, place: Place<'_>) -> Result<(), AllocError> {
+    let Some(targeting) = place.targeting() else {
+        return Ok(());
+    };
+    match Page::of(lines.alloc, place.key, targeting, place.number) {
+        Ok(page) => write!(
+            lines,
+            "  it is for {}, at {} points (with --refine M: M times as many)\n",
+            whole_page(lines.alloc, &page)?,
+            place.total()?,
+        ),
+        Err(LogicFault::WantOfMemory) => return Err(AllocError),
+        Err(_) => {}
+    }
+    Ok(())
+}
