@@ -75,7 +75,8 @@ abbrev pub as_many : Expressions → Items
 as_many no_expressions = no_items
 as_many (expression e es) = item null (as_many es)
 
--- whether it counts as true (JsonLogic, "Truthy and Falsy"), where that stands there to be read: of a literal, and of a list by whether it has items
+-- Whether it counts as true (JsonLogic, "Truthy and Falsy"), where that stands there to be read: of a literal, and of a list
+-- by whether it has items.
 abbrev pub literal_truth : Expression → Option Bool
 literal_truth (literal t) = Some (is_true t)
 literal_truth (list es) = Some (is_true (shape.list (as_many es)))

@@ -1,5 +1,5 @@
 //! What counts as true, where it stands there to be read.
-ghost use Rattle.std.specs.Prelude.{◌≡◌, ◌==◌};
+ghost use Rattle.std.specs.Prelude.{◌≡◌};
 ghost use Rattle.logic_ast.specs.View.{node_view};
 ghost use Rattle.flag_doubts.specs.Outcomes.{literal_truth};
 
