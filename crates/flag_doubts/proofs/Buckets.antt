@@ -9,7 +9,7 @@ use Rattle.flag_text.specs.Readers.{as_text}
 use Rattle.flag_text.specs.Shape as shape
 use Rattle.flag_text.specs.Shape.{Shape, null, boolean, whole, text}
 use Rattle.flag_resolve.specs.Resolution.{name_in}
-use Rattle.logic_ast.specs.Expression.{Expression, literal, list, operation, fractional, Buckets, bucket, Bucket, literal_bucket, computed_bucket}
+use Rattle.logic_ast.specs.Expression.{literal, list, operation, fractional, Buckets, bucket, Bucket, literal_bucket, computed_bucket}
 use Rattle.logic_eval.proofs.Choices.{buckets_entries}
 use Rattle.logic_eval.proofs.Runs.{runs-gives, runs-faults, runs-reach, runs-bind}
 use Rattle.logic_eval.specs.Evaluation.{bucket_meaning, bucket_meanings, pair, pairs}
@@ -18,7 +18,7 @@ use Rattle.logic_eval.specs.Fractional as fractions
 use Rattle.logic_eval.specs.Operators.{Meaning}
 use Rattle.logic_values.specs.declared.fault.EvalFault.{EvalFault}
 use Rattle.flag_doubts.specs.Laws.{IsAmong}
-use Rattle.flag_doubts.specs.Outcomes.{Outcome, named, literal_name, names, name}
+use Rattle.flag_doubts.specs.Outcomes.{Outcome, names, name}
 use Rattle.flag_doubts.specs.Weights.{is_zero, literal_weight}
 use Rattle.flag_doubts.proofs.Giving.{Anything, Gives, any, among_null, among_left, among_right, either}
 

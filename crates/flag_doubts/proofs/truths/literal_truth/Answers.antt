@@ -1,4 +1,4 @@
-use Rattle.std.proofs.Common.{◌≡◌, ℕ, ◌==◌, false, not, List, [], ◌∷◌, length, vec_len, Vec, Global, Some, refl, sym, ap, ◌∙◌, arith}
+use Rattle.std.proofs.Common.{◌≡◌, ◌==◌, false, not, List, [], ◌∷◌, length, vec_len, Vec, Global, Some, refl, sym, ap, ◌∙◌, arith}
 use Rattle.flag_text.specs.Shape as shape
 use Rattle.logic_ast.specs.Expression as ast
 use Rattle.logic_ast.specs.View.{node_view, nodes_view}
