@@ -188,7 +188,8 @@ DOUBTS = [
     # Literal weights that sum to more than a rule may have, whatever the others are, and to nothing.
     (colored('{"fractional":[["red",2147483647],["blue",1]]}'), [weighed("targeting.fractional weighs more than 2147483647")]),
     (colored('{"fractional":[{"var":"k"},["red",{"var":"n"}],["blue",2147483647],["red",2]]}'), [weighed("targeting.fractional weighs more than 2147483647")]),
-    (colored('{"fractional":[["red",0],["blue",0]]}'), [weighed("targeting.fractional weighs 0")]),
+    (colored('{"fractional":[["red",0],["blue",0]]}'), [weighed("targeting.fractional weighs 0"), NEVER]),
+    (colored('{"fractional":[["blu",0],["",0]]}'), [weighed("targeting.fractional weighs 0"), NEVER]),
     (colored('{"if":[{"var":"a"},"red",{"fractional":[[{"var":"b"},0]]}]}'), [weighed("targeting.if[2].fractional weighs 0")]),
     (colored('{"fractional":[{"fractional":[["k",0]]},["red"],["blue"]]}'), [weighed("targeting.fractional[0].fractional weighs 0")]),
     (colored('{"fractional":[]}'), [weighed("targeting.fractional weighs 0"), NEVER]),
@@ -199,6 +200,29 @@ DOUBTS = [
     (colored('{"if":[{"var":"a"},"red",{"in":["b",{"var":"c"}]}]}'), [foreign("targeting.if[2] is true or false")]),
     (colored('{"and":[{"!":[{"var":"a"}]},"red"]}'), [foreign("targeting.and[0] is true or false")]),
     (colored('{"fractional":[["red",1],[{"max":[1,2]},1]]}'), [foreign("targeting.fractional[1] is no name")]),
+    # Both branches of a test that is no literal; of a literal test the one that it takes.
+    (colored('{"if":[{"var":"a"},"red","blu"]}'), [foreign('targeting.if[2] is "blu"')]),
+    (colored('{"if":[{"==":[1,1]},"red","blu"]}'), [foreign('targeting.if[2] is "blu"')]),
+    (colored('{"if":[true,"blu","red"]}'), [foreign('targeting.if[1] is "blu"'), NEVER]),
+    (colored('{"if":[false,"red","blu"]}'), [foreign('targeting.if[2] is "blu"'), NEVER]),
+    (colored('{"if":[false,"red"]}'), [NEVER]),
+    (colored('{"if":[[],"red",{"var":"a"},"blu","blue"]}'), [foreign('targeting.if[3] is "blu"')]),
+    (colored('{"if":[0,"nope",{"var":"a"},"blu","blue"]}'), [foreign('targeting.if[3] is "blu"')]),
+    (colored('{"if":[{"var":"a"},"blu","x","red","nope"]}'), [foreign('targeting.if[1] is "blu"')]),
+    (colored('{"if":[{"var":"a"},{"if":[true,"red","nope"]},"blu"]}'), [foreign('targeting.if[2] is "blu"')]),
+    (colored('{"if":[false,"nope",{"if":[1,{"if":[null,"nope","blu"]},"nope"]}]}'), [foreign('targeting.if[2].if[1].if[2] is "blu"'), NEVER]),
+    # `or` results in its first argument that counts as true and `and` in its first that counts as false, else in the last.
+    (colored('{"or":["blu","red"]}'), [foreign('targeting.or[0] is "blu"'), NEVER]),
+    (colored('{"or":[[0],"red"]}'), [foreign("targeting.or[0] is no name"), NEVER]),
+    (colored('{"or":["",0,""]}'), [foreign('targeting.or[2] is ""'), NEVER]),
+    (colored('{"or":["",{"var":"a"},"blu","red"]}'), [foreign('targeting.or[2] is "blu"')]),
+    (colored('{"and":["","red"]}'), [foreign('targeting.and[0] is ""'), NEVER]),
+    (colored('{"and":["red","blu"]}'), [foreign('targeting.and[1] is "blu"'), NEVER]),
+    (colored('{"and":["nope",{"var":"a"},[],"red"]}'), [foreign("targeting.and[2] is no name")]),
+    (colored('{"and":[null,"red"]}'), [NEVER]),
+    # A bucket of which the weight is computed, and one without weight.
+    (colored('{"fractional":[["red",1],["blu",{"var":"n"}]]}'), [foreign('targeting.fractional[1] is "blu"')]),
+    (colored('{"fractional":[["nope",0],["blu",1],["red",0]]}'), [foreign('targeting.fractional[1] is "blu"'), NEVER]),
     # Members that stand more than once in the definition.
     ('{"flags":{"color":{"state":"DISABLED","state":"ENABLED","variants":{"red":1}}}}', [repeated("state")]),
     (r'{"flags":{"color":{"state":"DISABLED","st\u0061te":"ENABLED","variants":{"red":1}}}}', [repeated("state")]),
@@ -239,6 +263,21 @@ PLAIN = [
     # What weights that are computed sum to, only an evaluation tells.
     colored('{"fractional":[["red",0],["blue",{"var":"n"}]]}'),
     colored('{"fractional":[["red",2147483647],["blue",{"var":"n"}]]}'),
+    # What is no result: the other branch of a literal test, an argument that another one goes before, a bucket without weight.
+    *[colored('{"if":[%s,"red","nope"]}' % test) for test in ["true", "1", "-1", '"a"', '"0"', "[0]", '[{"var":"a"}]', "{}"]],
+    *[colored('{"if":[%s,"nope","red"]}' % test) for test in ["false", "0", "null", '""', "[]"]],
+    colored('{"if":[{"var":"a"},"red",true,"blue","nope"]}'),
+    colored('{"if":[{"var":"a"},{"if":[false,"nope","red"]},"blue"]}'),
+    colored('{"or":["","red"]}'),
+    colored('{"or":[null,false,0,"",[],"red"]}'),
+    colored('{"or":["red","nope"]}'),
+    colored('{"or":[{"var":"a"},0,"red",7]}'),
+    colored('{"and":["nope","red"]}'),
+    colored('{"and":[true,1,"a",[0],{},"red"]}'),
+    colored('{"and":[{"var":"a"},7,null,"nope"]}'),
+    colored('{"if":[{"var":"a"},"red",{"and":[null,"nope"]}]}'),
+    colored('{"fractional":[["red",1],["nope",0]]}'),
+    colored('{"fractional":[["nope",0],["red",{"var":"n"}]]}'),
     # The same names in other objects.
     '{"flags":{"color":{"state":"ENABLED","variants":{"state":1,"color":2},"defaultVariant":"state"},"state":{"state":"DISABLED","variants":{"state":1}}},"$evaluators":{"color":{"var":"flags"}}}',
 ]

@@ -1,5 +1,5 @@
 -- A site with a weight that is none, or with too much of it, gives no value; one without weight gives null.
-use Rattle.std.proofs.Common.{◌≡◌, ◌≢◌, ◌+◌, ◌≤◌, ◌^◌, ℕ, Bool, true, false, cond, ◌||◌, ◌&&◌, nat_lt, List, [], ◌∷◌, Option, Some, None, option_map, option_and_then, unwrap_or, ◌==◌, pos, Result, Ok, IfOk, eqb-true, refl, sym, ap, ◌∙◌, subst, arith}
+use Rattle.std.proofs.Common.{◌≡◌, ◌≢◌, ◌+◌, ◌≤◌, ◌^◌, ℕ, Bool, true, false, cond, ◌||◌, ◌&&◌, nat_lt, List, [], ◌∷◌, Option, Some, None, option_map, option_and_then, unwrap_or, ◌==◌, pos, Result, Ok, IfOk, refl, sym, ap, ◌∙◌, subst, arith}
 use Rattle.std.proofs.lemmas.Bool.{le-ltb, leb-true}
 use Rattle.std.specs.Option.{is_none}
 use Rattle.bucket_core.specs.Reading.{bucket_with, weight_of}
@@ -13,7 +13,8 @@ use Rattle.logic_eval.specs.Evaluation.{bucket_meaning, bucket_meanings, meaning
 use Rattle.logic_eval.specs.Fractional.{by_buckets, by_input, decided, entries_of, not_too_heavy}
 use Rattle.logic_eval.specs.Run.{Run, gives, ◌>>=◌}
 use Rattle.logic_values.specs.declared.fault.EvalFault.{EvalFault}
-use Rattle.flag_doubts.proofs.Told.{Anything, Gives, any}
+use Rattle.flag_doubts.proofs.Buckets.{weight_in, zero_of}
+use Rattle.flag_doubts.proofs.Giving.{Anything, Gives, any}
 use Rattle.flag_doubts.specs.Laws.{ABadWeightFaults, NoWeightGivesNull}
 use Rattle.flag_doubts.specs.Weights.{are_too_heavy, are_weightless, has_bad_weight, is_no_weight, is_zero, literal_total, literal_weight}
 
@@ -86,9 +87,6 @@ both : (a b : Bool) → (a && b) ≡ true → (a ≡ true) × (b ≡ true)
 both true b e = (refl, e)
 both false b e = absurd (cc e)
 
-zero_of : (n : ℕ) → is_zero (Some n) ≡ true → n ≡ 0
-zero_of n e = eqb-true n 0 e
-
 -- the weight that a bucket comes to, if any, is no less than its literal one, and 0 where that is 0
 abbrev Weighs : Bucket → Shape × Shape → Type 0
 Weighs b p = (m : ℕ) → weight_of p.1 ≡ Some m → (unwrap_or (literal_weight b) 0 ≤ m) × (is_zero (literal_weight b) ≡ true → m ≡ 0)
@@ -98,14 +96,6 @@ Total bs ps = (es : Entries) → entries_of ps ≡ Some es → (literal_total bs
 
 no_total : Total no_buckets []
 no_total es e = let is : [] ≡ es = cc e in (subst (λ (xs : Entries). 0 ≤ total_weight xs) is (omega arith), λ h. subst (λ (xs : Entries). total_weight xs ≡ 0) is refl)
-
-weight_in : (w : Option ℕ) (v : Shape) (x : List ℕ × ℕ) → bucket_with w v ≡ Some x → w ≡ Some x.1
-weight_in w v x h = go (as_text v) w h
-  where
-    go : (o : Option (List ℕ)) (w : Option ℕ) → option_and_then (λ s. option_map (λ n. (s, n)) w) o ≡ Some x → w ≡ Some x.1
-    go None w g = absurd (cc g)
-    go (Some s) None g = absurd (cc g)
-    go (Some s) (Some n) g = ap Some (ap (λ (o : Option (List ℕ × ℕ)). elim o as (λ _. ℕ) [ None ↦ n | Some q ↦ q.1 ]) g)
 
 total_on : (b : Bucket) (bs : Buckets) (p : Shape × Shape) (ps : List (Shape × Shape)) → Weighs b p → Total bs ps → Total (bucket b bs) (p ∷ ps)
 total_on b bs p ps w t es e = go (bucket_with (weight_of p.1) p.0) refl (entries_of ps) refl e

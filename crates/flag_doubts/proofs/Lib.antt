@@ -1,7 +1,9 @@
 pub mod Branches
+pub mod Buckets
 pub mod Counts
 pub mod Documents
 pub mod Faulting
+pub mod Giving
 pub mod Grammar
 pub mod Keys
 pub mod Matches

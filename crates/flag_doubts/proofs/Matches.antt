@@ -17,7 +17,8 @@ use Rattle.logic_eval.specs.Run.{Reach, Run, most_units, reached_of, result_of, 
 use Rattle.logic_eval.specs.Scope.{Situation, default_input, root_scope}
 use Rattle.logic_values.specs.declared.fault.EvalFault.{EvalFault}
 use Rattle.logic_values.specs.declared.fault.EvalFault.TheVariants.{TooLong}
-use Rattle.flag_doubts.proofs.Told.{Gives, told}
+use Rattle.flag_doubts.proofs.Giving.{Gives}
+use Rattle.flag_doubts.proofs.Told.{told}
 use Rattle.flag_doubts.specs.Doubts.{gives_none, has_truth, may_be_variant, never_gives, passes}
 use Rattle.flag_doubts.specs.Laws.{EachValueIsAnOutcome, IsAmong, NeverMatches}
 use Rattle.flag_doubts.specs.Outcomes.{Outcome, named, nameless, truth, computed, outcomes}

@@ -13,7 +13,7 @@ use unread_members::Reader;
 
 /// What is doubted of a flag, which has this definition in its document. A broken one is doubted by its members alone.
 ///
-/// It takes no memory. Beside the definition's members it looks at each node of the targeting, at most three times.
+/// It takes no memory. Beside the definition's members it looks at each node of the targeting, a few times.
 pub fn doubts_of(definition: &Tree, flag: &Flag) -> FlagDoubts
     ensures unread { result.unread ≡ is_unread (view definition.now) }
     ensures weight { result.weight ≡ is_weighed_badly (flag_view flag.now) }

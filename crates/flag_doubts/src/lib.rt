@@ -21,8 +21,8 @@
 //! ```
 //!
 //! What is proved, over the definitions in `specs/`: what a targeting can result in is read off its literals and operators
-//! (`Outcomes`), with each branch of `if`, each argument of `and` and `or` and each bucket of `fractional`; a weight is one that
-//! `bucket_core` reads (`Weights`); each doubt is told exactly where its definition says so (`Doubts`), and without memory;
+//! (`Outcomes`), with the branches of `if`, arguments of `and` and `or` and buckets of `fractional` that no literal test, argument
+//! or weight rules out; a weight is one that `bucket_core` reads (`Weights`); each doubt is told exactly where its definition says so (`Doubts`), and without memory;
 //! what stands more than once does so in the grammar of `json` (`Doubled`, `Repeated`), which place is told is not proved; and
 //! all members are read exactly where it is told so (`AllRead`). What is read in two threads is what each would read alone.
 //! [`doubts_are_of_evaluations`] ties this to what `flag_resolve` gives (`Laws`): whatever is evaluated is among what was read
@@ -41,6 +41,7 @@ mod places;
 mod reading;
 mod repeated;
 mod results;
+mod truths;
 mod twins;
 mod walk;
 mod weights;
@@ -52,4 +53,5 @@ pub use laws::doubts_are_of_evaluations;
 pub use reading::{ReadDocument, read_with_names};
 pub use repeated::{Repeated, repeated_in};
 pub use results::has_truth;
-pub use weights::{are_too_heavy, are_weightless};
+pub use truths::literal_truth;
+pub use weights::{are_too_heavy, are_weightless, is_weightless};

@@ -6,11 +6,13 @@ ghost use Rattle.flag_defs.specs.Definition.{Definition};
 ghost use Rattle.flag_defs.specs.Flag.{flag_view, is_broken};
 ghost use Rattle.logic_ast.specs.Expression.{Expression, computed_bucket};
 ghost use Rattle.logic_ast.specs.View.{node_view, nodes_view, buckets_view};
-ghost use Rattle.flag_doubts.specs.Outcomes.{named, nameless, truth, computed, given_by, given_outcome, literal_outcomes, literal_name, operated, outcomes, all_outcomes, branches, names, name};
+ghost use Rattle.flag_doubts.specs.Outcomes.{named, nameless, truth, computed, given_by, given_outcome, literal_outcomes, literal_name, literal_truth, by_test, operated, outcomes, arguments, branches, names, name};
 ghost use Rattle.flag_doubts.specs.Doubts.{has_truth};
 ghost use Rattle.flag_doubts.specs.Views.{is_sought};
 
 use crate::given::{Given, given_by};
+use crate::truths::literal_truth;
+use crate::weights::is_weightless;
 use flag_defs::Flag;
 use flag_text::Tree;
 use logic_ast::{Bucket, Node, Operator};
@@ -101,7 +103,8 @@ pub(crate) fn is_result(node: &Node, sought: Sought, flag: &Flag) -> bool
         Node::List(_) => sought.is_nameless(),
         Node::Operation(operator, arguments) => match operator {
             Operator::If => is_branch(arguments, sought, flag),
-            Operator::And | Operator::Or => is_argument(arguments, sought, flag),
+            Operator::And => is_argument(arguments, false, sought, flag),
+            Operator::Or => is_argument(arguments, true, sought, flag),
             _ => sought.is_given(*operator, flag),
         },
         Node::Fractional { buckets, .. } => is_name(buckets, sought, flag),
@@ -121,17 +124,32 @@ fn is_literal(tree: &Tree, sought: Sought, flag: &Flag) -> bool
     }
 }
 
+/// Of the arguments of which an operation gives the first that counts as wanted, else the last.
 #[cycle(results)]
-fn is_argument(nodes: &Vec<Node>, sought: Sought, flag: &Flag) -> bool
+fn is_argument(nodes: &Vec<Node>, wanted: bool, sought: Sought, flag: &Flag) -> bool
     requires good { is_broken (flag_view flag.now) ≡ false }
-    ensures { result ≡ list_any (is_sought sought (flag_view flag.now)) (all_outcomes (nodes_view nodes.now.items)) }
+    ensures { result ≡ list_any (is_sought sought (flag_view flag.now)) (arguments wanted (nodes_view nodes.now.items)) }
 {
-    for node in nodes {
-        if is_result(node, sought, flag) {
-            return true;
+    if nodes.is_empty() {
+        return false;
+    }
+    let last = nodes.len() - 1;
+    for place in 0..last {
+        let node = &nodes[place];
+        match literal_truth(node) {
+            Some(truth) => {
+                if truth == wanted {
+                    return is_result(node, sought, flag);
+                }
+            }
+            None => {
+                if is_result(node, sought, flag) {
+                    return true;
+                }
+            }
         }
     }
-    false
+    is_result(&nodes[last], sought, flag)
 }
 
 /// Of pairs of a test and a branch, and a last branch.
@@ -142,8 +160,17 @@ fn is_branch(nodes: &Vec<Node>, sought: Sought, flag: &Flag) -> bool
 {
     let pairs = nodes.len() / 2;
     for pair in 0..pairs {
-        if is_result(&nodes[2 * pair + 1], sought, flag) {
-            return true;
+        match literal_truth(&nodes[2 * pair]) {
+            Some(truth) => {
+                if truth {
+                    return is_result(&nodes[2 * pair + 1], sought, flag);
+                }
+            }
+            None => {
+                if is_result(&nodes[2 * pair + 1], sought, flag) {
+                    return true;
+                }
+            }
         }
     }
     if nodes.len() % 2 == 1 {
@@ -152,6 +179,7 @@ fn is_branch(nodes: &Vec<Node>, sought: Sought, flag: &Flag) -> bool
     false
 }
 
+/// Of the buckets that somebody may fall into.
 #[cycle(results)]
 fn is_name(buckets: &Vec<Bucket<Node>>, sought: Sought, flag: &Flag) -> bool
     requires good { is_broken (flag_view flag.now) ≡ false }
@@ -162,7 +190,7 @@ fn is_name(buckets: &Vec<Bucket<Node>>, sought: Sought, flag: &Flag) -> bool
             Bucket::Literal(name, _) => sought.is_name(name.as_str(), flag),
             Bucket::Computed(name, _) => is_computed_name(name, sought, flag),
         };
-        if found {
+        if found && !is_weightless(bucket) {
             return true;
         }
     }

@@ -114,11 +114,18 @@ pub fn are_weightless(buckets: &Vec<Bucket<Node>>) -> bool
     ensures { result ≡ are_weightless (buckets_view buckets.now.items) }
 {
     for bucket in buckets {
-        if !is_zero(literal_weight(bucket)) {
+        if !is_weightless(bucket) {
             return false;
         }
     }
     true
+}
+
+/// Whether the weight of the bucket is the literal 0: nobody falls into it.
+pub fn is_weightless(bucket: &Bucket<Node>) -> bool
+    ensures { result ≡ is_zero (literal_weight (bucket_view bucket.now)) }
+{
+    is_zero(literal_weight(bucket))
 }
 
 fn is_zero(weight: Option<u64>) -> bool
