@@ -4,7 +4,9 @@ ghost use Rattle.flag_defs.specs.Flag.{flag_view, is_broken};
 
 use bucket_core::weight_of;
 use flag_defs::Flag;
-use flag_doubts::{Given, are_too_heavy, are_weightless, given_by, has_truth};
+use flag_doubts::{
+    Given, are_too_heavy, are_weightless, given_by, has_truth, is_weightless, literal_truth,
+};
 use flag_text::Tree;
 use flagops_files::quoted;
 use logic_ast::{Bucket, Node, Operator};
@@ -24,10 +26,14 @@ pub(crate) fn foreign_in(
         Node::List(_) => is_no_name(alloc),
         Node::Operation(Operator::If, arguments) => foreign_branch(alloc, arguments, flag),
         Node::Operation(Operator::And, arguments) => {
-            stepped(alloc, "and", foreign_argument(alloc, arguments, flag)?)
+            stepped(
+                alloc,
+                "and",
+                foreign_argument(alloc, arguments, false, flag)?,
+            )
         }
         Node::Operation(Operator::Or, arguments) => {
-            stepped(alloc, "or", foreign_argument(alloc, arguments, flag)?)
+            stepped(alloc, "or", foreign_argument(alloc, arguments, true, flag)?)
         }
         Node::Operation(operator, _) => foreign_given(alloc, *operator, flag),
         Node::Fractional { by, buckets, .. } => {
@@ -41,17 +47,28 @@ pub(crate) fn foreign_in(
     }
 }
 
+/// Of the arguments of which an operation gives the first that counts as wanted, else the last.
 #[cycle(foreign)]
 fn foreign_argument(
     alloc: Global,
     nodes: &Vec<Node>,
+    wanted: bool,
     flag: &Flag,
 ) -> Result<Option<String>, AllocError>
     requires { is_broken (flag_view flag.now) ≡ false }
 {
     for i in 0..nodes.len() {
-        if let Some(place) = foreign_in(alloc, &nodes[i], flag)? {
-            return at(alloc, i, place);
+        let is_taken = match literal_truth(&nodes[i]) {
+            Some(truth) => Some(truth == wanted),
+            None => None,
+        };
+        if is_taken != Some(false) || i + 1 == nodes.len() {
+            if let Some(place) = foreign_in(alloc, &nodes[i], flag)? {
+                return at(alloc, i, place);
+            }
+        }
+        if is_taken == Some(true) {
+            return Ok(None);
         }
     }
     Ok(None)
@@ -66,11 +83,21 @@ fn foreign_branch(
 ) -> Result<Option<String>, AllocError>
     requires { is_broken (flag_view flag.now) ≡ false }
 {
-    for i in 0..nodes.len() {
-        if i % 2 == 1 || i + 1 == nodes.len() {
-            if let Some(place) = foreign_in(alloc, &nodes[i], flag)? {
-                return stepped(alloc, "if", at(alloc, i, place)?);
+    let pairs = nodes.len() / 2;
+    for pair in 0..pairs {
+        let test = literal_truth(&nodes[2 * pair]);
+        if test != Some(false) {
+            if let Some(place) = foreign_in(alloc, &nodes[2 * pair + 1], flag)? {
+                return stepped(alloc, "if", at(alloc, 2 * pair + 1, place)?);
             }
+        }
+        if test == Some(true) {
+            return Ok(None);
+        }
+    }
+    if nodes.len() % 2 == 1 {
+        if let Some(place) = foreign_in(alloc, &nodes[2 * pairs], flag)? {
+            return stepped(alloc, "if", at(alloc, 2 * pairs, place)?);
         }
     }
     Ok(None)
@@ -87,6 +114,7 @@ fn foreign_bucket(
 {
     for i in 0..buckets.len() {
         let found = match &buckets[i] {
+            bucket if is_weightless(bucket) => None,
             Bucket::Literal(name, _) => foreign_name(alloc, name.as_str(), flag)?,
             Bucket::Computed(name, _) => foreign_in(alloc, name, flag)?,
         };

@@ -1,0 +1,3 @@
+mod KeyTexts
+mod Loops
+mod NotEarly

@@ -1,0 +1,11 @@
+pub mod About
+pub mod Answer
+pub mod Early
+pub mod Keys
+pub mod Lines
+pub mod Question
+pub mod Refusal
+pub mod Room
+pub mod Seat
+pub mod Told
+pub mod View

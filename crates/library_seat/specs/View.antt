@@ -1,0 +1,29 @@
+-- The values of the program, without where their parts lie in memory.
+use Rattle.std.specs.Prelude.{option_map}
+use Rattle.std.specs.Arc.{arc_value}
+use Rattle.flag_text.specs.Shape.{Shape}
+use Rattle.flag_text.specs.View.{view}
+use Rattle.flag_defs.specs.Flags.{flags_view}
+use Rattle.kept_lines.specs.View.{kept_view}
+use Rattle.library_seat.specs.Question as asking
+use Rattle.library_seat.specs.Seat as standing
+use Rattle.library_seat.specs.declared.asked.Asked.{Asked}
+use Rattle.library_seat.specs.declared.asked.Question.{Question}
+use Rattle.library_seat.specs.declared.asked.ReadContext.{ReadContext}
+use Rattle.library_seat.specs.declared.seat.Seat.{Seat}
+
+abbrev pub asked_view : Asked → asking.AskedBytes
+asked_view a = record { key = a.key.now; kind = a.kind; default = a.default.now; moment = a.moment }
+
+abbrev pub question_view : Question → asking.Question
+question_view q = record { key = q.key.now; kind = q.kind; default = view q.default; moment = q.moment }
+
+abbrev pub context_view : ReadContext → Shape
+context_view c = view c.tree
+
+abbrev pub seat_view : Seat → standing.Standing
+seat_view s = record {
+  flags = option_map (λ flags. flags_view (arc_value flags)) s.flags;
+  context = option_map context_view s.context;
+  notes = kept_view s.notes;
+}

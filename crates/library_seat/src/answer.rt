@@ -1,0 +1,102 @@
+//! What a resolution is answered with.
+ghost use Rattle.std.specs.Prelude.{◌≡◌, ◌++◌, IfOk, OnOk, length, is_some, option_map, string_bytes};
+ghost use Rattle.flag_text.specs.Printing.{text_of};
+ghost use Rattle.flag_resolve.specs.Views.{resolution_view};
+ghost use Rattle.library_seat.specs.Answer.{answer_text, code_number, details_of, reason_number, variant_bytes};
+
+use flag_resolve::{Code, Reason, Resolution};
+use flag_text::push_tree;
+use std::alloc::{AllocError, Global};
+
+/// The room that most answers need no more than.
+const ROOM: usize = 64;
+
+/// What the bytes of an answer are made of, and why it is this answer.
+#[repr(C)]
+#[derive(Clone, Copy)]
+pub struct Details {
+    /// The number of OpenFeature's reason: STATIC, DEFAULT, TARGETING_MATCH, DISABLED, ERROR from 0.
+    pub reason: u32,
+    /// The number of OpenFeature's error code: none, PROVIDER_NOT_READY, FLAG_NOT_FOUND, PARSE_ERROR, TYPE_MISMATCH,
+    /// INVALID_CONTEXT, GENERAL from 0.
+    pub code: u32,
+    /// How many of the bytes are the value as JSON. What follows is the variant's name.
+    pub value: usize,
+    /// Whether it is the value of a variant.
+    pub has_variant: bool,
+}
+
+/// The bytes of an answer, with how many of them are the value.
+#[derive(Drop)]
+pub(crate) struct Answer {
+    pub(crate) text: String,
+    pub(crate) details: Details,
+}
+
+/// The answer of a resolution.
+pub(crate) fn answer_of(alloc: Global, resolution: &Resolution) -> Result<Answer, AllocError>
+    ensures text { IfOk result (λ a. string_bytes a.text ≡ answer_text (resolution_view resolution.now)) }
+    ensures details { IfOk result (λ a. a.details ≡ details_of (resolution_view resolution.now)) }
+{
+    let mut text = String::with_capacity(alloc, ROOM)?;
+    push_tree(alloc, &mut text, &resolution.value)?;
+    let value = text.len();
+    push_name(&mut text, &resolution.variant)?;
+    Ok(Answer {
+        text,
+        details: Details {
+            reason: reason_number(resolution.reason),
+            code: code_number(resolution.code),
+            value,
+            has_variant: has_name(&resolution.variant),
+        },
+    })
+}
+
+/// Adds the name of a variant, where there is one.
+fn push_name(text: &mut String, variant: &Option<String>) -> Result<(), AllocError>
+    ensures { OnOk result (string_bytes text.new ≡ string_bytes text.old ++ variant_bytes (option_map string_bytes variant.now)) }
+{
+    match variant {
+        Some(name) => text.push_str(name.as_str()),
+        None => Ok(()),
+    }
+}
+
+/// Whether there is a variant.
+fn has_name(variant: &Option<String>) -> bool
+    ensures { result ≡ is_some (option_map string_bytes variant.now) }
+{
+    match variant {
+        Some(_) => true,
+        None => false,
+    }
+}
+
+/// The number of a reason.
+fn reason_number(reason: Reason) -> u32
+    ensures { result ≡ reason_number reason }
+{
+    match reason {
+        Reason::Static => 0,
+        Reason::Default => 1,
+        Reason::TargetingMatch => 2,
+        Reason::Disabled => 3,
+        Reason::Error => 4,
+    }
+}
+
+/// The number of an error code, 0 where there is none.
+fn code_number(code: Option<Code>) -> u32
+    ensures { result ≡ code_number code }
+{
+    match code {
+        None => 0,
+        Some(Code::ProviderNotReady) => 1,
+        Some(Code::FlagNotFound) => 2,
+        Some(Code::ParseError) => 3,
+        Some(Code::TypeMismatch) => 4,
+        Some(Code::InvalidContext) => 5,
+        Some(Code::General) => 6,
+    }
+}

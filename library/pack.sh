@@ -1,0 +1,29 @@
+#!/bin/sh
+# Makes of the proved archive what is shipped: libflagops.a, whose only global names are the header's, libflagops.so.0, the
+# header, and what pkg-config reads.
+#   library/pack.sh ARCHIVE FOLDER
+# ARCHIVE is what `rt lib` makes of crates/flagops_c, crates/flagops_c/out/libflagops_c.a. It needs the kit that made it.
+set -e
+
+archive=${1:?the archive} folder=${2:?the folder}
+here=$(CDPATH='' cd -- "$(dirname -- "$0")" && pwd -P)
+kit=${KIT:-$(dirname "$(dirname "$(readlink -f "$(command -v rt)")")")}
+bin=$kit/toolchain/bin
+heap=$kit/c/liblibc_c.a
+work=$(mktemp -d)
+trap 'rm -rf "$work"' EXIT
+
+mkdir -p "$folder"
+printf '{ global: flagops_*; local: *; };\n' >"$work/names.map"
+"$bin/ld.lld" -shared -o "$folder/libflagops.so.0" --version-script "$work/names.map" --soname libflagops.so.0 --build-id=none \
+    --gc-sections -z now -z relro -s --whole-archive "$archive" --no-whole-archive "$heap" --allow-shlib-undefined \
+    -L/lib/x86_64-linux-gnu -l:libc.so.6
+
+# One object, so that names between the archive's own objects can be hidden.
+"$bin/ld.lld" -r -o "$work/flagops.o" --whole-archive "$archive" "$heap"
+if [ -x "$bin/llvm-objcopy" ]; then objcopy=$bin/llvm-objcopy; else objcopy=objcopy; fi
+"$objcopy" --wildcard --keep-global-symbol='flagops_*' "$work/flagops.o"
+rm -f "$folder/libflagops.a"
+"$bin/llvm-ar" rcsD "$folder/libflagops.a" "$work/flagops.o"
+
+cp "$here/flagops.h" "$here/flagops.pc" "$folder"

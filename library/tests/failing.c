@@ -1,0 +1,94 @@
+/* Each request for memory refused in turn: the call says so, everything is as it was, and nothing leaks. */
+#include "seats.h"
+
+static long left = -1, live;
+void *__real_malloc(size_t size);
+void *__real_realloc(void *block, size_t size);
+void __real_free(void *block);
+static bool fails(void) { return left >= 0 && left-- == 0; }
+
+void *__wrap_malloc(size_t size) {
+    if (fails()) return NULL;
+    void *block = __real_malloc(size);
+    live += block != NULL;
+    return block;
+}
+
+void *__wrap_realloc(void *block, size_t size) {
+    if (fails()) return NULL;
+    void *moved = __real_realloc(block, size);
+    live += block == NULL && moved != NULL;
+    return moved;
+}
+
+void __wrap_free(void *block) {
+    live -= block != NULL;
+    __real_free(block);
+}
+
+static const uint8_t *document;
+static size_t document_len;
+static const char *const BOB = "{\"targetingKey\":\"bob\"}", *const ANN = "{\"targetingKey\":\"ann\"}";
+
+enum { NEW, OPEN, SHARE, SHARE_AGAIN, CONTEXT, RESOLVE, RESOLVE_KEPT, KEYS, RECORD, NOTES, ABOUT, CALLS };
+
+static uint32_t call(int which, flagops_seat *one, flagops_seat *two, answer *a) {
+    switch (which) {
+    case NEW: { flagops_seat made = FLAGOPS_NONE; uint32_t n = flagops_new(&made); expect((n == 0) == made.held, "a seat or none"); flagops_close(&made); return n; }
+    case OPEN: return flagops_open(one, BYTES("{\"flags\":{\"checkout\":{\"state\":\"ENABLED\",\"variants\":{\"a\":true},\"defaultVariant\":\"a\"}}}"));
+    case SHARE: { flagops_seat made = FLAGOPS_NONE; uint32_t n = flagops_share(one, &made); expect((n == 0) == made.held, "a seat or none"); flagops_close(&made); return n; }
+    case SHARE_AGAIN: return flagops_share(one, two);
+    case CONTEXT: return flagops_context(one, BYTES(ANN));
+    case RESOLVE: *a = resolve(one, "checkout", FLAGOPS_BOOL, "false", ANN); return a->number;
+    case RESOLVE_KEPT: return a->number = flagops_resolve_kept(one, BYTES("checkout"), FLAGOPS_BOOL, BYTES("false"), 0, a->bytes, sizeof a->bytes, &a->written, &a->details);
+    case KEYS: return a->number = flagops_keys(one, a->bytes, sizeof a->bytes, &a->written);
+    case RECORD: return flagops_record(one, 32768);
+    case NOTES: return a->number = flagops_notes(one, a->bytes, sizeof a->bytes, &a->written);
+    default: return a->number = flagops_about(a->bytes, sizeof a->bytes, &a->written);
+    }
+}
+
+/* Whether the call asked for memory so often; the seats are as they were where it was refused. */
+static bool refused_at(int which, long count) {
+    long before = live;
+    flagops_seat one = FLAGOPS_NONE, two = FLAGOPS_NONE;
+    expect(!flagops_new(&one) && !flagops_new(&two) && !flagops_open(&one, document, document_len), "seats");
+    expect(!flagops_record(&one, 65536) && !flagops_context(&one, BYTES(BOB)), "a context and notes");
+    expect(!resolve(&one, "checkout", FLAGOPS_BOOL, "false", BOB).number, "a note");
+    answer a;
+    memset(&a, 0xa5, sizeof a);
+    left = count;
+    uint32_t number = call(which, &one, &two, &a);
+    bool refused = left < 0;
+    left = -1;
+    expect(number == (refused ? FLAGOPS_MEMORY : FLAGOPS_OK) || (which == CONTEXT && number == FLAGOPS_OK), "want of memory is told, and nothing else");
+    if (number == FLAGOPS_MEMORY) {
+        a.number = number;
+        expect(is_untouched(&a), "nothing is written");
+        uint8_t out[256];
+        size_t written;
+        expect(!flagops_notes(&one, out, sizeof out, &written) && written == 34, "the notes are as they were");
+        answer b = resolve(&one, "checkout", FLAGOPS_BOOL, "false", BOB);
+        expect(b.number == FLAGOPS_OK && b.details.reason == FLAGOPS_TARGETING_MATCH, "the flags are as they were");
+        b = resolve(&two, "checkout", FLAGOPS_BOOL, "false", BOB);
+        expect(b.details.code == FLAGOPS_PROVIDER_NOT_READY, "those of the other seat too");
+    }
+    flagops_close(&one);
+    flagops_close(&two);
+    expect(live == before, "all memory is given back");
+    return refused;
+}
+
+int main(int argc, char **argv) {
+    if (argc != 2) return 2;
+    document = load(argv[1], &document_len);
+    for (int which = 0; which < CALLS; which++) {
+        long count = 0;
+        while (refused_at(which, count) && count < 100000) count++;
+        printf("%s%ld", which ? " " : "requests for memory, each refused in turn: ", count);
+        bool none = which == RECORD || which == NOTES || which == ABOUT || which == SHARE_AGAIN;
+        expect(none == (count == 0), "which calls take memory");
+    }
+    printf("\n");
+    return bad != 0;
+}
