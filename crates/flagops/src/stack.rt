@@ -5,22 +5,18 @@ use crate::dispatch::flagops;
 use crate::watching::Watcher;
 use flag_text::Outlet;
 use flagops_filters::Opening;
+use flagops_service::Host;
 use flagops_shell::{Console, FileSet};
 use limits::STACK_BYTES;
 use line_batches::Inlet;
 use std::convert::AsStr;
-use std::fs::File;
-use std::io::{self, Read};
-use std::net::{Net, TcpListener, TcpStream};
+use std::io;
 use std::process::ExitCode;
-use std::random::RandomSource;
-use std::rt::Files;
 use std::sync::Wait;
 use std::thread::{self, Builder, Threads};
-use std::time::Clock;
 
 /// Does what the words ask for on a stack of its own, where there is memory for one.
-pub fn on_stack<R, D, S, I, F, O, E, W>(
+pub fn on_stack<R, S, I, F, O, E, W>(
     rt: &R,
     words: io::Result<Vec<S>>,
     input: I,
@@ -30,15 +26,7 @@ pub fn on_stack<R, D, S, I, F, O, E, W>(
     watcher: &W,
 ) -> Option<ExitCode>
 where
-    R: AllocGlobal
-        + Files<File = File, Dir = D>
-        + Net<Listener = TcpListener, Stream = TcpStream>
-        + Clock
-        + RandomSource
-        + Threads
-        + Wait
-        + Sync,
-    D: Read + Send + Drop,
+    R: Host,
     S: AsStr + Send + Drop,
     I: Inlet + Opening + Send + Drop,
     F: FileSet + Send + Drop,

@@ -1,4 +1,5 @@
 pub mod Matched
+pub mod Posts
 pub mod Seats
 pub mod Started
 pub mod Told

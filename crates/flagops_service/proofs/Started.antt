@@ -80,18 +80,18 @@ module _ {X : Type 0} (now : X → List ℕ) (slice items : List X) (same : slic
 
 -- over a console of which the two outlets were taken
 pub answers_asked : (old inside new : Shown) (status : ℕ) (words : List Text) (a : Answering) (files : Option Holding) → inside ≡ old → ofrep_by words ≡ Some a
-    → IfSome files (λ at. (answer : Answer) × StartsTo at a answer × Reports inside.printed new.printed new.is_broken inside.reported new.reported new.is_mute status (count_of answer))
+    → IfSome files (λ at. (answer : Answer) × StartsTo at a answer × Reports inside.printed new.printed new.is_broken inside.reported new.reported new.is_mute status a.log (count_of answer))
     → AnswersOfrep old new status files words
 answers_asked old inside new status words a files same is answers =
     subst (λ (o : Shown). AnswersOfrep o new status files words) same
-    (subst (λ (o : Option Answering). IfSome o (λ t. IfSome files (λ at. ((answer : Answer) × StartsTo at t answer × Reports inside.printed new.printed new.is_broken inside.reported new.reported new.is_mute status (count_of answer)) ⊎ ShowsWordsWant inside new status))) (sym is)
-    (where_known files (λ at. (answer : Answer) × StartsTo at a answer × Reports inside.printed new.printed new.is_broken inside.reported new.reported new.is_mute status (count_of answer))
-    (λ at. ((answer : Answer) × StartsTo at a answer × Reports inside.printed new.printed new.is_broken inside.reported new.reported new.is_mute status (count_of answer)) ⊎ ShowsWordsWant inside new status)
+    (subst (λ (o : Option Answering). IfSome o (λ t. IfSome files (λ at. ((answer : Answer) × StartsTo at t answer × Reports inside.printed new.printed new.is_broken inside.reported new.reported new.is_mute status t.log (count_of answer)) ⊎ ShowsWordsWant inside new status))) (sym is)
+    (where_known files (λ at. (answer : Answer) × StartsTo at a answer × Reports inside.printed new.printed new.is_broken inside.reported new.reported new.is_mute status a.log (count_of answer))
+    (λ at. ((answer : Answer) × StartsTo at a answer × Reports inside.printed new.printed new.is_broken inside.reported new.reported new.is_mute status a.log (count_of answer)) ⊎ ShowsWordsWant inside new status)
     (λ at h. inl h) answers))
 
 pub serves_asked : (old inside new : Shown) (status : ℕ) (words : List Text) (a : Answering) (n : ℕ) → inside ≡ old → ofrep_by words ≡ Some a → n ≡ length a.documents
-    → Serves inside.printed new.printed new.is_broken inside.reported new.reported new.is_mute status n → ServesOfrep old new status words
+    → Serves inside.printed new.printed new.is_broken inside.reported new.reported new.is_mute status a.log n → ServesOfrep old new status words
 serves_asked old inside new status words a n same is count serves =
     subst (λ (o : Shown). ServesOfrep o new status words) same
-    (subst (λ (o : Option Answering). IfSome o (λ t. Serves inside.printed new.printed new.is_broken inside.reported new.reported new.is_mute status (length t.documents) ⊎ ShowsWordsWant inside new status)) (sym is)
-    (inl (subst (λ (k : ℕ). Serves inside.printed new.printed new.is_broken inside.reported new.reported new.is_mute status k) count serves)))
+    (subst (λ (o : Option Answering). IfSome o (λ t. Serves inside.printed new.printed new.is_broken inside.reported new.reported new.is_mute status t.log (length t.documents) ⊎ ShowsWordsWant inside new status)) (sym is)
+    (inl (subst (λ (k : ℕ). Serves inside.printed new.printed new.is_broken inside.reported new.reported new.is_mute status a.log k) count serves)))

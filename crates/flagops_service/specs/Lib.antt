@@ -2,3 +2,4 @@ pub mod Words
 pub mod Merging
 pub mod Starting
 pub mod Ended
+pub mod Unready

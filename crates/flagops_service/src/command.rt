@@ -61,8 +61,8 @@ fn answer_asked<R: Host, F: FileSet, O: Outlet, E: Outlet>(
     requires out_whole { O.is_broken out.old ≡ false }
     requires err_whole { E.is_broken err.old ≡ false }
     ensures answers { IfSome (F.holding files.old) (λ at. (answer : Answer) × StartsTo at (answering_view answering.now) answer
-        × Reports (O.bytes out.old) (O.bytes out.new) (O.is_broken out.new) (E.bytes err.old) (E.bytes err.new) (E.is_broken err.new) result (count_of answer)) }
-    ensures serves { Serves (O.bytes out.old) (O.bytes out.new) (O.is_broken out.new) (E.bytes err.old) (E.bytes err.new) (E.is_broken err.new) result (length answering.now.documents.items) }
+        × Reports (O.bytes out.old) (O.bytes out.new) (O.is_broken out.new) (E.bytes err.old) (E.bytes err.new) (E.is_broken err.new) result (answering_view answering.now).log (count_of answer)) }
+    ensures serves { Serves (O.bytes out.old) (O.bytes out.new) (O.is_broken out.new) (E.bytes err.old) (E.bytes err.new) (E.is_broken err.new) result (answering_view answering.now).log (length answering.now.documents.items) }
 {
     let alloc = rt.alloc();
     let paths = answering.documents.as_slice();
@@ -92,7 +92,7 @@ fn answer_documents<R: Host, F: FileSet, O: Outlet, E: Outlet>(
     requires out_whole { O.is_broken out.old ≡ false }
     requires err_whole { E.is_broken err.old ≡ false }
     ensures { (answer : Answer) × StartsOn (seats_of (answering_view answering.now)) (documents_view documents) answer
-        × Reports (O.bytes out.old) (O.bytes out.new) (O.is_broken out.new) (E.bytes err.old) (E.bytes err.new) (E.is_broken err.new) result (count_of answer) }
+        × Reports (O.bytes out.old) (O.bytes out.new) (O.is_broken out.new) (E.bytes err.old) (E.bytes err.new) (E.is_broken err.new) result (answering_view answering.now).log (count_of answer) }
 {
     let alloc = rt.alloc();
     let paths = answering.documents.as_slice();
@@ -126,7 +126,7 @@ fn answer_flags<R: Host, F: FileSet, O: Outlet, E: Outlet>(
     requires merged { AreMerged (sources_view watched.sources) flags }
     requires out_whole { O.is_broken out.old ≡ false }
     requires err_whole { E.is_broken err.old ≡ false }
-    ensures { Begins (O.bytes out.old) (O.bytes out.new) (O.is_broken out.new) (E.bytes err.old) (E.bytes err.new) (E.is_broken err.new) result (seats_of (answering_view answering.now)) (length watched.entry.texts.items) }
+    ensures { Begins (O.bytes out.old) (O.bytes out.new) (O.is_broken out.new) (E.bytes err.old) (E.bytes err.new) (E.is_broken err.new) result (answering_view answering.now).log (seats_of (answering_view answering.now)) (length watched.entry.texts.items) }
 {
     let alloc = rt.alloc();
     match prepare(rt, alloc, answering) {
@@ -136,7 +136,7 @@ fn answer_flags<R: Host, F: FileSet, O: Outlet, E: Outlet>(
                 rt, answering, history, flags, prepared, watched, files, out, err,
             )
         }
-        Err(Unready::NoLog) => refuse_log(out, err),
+        Err(Unready::NoLog(fault)) => refuse_log(out, err, fault),
         Err(Unready::Unbound) => refuse_and_tell(alloc, out, err, Refusal::Unbound),
         Err(Unready::WantOfMemory) => refuse_and_tell(alloc, out, err, Refusal::WantOfMemory),
     }
@@ -165,7 +165,7 @@ where
     requires merged { AreMerged (sources_view watched.sources) flags }
     requires out_whole { O.is_broken out.old ≡ false }
     requires err_whole { E.is_broken err.old ≡ false }
-    ensures { Begins (O.bytes out.old) (O.bytes out.new) (O.is_broken out.new) (E.bytes err.old) (E.bytes err.new) (E.is_broken err.new) result (seats_of (answering_view answering.now)) (length watched.entry.texts.items) }
+    ensures { Begins (O.bytes out.old) (O.bytes out.new) (O.is_broken out.new) (E.bytes err.old) (E.bytes err.new) (E.is_broken err.new) result (answering_view answering.now).log (seats_of (answering_view answering.now)) (length watched.entry.texts.items) }
 {
     let alloc = rt.alloc();
     let workers = answering.workers as usize;
@@ -213,7 +213,7 @@ where
     requires published { ArePublished (sources_view watched.sources) publisher.old }
     requires out_whole { O.is_broken out.old ≡ false }
     requires err_whole { E.is_broken err.old ≡ false }
-    ensures { Begins (O.bytes out.old) (O.bytes out.new) (O.is_broken out.new) (E.bytes err.old) (E.bytes err.new) (E.is_broken err.new) result (seats_of (answering_view answering.now)) (length watched.entry.texts.items) }
+    ensures { Begins (O.bytes out.old) (O.bytes out.new) (O.is_broken out.new) (E.bytes err.old) (E.bytes err.new) (E.is_broken err.new) result (answering_view answering.now).log (seats_of (answering_view answering.now)) (length watched.entry.texts.items) }
 {
     let alloc = rt.alloc();
     let line = match serving_line(alloc, watched.texts.len()) {

@@ -1,15 +1,14 @@
 //! What the service takes of the system.
-use std::fs::File;
+use log_file::LogPaths;
 use std::net::{Net, TcpListener, TcpStream};
 use std::random::RandomSource;
-use std::rt::Files;
 use std::sync::Wait;
 use std::thread::Threads;
 use std::time::Clock;
 
-/// Memory, files, sockets, the time, random numbers, and threads that may wait: all that the service takes of the system.
+/// Memory, the files of logs, sockets, the time, random numbers, and threads that may wait: all that the service takes of the system.
 pub trait Host: AllocGlobal
-    + Files<File = File>
+    + LogPaths
     + Net<Listener = TcpListener, Stream = TcpStream>
     + Clock
     + RandomSource
@@ -20,7 +19,7 @@ pub trait Host: AllocGlobal
 impl<R> Host for R
 where
     R: AllocGlobal
-        + Files<File = File>
+        + LogPaths
         + Net<Listener = TcpListener, Stream = TcpStream>
         + Clock
         + RandomSource

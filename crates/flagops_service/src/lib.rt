@@ -23,6 +23,7 @@
 mod asked;
 mod command;
 mod host;
+mod log_news;
 mod merging;
 mod preparing;
 mod reporting;

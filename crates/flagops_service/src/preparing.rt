@@ -1,16 +1,18 @@
 //! What is opened before anybody is answered.
-ghost use Rattle.std.specs.Prelude.{◌≡◌, IfOk, vec_len};
-ghost use Rattle.flagops_service.specs.Words.{subscribers_of};
+ghost use Rattle.std.specs.Prelude.{◌≡◌, IfErr, IfOk, Option, map, vec_len};
+ghost use Rattle.clap.specs.Walk.{Text};
+ghost use Rattle.ofrep_service.specs.Logs.{path_in, paths_of};
+ghost use Rattle.flagops_service.specs.Unready.{MayBeUnready};
+ghost use Rattle.flagops_service.specs.Words.{answering_view, subscribers_of};
 
 use crate::asked::Answering;
-use ofrep_service::{Journal, Post, bind, bind_stream, open_journal};
+use log_file::{LogFault, LogPaths};
+use ofrep_service::{Post, bind, bind_stream, open_logs};
 use std::alloc::Global;
-use std::fs::{self, File};
 use std::hash::RandomState;
 use std::io::{self, ErrorKind};
 use std::net::{Net, SocketAddr, TcpListener, TcpStream};
 use std::random::RandomSource;
-use std::rt::Files;
 
 /// Where HTTP is served where no address is given.
 pub(crate) const LISTEN: &str = "127.0.0.1:8016";
@@ -31,7 +33,7 @@ pub(crate) struct Prepared {
 pub(crate) enum Unready {
     WantOfMemory,
     /// The folder or a file of the logs can't be opened.
-    NoLog,
+    NoLog(LogFault),
     /// The address, or the port of the stream, can't be listened on.
     Unbound,
 }
@@ -43,12 +45,15 @@ pub(crate) fn prepare<R>(
     answering: &Answering<'_>,
 ) -> Result<Prepared, Unready>
 where
-    R: Files<File = File> + Net<Listener = TcpListener, Stream = TcpStream> + RandomSource,
-    ensures { IfOk result (λ p. vec_len p.streams ≡ subscribers_of answering.now.stream) }
+    R: LogPaths + Net<Listener = TcpListener, Stream = TcpStream> + RandomSource,
+    ensures streams { IfOk result (λ p. vec_len p.streams ≡ subscribers_of answering.now.stream) }
+    ensures logs { IfOk result (λ p. map (λ post. path_in post.journal) p.posts.items ≡ paths_of (answering_view answering.now).log answering.now.workers) }
+    ensures unready { IfErr result (MayBeUnready (answering_view answering.now).log) }
 {
-    let journals = match journals(rt, alloc, answering.log, answering.workers) {
-        Ok(journals) => journals,
-        Err(fault) => return Err(why_unready(fault.kind(), Unready::NoLog)),
+    let logs = match open_logs(rt, alloc, answering.log, answering.workers as usize) {
+        Ok(logs) => logs,
+        Err(LogFault::WantOfMemory) => return Err(Unready::WantOfMemory),
+        Err(fault) => return Err(Unready::NoLog(fault)),
     };
     let word = answering.listen.unwrap_or(LISTEN);
     let Ok(address) = word.parse::<SocketAddr>() else {
@@ -57,9 +62,9 @@ where
     let Ok(keys) = RandomState::new(rt) else {
         return Err(Unready::Unbound);
     };
-    let posts = match bind(rt, alloc, address, journals) {
+    let posts = match bind(rt, alloc, address, logs) {
         Ok(posts) => posts,
-        Err(fault) => return Err(why_unready(fault.kind(), Unready::Unbound)),
+        Err(fault) => return Err(why_unready(fault.kind())),
     };
     match streams(rt, alloc, answering.stream) {
         Ok(streams) => Ok(Prepared {
@@ -67,7 +72,7 @@ where
             streams,
             keys,
         }),
-        Err(fault) => Err(why_unready(fault.kind(), Unready::Unbound)),
+        Err(fault) => Err(why_unready(fault.kind())),
     }
 }
 
@@ -85,31 +90,12 @@ fn streams<R: Net<Listener = TcpListener, Stream = TcpStream>>(
     }
 }
 
-/// Why something can't be opened: want of memory, or another reason.
-fn why_unready(kind: ErrorKind, other: Unready) -> Unready {
+/// Why a socket can't be had: want of memory, or another reason.
+fn why_unready(kind: ErrorKind) -> Unready
+    ensures { (folder : Option Text) → MayBeUnready folder result }
+{
     match kind {
         ErrorKind::OutOfMemory => Unready::WantOfMemory,
-        _ => other,
+        _ => Unready::Unbound,
     }
-}
-
-/// The logs of so many workers in a folder, which is made where it is missing; none where no folder is named.
-fn journals<R: Files<File = File>>(
-    files: &R,
-    alloc: Global,
-    folder: Option<&str>,
-    workers: u64,
-) -> io::Result<Vec<Option<Journal>>> {
-    if let Some(folder) = folder {
-        fs::create_dir_all(files, folder)?;
-    }
-    let mut journals = Vec::new(alloc);
-    for worker in 0..workers {
-        let journal = match folder {
-            Some(folder) => Some(open_journal(files, alloc, folder, worker as usize + 1)?),
-            None => None,
-        };
-        journals.push(journal)?;
-    }
-    Ok(journals)
 }

@@ -1,8 +1,9 @@
 //! Documents that are read again.
-ghost use Rattle.std.specs.Prelude.{◌≡◌, ◌+◌, IfOk, string_bytes, decimal};
+ghost use Rattle.std.specs.Prelude.{◌≡◌, ◌==◌, ◌&&◌, ◌+◌, ◌-◌, ◌%◌, ◌^◌, ◌<◌, IfOk, nat_lt, string_bytes, decimal};
 ghost use Rattle.source_merge.specs.View.{sources_view};
 ghost use Rattle.flagops_service.specs.Merging.{Publishes, Takes};
 
+use crate::log_news::{LogNews, tell_news};
 use crate::telling::{say_kept, say_made, say_published};
 use file_diagnostics::{of_document, of_unreadable};
 use flag_text::Outlet;
@@ -28,7 +29,8 @@ pub(crate) struct Watched<'a> {
     pub(crate) missing: u32,
 }
 
-/// Reads documents again after each pause of so many seconds, 0 for never, and publishes what they have become.
+/// Reads documents again after each pause of so many seconds, 0 for never, and publishes what they have become. Each second it tells
+/// what has happened to logs.
 pub(crate) fn watch<J: ShareName, R: Clock + Wait, F: FileSet, E: Outlet>(
     rt: &R,
     watched: &mut Watched<'_>,
@@ -38,17 +40,27 @@ pub(crate) fn watch<J: ShareName, R: Clock + Wait, F: FileSet, E: Outlet>(
     files: &mut F,
     err: &mut E,
 ) {
-    if poll == 0 {
-        return;
-    }
     let mut waits = false;
-    for _turn in 0..u64::MAX {
-        thread::sleep(rt, Duration::from_secs(poll));
+    let mut told = LogNews::none();
+    for turn in 0..u64::MAX {
+        thread::sleep(rt, Duration::from_secs(1));
+        told = tell_news(board, told, err);
+        if !is_turn(turn, poll) {
+            continue;
+        }
         waits |= watched.read_again(files, err);
         if waits {
             waits = publish(rt, watched, publisher, board, err);
         }
     }
+}
+
+/// Whether the documents are read again in the second of this number, where they are after so many seconds, 0 for never.
+fn is_turn(second: u64, poll: u64) -> bool
+    requires { second < 2 ^ 64 - 1 }
+    ensures { result ≡ (nat_lt 0 poll && ((second + 1) % poll == 0)) }
+{
+    poll > 0 && (second + 1) % poll == 0
 }
 
 /// Publishes what the documents make now, unless they are too large together or memory runs out. Says whether that was want of

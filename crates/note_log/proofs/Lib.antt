@@ -2,5 +2,6 @@ pub mod Lines
 mod Batches
 mod Moved
 mod Recorded
-mod LastLine
 mod Kept
+mod Faults
+mod Anew

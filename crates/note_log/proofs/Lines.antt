@@ -4,7 +4,8 @@ use Rattle.std.specs.List.{flat_map, Contains}
 use Rattle.std.proofs.lemmas.List.Elements.{Contains-append_cases, Contains-push_cases}
 use Rattle.flag_text.specs.Printing.{text_of}
 use Rattle.note_lines.specs.Note.{Noted, note_line, note_shape}
-use Rattle.note_log.specs.Line.{EndsLine, HasLine}
+use Rattle.log_file.specs.Line.{EndsLine}
+use Rattle.note_log.specs.Line.{HasLine}
 
 -- nothing is in no list
 pub not_in : {X : Type 0} (x : X) → ¬ (Contains [] x)

@@ -5,7 +5,8 @@ use Rattle.std.specs.List.{flat_map, Contains}
 use Rattle.note_lines.specs.Note.{Noted, note_line}
 use Rattle.note_log.specs.Batch.{IsBatch, StandAll}
 use Rattle.note_log.specs.Handing.{Moves}
-use Rattle.note_log.specs.Line.{EndsLine, HasLine}
+use Rattle.log_file.specs.Line.{EndsLine}
+use Rattle.note_log.specs.Line.{HasLine}
 use Rattle.note_log.specs.Log.{Logged, Records}
 use Rattle.note_log.specs.Sound.{IsSound, Remembered, Stand}
 use Rattle.note_log.specs.declared.batch.Batch.{Batch}
@@ -17,16 +18,17 @@ pub nothing : (waiting : List ℕ) → (length waiting == 0) ≡ true → waitin
 nothing [] h = refl
 nothing (b ∷ bs) h = absurd (omega (arith, eqb-true (length (b ∷ bs)) 0 h))
 
-abbrev pub holding : List ℕ → List ℕ → Logged
-holding handed waiting = record { handed = handed; waiting = waiting }
+abbrev pub holding : List (List ℕ) → List ℕ → List ℕ → Logged
+holding earlier handed waiting = record { earlier = earlier; handed = handed; waiting = waiting }
 
-module _ (b0 b2 : Option (List ℕ)) (h0 h2 w0 w2 : List ℕ) where
+module _ (earlier : List (List ℕ)) (b0 b2 : Option (List ℕ)) (h0 h2 w0 w2 : List ℕ) where
   -- nothing was recorded
-  pub none_recorded : (notes : List Noted) → Moves b0 b2 h0 h2 w0 w2 → Records notes (holding h0 w0) (holding h2 w2) b0 b2 false
+  pub none_recorded : (notes : List Noted) → Moves b0 b2 h0 h2 w0 w2 → Records notes (holding earlier h0 w0) (holding earlier h2 w2) b0 b2 false
   none_recorded notes m = record {
     recorded = [];
     wanted = λ n c. absurd (not_in n c);
     more = m.more;
+    earlier = refl;
     handed = m.handed;
     bytes = m.bytes;
     lines = append-nil w0 ∙ m.waiting;
@@ -55,11 +57,12 @@ module _ (b0 b2 : Option (List ℕ)) (h0 h2 w0 w2 : List ℕ) where
     line_of : w2 ≡ [] → (note : Noted) → Contains b.recorded note → HasLine (note_line note) h2
     line_of none note c = subst (HasLine (note_line note)) (handed_all none) (has_in (h0 ++ w0) b.recorded note s.ends c)
 
-    pub batch_recorded : (all : Bool) → (all ≡ true → w2 ≡ []) → Records notes (holding h0 w0) (holding h2 w2) b0 b2 all
+    pub batch_recorded : (all : Bool) → (all ≡ true → w2 ≡ []) → Records notes (holding earlier h0 w0) (holding earlier h2 w2) b0 b2 all
     batch_recorded all whole = record {
       recorded = b.recorded;
       wanted = b.wanted;
       more = m.more;
+      earlier = refl;
       handed = m.handed;
       bytes = m.bytes;
       lines = ap (λ (t : List ℕ). w0 ++ t) (sym b.bytes) ∙ m.waiting;

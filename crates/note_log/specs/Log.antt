@@ -1,19 +1,42 @@
--- A log of notes over a place that may take less than it is given.
-use Rattle.std.specs.Prelude.{◌≡◌, ◌≤◌, ℕ, Bool, true, List, [], ◌++◌, length, Option, Contains}
+-- A log of notes over a file that may take less than it is given, and that others may take away.
+use Rattle.std.specs.Prelude.{◌≡◌, ◌≤◌, ◌<◌, ◌⊎◌, ℕ, Bool, true, false, List, [], ◌∷◌, ◌++◌, length, Option, is_some, Contains}
 use Rattle.std.specs.List.{flat_map}
-use Rattle.std.specs.Io.KnownBytes.{Appends}
+use Rattle.std.specs.Io.KnownBytes.{append_known}
+use Rattle.log_file.specs.declared.file.LogFile.{Ghosts}
+use Rattle.log_file.specs.declared.journal.Look.{Look}
+use Rattle.log_file.specs.declared.journal.Look.TheVariants.{Stands, Reopened, Lost}
 use Rattle.note_lines.specs.Note.{Noted, most_noted, note_line}
 use Rattle.note_log.specs.Line.{HasLine}
-use Rattle.note_log.specs.Sound.{handed_in}
+use Rattle.note_log.specs.Sound.{Remembered, earlier_in, handed_in}
 use Rattle.note_log.specs.declared.log.NoteLog.{NoteLog}
 
--- all that was handed over, and what of the lines waits
+-- what each file that was lost was handed, what the one that is open was handed, and what of the lines waits
 pub record Logged : Type 0 where
+  pub earlier : List (List ℕ)
   pub handed : List ℕ
   pub waiting : List ℕ
 
-abbrev pub logged : {O : Type 0} → NoteLog O → Logged
-logged log = record { handed = handed_in log.handed.items; waiting = log.waiting.items }
+abbrev pub logged : {F : Type 0} {g : Ghosts F} → NoteLog F g → Logged
+logged log = record { earlier = earlier_in log.earlier.items; handed = handed_in log.handed.items; waiting = log.waiting.items }
+
+-- what all files were handed, the one that is open last
+abbrev pub files_of : Logged → List (List ℕ)
+files_of l = l.earlier ++ l.handed ∷ []
+
+-- another file is open, or none: nothing was handed to it, nothing waits for it
+abbrev pub begun_anew : Logged → Logged
+begun_anew l = record { earlier = files_of l; handed = []; waiting = [] }
+
+abbrev pub logged_after : Look → Logged → Logged
+logged_after Stands l = l
+logged_after (Reopened loss) l = begun_anew l
+logged_after (Lost loss fault) l = begun_anew l
+
+-- nothing is remembered of a file that is lost
+abbrev pub remembered_after : Look → Remembered → Remembered
+remembered_after Stands remembered = remembered
+remembered_after (Reopened loss) remembered = []
+remembered_after (Lost loss fault) remembered = []
 
 -- a note that is to be recorded: one of these, and not too long
 abbrev pub Wants : List Noted → Noted → Type 0
@@ -24,7 +47,8 @@ pub record Records (notes : List Noted) (old new : Logged) (old_bytes new_bytes 
   pub recorded : List Noted
   pub wanted : (note : Noted) → Contains recorded note → Wants notes note
   pub more : List ℕ
+  pub earlier : new.earlier ≡ old.earlier
   pub handed : new.handed ≡ old.handed ++ more
-  pub bytes : Appends old_bytes new_bytes more
+  pub bytes : new_bytes ≡ append_known old_bytes more
   pub lines : old.waiting ++ flat_map note_line recorded ≡ more ++ new.waiting
   pub whole : all ≡ true → (new.waiting ≡ []) × ((note : Noted) → Wants notes note → HasLine (note_line note) new.handed)

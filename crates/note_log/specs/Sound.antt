@@ -1,13 +1,19 @@
 -- What holds of every log of notes.
-use Rattle.std.specs.Prelude.{ℕ, List, ◌++◌, take, Contains, Vec}
+use Rattle.std.specs.Prelude.{ℕ, List, ◌++◌, map, take, Contains, Vec}
 use Rattle.std.specs.List.{flat_map}
 use Rattle.std.specs.declared.alloc.Global.{Global}
 use Rattle.bytes.specs.declared.unique.BytesMut.{BytesMut}
-use Rattle.note_log.specs.Line.{EndsLine, HasLine}
+use Rattle.http_server.specs.declared.log.Log.{Log}
+use Rattle.log_file.specs.Line.{EndsLine}
+use Rattle.note_log.specs.Line.{HasLine}
 
 -- the bytes that were taken by writes, of each of which this says what it was given and how much it took
 abbrev pub handed_in : List (BytesMut Global × ℕ) → List ℕ
 handed_in writes = flat_map (λ w. take w.1 w.0.items) writes
+
+-- what each of several files was handed
+abbrev pub earlier_in : List (Log (BytesMut Global) ℕ × ℕ) → List (List ℕ)
+earlier_in files = map (λ f. handed_in f.0.items) files
 
 -- lines that are remembered
 abbrev pub Remembered : Type 0

@@ -1,30 +1,49 @@
-//! Bytes handed to an outlet.
-ghost use Rattle.std.specs.Prelude.{◌≡◌, ◌==◌, length};
+//! Bytes handed to a log.
+ghost use Rattle.std.specs.Prelude.{◌≡◌, ◌<◌, ◌≤◌, ◌==◌, None, false, true, length, take};
+ghost use Rattle.std.specs.Io.KnownBytes.{append_known};
 ghost use Rattle.note_log.specs.Sound.{handed_in};
 ghost use Rattle.note_log.specs.Handing.{Moves};
 
 use bytes::{Buf, BytesMut};
-use flag_text::Outlet;
 use http_server::Log;
+use log_file::{Journal, LogFile};
 
-/// Hands over the bytes that wait, as far as the outlet takes them, and says whether it took all.
-pub(crate) fn hand_over<O: Outlet>(
-    outlet: &mut O,
+/// Hands over the bytes that wait, as far as the log takes them, and says whether it took all. It takes all unless it is lost or a
+/// write fails.
+pub(crate) fn hand_over<F: LogFile>(
+    journal: &mut Journal<F>,
     handed: &mut Log<BytesMut, usize>,
     waiting: &mut BytesMut,
 ) -> bool
-    ensures moves { Moves (O.bytes outlet.old) (O.bytes outlet.new) (handed_in handed.old.items) (handed_in handed.new.items) waiting.old.items waiting.new.items }
+    ensures moves { Moves (F.bytes journal.old.file) (F.bytes journal.new.file) (handed_in handed.old.items) (handed_in handed.new.items) waiting.old.items waiting.new.items }
     ensures all { result ≡ (length waiting.new.items == 0) }
+    ensures lost { journal.new.lost ≡ journal.old.lost }
+    ensures taken { journal.old.lost ≡ None → result ≡ true → F.faults journal.new.file ≡ F.faults journal.old.file }
+    ensures refused { journal.old.lost ≡ None → result ≡ false → F.faults journal.old.file < F.faults journal.new.file }
 {
     while !waiting.is_empty() {
-        match outlet.write(waiting.as_slice()) {
-            Ok(0) => return false,
-            Ok(count) => {
-                *handed = handed.and(waiting, &count);
-                waiting.advance(count);
-            }
-            Err(_) => return false,
+        let count = hand_front(journal, waiting.as_slice());
+        if count == 0 {
+            return false;
         }
+        *handed = handed.and(waiting, &count);
+        waiting.advance(count);
     }
     true
+}
+
+/// Hands over a front of bytes, and says of how many: none where the log is lost or the write fails.
+#[tactic(auto, using(crate::proofs::Moved::known_nil, crate::proofs::Faults::fault_none, crate::proofs::Faults::fault_some))]
+fn hand_front<F: LogFile>(journal: &mut Journal<F>, bytes: &[u8]) -> usize
+    requires { 0 < length bytes.now }
+    ensures bytes { F.bytes journal.new.file ≡ append_known (F.bytes journal.old.file) (take result bytes.now) }
+    ensures most { result ≤ length bytes.now }
+    ensures lost { journal.new.lost ≡ journal.old.lost }
+    ensures taken { journal.old.lost ≡ None → 0 < result → F.faults journal.new.file ≡ F.faults journal.old.file }
+    ensures refused { journal.old.lost ≡ None → result ≡ 0 → F.faults journal.old.file < F.faults journal.new.file }
+{
+    match journal.append(bytes) {
+        Ok(count) => count,
+        Err(_) => 0,
+    }
 }

@@ -1,13 +1,13 @@
 //! The log.
-ghost use Rattle.std.specs.Prelude.{◌≡◌, [], OnErr, IfOk};
+ghost use Rattle.std.specs.Prelude.{◌≡◌, ◌<◌, ◌⊎◌, [], true, false, OnErr, IfOk, is_some};
 ghost use Rattle.note_log.specs.Sound.{IsSound, handed_in};
 
 use crate::batch::{Batch, batch_of};
 use crate::handing::hand_over;
 use crate::memory::remember;
 use bytes::BytesMut;
-use flag_text::Outlet;
 use http_server::Log;
+use log_file::{Journal, LogFile, LogPaths, Look};
 use lru::LruCache;
 use note_lines::Note;
 use std::alloc::{AllocError, Global};
@@ -17,13 +17,14 @@ use std::num::NonZeroUsize;
 /// How many lines are remembered.
 const REMEMBERED: usize = 65_536;
 
-/// A log of notes over an outlet. The bytes that stand in the outlet before are whole lines.
+/// A log of notes at the end of a file. The bytes that stand in the file before are whole lines.
 #[derive(Drop)]
-pub struct NoteLog<O> {
-    outlet: O,
-    /// What was handed over, which only proofs read.
+pub struct NoteLog<F: LogFile> {
+    journal: Journal<F>,
+    /// What each file that was lost was handed, and what the one that is open was handed, which only proofs read.
+    earlier: Log<Log<BytesMut, usize>, u8>,
     handed: Log<BytesMut, usize>,
-    /// The bytes of lines that the outlet has not taken.
+    /// The bytes of lines that the file has not taken.
     waiting: BytesMut,
     remembered: LruCache<Vec<u8>, (), RandomState>,
     written: u64,
@@ -31,18 +32,23 @@ pub struct NoteLog<O> {
     ghost sound: { ∥ IsSound (handed_in handed.items) waiting.items remembered.entries ∥₁ },
 }
 
-impl<O: Outlet + Drop> NoteLog<O> {
+impl<F: LogFile + Drop> NoteLog<F> {
     ghost use Rattle.note_log.specs.Log.{logged};
 
     /// A log that nothing was recorded in yet. `keys` are for a table of lines, whose texts others choose.
-    pub fn new(alloc: Global, keys: RandomState, outlet: O) -> Result<NoteLog<O>, AllocError>
-        ensures fresh { IfOk result (λ log. logged log ≡ record { handed = []; waiting = [] }) }
-        ensures outlet { IfOk result (λ log. log.outlet ≡ outlet) }
+    pub fn new(
+        alloc: Global,
+        keys: RandomState,
+        journal: Journal<F>,
+    ) -> Result<NoteLog<F>, AllocError>
+        ensures fresh { IfOk result (λ log. logged log ≡ record { earlier = []; handed = []; waiting = [] }) }
+        ensures journal { IfOk result (λ log. log.journal ≡ journal) }
     {
         let most = NonZeroUsize::new(REMEMBERED).unwrap_or(NonZeroUsize::MIN);
         let remembered = LruCache::with_hasher(alloc, most, keys)?;
         Ok(NoteLog {
-            outlet,
+            journal,
+            earlier: Log::new(),
             handed: Log::new(),
             waiting: BytesMut::new(alloc),
             remembered,
@@ -52,14 +58,19 @@ impl<O: Outlet + Drop> NoteLog<O> {
     }
 }
 
-impl<O: Outlet> NoteLog<O> {
+impl<F: LogFile> NoteLog<F> {
+    ghost use Rattle.log_file.specs.Journal.{Looked, lost_after};
     ghost use Rattle.note_log.specs.Batch.{IsBatch};
-    ghost use Rattle.note_log.specs.Log.{Records, logged};
+    ghost use Rattle.note_log.specs.Log.{Records, begun_anew, logged, logged_after, remembered_after};
 
-    /// Records notes, and says whether the line of each stands in the log now. One whose input has more than 1,024 bytes has no
-    /// line. What waits of earlier lines is handed over first, and where not all of it is taken nothing is added.
+    /// Records notes, and says whether the line of each stands in the file that is open now. One whose input has more than 1,024
+    /// bytes has no line. What waits of earlier lines is handed over first, and where not all of it is taken nothing is added. It
+    /// answers false only where the file is lost or a write has failed, and what was recorded before stays.
     pub fn record(&mut self, alloc: Global, notes: &[Note]) -> Result<bool, AllocError>
-        ensures records { IfOk result (λ all. ∥ Records notes.now (logged self.old) (logged self.new) (O.bytes self.old.outlet) (O.bytes self.new.outlet) all ∥₁) }
+        ensures records { IfOk result (λ all. ∥ Records notes.now (logged self.old) (logged self.new) (F.bytes self.old.journal.file) (F.bytes self.new.journal.file) all ∥₁) }
+        ensures stands { IfOk result (λ all. all ≡ true → F.stands self.new.journal.file ≡ true) }
+        ensures refused { IfOk result (λ all. all ≡ false → (is_some self.old.journal.lost ≡ true) ⊎ (F.faults self.old.journal.file < F.faults self.new.journal.file)) }
+        ensures lost { self.new.journal.lost ≡ self.old.journal.lost }
         ensures err { OnErr result (self.new ≡ self.old) }
     {
         let batch = batch_of(alloc, notes, &self.remembered)?;
@@ -69,11 +80,17 @@ impl<O: Outlet> NoteLog<O> {
     /// Hands over what waits, and then the lines of a batch.
     fn take(&mut self, notes: &[Note], batch: Batch) -> bool
         requires { IsBatch notes.now self.old.remembered.entries batch }
-        ensures { ∥ Records notes.now (logged self.old) (logged self.new) (O.bytes self.old.outlet) (O.bytes self.new.outlet) result ∥₁ }
+        ensures records { ∥ Records notes.now (logged self.old) (logged self.new) (F.bytes self.old.journal.file) (F.bytes self.new.journal.file) result ∥₁ }
+        ensures stands { result ≡ true → F.stands self.new.journal.file ≡ true }
+        ensures refused { result ≡ false → (is_some self.old.journal.lost ≡ true) ⊎ (F.faults self.old.journal.file < F.faults self.new.journal.file) }
+        ensures lost { self.new.journal.lost ≡ self.old.journal.lost }
     {
         // The contract alone names the notes.
         let _ = notes;
-        if !hand_over(&mut self.outlet, &mut self.handed, &mut self.waiting) {
+        if self.journal.is_lost() {
+            return false;
+        }
+        if !hand_over(&mut self.journal, &mut self.handed, &mut self.waiting) {
             return false;
         }
         let Batch {
@@ -84,11 +101,41 @@ impl<O: Outlet> NoteLog<O> {
         self.too_long = self.too_long.saturating_add(too_long);
         self.written = self.written.saturating_add(lines.len() as u64);
         self.waiting = bytes;
-        if !hand_over(&mut self.outlet, &mut self.handed, &mut self.waiting) {
+        if !hand_over(&mut self.journal, &mut self.handed, &mut self.waiting) {
             return false;
         }
         remember(&mut self.remembered, lines);
         true
+    }
+
+    /// Looks whether the file stands at its path, and is as long as it was left. Where it is not, the path is opened anew, and
+    /// nothing is remembered of the file that was lost.
+    pub fn look<P: LogPaths>(&mut self, alloc: Global, paths: &P) -> Look
+        ensures looked { Looked result (F.bytes self.old.journal.file) (F.bytes self.new.journal.file) (F.stands self.new.journal.file) }
+        ensures logged { logged self.new ≡ logged_after result (logged self.old) }
+        ensures remembered { self.new.remembered.entries ≡ remembered_after result self.old.remembered.entries }
+        ensures lost { self.new.journal.lost ≡ lost_after result }
+        ensures looks { F.looks self.old.journal.file < F.looks self.new.journal.file }
+    {
+        let look = self.journal.look(alloc, paths);
+        match look {
+            Look::Stands => {}
+            Look::Reopened(_) | Look::Lost(_, _) => self.begin_anew(),
+        }
+        look
+    }
+
+    /// Forgets what the file that was open was handed.
+    #[tactic(auto, using(crate::proofs::Anew::one_lost))]
+    fn begin_anew(&mut self)
+        ensures logged { logged self.new ≡ begun_anew (logged self.old) }
+        ensures remembered { self.new.remembered.entries ≡ [] }
+        ensures journal { self.new.journal ≡ self.old.journal }
+    {
+        self.earlier = self.earlier.and(&self.handed, &0);
+        self.handed = Log::new();
+        self.waiting.clear();
+        self.remembered.clear();
     }
 
     /// How many lines were added.

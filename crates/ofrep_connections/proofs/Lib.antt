@@ -1,2 +1,2 @@
 mod Peers
-mod ReadCalls
+mod Sockets

@@ -1,1 +1,2 @@
+pub mod Socket
 pub mod Stand

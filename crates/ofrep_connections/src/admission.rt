@@ -1,14 +1,13 @@
 //! Which connections a worker takes, and when.
-ghost use Rattle.http_server.specs.Connection.{history};
-ghost use Rattle.recorded_answers.specs.Stand.{AllStand};
-ghost use Rattle.ofrep_connections.specs.Stand.{PeersStand};
+ghost use Rattle.ofrep_connections.specs.Stand.{PeerStands, PeersStand};
 
 use crate::load::LoadShare;
-use crate::peer::{Peer, interest};
+use crate::peer::Peer;
+use crate::socket::Socket;
 use crate::work::Making;
 use http_server::Connection;
+use mio::Registry;
 use mio::net::{TcpListener, TcpStream};
-use mio::{Registry, Token};
 use recorded_answers::Recording;
 use slab::Slab;
 use std::io::{Error, ErrorKind};
@@ -93,10 +92,10 @@ pub(crate) fn admit<S: Recording>(
     share: &mut LoadShare<'_>,
     queue: Queue,
     service: &S,
-    peers: &mut Slab<Peer>,
+    peers: &mut Slab<Peer<TcpStream>>,
 ) -> Queue
-    requires { PeersStand S.stands service.now peers.old }
-    ensures { PeersStand S.stands service.now peers.new }
+    requires { PeersStand S.stands ⟦<TcpStream as Socket>⟧.contents service.now peers.old }
+    ensures { PeersStand S.stands ⟦<TcpStream as Socket>⟧.contents service.now peers.new }
 {
     if queue.is_empty() {
         return queue;
@@ -108,7 +107,10 @@ pub(crate) fn admit<S: Recording>(
             return queue;
         }
         match listener.accept() {
-            Ok((stream, _address)) => take(making, now, registry, stream, service, peers),
+            Ok((stream, _address)) => {
+                let _ = stream.set_nodelay(true);
+                take(making, now, registry, stream, service, peers);
+            }
             Err(fault) => return Queue::without(&fault),
         }
         share.tell(peers.len());
@@ -117,40 +119,42 @@ pub(crate) fn admit<S: Recording>(
     queue
 }
 
-/// Makes a peer of a connection. Where the worker has as many as it may it is closed.
-fn take<S: Recording>(
+/// Makes a peer of a socket. Where the worker has as many as it may it is closed.
+fn take<S: Recording, T: Socket + Drop>(
     making: Making,
     now: Instant,
     registry: &Registry,
-    stream: TcpStream,
+    socket: T,
     service: &S,
-    peers: &mut Slab<Peer>,
+    peers: &mut Slab<Peer<T>>,
 )
-    requires { PeersStand S.stands service.now peers.old }
-    ensures { PeersStand S.stands service.now peers.new }
+    requires { PeersStand S.stands T.contents service.now peers.old }
+    ensures { PeersStand S.stands T.contents service.now peers.new }
 {
     let key = peers.vacant_key();
     if key >= MAX_PEERS {
         return;
     }
-    let _ = stream.set_nodelay(true);
     let connection = Connection::new(making.alloc, making.keys, making.config);
     let mut peer = Peer {
-        stream,
+        socket,
         connection,
         active: now,
     };
-    let is_registered = registry
-        .register(&mut peer.stream, Token(key), interest())
-        .is_ok();
+    let is_registered = peer.socket.register(registry, key).is_ok();
     welcome(service, peers, peer, is_registered);
 }
 
 /// Keeps a peer that is registered. Where memory runs out it is closed.
-fn welcome<S: Recording>(service: &S, peers: &mut Slab<Peer>, peer: Peer, is_registered: bool)
-    requires stand { PeersStand S.stands service.now peers.old }
-    requires own { AllStand S.stands service.now (history peer.connection).calls }
-    ensures { PeersStand S.stands service.now peers.new }
+fn welcome<S: Recording, T: Socket + Drop>(
+    service: &S,
+    peers: &mut Slab<Peer<T>>,
+    peer: Peer<T>,
+    is_registered: bool,
+)
+    requires stand { PeersStand S.stands T.contents service.now peers.old }
+    requires own { PeerStands S.stands T.contents service.now peer }
+    ensures { PeersStand S.stands T.contents service.now peers.new }
 {
     // The contract alone names the service.
     let _ = service;

@@ -5,13 +5,15 @@
 //! what every answer of the connection rests on stands by then. Workers that share a listener take its connections in turn by
 //! what they hold of their common [`Load`].
 //!
-//! Proved: the one function that writes to a socket has this as its condition, so that each write meets it; and what the service
-//! did is a chain of its answers. `http_server` proves of each connection that its bytes answer the requests that it read.
+//! Proved: the one function that writes to a socket has this as its condition, so that each write meets it; a socket is given what
+//! its own connection sends and nothing else, and what the connection received came from it; and what the service did is turns, each
+//! a look and then answers. `http_server` proves of each connection that its bytes answer the requests that it read.
 #![tactic(auto)]
 
 mod admission;
 mod load;
 mod peer;
+mod socket;
 mod work;
 
 pub use load::Load;

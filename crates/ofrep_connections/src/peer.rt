@@ -1,17 +1,18 @@
 //! One connection over a socket that does not block.
 ghost use Rattle.std.specs.Prelude.{◌≡◌, List, take, IfOk, OnErr};
-ghost use Rattle.std.specs.Io.KnownBytes.{Appends};
+ghost use Rattle.std.specs.Io.KnownBytes.{append_known};
 ghost use Rattle.http_server.specs.Connection.{config_of, history};
 ghost use Rattle.http_server.specs.Exchange.{Call, Chain};
 ghost use Rattle.http_server.specs.History.{IsServed, after_sent};
 ghost use Rattle.recorded_answers.specs.Stand.{AllStand};
+ghost use Rattle.ofrep_connections.specs.Socket.{Exchanges};
 
+use crate::socket::Socket;
 use http_server::Connection;
-use mio::net::TcpStream;
-use mio::{Interest, Registry, Token};
+use mio::Registry;
 use recorded_answers::Recording;
 use std::io;
-use std::io::{ErrorKind, Read, Write};
+use std::io::ErrorKind;
 use std::time::Instant;
 
 /// How often a connection is read or written before others have their turn.
@@ -19,8 +20,8 @@ const MOST_TURNS: u32 = 4;
 
 /// A connection, its socket, and when it last had something to do.
 #[derive(Drop)]
-pub(crate) struct Peer {
-    pub(crate) stream: TcpStream,
+pub(crate) struct Peer<T> {
+    pub(crate) socket: T,
     pub(crate) connection: Connection,
     pub(crate) active: Instant,
 }
@@ -35,7 +36,7 @@ pub(crate) enum Stay {
     Leaves,
 }
 
-impl Peer {
+impl<T: Socket> Peer<T> {
     /// Reads, answers and writes until the socket has nothing for now, or others have to have their turn. A read of fewer bytes
     /// than `room` took all that had come, so that the socket tells of what comes later; where no answer came of it the socket is
     /// asked all the same.
@@ -43,6 +44,7 @@ impl Peer {
         requires { AllStand S.stands service.old (history self.old.connection).calls }
         ensures stand { AllStand S.stands service.new (history self.new.connection).calls }
         ensures chain { (calls : List Call) × Chain S.answers service.old calls service.new }
+        ensures exchanges { Exchanges (history self.old.connection) (history self.new.connection) (T.remaining self.old.socket) (T.remaining self.new.socket) (T.contents self.old.socket) (T.contents self.new.socket) }
     {
         let mut is_read = false;
         for _ in 0..MOST_TURNS {
@@ -67,10 +69,11 @@ impl Peer {
 
     /// Has the system tell once more what the socket is ready for, where the peer yields to others.
     pub(crate) fn come_again(&mut self, registry: &Registry, key: usize, stay: Stay)
-        ensures { self.new.connection ≡ self.old.connection }
+        ensures connection { self.new.connection ≡ self.old.connection }
+        ensures contents { T.contents self.new.socket ≡ T.contents self.old.socket }
     {
         if stay == Stay::Yields {
-            let _ = registry.reregister(&mut self.stream, Token(key), interest());
+            let _ = self.socket.register_again(registry, key);
         }
     }
 
@@ -79,13 +82,14 @@ impl Peer {
     fn move_bytes<S: Recording>(&mut self, service: &S, room: usize) -> io::Result<bool>
         requires served { ∥ IsServed (config_of self.old.connection) (history self.old.connection) ∥₁ }
         requires stand { AllStand S.stands service.now (history self.old.connection).calls }
-        ensures { (history self.new.connection).calls ≡ (history self.old.connection).calls }
+        ensures calls { (history self.new.connection).calls ≡ (history self.old.connection).calls }
+        ensures exchanges { Exchanges (history self.old.connection) (history self.new.connection) (T.remaining self.old.socket) (T.remaining self.new.socket) (T.contents self.old.socket) (T.contents self.new.socket) }
     {
         if !self.connection.wants_write() {
-            let count = read(&mut self.connection, &mut self.stream)?;
+            let count = receive(&mut self.connection, &mut self.socket)?;
             return Ok(count < room);
         }
-        let count = send(&mut self.connection, service, &mut self.stream)?;
+        let count = send(&mut self.connection, service, &mut self.socket)?;
         if count == 0 {
             return Err(ErrorKind::WriteZero.into());
         }
@@ -93,32 +97,30 @@ impl Peer {
     }
 }
 
-/// What the system is to tell of a peer's socket.
-pub(crate) fn interest() -> Interest {
-    Interest::READABLE | Interest::WRITABLE | Interest::PRIORITY
-}
-
 /// Reads once.
-fn read<R: Read>(connection: &mut Connection, reader: &mut R) -> io::Result<usize>
-    ensures { (history connection.new).calls ≡ (history connection.old).calls }
+#[tactic(auto, using(crate::proofs::Sockets::read_calls))]
+fn receive<T: Socket>(connection: &mut Connection, socket: &mut T) -> io::Result<usize>
+    ensures calls { (history connection.new).calls ≡ (history connection.old).calls }
+    ensures exchanges { Exchanges (history connection.old) (history connection.new) (T.remaining socket.old) (T.remaining socket.new) (T.contents socket.old) (T.contents socket.new) }
 {
-    connection.read_from(reader)
+    socket.receive(connection)
 }
 
 /// Writes once. What is pending answers calls of the connection, and what each of their answers rests on stands already.
-fn send<S: Recording, W: Write>(
+fn send<S: Recording, T: Socket>(
     connection: &mut Connection,
     service: &S,
-    writer: &mut W,
+    socket: &mut T,
 ) -> io::Result<usize>
     requires served { ∥ IsServed (config_of connection.old) (history connection.old) ∥₁ }
     requires stand { AllStand S.stands service.now (history connection.old).calls }
     ensures ok { IfOk result (λ n. (history connection.new ≡ after_sent (history connection.old) n)
-        × Appends (W.contents writer.old) (W.contents writer.new) (take n (history connection.old).pending)) }
-    ensures err { OnErr result (connection.new ≡ connection.old) }
+        × (T.contents socket.new ≡ append_known (T.contents socket.old) (take n (history connection.old).pending))) }
+    ensures err { OnErr result ((connection.new ≡ connection.old) × (T.contents socket.new ≡ T.contents socket.old)) }
     ensures calls { (history connection.new).calls ≡ (history connection.old).calls }
+    ensures exchanges { Exchanges (history connection.old) (history connection.new) (T.remaining socket.old) (T.remaining socket.new) (T.contents socket.old) (T.contents socket.new) }
 {
     // The contract alone names the service.
     let _ = service;
-    connection.write_to(writer)
+    socket.send(connection)
 }

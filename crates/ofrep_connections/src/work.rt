@@ -2,15 +2,16 @@
 ghost use Rattle.std.specs.Prelude.{List};
 ghost use Rattle.http_server.specs.Connection.{history};
 ghost use Rattle.http_server.specs.Exchange.{Call, Chain};
-ghost use Rattle.recorded_answers.specs.Stand.{AllStand};
+ghost use Rattle.recorded_answers.specs.Stand.{AllStand, Works};
 ghost use Rattle.ofrep_connections.specs.Stand.{PeersStand};
 
 use crate::admission::{MAX_PEERS, Queue, admit};
 use crate::load::{Load, LoadShare};
 use crate::peer::{Peer, Stay};
+use crate::socket::Socket;
 use http_server::Config;
 use mio::event::Event;
-use mio::net::TcpListener;
+use mio::net::{TcpListener, TcpStream};
 use mio::{Events, Interest, Poll, Registry, Token};
 use recorded_answers::Recording;
 use slab::Slab;
@@ -46,8 +47,9 @@ impl Making {
     }
 }
 
-/// Answers connections of a listener, which must not block, until the flag is set or the system fails. Workers that share a
-/// listener share its load: one that holds more connections than others leaves those that wait to them for a moment.
+/// Answers connections of a listener, which must not block, until the flag is set or the system fails. After each wait, which lasts
+/// less than a second, the service looks whether what its answers rest on is still there. Workers that share a listener share its
+/// load: one that holds more connections than others leaves those that wait to them for a moment.
 pub fn answer_connections<S: Recording, R: Net + Clock>(
     rt: &R,
     alloc: Global,
@@ -58,7 +60,7 @@ pub fn answer_connections<S: Recording, R: Net + Clock>(
     stop: &AtomicBool,
     service: &mut S,
 ) -> io::Result<()>
-    ensures { (calls : List Call) × Chain S.answers service.old calls service.new }
+    ensures { (turns : List (List Call)) × Works S.answers S.looked service.old turns service.new }
 {
     let mut poll = Poll::new(rt)?;
     let mut listener = TcpListener::from_std(listener);
@@ -94,12 +96,12 @@ fn turn<S: Recording, R: Clock>(
     events: &mut Events,
     listener: &TcpListener,
     share: &mut LoadShare<'_>,
-    peers: &mut Slab<Peer>,
+    peers: &mut Slab<Peer<TcpStream>>,
     stop: &AtomicBool,
     service: &mut S,
 ) -> io::Result<()>
-    requires { PeersStand S.stands service.old peers.old }
-    ensures { (calls : List Call) × Chain S.answers service.old calls service.new }
+    requires { PeersStand S.stands ⟦<TcpStream as Socket>⟧.contents service.old peers.old }
+    ensures { (turns : List (List Call)) × Works S.answers S.looked service.old turns service.new }
 {
     let mut swept = Instant::now(rt)?;
     let mut queue = Queue::Empty;
@@ -109,6 +111,7 @@ fn turn<S: Recording, R: Clock>(
         }
         poll.poll(events, Some(Duration::from_millis(queue.pause_millis())))?;
         let now = Instant::now(rt)?;
+        service.look();
         for event in events.iter() {
             answer_event(
                 making,
@@ -140,17 +143,17 @@ fn turn<S: Recording, R: Clock>(
 }
 
 /// Does what a socket is ready for.
-fn answer_event<S: Recording>(
+fn answer_event<S: Recording, T: Socket + Drop>(
     making: Making,
     now: Instant,
     registry: &Registry,
     queue: &mut Queue,
-    peers: &mut Slab<Peer>,
+    peers: &mut Slab<Peer<T>>,
     event: &Event,
     service: &mut S,
 )
-    requires { PeersStand S.stands service.old peers.old }
-    ensures stand { PeersStand S.stands service.new peers.new }
+    requires { PeersStand S.stands T.contents service.old peers.old }
+    ensures stand { PeersStand S.stands T.contents service.new peers.new }
     ensures chain { (calls : List Call) × Chain S.answers service.old calls service.new }
 {
     let Token(key) = event.token();
@@ -163,16 +166,16 @@ fn answer_event<S: Recording>(
 }
 
 /// Goes on with one peer, and closes its connection where it leaves.
-fn attend<S: Recording>(
+fn attend<S: Recording, T: Socket + Drop>(
     now: Instant,
     registry: &Registry,
-    peers: &mut Slab<Peer>,
+    peers: &mut Slab<Peer<T>>,
     key: usize,
     room: usize,
     service: &mut S,
 )
-    requires { PeersStand S.stands service.old peers.old }
-    ensures stand { PeersStand S.stands service.new peers.new }
+    requires { PeersStand S.stands T.contents service.old peers.old }
+    ensures stand { PeersStand S.stands T.contents service.new peers.new }
     ensures chain { (calls : List Call) × Chain S.answers service.old calls service.new }
 {
     if visit(now, registry, peers, key, room, service) == Stay::Leaves {
@@ -181,16 +184,16 @@ fn attend<S: Recording>(
 }
 
 /// Goes on with one peer, and says whether it stays.
-fn visit<S: Recording>(
+fn visit<S: Recording, T: Socket>(
     now: Instant,
     registry: &Registry,
-    peers: &mut Slab<Peer>,
+    peers: &mut Slab<Peer<T>>,
     key: usize,
     room: usize,
     service: &mut S,
 ) -> Stay
-    requires { PeersStand S.stands service.old peers.old }
-    ensures stand { PeersStand S.stands service.new peers.new }
+    requires { PeersStand S.stands T.contents service.old peers.old }
+    ensures stand { PeersStand S.stands T.contents service.new peers.new }
     ensures chain { (calls : List Call) × Chain S.answers service.old calls service.new }
 {
     let Some(peer) = peers.get_mut(key) else {
@@ -203,32 +206,55 @@ fn visit<S: Recording>(
 }
 
 /// Closes the connections that have had nothing to do for long.
-fn leave_idle<S: Recording>(now: Instant, registry: &Registry, service: &S, peers: &mut Slab<Peer>)
-    requires { PeersStand S.stands service.now peers.old }
-    ensures { PeersStand S.stands service.now peers.new }
+fn leave_idle<S: Recording, T: Socket + Drop>(
+    now: Instant,
+    registry: &Registry,
+    service: &S,
+    peers: &mut Slab<Peer<T>>,
+)
+    requires { PeersStand S.stands T.contents service.now peers.old }
+    ensures { PeersStand S.stands T.contents service.now peers.new }
 {
     for key in 0..MAX_PEERS {
-        if is_idle(peers.get(key), now) {
-            leave(registry, service, peers, key);
-        }
+        leave_if_idle(now, registry, service, peers, key);
+    }
+}
+
+/// Closes the connection of a peer that has had nothing to do for long.
+fn leave_if_idle<S: Recording, T: Socket + Drop>(
+    now: Instant,
+    registry: &Registry,
+    service: &S,
+    peers: &mut Slab<Peer<T>>,
+    key: usize,
+)
+    requires { PeersStand S.stands T.contents service.now peers.old }
+    ensures { PeersStand S.stands T.contents service.now peers.new }
+{
+    if is_idle(peers.get(key), now) {
+        leave(registry, service, peers, key);
     }
 }
 
 /// Closes the connection of a peer.
-#[tactic(auto, using(crate::proofs::Peers::removed))]
-fn leave<S: Recording>(registry: &Registry, service: &S, peers: &mut Slab<Peer>, key: usize)
-    requires { PeersStand S.stands service.now peers.old }
-    ensures { PeersStand S.stands service.now peers.new }
+fn leave<S: Recording, T: Socket + Drop>(
+    registry: &Registry,
+    service: &S,
+    peers: &mut Slab<Peer<T>>,
+    key: usize,
+)
+    requires { PeersStand S.stands T.contents service.now peers.old }
+    ensures { PeersStand S.stands T.contents service.now peers.new }
 {
     // The contract alone names the service.
     let _ = service;
     if let Some(mut peer) = peers.try_remove(key) {
-        let _ = registry.deregister(&mut peer.stream);
+        let _ = peer.socket.deregister(registry);
     }
 }
 
 /// Whether a peer has had nothing to do for long.
-fn is_idle(peer: Option<&Peer>, now: Instant) -> bool {
+fn is_idle<T>(peer: Option<&Peer<T>>, now: Instant) -> bool {
     match peer {
         Some(peer) => now.duration_since(peer.active).as_secs() >= IDLE_SECONDS,
         None => false,

@@ -11,6 +11,8 @@ use Rattle.std.proofs.Crossing.{crosses}
 use Rattle.std.specs.contracts.alloc.Global as Global
 use Rattle.std.specs.contracts.random_state.RandomState as RandomState
 use Rattle.std.specs.contracts.net.tcp.TcpListener as TcpListener
+use Rattle.http_server.proofs.log.Log.TheSendSync as log
+use Rattle.log_file.specs.contracts.system.SystemLog as SystemLog
 use Rattle.snap_share.specs.declared.history.ShareName as ShareName
 use Rattle.snap_share.specs.contracts.seat.ReadSeat as ReadSeat
 use Rattle.snap_share.proofs.Crossings.{ReadSeat-send}
@@ -50,8 +52,11 @@ Board-sync = declared_sync Board.the_type (Counts-sync, (Load-sync, (search (sen
 TcpListener-send : IsSend TcpListener.the_row
 TcpListener-send = search (sendable, crosses) depth 40
 
+SystemLog-send : IsSend SystemLog.the_row
+SystemLog-send = search (sendable, crosses, log.the_send) depth 80
+
 Post-send : IsSend Post.the_row
-Post-send = search (sendable, crosses) depth 80
+Post-send = search (sendable, crosses, SystemLog-send) depth 120
 
 -- the captures of a worker's thread: the handle, the allocator, the keys, the board, its seat and its post
 abbrev pub Working : (T : RattleType) → ShareName.Ghosts T.Denot → Sym → NamedLft → NamedLft → RattleType → RattleType

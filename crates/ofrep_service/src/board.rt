@@ -1,4 +1,5 @@
 //! What the threads of a service tell each other.
+use log_file::Loss;
 use ofrep_connections::Load;
 use ofrep_worker::Counts;
 use std::sync::atomic::{AtomicBool, AtomicU64, Ordering};
@@ -32,6 +33,16 @@ impl Board {
     /// The number of the snapshot that was published last, 0 where none was.
     pub(crate) fn published(&self) -> u64 {
         self.published.load(Ordering::SeqCst)
+    }
+
+    /// How often the path of a log was opened anew after such a loss of its file.
+    pub fn logs_reopened(&self, loss: Loss) -> u64 {
+        self.counts.reopened(loss)
+    }
+
+    /// How often the path of a log whose file was lost could not be opened anew.
+    pub fn logs_unopened(&self) -> u64 {
+        self.counts.unopened()
     }
 
     /// All threads are to end.

@@ -1,25 +1,25 @@
 //! The threads of the evaluation service: workers that share an address, each with a log of its own where one is kept, and the
 //! seats of its stream.
 //!
-//! [`open_journal`] opens the log of a worker. [`bind`] listens on an address for the workers, and [`bind_stream`] on a port of
+//! [`open_logs`] opens the logs of the workers. [`bind`] listens on an address for the workers, and [`bind_stream`] on a port of
 //! this host for the subscribers of the stream. [`work_beside`] runs a worker of `ofrep_worker` on a thread for each [`Post`],
 //! over `ofrep_connections`, and serves the stream by `sync_server` on a thread for each of its seats, while its caller goes on
 //! with what it has to do beside them; it tells the threads of each snapshot on their [`Board`].
 //!
 //! What answers rest on is proved there: no byte of an answer is written to a socket before its notes stand in the log of the
-//! worker, where it keeps one, and a subscriber is sent whole frames whose numbers rise. What files and sockets do with bytes,
-//! and that threads run, is not.
+//! worker, where it keeps one, and a subscriber is sent whole frames whose numbers rise. Here: where a folder is named each worker
+//! keeps a log, of a path of its own. What files and sockets do with bytes, and that threads run, is not proved.
 #![tactic(auto)]
 
 mod board;
-mod journal;
+mod logs;
 mod posts;
 mod streams;
 mod subscriber;
 mod workers;
 
 pub use board::Board;
-pub use journal::{Journal, open_journal};
+pub use logs::{Journal, open_logs};
 pub use posts::{Post, bind};
 pub use streams::bind_stream;
 pub use workers::work_beside;

@@ -1,5 +1,7 @@
 //! Where workers stand.
-use crate::journal::Journal;
+ghost use Rattle.std.specs.Prelude.{◌≡◌, IfOk, map};
+
+use crate::logs::Journal;
 use std::alloc::Global;
 use std::io;
 use std::net::{Net, SocketAddr, TcpListener, TcpStream};
@@ -17,7 +19,9 @@ pub fn bind<R: Net<Listener = TcpListener, Stream = TcpStream>>(
     alloc: Global,
     address: SocketAddr,
     journals: Vec<Option<Journal>>,
-) -> io::Result<Vec<Post>> {
+) -> io::Result<Vec<Post>>
+    ensures { IfOk result (λ posts. map (λ p. p.journal) posts.items ≡ journals.items) }
+{
     let listener = TcpListener::bind(rt, address)?;
     listener.set_nonblocking(true)?;
     let mut posts = Vec::with_capacity(alloc, journals.len())?;

@@ -1,17 +1,19 @@
 //! The threads of the workers.
 ghost use denote.Param.Send.{IsSend, IsSync};
+ghost use Rattle.std.specs.Prelude.{◌≡◌, IfOk, option_map};
 
 use crate::board::Board;
+use crate::logs::Journal;
 use crate::posts::Post;
 use crate::streams::stream_beside;
-use flag_text::WriteOutlet;
 use http_server::Config;
 use limits::{STACK_BYTES, TEXT_BYTES};
+use log_file::{LogPaths, SystemLog};
 use note_log::NoteLog;
 use ofrep_connections::answer_connections;
-use ofrep_worker::OfrepWorker;
+use ofrep_worker::{Counts, OfrepWorker};
 use snap_share::{ReadSeat, ShareName};
-use std::alloc::Global;
+use std::alloc::{AllocError, Global};
 use std::hash::RandomState;
 use std::io;
 use std::net::{Net, TcpListener, TcpStream};
@@ -38,7 +40,7 @@ pub fn work_beside<J, R, B, T>(
 ) -> Option<T>
 where
     J: ShareName + Send + Sync,
-    R: Net<Listener = TcpListener, Stream = TcpStream> + Clock + Threads + Wait + Sync,
+    R: Net<Listener = TcpListener, Stream = TcpStream> + LogPaths + Clock + Threads + Wait + Sync,
     B: FnOnce() -> T + Drop,
     requires { B.pre beside }
 {
@@ -64,7 +66,7 @@ fn work_in_scope<J, R, B, T>(
 ) -> Option<T>
 where
     J: ShareName + Send + Sync,
-    R: Net<Listener = TcpListener, Stream = TcpStream> + Clock + Threads + Wait + Sync,
+    R: Net<Listener = TcpListener, Stream = TcpStream> + LogPaths + Clock + Threads + Wait + Sync,
     B: FnOnce() -> T + Drop,
     requires { B.pre beside }
 {
@@ -89,7 +91,7 @@ where
 }
 
 /// Answers the connections of a post until all threads are to end or the system fails.
-fn work<J: ShareName, R: Net + Clock>(
+fn work<J: ShareName, R: Net + LogPaths + Clock>(
     rt: &R,
     alloc: Global,
     keys: RandomState,
@@ -100,7 +102,7 @@ fn work<J: ShareName, R: Net + Clock>(
     let _ended = answer(rt, alloc, keys, board, seat, post);
 }
 
-fn answer<J: ShareName, R: Net + Clock>(
+fn answer<J: ShareName, R: Net + LogPaths + Clock>(
     rt: &R,
     alloc: Global,
     keys: RandomState,
@@ -109,11 +111,7 @@ fn answer<J: ShareName, R: Net + Clock>(
     post: Post,
 ) -> io::Result<()> {
     let Post { listener, journal } = post;
-    let log = match journal {
-        Some(journal) => Some(NoteLog::new(alloc, keys, WriteOutlet::new(journal))?),
-        None => None,
-    };
-    let mut worker = OfrepWorker::new(rt, alloc, seat, log, &board.counts);
+    let mut worker = worker_of(rt, alloc, keys, &board.counts, seat, journal)?;
     let config = Config {
         max_body_len: TEXT_BYTES,
         max_pending: MOST_PENDING,
@@ -129,4 +127,23 @@ fn answer<J: ShareName, R: Net + Clock>(
         &board.is_over,
         &mut worker,
     )
+}
+
+/// The worker of a post: it answers from the snapshots of a seat, and records in the post's log, where it has one.
+fn worker_of<'a, J: ShareName, R: Clock>(
+    rt: &'a R,
+    alloc: Global,
+    keys: RandomState,
+    counts: &'a Counts,
+    seat: ReadSeat<J>,
+    journal: Option<Journal>,
+) -> Result<OfrepWorker<'a, J, R, SystemLog>, AllocError>
+    ensures seat { IfOk result (λ worker. worker.seat ≡ seat) }
+    ensures log { IfOk result (λ worker. option_map (λ l. l.journal) worker.log ≡ journal) }
+{
+    let log = match journal {
+        Some(journal) => Some(NoteLog::new(alloc, keys, journal)?),
+        None => None,
+    };
+    Ok(OfrepWorker::new(rt, alloc, seat, log, counts))
 }

@@ -1,14 +1,16 @@
 -- Recorded first: what a worker answers, and what its log then holds.
-use Rattle.std.specs.Prelude.{◌≡◌, ◌<◌, ◌^◌, ◌⊎◌, ℕ, Bool, true, false, List, [], Option, Some, None, option_map, IfSome, Contains}
+use Rattle.std.specs.Prelude.{◌≡◌, ◌<◌, ◌^◌, ◌⊎◌, ℕ, Bool, true, false, List, [], Option, Some, None, option_map, is_some, IfSome, Contains}
 use mathlib.Core.List.{IsPrefix}
 use Rattle.flag_defs.specs.declared.flags.Flags.{Flags}
 use Rattle.flag_defs.specs.Document.{Definitions}
 use Rattle.http.specs.declared.request.Request.{Request}
 use Rattle.http_server.specs.Response.{IsResponse}
 use Rattle.http_server.specs.declared.response.Response.{Response}
+use Rattle.log_file.specs.declared.file.LogFile.{Ghosts}
+use Rattle.log_file.specs.declared.journal.Look.{Look}
 use Rattle.note_lines.specs.Note.{Noted, note_line}
 use Rattle.note_log.specs.Line.{HasLine}
-use Rattle.note_log.specs.Log.{Logged, Records, Wants, logged}
+use Rattle.note_log.specs.Log.{Logged, Records, Wants, files_of, logged, logged_after}
 use Rattle.note_log.specs.declared.log.NoteLog.{NoteLog}
 use Rattle.ofrep_answers.specs.Answer.{answer_of}
 use Rattle.ofrep_worker.specs.Asked.{asked_of}
@@ -17,27 +19,44 @@ use Rattle.ofrep_worker.specs.Sent.{Fails, Gives, Sends}
 use Rattle.snap_core.specs.Hub.{Numbered}
 use Rattle.snap_share.specs.Known.{IsLastOf, snapshots_of}
 
--- all the notes are recorded; where there are none the log stays as it is
-abbrev pub AllRecorded : List Noted → Logged → Logged → Option (List ℕ) → Option (List ℕ) → Type 0
-AllRecorded notes old new old_bytes new_bytes =
-    ((notes ≡ []) × (new ≡ old) × (new_bytes ≡ old_bytes)) ⊎ (∥ Records notes old new old_bytes new_bytes true ∥₁)
+-- what a log was given, what its file shows, whether that stood at its path when it was last looked for, whether it is lost, and how many writes have failed
+pub record Kept : Type 0 where
+  pub logged : Logged
+  pub bytes : Option (List ℕ)
+  pub stands : Bool
+  pub is_lost : Bool
+  pub faults : ℕ
 
--- what stands of the notes, where all were recorded and where not
-abbrev pub RecordedFirst : Bool → List Noted → Logged → Logged → Option (List ℕ) → Option (List ℕ) → Type 0
-RecordedFirst true notes old new old_bytes new_bytes = AllRecorded notes old new old_bytes new_bytes
-RecordedFirst false notes old new old_bytes new_bytes = ∥ Records notes old new old_bytes new_bytes false ∥₁
-
--- what a log was given, and what its place shows
-abbrev pub Kept : Type 0
-Kept = Logged × Option (List ℕ)
+abbrev pub kept_of : {F : Type 0} {g : Ghosts F} → NoteLog F g → Kept
+kept_of {F} {g} l = record {
+  logged = logged l;
+  bytes = g.bytes l.journal.file;
+  stands = g.stands l.journal.file;
+  is_lost = is_some l.journal.lost;
+  faults = g.faults l.journal.file;
+}
 
 -- of the log of a worker that keeps one
-abbrev pub kept_in : {O : Type 0} → (O → Option (List ℕ)) → Option (NoteLog O) → Option Kept
-kept_in bytes log = option_map (λ l. (logged l, bytes l.outlet)) log
+abbrev pub kept_in : {F : Type 0} {g : Ghosts F} → Option (NoteLog F g) → Option Kept
+kept_in log = option_map kept_of log
+
+-- all the notes are recorded, in a file that stood at its path; where there are none the log stays as it is
+abbrev pub AllRecorded : List Noted → Kept → Kept → Type 0
+AllRecorded notes old new =
+    ((notes ≡ []) × (new ≡ old)) ⊎ ((new.stands ≡ true) × (∥ Records notes old.logged new.logged old.bytes new.bytes true ∥₁))
+
+-- the log was lost, or a write has failed
+abbrev pub LogFails : Kept → Kept → Type 0
+LogFails old new = (old.is_lost ≡ true) ⊎ (old.faults < new.faults)
+
+-- what stands of the notes, where all were recorded and where not
+abbrev pub RecordedFirst : Bool → List Noted → Kept → Kept → Type 0
+RecordedFirst true notes old new = AllRecorded notes old new
+RecordedFirst false notes old new = LogFails old new × (∥ Records notes old.logged new.logged old.bytes new.bytes false ∥₁)
 
 -- what stands of the notes where a log is kept; where none is, nothing is recorded and nothing fails
 abbrev pub RecordedIn : Bool → List Noted → Option Kept → Option Kept → Type 0
-RecordedIn all notes (Some old) (Some new) = RecordedFirst all notes old.0 new.0 old.1 new.1
+RecordedIn all notes (Some old) (Some new) = RecordedFirst all notes old new
 RecordedIn all notes None None = all ≡ true
 RecordedIn _ _ _ _ = ⊥
 
@@ -59,23 +78,43 @@ Responds known known' request response old new =
     RespondsFrom known known' request response old new
     ⊎ (IsPrefix known known' × IsResponse 500 [] [] response × (new ≡ old))
 
--- what a log that is kept was handed
-abbrev pub handed : Option Kept → Option (List ℕ)
-handed log = option_map (λ k. k.0.handed) log
+-- what a look leaves of a log that is kept
+abbrev pub LooksIn : Option Kept → Option Kept → Type 0
+LooksIn (Some old) (Some new) = (look : Look) × (new.logged ≡ logged_after look old.logged)
+LooksIn None None = Unit {0}
+LooksIn _ _ = ⊥
+
+-- how often the path of a log that is kept was looked for
+abbrev pub looks_in : {F : Type 0} {g : Ghosts F} → Option (NoteLog F g) → Option ℕ
+looks_in {F} {g} log = option_map (λ l. g.looks l.journal.file) log
+
+-- where a log is kept its path was looked for
+abbrev pub Rises : Option ℕ → Option ℕ → Type 0
+Rises (Some old) (Some new) = old < new
+Rises None None = Unit {0}
+Rises _ _ = ⊥
+
+-- what the files of a log that is kept were handed
+abbrev pub files : Option Kept → Option (List (List ℕ))
+files log = option_map (λ k. files_of k.logged) log
 
 -- the line of each note that is to be recorded stands in the bytes
 abbrev pub HasLines : List Noted → List ℕ → Type 0
 HasLines notes bytes = (note : Noted) → Wants notes note → HasLine (note_line note) bytes
 
--- The response is the answer to the request of a snapshot among these, and where a log is kept, which was handed the bytes, the line of each of its notes stands there.
-pub record RestsOn (known : List Flags) (bytes : Option (List ℕ)) (request : Request (List ℕ)) (response : Response) : Type 0 where
+-- the line of each note that is to be recorded stands in what one of the files was handed
+abbrev pub HaveLines : List Noted → List (List ℕ) → Type 0
+HaveLines notes handed = (file : List ℕ) × Contains handed file × HasLines notes file
+
+-- The response is the answer to the request of a snapshot among these, and where a log is kept, whose files were handed these bytes, the line of each of its notes stands in one of them.
+pub record RestsOn (known : List Flags) (handed : Option (List (List ℕ))) (request : Request (List ℕ)) (response : Response) : Type 0 where
   pub s : Numbered
   pub is_known : Contains (snapshots_of known) s
   pub moment : ℕ
   pub is_moment : moment < 2 ^ 53
   pub sends : Sends (answer_of s.flags moment (asked_of request)) response
-  pub lines : IfSome bytes (HasLines (notes_of s.flags (answer_of s.flags moment (asked_of request))))
+  pub lines : IfSome handed (HaveLines (notes_of s.flags (answer_of s.flags moment (asked_of request))))
 
 -- What a response rests on stands: it is such an answer, or it tells a failure and nothing of flags.
-abbrev pub Stands : List Flags → Option (List ℕ) → Request (List ℕ) → Response → Type 0
-Stands known bytes request response = Fails response ⊎ (∥ RestsOn known bytes request response ∥₁)
+abbrev pub Stands : List Flags → Option (List (List ℕ)) → Request (List ℕ) → Response → Type 0
+Stands known handed request response = Fails response ⊎ (∥ RestsOn known handed request response ∥₁)

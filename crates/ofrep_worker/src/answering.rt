@@ -15,9 +15,9 @@ use crate::filling::fill;
 use crate::moment::moment_of;
 use crate::recording::record_answer;
 use bytes::{BufMut, Bytes};
-use flag_text::Outlet;
 use http::Request;
 use http_server::Response;
+use log_file::LogFile;
 use note_log::NoteLog;
 use ofrep_answers::{Answer, Content, answer_to};
 use std::alloc::{AllocError, Global};
@@ -35,14 +35,14 @@ pub(crate) struct Answering<'a, R> {
 
 /// Answers a request of the flags of a snapshot, once the notes of the answer are recorded, where a log is kept. Where memory
 /// runs out the log is as it was.
-pub(crate) fn answer_from<R: Clock, O: Outlet>(
+pub(crate) fn answer_from<R: Clock, F: LogFile>(
     with: &Answering<'_, R>,
-    log: &mut Option<NoteLog<O>>,
+    log: &mut Option<NoteLog<F>>,
     request: &Request<Bytes>,
     response: &mut Response,
 ) -> Result<(), AllocError>
     requires { IsBlank response.old }
-    ensures ok { OnOk result (Answers (flags_view (arc_value with.now.snapshot.now).flags) request.now response.new (kept_in O.bytes log.old) (kept_in O.bytes log.new)) }
+    ensures ok { OnOk result (Answers (flags_view (arc_value with.now.snapshot.now).flags) request.now response.new (kept_in log.old) (kept_in log.new)) }
     ensures err { OnErr result (log.new ≡ log.old) }
 {
     let moment = moment_of(with.rt);

@@ -1,10 +1,12 @@
 //! What the workers of a service count together.
 use http::StatusCode;
+use log_file::{Look, Loss};
 use ofrep_answers::Reasons;
 use std::alloc::{AllocError, Global};
 use std::sync::atomic::{AtomicU64, Ordering};
 
-/// How many requests were answered with each status, how many evaluations ended with each reason, and how many notes were made.
+/// How many requests were answered with each status, how many evaluations ended with each reason, how many notes were made, and how
+/// often a log was opened anew after each kind of loss.
 #[derive(Drop)]
 pub struct Counts {
     ok: AtomicU64,
@@ -21,6 +23,11 @@ pub struct Counts {
     targeting_match: AtomicU64,
     notes: AtomicU64,
     inputs_too_long: AtomicU64,
+    missing: AtomicU64,
+    replaced: AtomicU64,
+    shorter: AtomicU64,
+    unseen: AtomicU64,
+    unopened: AtomicU64,
 }
 
 impl Counts {
@@ -41,6 +48,11 @@ impl Counts {
             targeting_match: AtomicU64::new(0),
             notes: AtomicU64::new(0),
             inputs_too_long: AtomicU64::new(0),
+            missing: AtomicU64::new(0),
+            replaced: AtomicU64::new(0),
+            shorter: AtomicU64::new(0),
+            unseen: AtomicU64::new(0),
+            unopened: AtomicU64::new(0),
         }
     }
 
@@ -73,6 +85,34 @@ impl Counts {
         add(&self.inputs_too_long, inputs_too_long);
     }
 
+    /// Counts what a look for a log came to.
+    pub(crate) fn count_look(&self, look: Look) {
+        match look {
+            Look::Stands => {}
+            Look::Reopened(loss) => add(self.count_of(loss), 1),
+            Look::Lost(_, _) => add(&self.unopened, 1),
+        }
+    }
+
+    fn count_of(&self, loss: Loss) -> &AtomicU64 {
+        match loss {
+            Loss::Missing => &self.missing,
+            Loss::Replaced => &self.replaced,
+            Loss::Shorter => &self.shorter,
+            Loss::Unseen => &self.unseen,
+        }
+    }
+
+    /// How often a log was opened anew after such a loss.
+    pub fn reopened(&self, loss: Loss) -> u64 {
+        self.count_of(loss).load(Ordering::Relaxed)
+    }
+
+    /// How often a log that was lost could not be opened anew.
+    pub fn unopened(&self) -> u64 {
+        self.unopened.load(Ordering::Relaxed)
+    }
+
     /// The text of what is counted, for Prometheus, with the number of the snapshot and how many flags it has.
     pub(crate) fn text(
         &self,
@@ -89,6 +129,7 @@ impl Counts {
         push_requests(&mut text, "413", &self.too_large)?;
         push_requests(&mut text, "500", &self.failed)?;
         self.push_evaluations(&mut text)?;
+        self.push_reopened(&mut text)?;
         let notes = self.notes.load(Ordering::Relaxed);
         let too_long = self.inputs_too_long.load(Ordering::Relaxed);
         write!(
@@ -96,6 +137,20 @@ impl Counts {
             "# TYPE ofrep_notes_total counter\nofrep_notes_total {notes}\n# TYPE ofrep_inputs_too_long_total counter\nofrep_inputs_too_long_total {too_long}\n# TYPE ofrep_snapshot gauge\nofrep_snapshot {snapshot}\n# TYPE ofrep_flags gauge\nofrep_flags {flags}\n"
         )?;
         Ok(text)
+    }
+
+    /// Adds how often logs were opened anew, and how often they could not be.
+    fn push_reopened(&self, text: &mut String) -> Result<(), AllocError> {
+        write!(text, "# TYPE ofrep_log_reopened_total counter\n")?;
+        push_loss(text, "missing", &self.missing)?;
+        push_loss(text, "replaced", &self.replaced)?;
+        push_loss(text, "shorter", &self.shorter)?;
+        push_loss(text, "unseen", &self.unseen)?;
+        let unopened = self.unopened();
+        write!(
+            text,
+            "# TYPE ofrep_log_unopened_total counter\nofrep_log_unopened_total {unopened}\n"
+        )
     }
 
     /// Adds how many evaluations ended with each reason.
@@ -107,6 +162,15 @@ impl Counts {
         push_reason(text, "DISABLED", &self.disabled)?;
         push_reason(text, "ERROR", &self.error)
     }
+}
+
+/// Adds how often a log was opened anew after a loss.
+fn push_loss(text: &mut String, loss: &str, count: &AtomicU64) -> Result<(), AllocError> {
+    let count = count.load(Ordering::Relaxed);
+    write!(
+        text,
+        "ofrep_log_reopened_total{{reason=\"{loss}\"}} {count}\n"
+    )
 }
 
 /// Adds to a number that all workers share, where there is something to add: an addition of nothing would have the processors

@@ -1,27 +1,26 @@
 //! Notes before answers.
 ghost use Rattle.std.specs.Prelude.{◌≡◌, IfOk, OnErr};
 ghost use Rattle.flag_defs.specs.Flags.{flags_view};
-ghost use Rattle.note_log.specs.Log.{logged};
 ghost use Rattle.ofrep_answers.specs.Answer.{answer_view};
-ghost use Rattle.ofrep_worker.specs.Answers.{RecordedFirst, RecordedIn, kept_in};
+ghost use Rattle.ofrep_worker.specs.Answers.{RecordedFirst, RecordedIn, kept_in, kept_of};
 ghost use Rattle.ofrep_worker.specs.Notes.{notes_of};
 
 use crate::notes::notes_of;
 use flag_defs::Flags;
-use flag_text::Outlet;
+use log_file::LogFile;
 use note_lines::Note;
 use note_log::NoteLog;
 use ofrep_answers::Answer;
 use std::alloc::{AllocError, Global};
 
 /// Records the notes of an answer, and says whether all of them stand in the log. Where no log is kept there is nothing to do.
-pub(crate) fn record_answer<O: Outlet>(
+pub(crate) fn record_answer<F: LogFile>(
     alloc: Global,
-    log: &mut Option<NoteLog<O>>,
+    log: &mut Option<NoteLog<F>>,
     flags: &Flags,
     answer: &Answer,
 ) -> Result<bool, AllocError>
-    ensures records { IfOk result (λ all. RecordedIn all (notes_of (flags_view flags.now) (answer_view answer.now)) (kept_in O.bytes log.old) (kept_in O.bytes log.new)) }
+    ensures records { IfOk result (λ all. RecordedIn all (notes_of (flags_view flags.now) (answer_view answer.now)) (kept_in log.old) (kept_in log.new)) }
     ensures err { OnErr result (log.new ≡ log.old) }
 {
     match log {
@@ -34,12 +33,12 @@ pub(crate) fn record_answer<O: Outlet>(
 }
 
 /// Records notes, and says whether all of them stand in the log. Where there are none the log is left alone.
-fn record_first<O: Outlet>(
+fn record_first<F: LogFile>(
     alloc: Global,
-    log: &mut NoteLog<O>,
+    log: &mut NoteLog<F>,
     notes: &[Note],
 ) -> Result<bool, AllocError>
-    ensures records { IfOk result (λ all. RecordedFirst all notes.now (logged log.old) (logged log.new) (O.bytes log.old.outlet) (O.bytes log.new.outlet)) }
+    ensures records { IfOk result (λ all. RecordedFirst all notes.now (kept_of log.old) (kept_of log.new)) }
     ensures err { OnErr result (log.new ≡ log.old) }
 {
     if notes.is_empty() {

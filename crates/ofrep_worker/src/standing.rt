@@ -1,17 +1,26 @@
 //! What a worker's answers rest on.
-ghost use Rattle.ofrep_worker.specs.Answers.{Stands, handed, kept_in};
-ghost use Rattle.ofrep_worker.specs.Standing.{responded, still_stands};
+ghost use Rattle.std.specs.Prelude.{◌≡◌};
+ghost use Rattle.ofrep_worker.specs.Answers.{LooksIn, Stands, files, kept_in};
+ghost use Rattle.ofrep_worker.specs.Standing.{responded, still_stands, still_stands_looked};
 
 use crate::worker::OfrepWorker;
-use flag_text::Outlet;
+use log_file::{LogFile, LogPaths};
 use recorded_answers::Recording;
 use snap_share::ShareName;
 use std::time::Clock;
 
-impl<J: ShareName, R: Clock, O: Outlet> Recording for OfrepWorker<'_, J, R, O> {
-    ghost stands = { λ worker request response. Stands worker.seat (handed (kept_in O.bytes worker.log)) request response };
+impl<J: ShareName, R: Clock + LogPaths, F: LogFile> Recording for OfrepWorker<'_, J, R, F> {
+    ghost stands = { λ worker request response. Stands worker.seat (files (kept_in worker.log)) request response };
 
-    ghost given = { λ old request response new. responded old.seat new.seat request response (kept_in O.bytes old.log) (kept_in O.bytes new.log) };
+    ghost looked = { λ old new. (new.seat ≡ old.seat) × LooksIn (kept_in old.log) (kept_in new.log) };
 
-    ghost stays = { λ old request response new. still_stands old.seat new.seat request response (kept_in O.bytes old.log) (kept_in O.bytes new.log) };
+    fn look(&mut self) {
+        self.look_for_log();
+    }
+
+    ghost given = { λ old request response new. responded old.seat new.seat request response (kept_in old.log) (kept_in new.log) };
+
+    ghost stays = { λ old request response new. still_stands old.seat new.seat request response (kept_in old.log) (kept_in new.log) };
+
+    ghost looked_stays = { λ old new is. still_stands_looked old.seat new.seat (kept_in old.log) (kept_in new.log) is.0 is.1 };
 }

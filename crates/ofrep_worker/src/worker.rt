@@ -2,15 +2,15 @@
 ghost use Rattle.std.specs.Prelude.{◌≡◌, OnErr, OnOk};
 ghost use mathlib.Core.List.{IsPrefix};
 ghost use Rattle.http_server.specs.Response.{IsBlank};
-ghost use Rattle.ofrep_worker.specs.Answers.{Responds, RespondsFrom, kept_in};
+ghost use Rattle.ofrep_worker.specs.Answers.{LooksIn, Responds, RespondsFrom, Rises, kept_in, looks_in};
 
 use crate::answering::{Answering, answer_from};
 use crate::counts::Counts;
 use crate::failing::leave_empty;
 use bytes::Bytes;
-use flag_text::Outlet;
 use http::Request;
 use http_server::{Response, Service};
+use log_file::{LogFile, LogPaths};
 use note_log::NoteLog;
 use snap_share::{Current, ReadSeat, ShareFault, ShareName};
 use std::alloc::{AllocError, Global};
@@ -18,24 +18,24 @@ use std::time::Clock;
 
 /// Answers requests from the last snapshot that its seat knows, once what the answers rest on is recorded, where it keeps a log.
 #[derive(Drop)]
-pub struct OfrepWorker<'a, J: ShareName, R, O> {
+pub struct OfrepWorker<'a, J: ShareName, R, F: LogFile> {
     rt: &'a R,
     alloc: Global,
     pub(crate) seat: ReadSeat<J>,
-    pub(crate) log: Option<NoteLog<O>>,
+    pub(crate) log: Option<NoteLog<F>>,
     counts: &'a Counts,
 }
 
-impl<'a, J: ShareName, R: Clock, O: Outlet> OfrepWorker<'a, J, R, O> {
+impl<'a, J: ShareName, R: Clock, F: LogFile> OfrepWorker<'a, J, R, F> {
     /// A worker that answers from the snapshots of a seat, and records in a log where it has one. The workers of a service count
     /// together.
     pub fn new(
         rt: &'a R,
         alloc: Global,
         seat: ReadSeat<J>,
-        log: Option<NoteLog<O>>,
+        log: Option<NoteLog<F>>,
         counts: &'a Counts,
-    ) -> OfrepWorker<'a, J, R, O>
+    ) -> OfrepWorker<'a, J, R, F>
         ensures seat { result.seat ≡ seat }
         ensures log { result.log ≡ log }
     {
@@ -63,7 +63,7 @@ impl<'a, J: ShareName, R: Clock, O: Outlet> OfrepWorker<'a, J, R, O> {
         response: &mut Response,
     ) -> Result<(), ShareFault>
         requires { IsBlank response.old }
-        ensures ok { OnOk result (RespondsFrom self.old.seat self.new.seat request.now response.new (kept_in O.bytes self.old.log) (kept_in O.bytes self.new.log)) }
+        ensures ok { OnOk result (RespondsFrom self.old.seat self.new.seat request.now response.new (kept_in self.old.log) (kept_in self.new.log)) }
         ensures err { OnErr result (IsPrefix self.old.seat self.new.seat × (self.new.log ≡ self.old.log)) }
     {
         let snapshot = self.seat.current()?;
@@ -80,7 +80,7 @@ impl<'a, J: ShareName, R: Clock, O: Outlet> OfrepWorker<'a, J, R, O> {
     /// Answers from the current snapshot, or leaves the response empty where memory runs out.
     fn respond_or_leave(&mut self, request: &Request<Bytes>, response: &mut Response)
         requires { IsBlank response.old }
-        ensures { Responds self.old.seat self.new.seat request.now response.new (kept_in O.bytes self.old.log) (kept_in O.bytes self.new.log) }
+        ensures { Responds self.old.seat self.new.seat request.now response.new (kept_in self.old.log) (kept_in self.new.log) }
     {
         match self.respond(request, response) {
             Ok(()) => {}
@@ -89,9 +89,25 @@ impl<'a, J: ShareName, R: Clock, O: Outlet> OfrepWorker<'a, J, R, O> {
     }
 }
 
-impl<J: ShareName, R: Clock, O: Outlet> Service for OfrepWorker<'_, J, R, O> {
+impl<J: ShareName, R: LogPaths, F: LogFile> OfrepWorker<'_, J, R, F> {
+    /// Looks whether the file of its log, where it keeps one, stands at its path, and is as long as it was left. Where it is not
+    /// the path is opened anew, and nothing is remembered of the file that was lost.
+    #[tactic(auto, using(crate::proofs::Recorded::looks_kept))]
+    pub(crate) fn look_for_log(&mut self)
+        ensures seat { self.new.seat ≡ self.old.seat }
+        ensures log { LooksIn (kept_in self.old.log) (kept_in self.new.log) }
+        ensures looks { Rises (looks_in self.old.log) (looks_in self.new.log) }
+    {
+        if let Some(log) = &mut self.log {
+            let look = log.look(self.alloc, self.rt);
+            self.counts.count_look(look);
+        }
+    }
+}
+
+impl<J: ShareName, R: Clock, F: LogFile> Service for OfrepWorker<'_, J, R, F> {
     ghost answers = { λ old request response new.
-        Responds old.seat new.seat request response (kept_in O.bytes old.log) (kept_in O.bytes new.log) };
+        Responds old.seat new.seat request response (kept_in old.log) (kept_in new.log) };
 
     fn call(
         &mut self,

@@ -1,11 +1,11 @@
 -- What answers rest on stays.
-use Rattle.std.proofs.Common.{ℕ, List, [], ◌∷◌, ◌++◌, sym, subst, append-nil, append_assoc, inl, inr}
+use Rattle.std.proofs.Common.{ℕ, List, [], ◌∷◌, ◌++◌, Option, Some, None, map, refl, sym, subst, append-nil, append_assoc, inl, inr}
 use Rattle.std.proofs.lemmas.List.Elements.{Contains-push_cases}
 use Rattle.http.specs.declared.request.Request.{Request}
 use Rattle.http_server.specs.declared.response.Response.{Response}
 use Rattle.http_server.specs.Exchange.{Call, Calls, Chain}
 use Rattle.http_server.proofs.StreamLemmas.{Chain-append}
-use Rattle.recorded_answers.specs.Stand.{AllStand}
+use Rattle.recorded_answers.specs.Stand.{AllStand, Works}
 
 module _ {S : Type 0} (answers : S → Request (List ℕ) → Response → S → Type 0) where
   -- some calls lead from the first state to the second
@@ -39,3 +39,28 @@ module _ {S : Type 0} (answers : S → Request (List ℕ) → Response → S →
 
     pub still_stand : (calls : List Call) (a b : S) → AllStand stands a calls → Leads a b → AllStand stands b calls
     still_stand calls a b h x c d = keeps x.0 a b x.1 c.0 c.1 (h c d)
+
+-- ---- with looks between the calls
+
+module _ {S : Type 0} (answers : S → Request (List ℕ) → Response → S → Type 0) (looked : S → S → Type 0) where
+  -- some turns lead from the first state to the second
+  abbrev pub Goes : S → S → Type 0
+  Goes a b = (turns : List (List Call)) × Works answers looked a turns b
+
+  -- some turns, and then a look and some calls
+  abbrev pub GoesOn : S → S → Type 0
+  GoesOn a b = (before : S) × Goes a before × ((seen : S) × looked before seen × Leads answers seen b)
+
+  works_then : (turns : List (List Call)) (calls : List Call) (a before seen b : S) → Works answers looked a turns before → looked before seen → Chain answers seen calls b
+      → Works answers looked a (turns ++ calls ∷ []) b
+  works_then [] calls a before seen b w l c = (seen, subst (λ (s : S). looked s seen) w l, (b, c, refl))
+  works_then (t ∷ turns) calls a before seen b w l c = (w.0, w.1, (w.2.0, w.2.1, works_then turns calls w.2.0 before seen b w.2.2 l c))
+
+  pub goes_look : (a b c : S) → Goes a b → looked b c → GoesOn a c
+  goes_look a b c x y = (b, x, (c, y, ([], refl)))
+
+  pub goes_call : (a b c : S) → GoesOn a b → Leads answers b c → GoesOn a c
+  goes_call a b c x y = (x.0, x.1, (x.2.0, x.2.1, leads_then answers x.2.0 b c x.2.2 y))
+
+  pub goes_turn : (a b : S) → GoesOn a b → Goes a b
+  goes_turn a b x = (x.1.0 ++ x.2.2.0 ∷ [], works_then x.1.0 x.2.2.0 a x.0 x.2.0 b x.1.1 x.2.1 x.2.2.1)

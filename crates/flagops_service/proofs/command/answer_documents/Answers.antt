@@ -16,7 +16,7 @@ returns-in-Ok g c =
     let all = merged.0 ++ flags_view c.in-Ok.flags ∷ [] in
     let gives = subst (λ (ts : List (Vec ℕ Global)). Gives d.sources (texts_of ts) [] (Ok all)) c.as_slice.ensures.value merged.1 in
     begun (seats_of (answering_view c.args.answering.now)) _ d all
-    (Reports (g.O.Outlet.bytes c.args.out.now) (g.O.Outlet.bytes c.answer_flags.new.out) (g.O.Outlet.is_broken c.answer_flags.new.out) (g.E.Outlet.bytes c.args.err.now) (g.E.Outlet.bytes c.answer_flags.new.err) (g.E.Outlet.is_broken c.answer_flags.new.err) c.answer_flags.result)
+    (Reports (g.O.Outlet.bytes c.args.out.now) (g.O.Outlet.bytes c.answer_flags.new.out) (g.O.Outlet.is_broken c.answer_flags.new.out) (g.E.Outlet.bytes c.args.err.now) (g.E.Outlet.bytes c.answer_flags.new.err) (g.E.Outlet.is_broken c.answer_flags.new.err) c.answer_flags.result (answering_view c.args.answering.now).log)
     (sym (length-map texts (λ t. t.items))) gives c.answer_flags.ensures
 
 pub returns-in-Err : goal.returns-in-Err

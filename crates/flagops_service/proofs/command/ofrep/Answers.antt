@@ -1,4 +1,4 @@
-use Rattle.std.proofs.Common.{◌≡◌, length, map, sym}
+use Rattle.std.proofs.Common.{sym}
 use Rattle.std.proofs.lemmas.List.{length-map}
 use Rattle.flagops_service.specs.Words.{answering_view}
 use Rattle.flagops_service.proofs.Started.{answers_asked, serves_asked}

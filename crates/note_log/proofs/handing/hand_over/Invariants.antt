@@ -1,11 +1,13 @@
-use Rattle.std.proofs.Common.{length}
+use Rattle.std.proofs.Common.{◌≡◌, None, length}
 use Rattle.note_log.specs.Handing.{Moves}
 use Rattle.note_log.specs.Sound.{handed_in}
 use Rattle.note_log.proofs.handing.hand_over.Given as goal
 
-abbrev pub invariant-loop-outlet : goal.invariant-loop-outlet
-invariant-loop-outlet g l =
-    Moves (g.O.Outlet.bytes l.initial.outlet) (g.O.Outlet.bytes l.outlet) (handed_in l.initial.handed.items) (handed_in l.handed.items) l.initial.waiting.items l.waiting.items
+abbrev pub invariant-loop-journal : goal.invariant-loop-journal
+invariant-loop-journal g l =
+    Moves (g.F.LogFile.bytes l.initial.journal.file) (g.F.LogFile.bytes l.journal.file) (handed_in l.initial.handed.items) (handed_in l.handed.items) l.initial.waiting.items l.waiting.items
+    × (l.journal.lost ≡ l.initial.journal.lost)
+    × (l.initial.journal.lost ≡ None → g.F.LogFile.faults l.journal.file ≡ g.F.LogFile.faults l.initial.journal.file)
 
-abbrev pub decreases-loop-outlet : goal.decreases-loop-outlet
-decreases-loop-outlet g l = length l.waiting.items
+abbrev pub decreases-loop-journal : goal.decreases-loop-journal
+decreases-loop-journal g l = length l.waiting.items

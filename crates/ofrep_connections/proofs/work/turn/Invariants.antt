@@ -1,9 +1,10 @@
+use Rattle.std.proofs.Common.{None}
 use Rattle.ofrep_connections.specs.Stand.{PeersStand}
-use Rattle.recorded_answers.proofs.Standing.{Leads}
+use Rattle.recorded_answers.proofs.Standing.{Goes, GoesOn}
 use Rattle.ofrep_connections.proofs.work.turn.Given as goal
 
 abbrev pub invariant-loop : goal.invariant-loop
-invariant-loop g l = Leads g.S.Service.answers l.fn.service l.service × PeersStand g.S.Recording.stands l.service l.peers
+invariant-loop g l = Goes g.S.Service.answers g.S.Recording.looked l.fn.service l.service × PeersStand g.S.Recording.stands (λ _. None) l.service l.peers
 
 abbrev pub invariant-loop-event : goal.invariant-loop-event
-invariant-loop-event g l = Leads g.S.Service.answers l.fn.service l.service × PeersStand g.S.Recording.stands l.service l.peers
+invariant-loop-event g l = GoesOn g.S.Service.answers g.S.Recording.looked l.fn.service l.service × PeersStand g.S.Recording.stands (λ _. None) l.service l.peers

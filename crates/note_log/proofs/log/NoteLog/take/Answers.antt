@@ -1,39 +1,45 @@
 use Rattle.std.proofs.Common.{true, false, rules, sym, ◌∙◌}
 use Rattle.std.proofs.Math.Logic.{∥∥₁_map}
-use Rattle.note_log.proofs.Moved.{joined}
+use Rattle.note_log.specs.Sound.{earlier_in, handed_in}
+use Rattle.note_log.proofs.Moved.{joined, unmoved}
 use Rattle.note_log.proofs.Recorded.{nothing, none_recorded, sound_moved, batch_recorded, sound_batch, sound_after}
 use Rattle.note_log.proofs.log.NoteLog.take.Goals as goal
 
 pub invariant_of-self : goal.invariant_of-self
 invariant_of-self g c = record {
-  sound = ∥∥₁_map c.args.self.now.sound (λ s. sound_moved _ _ _ _ _ _ c.args.self.now.remembered.entries s c.hand_over.ensures.moves);
+  sound = ∥∥₁_map c.args.self.now.sound (λ s. sound_moved (earlier_in c.args.self.now.earlier.items) _ _ _ _ _ _ c.args.self.now.remembered.entries s c.hand_over.ensures.moves);
 }
 
-pub returns-then-not-hand_over : goal.returns-then-not-hand_over
-returns-then-not-hand_over g c = ∥∥₁_map c.args.self.now.sound (λ s. none_recorded _ _ _ _ _ _ c.args.notes.now c.hand_over.ensures.moves)
+pub returns-then-not-hand_over-clause-records : goal.returns-then-not-hand_over-clause-records
+returns-then-not-hand_over-clause-records g c = ∥∥₁_map c.args.self.now.sound (λ s. none_recorded (earlier_in c.args.self.now.earlier.items) _ _ _ _ _ _ c.args.notes.now c.hand_over.ensures.moves)
 
 pub invariant_of-self-then-not-hand_over-2 : goal.invariant_of-self-then-not-hand_over-2
 invariant_of-self-then-not-hand_over-2 g c =
     let none = nothing c.hand_over.new.waiting.items (sym c.hand_over.ensures.all ∙ search rules) in
     let moves = joined _ _ _ _ _ _ _ _ _ c.args.batch.bytes.items c.hand_over.ensures.moves none c.hand_over-2.ensures.moves in
-    record { sound = ∥∥₁_map c.args.self.now.sound (λ s. sound_batch _ _ _ _ _ _ c.args.notes.now c.args.self.now.remembered.entries c.args.batch s c.requires moves) }
+    record { sound = ∥∥₁_map c.args.self.now.sound (λ s. sound_batch (earlier_in c.args.self.now.earlier.items) _ _ _ _ _ _ c.args.notes.now c.args.self.now.remembered.entries c.args.batch s c.requires moves) }
 
-pub returns-then-not-hand_over-2 : goal.returns-then-not-hand_over-2
-returns-then-not-hand_over-2 g c =
+pub returns-then-not-hand_over-2-clause-records : goal.returns-then-not-hand_over-2-clause-records
+returns-then-not-hand_over-2-clause-records g c =
     let none = nothing c.hand_over.new.waiting.items (sym c.hand_over.ensures.all ∙ search rules) in
     let moves = joined _ _ _ _ _ _ _ _ _ c.args.batch.bytes.items c.hand_over.ensures.moves none c.hand_over-2.ensures.moves in
-    ∥∥₁_map c.args.self.now.sound (λ s. batch_recorded _ _ _ _ _ _ c.args.notes.now c.args.self.now.remembered.entries c.args.batch s c.requires moves false (λ h. cc))
+    ∥∥₁_map c.args.self.now.sound (λ s. batch_recorded (earlier_in c.args.self.now.earlier.items) _ _ _ _ _ _ c.args.notes.now c.args.self.now.remembered.entries c.args.batch s c.requires moves false (λ h. cc))
 
 pub invariant_of-self-2 : goal.invariant_of-self-2
 invariant_of-self-2 g c =
     let none = nothing c.hand_over.new.waiting.items (sym c.hand_over.ensures.all ∙ search rules) in
     let last = nothing c.hand_over-2.new.waiting.items (sym c.hand_over-2.ensures.all ∙ search rules) in
     let moves = joined _ _ _ _ _ _ _ _ _ c.args.batch.bytes.items c.hand_over.ensures.moves none c.hand_over-2.ensures.moves in
-    record { sound = ∥∥₁_map c.args.self.now.sound (λ s. sound_after _ _ _ _ _ _ c.args.notes.now c.args.self.now.remembered.entries c.args.batch s c.requires moves c.remember.new.remembered.entries last c.remember.ensures) }
+    record { sound = ∥∥₁_map c.args.self.now.sound (λ s. sound_after (earlier_in c.args.self.now.earlier.items) _ _ _ _ _ _ c.args.notes.now c.args.self.now.remembered.entries c.args.batch s c.requires moves c.remember.new.remembered.entries last c.remember.ensures) }
 
-pub returns : goal.returns
-returns g c =
+pub returns-clause-records : goal.returns-clause-records
+returns-clause-records g c =
     let none = nothing c.hand_over.new.waiting.items (sym c.hand_over.ensures.all ∙ search rules) in
     let last = nothing c.hand_over-2.new.waiting.items (sym c.hand_over-2.ensures.all ∙ search rules) in
     let moves = joined _ _ _ _ _ _ _ _ _ c.args.batch.bytes.items c.hand_over.ensures.moves none c.hand_over-2.ensures.moves in
-    ∥∥₁_map c.args.self.now.sound (λ s. batch_recorded _ _ _ _ _ _ c.args.notes.now c.args.self.now.remembered.entries c.args.batch s c.requires moves true (λ h. last))
+    ∥∥₁_map c.args.self.now.sound (λ s. batch_recorded (earlier_in c.args.self.now.earlier.items) _ _ _ _ _ _ c.args.notes.now c.args.self.now.remembered.entries c.args.batch s c.requires moves true (λ h. last))
+
+pub returns-then-is_lost-clause-records : goal.returns-then-is_lost-clause-records
+returns-then-is_lost-clause-records g c =
+    let self = c.args.self.now in
+    ∣ none_recorded (earlier_in self.earlier.items) _ _ _ _ _ _ c.args.notes.now (unmoved (g.F.LogFile.bytes self.journal.file) (handed_in self.handed.items) self.waiting.items) ∣₁

@@ -1,0 +1,3 @@
+mod LastLine
+mod Pieces
+mod Lengths

@@ -1,0 +1,156 @@
+//! A log at the end of a file.
+ghost use Rattle.std.specs.Prelude.{◌≡◌, ◌+◌, ◌<◌, true, false, None, IfOk, IfSome, OnOk, is_some, length};
+ghost use Rattle.std.specs.Io.{WritesAtMost};
+ghost use Rattle.flag_text.specs.Outlet.{is_fault};
+ghost use Rattle.log_file.specs.File.{GrowsByTaken, IsLength, count_of};
+ghost use Rattle.log_file.specs.Journal.{IsOpenedAnew, LeavesLines, Looked, lost_after};
+ghost use Rattle.log_file.specs.Line.{EndsLine};
+
+use crate::fault::{LogFault, fault_of};
+use crate::file::LogFile;
+use crate::loss::Loss;
+use crate::paths::LogPaths;
+use crate::torn::cut_torn_line;
+use std::alloc::Global;
+use std::io::{self, ErrorKind};
+
+/// A log at the end of a file. It is whole lines when it opens.
+#[derive(Drop)]
+pub struct Journal<F: LogFile> {
+    file: F,
+    /// How many bytes the file was left with.
+    len: u64,
+    /// How the file was lost, until its path is opened anew.
+    lost: Option<Loss>,
+    ghost is_there: { lost ≡ None → F.stands file ≡ true },
+    ghost is_length: { lost ≡ None → ∥ IsLength len (F.bytes file) ∥₁ },
+}
+
+/// What a look for a log's file came to.
+#[derive(Clone, Copy, Debug, PartialEq, Eq)]
+pub enum Look {
+    /// The file stands at its path, and is as long as it was left.
+    Stands,
+    /// It was lost, and its path is opened anew.
+    Reopened(Loss),
+    /// It was lost, and its path can't be opened.
+    Lost(Loss, LogFault),
+}
+
+impl<F: LogFile + Drop> Journal<F> {
+    /// Opens a log: of what the file has, the whole lines are left.
+    #[tactic(auto, using(crate::proofs::Lengths::exact_length))]
+    pub fn open(alloc: Global, file: F) -> Result<Journal<F>, LogFault>
+        requires { F.stands file ≡ true }
+        ensures path { IfOk result (λ j. F.path j.file ≡ F.path file) }
+        ensures left { IfOk result (λ j. LeavesLines (F.bytes file) (F.bytes j.file)) }
+        ensures stands { IfOk result (λ j. (j.lost ≡ None) × (F.stands j.file ≡ true)) }
+    {
+        let mut file = file;
+        match cut_torn_line(alloc, &mut file) {
+            Ok(len) => Ok(Journal {
+                file,
+                len,
+                lost: None,
+            }),
+            Err(error) => Err(fault_of(&error)),
+        }
+    }
+}
+
+impl<F: LogFile> Journal<F> {
+    /// Whether the file is lost, and its path not opened anew yet.
+    pub fn is_lost(&self) -> bool
+        ensures lost { result ≡ is_some self.now.lost }
+        ensures none { result ≡ false → self.now.lost ≡ None }
+        ensures stands { result ≡ false → F.stands self.now.file ≡ true }
+    {
+        self.lost.is_some()
+    }
+
+    /// Adds a front of `buf` to the end of the file, and says of how many bytes. A file that is lost is added nothing.
+    #[tactic(auto, using(crate::proofs::Lengths::grown_length, crate::proofs::Lengths::same_length))]
+    pub fn append(&mut self, buf: &[u8]) -> io::Result<usize>
+        ensures bound { WritesAtMost result buf.now }
+        ensures bytes { GrowsByTaken (F.bytes self.old.file) (F.bytes self.new.file) result buf.now }
+        ensures stands { IfOk result (λ _. F.stands self.new.file ≡ true) }
+        ensures lost { self.new.lost ≡ self.old.lost }
+        ensures path { F.path self.new.file ≡ F.path self.old.file }
+        ensures looks { F.looks self.new.file ≡ F.looks self.old.file }
+        ensures faults { self.old.lost ≡ None → F.faults self.new.file ≡ F.faults self.old.file + count_of (is_fault buf.now result) }
+    {
+        if self.lost.is_some() {
+            return Err(ErrorKind::NotFound.into());
+        }
+        match self.file.append(buf) {
+            Ok(count) => {
+                self.len = self.len.saturating_add(count as u64);
+                Ok(count)
+            }
+            Err(error) => Err(error),
+        }
+    }
+
+    /// Looks whether the file stands at its path, and is as long as it was left. Where it is not, the path is opened anew, and
+    /// where that can't be done, at the next look.
+    #[tactic(auto, using(crate::proofs::Lengths::same_length))]
+    pub fn look<P: LogPaths>(&mut self, alloc: Global, paths: &P) -> Look
+        ensures looked { Looked result (F.bytes self.old.file) (F.bytes self.new.file) (F.stands self.new.file) }
+        ensures lost { self.new.lost ≡ lost_after result }
+        ensures path { F.path self.new.file ≡ F.path self.old.file }
+        ensures looks { F.looks self.old.file < F.looks self.new.file }
+        ensures faults { F.faults self.new.file ≡ F.faults self.old.file }
+    {
+        if let Some(loss) = self.lost {
+            return self.open_anew(alloc, paths, loss);
+        }
+        match self.file.look(paths, self.len) {
+            Some(loss) => {
+                self.lost = Some(loss);
+                self.open_anew(alloc, paths, loss)
+            }
+            None => Look::Stands,
+        }
+    }
+
+    /// Opens the path of a file that is lost anew. Where that can't be done, it stays lost.
+    #[tactic(auto, using(crate::proofs::Lengths::exact_length))]
+    fn open_anew<P: LogPaths>(&mut self, alloc: Global, paths: &P, loss: Loss) -> Look
+        ensures reported { IsOpenedAnew loss result }
+        ensures looked { Looked result (F.bytes self.old.file) (F.bytes self.new.file) (F.stands self.new.file) }
+        ensures lost { self.new.lost ≡ lost_after result }
+        ensures path { F.path self.new.file ≡ F.path self.old.file }
+        ensures looks { F.looks self.old.file < F.looks self.new.file }
+        ensures faults { F.faults self.new.file ≡ F.faults self.old.file }
+    {
+        self.lost = Some(loss);
+        match reopened(alloc, paths, &mut self.file) {
+            Ok(len) => {
+                self.len = len;
+                self.lost = None;
+                Look::Reopened(loss)
+            }
+            Err(fault) => Look::Lost(loss, fault),
+        }
+    }
+}
+
+/// Opens the path of a file anew, cuts off a last line without its end, and says how many bytes are left.
+#[tactic(auto, using(crate::proofs::Lengths::left_ends))]
+fn reopened<F: LogFile, P: LogPaths>(
+    alloc: Global,
+    paths: &P,
+    file: &mut F,
+) -> Result<u64, LogFault>
+    ensures length { IfOk result (λ n. IfSome (F.bytes file.new) (λ bs. n ≡ length bs)) }
+    ensures stands { OnOk result ((F.stands file.new ≡ true) × IfSome (F.bytes file.new) EndsLine) }
+    ensures path { F.path file.new ≡ F.path file.old }
+    ensures looks { F.looks file.new ≡ F.looks file.old + 1 }
+    ensures faults { F.faults file.new ≡ F.faults file.old }
+{
+    file.reopen(paths)?;
+    match cut_torn_line(alloc, file) {
+        Ok(len) => Ok(len),
+        Err(error) => Err(fault_of(&error)),
+    }
+}

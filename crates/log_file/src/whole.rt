@@ -1,0 +1,14 @@
+//! The whole lines of a file.
+ghost use Rattle.log_file.specs.Line.{IsWholePart};
+
+use memchr::memrchr;
+
+/// How many of the bytes are whole lines, each with its line feed: all but a last line without its end.
+pub fn whole_lines(bytes: &[u8]) -> usize
+    ensures { IsWholePart bytes.now result }
+{
+    match memrchr(b'\n', bytes) {
+        Some(place) => place + 1,
+        None => 0,
+    }
+}

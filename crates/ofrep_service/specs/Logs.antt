@@ -1,0 +1,22 @@
+-- Where the logs of workers stand.
+use Rattle.std.specs.Prelude.{ℕ, zero, suc, ◌+◌, List, [], ◌∷◌, ◌++◌, codes, decimal, map, Option, option_map, string_bytes}
+use Rattle.log_file.specs.declared.file.LogFile.{Ghosts}
+use Rattle.log_file.specs.declared.journal.Journal.{Journal}
+use Rattle.log_file.specs.declared.system.SystemLog.{SystemLog}
+
+-- the path of the log of a worker, by its number from 1
+abbrev pub path_of : List ℕ → ℕ → List ℕ
+path_of folder worker = folder ++ (codes "/worker-" ++ (decimal worker ++ codes ".log"))
+
+-- where a folder is named
+abbrev pub path_at : Option (List ℕ) → ℕ → Option (List ℕ)
+path_at folder worker = option_map (λ f. path_of f worker) folder
+
+-- of each of so many workers, in their order
+abbrev pub paths_of : Option (List ℕ) → ℕ → List (Option (List ℕ))
+paths_of folder zero = []
+paths_of folder (suc workers) = paths_of folder workers ++ path_at folder (workers + 1) ∷ []
+
+-- where a log is kept, its path
+abbrev pub path_in : {g : Ghosts SystemLog} → Option (Journal SystemLog g) → Option (List ℕ)
+path_in log = option_map (λ l. string_bytes l.file.path) log

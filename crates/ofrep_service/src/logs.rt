@@ -1,0 +1,69 @@
+//! The logs of the workers.
+ghost use Rattle.std.specs.Prelude.{◌≡◌, ◌++◌, IfErr, IfOk, None, codes, decimal, map, option_map, string_bytes};
+ghost use Rattle.log_file.specs.declared.fault.LogFault.TheVariants.{WantOfMemory};
+ghost use Rattle.ofrep_service.specs.Logs.{path_at, path_in, path_of, paths_of};
+
+use log_file::{LogFault, LogPaths, SystemLog, make_folder};
+use std::alloc::{AllocError, Global};
+
+/// The log of a worker: its notes are kept at the end of a file of the system.
+pub type Journal = log_file::Journal<SystemLog>;
+
+/// Opens the logs of so many workers in a folder, which is made where it is missing: one for each worker, or none where no folder is
+/// named. No other process may have one of them open.
+pub fn open_logs<P: LogPaths>(
+    paths: &P,
+    alloc: Global,
+    folder: Option<&str>,
+    workers: usize,
+) -> Result<Vec<Option<Journal>>, LogFault>
+    ensures logs { IfOk result (λ logs. map path_in logs.items ≡ paths_of (option_map (λ f. f.now) folder.entry) workers) }
+    ensures fault { IfErr result (λ fault. folder.entry ≡ None → fault ≡ WantOfMemory) }
+{
+    if let Some(folder) = folder {
+        make_folder(paths, folder)?;
+    }
+    let mut logs = Vec::new(alloc);
+    for worker in 0..workers {
+        let log = open_log(paths, alloc, folder, worker + 1)?;
+        logs.push(log)?;
+    }
+    Ok(logs)
+}
+
+/// Opens the log of a worker, by its number from 1, where a folder is named.
+fn open_log<P: LogPaths>(
+    paths: &P,
+    alloc: Global,
+    folder: Option<&str>,
+    worker: usize,
+) -> Result<Option<Journal>, LogFault>
+    ensures log { IfOk result (λ log. path_in log ≡ path_at (option_map (λ f. f.now) folder.entry) worker) }
+    ensures fault { IfErr result (λ fault. folder.entry ≡ None → fault ≡ WantOfMemory) }
+{
+    match folder {
+        Some(folder) => Ok(Some(open_in(paths, alloc, folder, worker)?)),
+        None => Ok(None),
+    }
+}
+
+/// Opens the log of a worker, by its number from 1, in a folder that is there.
+fn open_in<P: LogPaths>(
+    paths: &P,
+    alloc: Global,
+    folder: &str,
+    worker: usize,
+) -> Result<Journal, LogFault>
+    ensures { IfOk result (λ log. string_bytes log.file.path ≡ path_of folder.now worker) }
+{
+    let path = log_path(alloc, folder, worker)?;
+    let file = SystemLog::open(paths, path)?;
+    Journal::open(alloc, file)
+}
+
+/// The path of the log of a worker.
+fn log_path(alloc: Global, folder: &str, worker: usize) -> Result<String, AllocError>
+    ensures { IfOk result (λ path. string_bytes path ≡ path_of folder.now worker) }
+{
+    format!(in alloc; "{folder}/worker-{worker}.log")
+}
