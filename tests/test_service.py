@@ -114,6 +114,14 @@ class ServiceTest(unittest.TestCase):
         status, _, told = self.ask("POST", FLAGS, body)
         return status, json.loads(told)
 
+    def told(self, child, part, count=1):
+        """Waits until a service has told this in so many lines; all that it has told by then."""
+        lines = []
+        while sum(part in line for line in lines) < count:
+            lines.append(child.stderr.readline())
+            self.assertNotEqual(lines[-1], "", lines)
+        return "".join(lines)
+
     def notes(self, folder="log"):
         """The lines of all logs, which are whole."""
         lines = []
@@ -459,6 +467,44 @@ class Logs(ServiceTest):
         self.assertEqual(self.flag("size")[0], 200)
         self.assertEqual(self.ask("POST", FLAGS, context("mallory"), {"If-None-Match": "*"})[0], 500)
 
+    def lost(self, lose, part):
+        """A log that is lost in this way once a note is in it, and what all files of its folder have behind the same note and another."""
+        child = self.start("--log", "log", "--workers", "1")
+        self.assertEqual(self.flag("color", context("early"))[0], 200)
+        lose(os.path.join(self.folder, "log", "worker-1.log"))
+        self.told(child, part)
+        self.assertEqual(self.flag("color", context("early"))[0], 200)
+        self.assertEqual(self.flag("color", context("late"))[0], 200)
+        return self.notes()
+
+    def test_a_log_that_is_moved_is_opened_anew(self):
+        notes = self.lost(lambda path: os.rename(path, path + ".1"), "a log was moved or removed")
+        self.assertEqual(notes, [self.note("early"), self.note("late"), self.note("early")])
+
+    def test_a_log_that_is_removed_is_opened_anew(self):
+        notes = self.lost(os.remove, "a log was moved or removed")
+        self.assertEqual(notes, [self.note("early"), self.note("late")])
+
+    def test_a_log_that_is_replaced_is_written_to(self):
+        def replace(path):
+            self.put("log/worker-1.log", self.note("other") + "\n")
+
+        notes = self.lost(replace, "another file was put in the place of a log")
+        self.assertEqual(notes, [self.note("other"), self.note("early"), self.note("late")])
+
+    def test_a_log_that_is_cut_is_written_again(self):
+        notes = self.lost(lambda path: os.truncate(path, 0), "a log was cut")
+        self.assertEqual(notes, [self.note("early"), self.note("late")])
+
+    def test_a_second_service_on_a_folder_is_refused(self):
+        self.start("--log", "log")
+        self.assertEqual(self.flag("color", context("early"))[0], 200)
+        words = [PROGRAM, "ofrep", "--listen", "127.0.0.1:0", "--log", "log", "d"]
+        ran = subprocess.run(words, cwd=self.folder, capture_output=True, text=True, timeout=SECONDS)
+        self.assertEqual((ran.stdout, ran.returncode), ("refused log 2 InUse\n", 1))
+        self.assertNotEqual(ran.stderr, "")
+        self.assertEqual(self.notes(), [self.note("early")])
+
     def test_without_a_log(self):
         child = self.start()
         self.assertEqual(self.flag("color", context("mallory")), (200, color_of("mallory")))
@@ -476,14 +522,6 @@ class Changing(ServiceTest):
     def until(self, wanted):
         """Asks until the flag `size` has this value."""
         wait_until(lambda: self.size() == wanted, f"size is not {wanted}")
-
-    def told(self, child, part, count=1):
-        """Waits until a service has told this in so many lines; all that it has told by then."""
-        lines = []
-        while sum(part in line for line in lines) < count:
-            lines.append(child.stderr.readline())
-            self.assertNotEqual(lines[-1], "", lines)
-        return "".join(lines)
 
     def changed(self, variant):
         flags = {**DOCUMENT["flags"], "size": {**DOCUMENT["flags"]["size"], "defaultVariant": variant}}
