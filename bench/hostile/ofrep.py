@@ -30,7 +30,7 @@ from forks import PROGRAM, TOP, built
 from rows import read, write
 
 SECONDS, KILOBYTES = 60, 500_000
-REFUSED = re.compile(rb"refused ([\w:]+ 0 WantOfMemory|load 1 Unreadable|log 1 Unopened|bind 1 Unbound|spawn 1 NoThread|share 3 NoReader|serve \d .*)\n")
+REFUSED = re.compile(rb"refused ([\w:]+ 0 WantOfMemory|load 1 Unreadable|log 1 Unopened|log 2 InUse|bind 1 Unbound|spawn 1 NoThread|share 3 NoReader|serve \d .*)\n")
 CALLS = ["open", "read", "write", "recv", "send", "accept4", "socket", "bind", "listen", "epoll_create1", "epoll_ctl", "epoll_wait", "close"]
 
 
