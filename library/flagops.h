@@ -15,7 +15,7 @@
    No call starts a thread, waits, or looks at a file, a socket or the clock. A call answers 0, or why not: FLAGOPS_MEMORY
    where memory ran out, or else the first of the refusals that it names, in their order. What takes no memory is never
    refused with FLAGOPS_MEMORY. After a refusal all that was passed is as it was, but for FLAGOPS_ROOM: *written says how
-   many bytes are wanted. */
+   many bytes are wanted; and for FRAME + fault: the connection has ended. */
 #ifndef FLAGOPS_H
 #define FLAGOPS_H
 #include <stdbool.h>
@@ -28,13 +28,16 @@ extern "C" {
 typedef struct { void *address; bool held; } flagops_seat;
 #define FLAGOPS_NONE { NULL, false }
 
-/* Answers. The last three come with the number of a fault: FLAGOPS_DOCUMENT + 1 is a document that is no JSON text. */
+/* Answers. The last four come with the number of a fault: FLAGOPS_DOCUMENT + 1 is a document that is no JSON text. */
 enum { FLAGOPS_OK, FLAGOPS_MEMORY, FLAGOPS_EMPTY, FLAGOPS_ROOM, FLAGOPS_KEY, FLAGOPS_KIND, FLAGOPS_MOMENT, FLAGOPS_FULL,
-       FLAGOPS_NO_CONTEXT, FLAGOPS_DOCUMENT = 10, FLAGOPS_FALLBACK = 20, FLAGOPS_CONTEXT = 30 };
+       FLAGOPS_NO_CONTEXT, FLAGOPS_DOCUMENT = 10, FLAGOPS_FALLBACK = 20, FLAGOPS_CONTEXT = 30, FLAGOPS_FRAME = 40 };
 /* of a document */
 enum { FLAGOPS_NOT_JSON = 1, FLAGOPS_NO_FLAGS, FLAGOPS_LARGE_DOCUMENT };
-/* of a fallback and of a context, which are JSON texts of whole numbers */
+/* of a fallback, a JSON text of whole numbers, and of a context, whose numbers may be any (it is never NOT_WHOLE) */
 enum { FLAGOPS_NO_TEXT = 1, FLAGOPS_NOT_WHOLE, FLAGOPS_TOO_LARGE, FLAGOPS_TOO_DEEP };
+/* of a stream: a length that no frame has, a number that is not above the last one, a document that is refused, and that there
+   was a fault before */
+enum { FLAGOPS_LENGTH = 1, FLAGOPS_NOT_RISING, FLAGOPS_FRAMED_DOCUMENT, FLAGOPS_FAILED };
 
 /* kinds of values, OpenFeature's reasons and its error codes */
 enum { FLAGOPS_BOOL, FLAGOPS_STRING, FLAGOPS_INTEGER, FLAGOPS_OBJECT };
@@ -58,6 +61,18 @@ uint32_t flagops_share(flagops_seat *from, flagops_seat *to);
 uint32_t flagops_open(flagops_seat *seat, const uint8_t *document, size_t document_len);
 /* A line for each flag: its key as JSON, and " good" or " broken". EMPTY, ROOM. */
 uint32_t flagops_keys(flagops_seat *seat, uint8_t *out, size_t room, size_t *written);
+
+/* -- streams: the frames of `flagops serve` and of `ofrep --stream` -- */
+
+/* The next bytes of a stream, cut anywhere. Where they make snapshots whole, the seat has the flags of the newest, *number is its
+   number and *came is true; else *came is false. EMPTY, FRAME + fault: the flags stay, and until flagops_connect each call is
+   refused with FRAME + FAILED. A fault behind whole snapshots comes with the next call. MEMORY: the bytes were not taken; pass
+   them again. */
+uint32_t flagops_feed(flagops_seat *seat, const uint8_t *piece, size_t piece_len, uint64_t *number, bool *came);
+/* The next bytes are of a new connection, whose numbers begin again. The flags stay. EMPTY. */
+uint32_t flagops_connect(flagops_seat *seat);
+/* Whether the bytes since then are whole frames and nothing else. EMPTY. */
+uint32_t flagops_at_frame_end(flagops_seat *seat, bool *end);
 
 /* -- resolutions -- */
 

@@ -2,7 +2,8 @@
 # Makes of the proved archive what is shipped: libflagops.a, whose only global names are the header's, libflagops.so.0, the
 # header, and what pkg-config reads.
 #   library/pack.sh ARCHIVE FOLDER
-# ARCHIVE is what `rt lib` makes of crates/flagops_c, crates/flagops_c/out/libflagops_c.a. It needs the kit that made it.
+# ARCHIVE is what `rt lib` makes of crates/flagops_c, crates/flagops_c/out/libflagops_c.a. It needs the kit that made it, whose linker
+# and archiver it uses, and python3: so the same archive gives the same files on each machine.
 set -e
 
 archive=${1:?the archive} folder=${2:?the folder}
@@ -21,8 +22,7 @@ printf '{ global: flagops_*; local: *; };\n' >"$work/names.map"
 
 # One object, so that names between the archive's own objects can be hidden.
 "$bin/ld.lld" -r -o "$work/flagops.o" --whole-archive "$archive" "$heap"
-if [ -x "$bin/llvm-objcopy" ]; then objcopy=$bin/llvm-objcopy; else objcopy=objcopy; fi
-"$objcopy" --wildcard --keep-global-symbol='flagops_*' "$work/flagops.o"
+python3 "$here/hide.py" "$work/flagops.o"
 rm -f "$folder/libflagops.a"
 "$bin/llvm-ar" rcsD "$folder/libflagops.a" "$work/flagops.o"
 

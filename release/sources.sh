@@ -7,12 +7,13 @@ record=$here/release/BUILT-FROM
 newline='
 '
 
-# The lines of crates.txt of the program and of all crates that it stands on, in the order of the file.
+# The lines of crates.txt of the program, or of another crate that is `root`, and of all crates that it stands on, in the order of
+# the file.
 crate_lines() (
     set -f
     IFS=$newline
     lines=$(cat "$here/crates.txt")
-    wanted=' flagops '
+    wanted=" ${root:-flagops} "
     before=
     while [ "$wanted" != "$before" ]; do
         before=$wanted
@@ -39,14 +40,15 @@ files_below() {
 }
 
 # The SHA-256 of all that the program is built of: of the text that has, for HANDLES and for each file of those crates, in the
-# order of the bytes of their paths, the line that sha256sum prints, and then the crates' lines of crates.txt, in that order.
+# order of the bytes of their paths, the line that sha256sum prints, and then the crates' lines of crates.txt, in that order. The
+# files that are `beside` them come behind HANDLES.
 sum_of_sources() (
     cd "$here" || exit 1
     LC_ALL=C
     export LC_ALL
     lines=$(crate_lines) || exit 1
     # shellcheck disable=SC2046
-    set -- HANDLES $(printf '%s\n' "$lines" | while IFS= read -r line; do files_below "crates/${line%%[: ]*}"; done | sort)
+    set -- HANDLES ${beside:-} $(printf '%s\n' "$lines" | while IFS= read -r line; do files_below "crates/${line%%[: ]*}"; done | sort)
     { sha256sum "$@" && printf '%s\n' "$lines" | sort; } | sha256sum | cut -d ' ' -f 1
 )
 

@@ -1,5 +1,6 @@
 """A small OFREP server, written from the protocol and the pages of `docs/` alone: what `ofrep` is compared with. It knows the operators
 `var`, `if`, `and`, `or`, `!`, `==` of texts, `in` a list, `starts_with`, `ends_with`, `sem_ver` and `fractional`."""
+import decimal
 import hashlib
 import http.server
 import json
@@ -49,6 +50,30 @@ def version(text):
     return found and (*map(int, found.groups()[:3]), 0 if found[4] else 1)
 
 
+class Other:
+    """A number of a context that is not whole, or out of range."""
+
+
+class Fault(Exception):
+    """An evaluation that can't go on."""
+
+
+def number(text):
+    """The whole number that a JSON number stands for, by its decimal digits."""
+    value = decimal.Decimal(text)
+    if value == 0:
+        return 0
+    digits, exponent = value.normalize(decimal.Context(prec=10**6)).as_tuple()[1:]
+    if exponent < 0 or len(digits) + exponent > 16 or abs(int(value)) >= 2**53:
+        return Other()
+    return int(value)
+
+
+def has_other(value):
+    parts = value.values() if isinstance(value, dict) else value if isinstance(value, list) else ()
+    return isinstance(value, Other) or any(map(has_other, parts))
+
+
 class Evaluation:
     """One evaluation of a flag in a context."""
 
@@ -66,6 +91,8 @@ class Evaluation:
         value = self.context
         for part in given[0].split("."):
             value = value.get(part) if isinstance(value, dict) else None
+        if has_other(value):
+            raise Fault
         return value
 
     def when(self, given):
@@ -131,7 +158,10 @@ def one(document, key, context):
         return error(key, 404, "FLAG_NOT_FOUND")
     name, reason = flag.get("defaultVariant"), "STATIC"
     if flag.get("targeting"):
-        found = Evaluation(key, context).of(flag["targeting"])
+        try:
+            found = Evaluation(key, context).of(flag["targeting"])
+        except Fault:
+            return error(key, 400, "PARSE_ERROR")
         found = {True: "true", False: "false"}.get(found, found) if isinstance(found, bool) else found
         if found is None:
             reason = "DEFAULT"
@@ -154,16 +184,12 @@ def depth(value):
 
 
 def context_of(body):
-    def other(text):
-        raise Unread("INVALID_CONTEXT")
-
     if not body:
         return {}
     try:
-        json.loads(body)
+        told = json.loads(body, parse_float=number, parse_int=number)
     except (ValueError, RecursionError):
         raise Unread("PARSE_ERROR") from None
-    told = json.loads(body, parse_float=other)
     if not isinstance(told, dict) or depth(told) > DEEPEST:
         raise Unread("INVALID_CONTEXT")
     context = told.get("context")

@@ -128,13 +128,18 @@ class FiltersTest(ProgramTest):
 
     def test_refused_line(self):
         """What was printed before stays, the line of the refusal is the last, and later lines are not looked at."""
-        for bad in ["[]", "{", "1", '{"key":1.5}', '{"key":"b"} x', '"b"']:
+        for bad in ["[]", "{", "1", '{"key":05.0}', '{"key":"b"} x', '"b"']:
             with self.subTest(bad=bad):
                 ran = record(context("a") + "\n" + bad + "\n" + context("c") + "}\n")
                 self.assertEqual((ran.out, ran.status), (note("a") + "refused record 1 Line 3\n", 1))
                 self.assertIn("line 3", ran.err)
                 refused = tally(ran.out)
                 self.assertEqual((refused.out, refused.status), ("refused tally 1 Line 2\n", 1))
+
+    def test_numbers_as_they_are_sent(self):
+        """A number that is not whole is in nobody's way."""
+        numbered = context("a")[:-2] + ',"latitude":52.1,"age":5.0}\n'
+        self.assertEqual(record(numbered), (note("a"), "", 0, {"d": DOCUMENT}))
 
     def test_passed_over(self):
         """Blank lines are passed over, and a last line without its end, which is told."""

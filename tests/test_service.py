@@ -7,7 +7,9 @@ import os
 import re
 import resource
 import select
+import shutil
 import signal
+import stat
 import socket
 import struct
 import subprocess
@@ -164,27 +166,29 @@ class Answers(ServiceTest):
             (b"{", "PARSE_ERROR"),
             (b"[]", "INVALID_CONTEXT"),
             (b'{"context":1}', "INVALID_CONTEXT"),
-            (b'{"context":{"a":[0.5]}}', "INVALID_CONTEXT"),
+            (b'{"context":{"a":[05]}}', "PARSE_ERROR"),
+            (b'{"context":{"a":[5.]}}', "PARSE_ERROR"),
+            (b'{"context":{"a":[1e999]}}', "PARSE_ERROR"),
         ]
         for body, code in bodies:
             with self.subTest(body):
                 status, told = self.flag("color", body)
                 self.assertEqual((status, told["errorCode"], told["key"]), (400, code, "color"))
 
-    def test_the_way_to_a_number_that_is_not_whole(self):
-        deep = b'{"context":{"a":' + b"[" * 100 + b"0.5" + b"]" * 100 + b"}}"
-        rows = [
-            (b'{"context":{"a":{"b":[1,1e3]}}}', "context.a.b[1]"),
-            (b'{"x":0.5,"context":{"b":-0,"a":[[],{"c":9007199254740992}]}}', "context.a[1].c"),
-            (b'{"context":{"say \\"hi\\"":0.5}}', 'context.say "hi"'),
-            (b'{"context":{"a":{"' + b"n" * 300 + b'":0.5}}}', "context.a.."),
-            (deep, "context.a" + "[0]" * 34 + ".."),
+    def test_numbers_as_they_are_sent(self):
+        """A number that is not whole is in nobody's way, however deep it stands; a whole one is whole however it is spelled."""
+        deep = b'{"context":{"targetingKey":"anna","a":' + b"[" * 100 + b"0.5" + b"]" * 100 + b"}}"
+        bodies = [
+            b'{"context":{"targetingKey":"anna","a":{"b":[1,1.5]}}}',
+            b'{"x":0.5,"context":{"targetingKey":"anna","b":-0,"a":[[],{"c":9007199254740992}]}}',
+            b'{"context":{"targetingKey":"anna","latitude":52.1,"age":5.0}}',
+            deep,
         ]
-        for body, way in rows:
+        plain = b'{"context":{"targetingKey":"anna"}}'
+        for body in bodies:
             with self.subTest(body):
-                for status, told in (self.flag("color", body), self.every(body)):
-                    self.assertEqual((status, told["errorCode"]), (400, "INVALID_CONTEXT"))
-                    self.assertEqual(told["errorDetails"], f"`{way}` is a number that is not whole")
+                self.assertEqual(self.flag("color", body), self.flag("color", plain))
+                self.assertEqual(self.every(body), self.every(plain))
 
     def test_the_way_to_what_nests_too_deep(self):
         rows = [
@@ -495,6 +499,76 @@ class Logs(ServiceTest):
     def test_a_log_that_is_cut_is_written_again(self):
         notes = self.lost(lambda path: os.truncate(path, 0), "a log was cut")
         self.assertEqual(notes, [self.note("early"), self.note("late")])
+
+    def test_a_folder_that_is_removed_is_made_again(self):
+        def remove(path):
+            gone = os.path.join(self.folder, "gone")
+            os.rename(os.path.dirname(path), gone)
+            shutil.rmtree(gone)
+
+        notes = self.lost(remove, "a log was moved or removed")
+        self.assertEqual(notes, [self.note("early"), self.note("late")])
+        self.assertEqual(self.modes("log", "log/worker-1.log"), [0o700, 0o600])
+
+    def modes(self, *paths):
+        """Who may read and write what is at these paths."""
+        return [stat.S_IMODE(os.stat(os.path.join(self.folder, path)).st_mode) for path in paths]
+
+    def test_what_is_made_is_for_its_owner_alone(self):
+        os.mkdir(os.path.join(self.folder, "log"), 0o755)
+        self.put("log/worker-1.log", "")
+        os.chmod(os.path.join(self.folder, "log/worker-1.log"), 0o644)
+        self.start("--log", "log/new/last", "--workers", "1", preexec_fn=lambda: os.umask(0))
+        self.assertEqual(self.modes("log", "log/new", "log/new/last", "log/new/last/worker-1.log"), [0o755, 0o700, 0o700, 0o600])
+        self.start("--log", "log", "--workers", "2", preexec_fn=lambda: os.umask(0))
+        self.assertEqual(self.modes("log", "log/worker-1.log", "log/worker-2.log"), [0o755, 0o644, 0o600])
+
+    def ready(self):
+        """The status and the text of the answer to who asks whether the service is ready."""
+        status, _, text = self.ask("GET", "/readyz")
+        return status, text.decode()
+
+    def metrics(self, *names):
+        """What the service counts under these names."""
+        _, _, text = self.ask("GET", "/metrics")
+        counts = dict(line.rsplit(" ", 1) for line in text.decode().splitlines() if line[0] != "#")
+        return [int(counts[name]) for name in names]
+
+    def is_ready(self):
+        return self.ready() == (200, "ok")
+
+    def test_a_log_that_cannot_be_written_is_not_ready(self):
+        """The service is not ready from the first write that fails until the log is another file, which takes what comes then."""
+        if not os.path.exists("/dev/full"):
+            self.skipTest("no /dev/full")
+        os.mkdir(os.path.join(self.folder, "log"))
+        os.symlink("/dev/full", os.path.join(self.folder, "log", "worker-1.log"))
+        self.start("--log", "log", "--workers", "1")
+        self.assertTrue(self.is_ready())
+        self.assertEqual(self.flag("color", context("mallory"))[0], 500)
+        self.assertEqual(self.ready(), (503, "a log can't be written"))
+        self.assertEqual(self.ask("GET", "/healthz")[0], 200)
+        self.assertEqual(self.ask("POST", "/readyz")[0], 405)
+        self.assertEqual(self.metrics("ofrep_notes_total", 'ofrep_log_failing{reason="unwritten"}', "ofrep_log_failures_total"), [0, 1, 1])
+        os.remove(os.path.join(self.folder, "log", "worker-1.log"))
+        wait_until(self.is_ready, "a log of its own")
+        self.assertEqual(self.flag("color", context("mallory")), (200, color_of("mallory")))
+        self.assertEqual(self.notes(), [self.note("mallory")])
+        self.assertEqual(self.metrics("ofrep_notes_total", 'ofrep_log_failing{reason="unwritten"}'), [1, 0])
+
+    def test_a_log_that_takes_a_part_of_a_line(self):
+        """The rest of the line follows once the file takes it, without a request, and the line counts then."""
+        child = self.start("--log", "log", "--workers", "2", restore_signals=False)
+        size = len(self.note("early")) + 1
+        _, most = resource.prlimit(child.pid, resource.RLIMIT_FSIZE)
+        resource.prlimit(child.pid, resource.RLIMIT_FSIZE, (size - 5, most))
+        self.assertEqual(self.flag("color", context("early"))[0], 500)
+        self.assertEqual(self.ready(), (503, "a log can't be written"))
+        self.assertEqual(self.metrics("ofrep_notes_total"), [0])
+        resource.prlimit(child.pid, resource.RLIMIT_FSIZE, (most, most))
+        wait_until(self.is_ready, "the rest of a line")
+        self.assertEqual(self.notes(), [self.note("early")])
+        self.assertEqual(self.metrics("ofrep_notes_total"), [1])
 
     def test_a_second_service_on_a_folder_is_refused(self):
         self.start("--log", "log")

@@ -20,8 +20,13 @@ KEYS = ["banner", "checkout", "new search", "größe", "a/b", "off", "broken", "
 TEXTS = ["", "alice", "bob@example.com", "mallory@example.org", "de", "fr", "2.1.0", "1.9.9", "2.1.0-rc.1", "münchen", "\u202eabc"]
 
 
+# Numbers as applications spell them, and how they stand in a drawn context.
+NUMBERS = ["5", "5.0", "0.5e1", "50e-1", "7.5", "-0", "0e7", "1e3", "1000.00", "9007199254740993", "5.0000000000000000001", "1e300"]
+SPELLED = "spelled: "
+
+
 def drawn_condition(draw, levels=2):
-    kind = draw.randrange(8 if levels else 5)
+    kind = draw.randrange(9 if levels else 6)
     name = {"var": draw.choice(["email", "country", "app.version", "targetingKey"])}
     if kind == 0:
         return {"==": [name, draw.choice(TEXTS)]}
@@ -33,8 +38,10 @@ def drawn_condition(draw, levels=2):
         return {"starts_with": [name, draw.choice(["a", "m", "2."])]}
     if kind == 4:
         return {"sem_ver": [{"var": "app.version"}, draw.choice([">=", "<", "="]), "2.1.0"]}
+    if kind == 5:
+        return {"in": [{"var": draw.choice(["cart", "basket.sum"])}, [5, 0, 1000]]}
     parts = [drawn_condition(draw, levels - 1) for _ in range(2)]
-    return [{"and": parts}, {"or": parts}, {"!": parts[:1]}][kind - 5]
+    return [{"and": parts}, {"or": parts}, {"!": parts[:1]}][kind - 6]
 
 
 def drawn_rule(draw, names, levels=2):
@@ -70,7 +77,17 @@ def drawn_context(draw):
             context[name] = draw.choice(TEXTS) if draw.randrange(3) else f"user-{draw.randrange(1000)}"
     if draw.randrange(2):
         context["app"] = draw.choice([{"version": draw.choice(TEXTS)}, {"version": 2}, None, "2.1.0", []])
+    if draw.randrange(2):
+        context["cart"] = SPELLED + draw.choice(NUMBERS)
+        context["basket"] = {"sum": SPELLED + draw.choice(NUMBERS), "unread": [SPELLED + draw.choice(NUMBERS)]}
     return context
+
+
+def with_numbers(body):
+    """The body with its numbers in their places."""
+    for number in NUMBERS:
+        body = body.replace(f'"{SPELLED}{number}"'.encode(), number.encode())
+    return body
 
 
 def drawn_body(draw):
@@ -79,7 +96,7 @@ def drawn_body(draw):
         return draw.choice([b"", b"{}", b"null", b'{"context":null}', b"{", b"[]", b"1", b'"', b'{"context":[]}', b"\xff", b'{"context":1}'])
     if kind == 1:
         return draw.choice([b'{"context":{"n":0.5}}', b'{"context":{"n":[1e3]}}', b'{"context":' + b'{"a":' * 125 + b"1" + b"}" * 126])
-    return compact({"context": drawn_context(draw), **({"more": "x"} if kind == 2 else {})})
+    return with_numbers(compact({"context": drawn_context(draw), **({"more": "x"} if kind == 2 else {})}))
 
 
 def drawn_request(draw):

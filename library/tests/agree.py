@@ -1,9 +1,10 @@
-"""The library beside the program: drawn documents, contexts and fallbacks resolve to the same.
-agree.py LIBRARY PROGRAM [COUNT]"""
+"""The library beside the program: drawn documents, contexts and fallbacks resolve to the same, and reach the same inputs.
+agree.py LIBRARY PROGRAM [COUNT [ASKS]]: COUNT documents, each asked once by `resolve` and ASKS times by `drive`."""
 import ctypes, json, os, random, subprocess, sys, tempfile
 
 library, program = ctypes.CDLL(os.path.abspath(sys.argv[1])), os.path.abspath(sys.argv[2])
-count = int(sys.argv[3]) if len(sys.argv) > 3 else 400
+count = int(sys.argv[3]) if len(sys.argv) > 3 else 300
+asks = int(sys.argv[4]) if len(sys.argv) > 4 else 5
 draw = random.Random(int(os.environ.get('SEED', '20260101')))
 
 REASONS = ['STATIC', 'DEFAULT', 'TARGETING_MATCH', 'DISABLED', 'ERROR']
@@ -78,37 +79,82 @@ def document():
     return json.dumps({'flags': flags}, ensure_ascii=draw.random() < .5).encode(), kinds
 
 
+def notes(seat):
+    """The places and inputs of the note lines that are kept, which are taken."""
+    out, written = ctypes.create_string_buffer(1 << 20), ctypes.c_size_t()
+    assert library.flagops_notes(ctypes.byref(seat), out, ctypes.c_size_t(len(out)), ctypes.byref(written)) == 0
+    lines = [json.loads(line) for line in out.raw[:written.value].decode().splitlines()]
+    return sorted((key, site, text) for key, site, _, text in lines)
+
+
+def told(line):
+    """The same of a line that the program prints, and the places and inputs that it reached."""
+    members, begun = json.loads(line), b'"value":'
+    members['value'] = line[line.index(begun) + len(begun):line.rindex(b',"variant":')]
+    return members, [(site, text) for site, text, _ in members.pop('reached') if len(text.encode()) <= 1024]
+
+
+def compare(ours, noted, key, line, what):
+    """Whether they are the same."""
+    theirs, reached = told(line)
+    if theirs == ours and noted == sorted({(key, site, text) for site, text in reached}):
+        return 0
+    print('not the same:', *what, ours, noted, line, file=sys.stderr)
+    return 1
+
+
+def ask_for(kinds):
+    key = draw.choice(list(kinds) * 3 + ['gone'])
+    context = {**{name: value() for name in draw.sample(['email', 'v'], draw.randrange(3))}, 'targetingKey': draw.choice(['ann', 'bob', 'é', str(draw.randrange(999))])}
+    kind = kinds.get(key, 0) if draw.random() < .8 else draw.randrange(4)
+    return {'key': key, 'want': KINDS[kind], 'default': value(), 'context': context, 'moment': draw.randrange(1 << 31)}
+
+
+def by_resolve(seat, opened, kinds, folder):
+    """One ask, of which any part may be refused."""
+    ask = ask_for(kinds)
+    context = json.dumps(ask['context'] if draw.random() < .9 else value()).encode() if draw.random() < .95 else b'{'
+    fallback = json.dumps(ask['default']).encode() if draw.random() < .95 else draw.choice([b'1.5', b'x'])
+    with open(os.path.join(folder, 'context'), 'wb') as file:
+        file.write(context)
+    ours = resolved(seat, ask['key'].encode(), KINDS.index(ask['want']), fallback, context, ask['moment'])
+    words = [program, 'resolve', '--', 'flags', ask['key'], ask['want'], fallback.decode(), 'context', str(ask['moment'])]
+    done, noted = subprocess.run(words, cwd=folder, capture_output=True), notes(seat)
+    if done.returncode == 0:
+        return compare(ours, noted, ask['key'], done.stdout, (ask, context, fallback))
+    if isinstance(ours, int) or opened:
+        return 0
+    print('refused by the program alone:', ask, context, fallback, ours, done.stdout, file=sys.stderr)
+    return 1
+
+
+def by_drive(seat, kinds, folder):
+    """Many asks, by the same seat."""
+    drawn = [ask_for(kinds) for _ in range(asks)]
+    with open(os.path.join(folder, 'asks'), 'w') as file:
+        json.dump(drawn, file)
+    done = subprocess.run([program, 'drive', 'flags', 'asks', '1', 'book'], cwd=folder, capture_output=True, check=True)
+    wrong, lines = 0, done.stdout.splitlines()
+    for ask, line in zip(drawn, lines[:asks], strict=True):
+        text = json.dumps(ask['context']).encode()
+        ours = resolved(seat, ask['key'].encode(), KINDS.index(ask['want']), json.dumps(ask['default']).encode(), text, ask['moment'])
+        wrong += compare(ours, notes(seat), ask['key'], line, (ask,))
+    return wrong
+
+
 def main():
     wrong = 0
     with tempfile.TemporaryDirectory() as folder:
-        path, context_path = os.path.join(folder, 'flags.json'), os.path.join(folder, 'context.json')
-        for i in range(count):
+        for _ in range(count):
             seat, (data, kinds) = Seat(), document()
-            with open(path, 'wb') as file:
+            with open(os.path.join(folder, 'flags'), 'wb') as file:
                 file.write(data)
-            assert library.flagops_new(ctypes.byref(seat)) == 0
+            assert library.flagops_new(ctypes.byref(seat)) == 0 and library.flagops_record(ctypes.byref(seat), ctypes.c_size_t(1 << 20)) == 0
             opened = library.flagops_open(ctypes.byref(seat), *sized(data))
-            key = draw.choice(list(kinds) * 3 + ['gone'])
-            kind, moment = kinds.get(key, 0) if draw.random() < .8 else draw.randrange(4), draw.randrange(1 << 31)
-            context = json.dumps({**{k: value() for k in draw.sample(['email', 'v'], draw.randrange(3))}, 'targetingKey': draw.choice(['ann', 'bob', 'é'])}
-                                 if draw.random() < .95 else value()).encode()
-            fallback = json.dumps(value()).encode()
-            with open(context_path, 'wb') as file:
-                file.write(context)
-            ours = resolved(seat, key.encode(), kind, fallback, context, moment)
-            done = subprocess.run([program, 'resolve', '--', path, key, KINDS[kind], fallback.decode(), context_path, str(moment)], capture_output=True)
-            if done.returncode == 0:
-                theirs = json.loads(done.stdout)
-                begun = b'"value":'
-                theirs['value'] = done.stdout[done.stdout.index(begun) + len(begun):done.stdout.rindex(b',"variant":')]
-                del theirs['reached']
-            else:
-                theirs = 'refused'
-            if (theirs != ours) if theirs != 'refused' else not isinstance(ours, int) and opened == 0:
-                wrong += 1
-                print('not the same:', data, key, KINDS[kind], fallback, context, moment, ours, theirs, done.stderr, file=sys.stderr)
+            wrong += by_resolve(seat, opened, kinds, folder)
+            wrong += by_drive(seat, kinds, folder) if opened == 0 else 0
             library.flagops_close(ctypes.byref(seat))
-    print(f'{count} resolutions compared, {wrong} differ')
+    print(f'{count * (1 + asks)} resolutions compared, {wrong} differ')
     return wrong != 0
 
 

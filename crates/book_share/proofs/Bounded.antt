@@ -95,7 +95,7 @@ b-values [] scope ks = b-ends 0 _
 b-values (m ∷ ms) scope ks = b-bind 0 _ _ (ks.0 scope) (λ v. b-bind 0 _ _ (b-values ms scope ks.1) (λ vs. b-ends 0 _))
 
 b-variable : (ms : List Meaning) → AllFit ms → Fits (variable_run ms)
-b-variable ms ks scope = b-bind 0 _ _ (b-values ms scope ks) (λ vs. b-cost (size (variable scope vs)) _ (b-ends 0 _))
+b-variable ms ks scope = b-bind 0 _ _ (b-values ms scope ks) (λ vs. b-bind 0 _ _ (b-cost (size (variable scope vs)) _ (b-ends 0 _)) (λ v. b-ends 0 _))
 
 b-strict : (o : Operator) (ms : List Meaning) → AllFit ms → Fits (strict o ms)
 b-strict o ms ks scope = b-bind 0 _ _ (b-values ms scope ks) (λ vs. b-ends 0 (applied o scope vs))

@@ -146,7 +146,7 @@ fn resolved<L: BookName, G: Gate, R: Wait>(
     Ok(resolution)
 }
 
-#[tactic(auto, unfolding(crate::specs::Asked::resolved))]
+#[tactic(auto, using(logic_eval::proofs::Tidy::tidy_whole), unfolding(crate::specs::Asked::resolved))]
 fn resolution(alloc: Global, flags: &Flags, ask: &Ask<'_>) -> Result<Resolution, AllocError>
     ensures { IfOk result (λ r. resolution_view r ≡ resolution_of_ask (flags_view flags.now) ask.now) }
 {

@@ -4,7 +4,7 @@ use std::alloc::{AllocError, Global};
 use text_spans::Step;
 
 /// The most steps to a place: no text that is read nests deeper.
-const MOST_STEPS: usize = limits::JSON_LEVELS;
+const MOST_STEPS: usize = flag_text::JSON_LEVELS;
 
 /// The way to a place, which a search notes from its end back to the root once it found the place.
 #[derive(Drop)]

@@ -17,7 +17,7 @@ use std::collections::BTreeMap;
 use unread_members::Reader as Taker;
 
 /// How deep lists and objects of a document nest at most.
-const MAX_DEPTH: usize = limits::JSON_LEVELS + 1;
+const MAX_DEPTH: usize = flag_text::JSON_LEVELS + 1;
 
 /// What stands more than once in a document, and whether each member of it is read.
 #[derive(Drop)]

@@ -1,6 +1,6 @@
 //! The cases of a resolution, from the first to the last.
 ghost use Rattle.std.specs.Prelude.{◌≡◌, ◌<◌, ◌^◌, true, false, map, option_map, option_and_then, option_copied, IfOk};
-ghost use Rattle.flag_text.specs.Shape.{is_whole};
+ghost use Rattle.flag_text.specs.Shape.{is_tidy, is_whole};
 ghost use Rattle.flag_text.specs.View.{view};
 ghost use Rattle.flag_defs.specs.Flag.{flag_view, is_broken};
 ghost use Rattle.flag_defs.specs.Flags.{flags_view};
@@ -42,8 +42,8 @@ use std::alloc::{AllocError, Global};
 /// variant whose value is of another kind gives the caller's default, ERROR and TYPE_MISMATCH. The sites that the
 /// evaluation reached are told from 8 on, and in the other cases none.
 ///
-/// The conditions are whole numbers in the default and in the context, and a moment of at most 2^53-1. It fails only
-/// where memory runs out. It makes one search by the key and at most one evaluation, and copies the value and the
+/// The conditions are whole numbers in the default, and a moment of at most 2^53-1. A number of the context that is not whole makes the
+/// evaluation fault (7) that reads it, and no other. It fails only where memory runs out. It makes one search by the key and at most one evaluation, and copies the value and the
 /// variant's name alone.
 pub fn resolve(
     alloc: Global,
@@ -55,7 +55,7 @@ pub fn resolve(
     moment: u64,
 ) -> Result<Resolution, AllocError>
     requires default { is_whole (view default.now) ≡ true }
-    requires context { is_whole (view context.now) ≡ true }
+    requires context { is_tidy (view context.now) ≡ true }
     requires moment { moment < 2 ^ 53 }
     ensures exact { IfOk result (λ r. resolution_view r ≡
         resolved_by (option_map (λ f. flags_view f.now) flags.entry) want (view default.now) (view context.now) key.now moment) }
@@ -73,7 +73,7 @@ fn found(
     context: &Tree,
     moment: u64,
 ) -> Result<Resolution, AllocError>
-    requires context { is_whole (view context.now) ≡ true }
+    requires context { is_tidy (view context.now) ≡ true }
     requires moment { moment < 2 ^ 53 }
     ensures { IfOk result (λ r. resolution_view r ≡ resolution_of (option_map (λ f. flags_view f.now) flags.entry) (asked_view asked.now)
         (record { context = view context.now; flag = key.now; moment = moment })) }

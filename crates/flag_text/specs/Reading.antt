@@ -1,7 +1,6 @@
 -- Which tree the bytes of a text stand for (JSON: RFC 8259, as `serde_json` reads it).
 use Rattle.std.specs.Prelude.{ℕ, ◌^◌, pos, List, length, nat_lt, if◌then◌else◌, Option, Some, None, Result, Ok, Err}
 use Rattle.std.specs.Str.{is_utf8}
-use Rattle.limits.specs.Limits.{tree_levels}
 use Rattle.serde_json.specs.Data as json
 use Rattle.serde_json.specs.Read.{read}
 use Rattle.flag_text.specs.Shape.{Shape, null, boolean, whole, other, text, list, object, Items, no_items, item, Members, no_members, member, is_in_range, levels, has_other}
@@ -36,9 +35,13 @@ abbrev mutual
 unfoldable pub json_of : List ℕ → Option json.Data
 json_of bytes = if is_utf8 bytes then read bytes else None
 
--- how deep a tree may nest
+-- how deep lists and objects of a JSON text nest at most
+abbrev pub json_levels : ℕ
+json_levels = 127
+
+-- how deep those of a tree may nest
 abbrev pub max_levels : ℕ
-max_levels = tree_levels
+max_levels = 120
 
 -- the tree of a JSON value, where there is one
 abbrev pub if_json : Option json.Data → Result Shape TextFault

@@ -11,9 +11,14 @@ use crate::fault::TextFault;
 use crate::tokens::read_value;
 use crate::tree::{Tree, fits, has_other};
 use json::{Reader, Scratch};
-use limits::{JSON_LEVELS, TREE_LEVELS};
 use simdutf8::basic;
 use std::alloc::Global;
+
+/// How deep lists and objects of a JSON text nest at most, as `serde_json` reads it.
+pub const JSON_LEVELS: usize = 127;
+
+/// How deep lists and objects of a context, a request or another text of whole numbers nest at most.
+pub const TREE_LEVELS: usize = 120;
 
 /// The tree that the bytes of a JSON text stand for, with `Other` for each number that is not whole.
 /// A member that is repeated under its name takes the place of the one before. `max` is the most bytes

@@ -31,7 +31,7 @@ impl Tree {
 }
 
 /// The largest whole number: from there on a double no longer holds each integer.
-pub const MAX_WHOLE: u64 = limits::LARGEST_WHOLE;
+pub const MAX_WHOLE: u64 = (1 << 53) - 1;
 
 /// Whether the number is from -(2^53-1) to 2^53-1.
 pub fn is_in_range(n: i64) -> bool

@@ -1,7 +1,7 @@
 -- That flags may be read by several threads at once, and that a seat may go from one to another.
 use denote.RattleType.{RattleType}
 use denote.Param.Send.{IsSend, IsSync, sendable}
-use denote.Param.SendFields.{declared_send, declared_sync}
+use denote.Param.SendFields.{declared_send, declared_sync, variants_send}
 use Rattle.std.proofs.Crossing.{crosses}
 use Rattle.std.specs.contracts.alloc.Global as Global
 use Rattle.std.specs.contracts.boxed.Box as Box
@@ -17,7 +17,10 @@ use Rattle.logic_ast.specs.contracts.operator.Operator as Operator
 use Rattle.logic_ast.specs.contracts.expr.Expr as Expr
 use Rattle.flag_defs.specs.contracts.flag.Flag as Flag
 use Rattle.flag_defs.specs.contracts.flags.Flags as Flags
+use Rattle.sync_frames.specs.contracts.feed.Feed as Feed
+use Rattle.sync_frames.specs.contracts.stage.Stage as Stage
 use Rattle.library_seat.specs.contracts.asked.ReadContext as ReadContext
+use Rattle.library_seat.specs.contracts.held.HeldFlags as HeldFlags
 use Rattle.library_seat.specs.contracts.seat.Seat as Seat
 
 -- ---- flags may be read by several threads at once
@@ -95,5 +98,14 @@ Flags-send = search (sendable, crosses, Flag-send) depth 40
 Context-send : IsSend ReadContext.the_row
 Context-send = declared_send ReadContext.the_type (Tree-send, tt)
 
+HeldFlags-send : IsSend HeldFlags.the_row
+HeldFlags-send = variants_send HeldFlags.enum ((Flags-send, tt), ((search (sendable, crosses, Flags-sync, Flags-send) depth 40, tt), tt))
+
+Stage-send : IsSend Stage.the_row
+Stage-send = search (sendable, crosses) depth 40 fits 100000
+
+Feed-send : IsSend Feed.the_row
+Feed-send = declared_send Feed.the_type (search (sendable, crosses) depth 40, (search (sendable, crosses) depth 40, (Stage-send, tt)))
+
 pub Seat-send : IsSend Seat.the_row
-Seat-send = declared_send Seat.the_type (search (sendable, crosses, Flags-sync, Flags-send) depth 40, (search (sendable, crosses, Context-send) depth 40, (search (sendable, crosses) depth 40, tt)))
+Seat-send = declared_send Seat.the_type (search (sendable, crosses, HeldFlags-send) depth 40, (search (sendable, crosses, Context-send) depth 40, (search (sendable, crosses) depth 40, (Feed-send, tt))))

@@ -5,6 +5,7 @@
 #![tactic(auto)]
 
 mod exports;
+mod feeding;
 mod handle;
 mod numbers;
 mod resolving;

@@ -21,23 +21,24 @@ pub extern "C" fn flagops_share(alloc: Global, from: &mut Handle, to: &mut Handl
     // this needs no memory
     ensures no_flags { IfSome (standing from.old.seat) (λ s. s.flags ≡ None → to.old.seat ≢ None → result ≡ 0) }
 {
-    let Some(seat) = from.take(alloc) else {
+    let Some(mut seat) = from.take(alloc) else {
         return Refusal::Empty.number();
     };
-    let shared = share_to(alloc, &*seat, to);
+    let shared = share_to(alloc, &mut *seat, to);
     from.hold(alloc, seat);
     number_of(shared)
 }
 
 /// Gives `to` the flags of a seat.
-fn share_to(alloc: Global, seat: &Seat, to: &mut Handle) -> Result<(), Refusal>
-    ensures shared { OnOk result (standing to.new.seat ≡ Some (sharing (seat_view seat.now) (or_fresh (standing to.old.seat)))) }
+fn share_to(alloc: Global, seat: &mut Seat, to: &mut Handle) -> Result<(), Refusal>
+    ensures kept { seat_view seat.new ≡ seat_view seat.old }
+    ensures shared { OnOk result (standing to.new.seat ≡ Some (sharing (seat_view seat.old) (or_fresh (standing to.old.seat)))) }
     ensures refused { IfErr result (λ e. (e ≡ refusal.WantOfMemory) × (standing to.new.seat ≡ standing to.old.seat)) }
-    ensures no_flags { (seat_view seat.now).flags ≡ None → to.old.seat ≢ None → IsOk result }
+    ensures no_flags { (seat_view seat.old).flags ≡ None → to.old.seat ≢ None → IsOk result }
 {
     match to.take(alloc) {
         Some(mut other) => {
-            let shared = (*other).share(seat);
+            let shared = (*other).share(alloc, seat);
             to.hold(alloc, other);
             shared
         }
@@ -49,11 +50,12 @@ fn share_to(alloc: Global, seat: &Seat, to: &mut Handle) -> Result<(), Refusal>
 }
 
 /// A new seat with the flags of another.
-fn seat_beside(alloc: Global, seat: &Seat) -> Result<Box<Seat>, Refusal>
-    ensures made { IfOk result (λ b. seat_view b.value ≡ sharing (seat_view seat.now) fresh) }
+fn seat_beside(alloc: Global, seat: &mut Seat) -> Result<Box<Seat>, Refusal>
+    ensures kept { seat_view seat.new ≡ seat_view seat.old }
+    ensures made { IfOk result (λ b. seat_view b.value ≡ sharing (seat_view seat.old) fresh) }
     ensures refused { IfErr result (λ e. e ≡ refusal.WantOfMemory) }
 {
     let mut made = Seat::new(alloc);
-    made.share(seat)?;
+    made.share(alloc, seat)?;
     Ok(Box::new(alloc, made)?)
 }

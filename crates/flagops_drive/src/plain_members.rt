@@ -11,9 +11,8 @@ ghost use Rattle.flagops_drive.specs.Plain.{Comes};
 use crate::reading::moment_of;
 use crate::unplain::Unplain;
 use flag_resolve::Kind;
-use flag_text::{Tree, read_value};
+use flag_text::{JSON_LEVELS, TREE_LEVELS, Tree, read_value};
 use json::{Reader, Token};
-use limits::{JSON_LEVELS, TREE_LEVELS};
 use std::alloc::Global;
 
 /// How deep a member of an ask nests at most in a JSON text, and in one of whole numbers: the ask and the list of asks are

@@ -17,19 +17,19 @@ one_answer x y r is also = cc
 
 module _ (joins : tally.JoinsSets) (at : Holding) where
   -- of one and of the files that are left
-  joins_more : (paths : List (List ℕ)) (sets : List Inputs) (members : Inputs) (one all : PageTally) → tally.IsTallyOf members one → HoldTallies at paths sets → JoinsFiles at one paths (Ok all) → tally.IsTallyOf (members ++ all_of sets) all
+  joins_more : (paths : List (List ℕ)) (sets : List Inputs) (members : Inputs) (one all : PageTally) → tally.IsRangeOf members one → HoldTallies at paths sets → JoinsFiles at one paths (Ok all) → tally.IsRangeOf (members ++ all_of sets) all
   joins_more [] sets members one all is none joined =
       let same : members ≡ members ++ all_of sets = sym (ap (λ (ss : List Inputs). members ++ all_of ss) none ∙ append-nil members) in
-      subst (λ (xs : Inputs). tally.IsTallyOf xs all) same (subst (λ (t : PageTally). tally.IsTallyOf members t) (sym (one_answer all one (Ok all) refl joined)) is)
+      subst (λ (xs : Inputs). tally.IsRangeOf xs all) same (subst (λ (t : PageTally). tally.IsRangeOf members t) (sym (one_answer all one (Ok all) refl joined)) is)
   joins_more (path ∷ paths) sets members one all is holds (inl step) =
       let both = joins one step.0 step.1 members holds.0 is (holds.3 step.0 step.2) step.3 in
       let rest = joins_more paths holds.1 (members ++ holds.0) step.1 all both holds.4 step.4 in
-      subst (λ (xs : Inputs). tally.IsTallyOf xs all) (append_assoc members holds.0 (all_of holds.1) ∙ ap (λ (ss : List Inputs). members ++ all_of ss) (sym holds.2)) rest
+      subst (λ (xs : Inputs). tally.IsRangeOf xs all) (append_assoc members holds.0 (all_of holds.1) ∙ ap (λ (ss : List Inputs). members ++ all_of ss) (sym holds.2)) rest
   joins_more (path ∷ paths) sets members one all is holds (inr (inl refused)) = no_answer refused.4
   joins_more (path ∷ paths) sets members one all is holds (inr (inr unread)) = no_answer unread.2
 
 pub files_joined : tally.JoinsSets → JoinsFileSets
 files_joined joins at [] sets all holds joined = absurd joined
 files_joined joins at (path ∷ paths) sets all holds (inl first) =
-    subst (λ (ss : List Inputs). tally.IsTallyOf (all_of ss) all) (sym holds.2) (joins_more joins at paths holds.1 holds.0 first.0 all (holds.3 first.0 first.1) holds.4 first.2)
+    subst (λ (ss : List Inputs). tally.IsRangeOf (all_of ss) all) (sym holds.2) (joins_more joins at paths holds.1 holds.0 first.0 all (holds.3 first.0 first.1) holds.4 first.2)
 files_joined joins at (path ∷ paths) sets all holds (inr unread) = no_answer unread.2

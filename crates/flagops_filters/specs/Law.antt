@@ -9,7 +9,7 @@ use Rattle.flagops_filters.specs.Join.{IsTallyOf, JoinsAllFiles}
 
 -- what is read at a path is the tally of these inputs
 abbrev pub HoldsTally : Holding → List ℕ → Inputs → Type 0
-HoldsTally at path members = (t : PageTally) → IsTallyOf at path (Ok t) → tally.IsTallyOf members t
+HoldsTally at path members = (t : PageTally) → IsTallyOf at path (Ok t) → tally.IsRangeOf members t
 
 -- the same at each path of its own set
 abbrev pub HoldTallies : Holding → List (List ℕ) → List Inputs → Type 0
@@ -18,4 +18,4 @@ HoldTallies at (path ∷ paths) sets = (members : Inputs) × (others : List Inpu
 
 -- what is joined of files with the tallies of sets of inputs is the tally of their union, in which each input is there once
 abbrev pub JoinsFileSets : Type 0
-JoinsFileSets = (at : Holding) (paths : List (List ℕ)) (sets : List Inputs) (all : PageTally) → HoldTallies at paths sets → JoinsAllFiles at paths (Ok all) → tally.IsTallyOf (all_of sets) all
+JoinsFileSets = (at : Holding) (paths : List (List ℕ)) (sets : List Inputs) (all : PageTally) → HoldTallies at paths sets → JoinsAllFiles at paths (Ok all) → tally.IsRangeOf (all_of sets) all

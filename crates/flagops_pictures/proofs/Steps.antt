@@ -5,7 +5,7 @@ use Rattle.std.proofs.lemmas.Bool.{eqb-true}
 use Rattle.std.proofs.lemmas.List.{nil_from_length, take_all}
 use Rattle.book_core.specs.Book.{Contents}
 use Rattle.picture.specs.Spelling.{Adds, IsBody}
-use Rattle.picture.specs.Told.{Item, number}
+use Rattle.picture.specs.Told.{Item, step_told}
 use Rattle.picture.proofs.Bodies.{one_more}
 use Rattle.plan_text.specs.Answer.{Answer, emit, none_exists, planned_view}
 use Rattle.plan_text.specs.declared.planned.Planned.{Planned}
@@ -25,12 +25,12 @@ pub continues_none : (bytes : List ℕ) → Continues [] bytes bytes
 continues_none bytes = λ told body. subst (λ (xs : List Item). IsBody xs bytes) (sym (append-nil told)) body
 
 -- the number of a step, its picture, and the rest
-pub continues_step : (n : ℕ) (this rest : List Item) (a b c d : List ℕ) → Adds (number n ∷ []) a b → Adds this b c → Continues rest c d → Continues (number n ∷ (this ++ rest)) a d
+pub continues_step : (n : ℕ) (this rest : List Item) (a b c d : List ℕ) → Adds (step_told n ∷ []) a b → Adds this b c → Continues rest c d → Continues (step_told n ∷ (this ++ rest)) a d
 continues_step n this rest a b c d first second others = λ told body.
-    let one = one_more told (number n ∷ []) a b body first in
-    let two = one_more (told ++ (number n ∷ [])) this b c one second in
-    let all = others ((told ++ (number n ∷ [])) ++ this) two in
-    subst (λ (xs : List Item). IsBody xs d) (append_assoc (told ++ (number n ∷ [])) this rest ∙ append_assoc told (number n ∷ []) (this ++ rest)) all
+    let one = one_more told (step_told n ∷ []) a b body first in
+    let two = one_more (told ++ (step_told n ∷ [])) this b c one second in
+    let all = others ((told ++ (step_told n ∷ [])) ++ this) two in
+    subst (λ (xs : List Item). IsBody xs d) (append_assoc (told ++ (step_told n ∷ [])) this rest ∙ append_assoc told (step_told n ∷ []) (this ++ rest)) all
 
 -- no answer is right behind a refusal
 pub none_behind : (e : RolloutFault) (requests : List (List ℕ)) (book : Contents) (answers : List Answer) → answers ≢ [] → AreRight (Err e) (Some 1) requests book answers → ⊥
@@ -59,11 +59,11 @@ module _ (standing : Standing) (refine : Option ℕ) (requests : List (List ℕ)
   both_right right = subst (λ (xs : List Answer). AreRight standing refine (request ∷ more) book xs) are (subst (λ (rs : List (List ℕ)). AreRight standing refine rs book answers) is right)
 
   -- the first was told, and so were those behind it
-  pub both_told : (n : ℕ) (a b c d : List ℕ) → Adds (number n ∷ []) a b → AddsTold (checked_on standing refine answer request book) answer b c → Tells (left_by standing request answer) (Some 1) (still answer more) book (suc n) others c d
+  pub both_told : (n : ℕ) (a b c d : List ℕ) → Adds (step_told n ∷ []) a b → AddsTold (checked_on standing refine answer request book) answer b c → Tells (left_by standing request answer) (Some 1) (still answer more) book (suc n) others c d
       → Tells standing refine requests book n answers a d
   both_told n a b c d first second rest =
       let all : Tells standing refine (request ∷ more) book n (answer ∷ others) a d =
-      (number n ∷ (second.0 ++ rest.0), (second.0, rest.0, second.1, rest.1, refl), continues_step n second.0 rest.0 a b c d first second.2 rest.2) in
+      (step_told n ∷ (second.0 ++ rest.0), (second.0, rest.0, second.1, rest.1, refl), continues_step n second.0 rest.0 a b c d first second.2 rest.2) in
       subst (λ (rs : List (List ℕ)). Tells standing refine rs book n answers a d) (sym is) (subst (λ (xs : List Answer). Tells standing refine (request ∷ more) book n xs a d) (sym are) all)
 
 -- those behind it, on the flags that it leaves
@@ -132,7 +132,7 @@ module _ (standing : Standing) (refine : Option ℕ) (steps : List (Vec ℕ Glob
         none_behind e (still answer requests_behind) book (map planned_view others) some
         (subst (λ (s : Standing). AreRight s (Some 1) (still answer requests_behind) book (map planned_view others)) stands (both right).1)
 
-    pub all_told : (n : ℕ) (a b c d : List ℕ) (next : Standing) → left ≡ next → Adds (number n ∷ []) a b → AddsTold (checked_on standing refine answer x.items book) answer b c → Tells next (Some 1) requests_behind book (n + 1) (map planned_view others) c d
+    pub all_told : (n : ℕ) (a b c d : List ℕ) (next : Standing) → left ≡ next → Adds (step_told n ∷ []) a b → AddsTold (checked_on standing refine answer x.items book) answer b c → Tells next (Some 1) requests_behind book (n + 1) (map planned_view others) c d
         → Tells standing refine (requests_view steps) book n (map planned_view answers) a d
     all_told n a b c d next stands first second tells =
         let follows : n + 1 ≡ suc n = add-one n in
@@ -140,7 +140,7 @@ module _ (standing : Standing) (refine : Option ℕ) (steps : List (Vec ℕ Glob
         (behind left next (still answer requests_behind) requests_behind book n (n + 1) (map planned_view others) c d stands same follows tells)
 
   -- there are none
-  pub last_told : (ended : Bool) → ended ≡ (length others == 0) → ended ≡ true → (n : ℕ) (a b c : List ℕ) → Adds (number n ∷ []) a b → AddsTold (checked_on standing refine answer x.items book) answer b c
+  pub last_told : (ended : Bool) → ended ≡ (length others == 0) → ended ≡ true → (n : ℕ) (a b c : List ℕ) → Adds (step_told n ∷ []) a b → AddsTold (checked_on standing refine answer x.items book) answer b c
       → Tells standing refine (requests_view steps) book n (map planned_view answers) a c
   last_told ended tests is_ended n a b c first second =
       both_told standing refine (requests_view steps) book (map planned_view answers) x.items requests_behind answer (map planned_view others) is are n a b c c first second

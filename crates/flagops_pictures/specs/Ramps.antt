@@ -7,7 +7,7 @@ use Rattle.flagops_ramps.specs.Report.{Came}
 use Rattle.flagops_ramps.specs.Judging.{Answered, Found, IsFoundAt}
 use Rattle.flagops_ramps.specs.Words.{Verifying}
 use Rattle.picture.specs.Spelling.{IsBody, IsPicture}
-use Rattle.picture.specs.Told.{Item, number}
+use Rattle.picture.specs.Told.{Item, step_told}
 use Rattle.plan_text.specs.Answer.{Answer}
 use Rattle.ramp.specs.Ramp.{Standing, left_by, still}
 use Rattle.ramp.specs.Right.{checked_on}
@@ -19,7 +19,7 @@ AreTold standing refine [] book n answers items = items ≡ []
 AreTold standing refine (request ∷ requests) book n [] items = items ≡ []
 AreTold standing refine (request ∷ requests) book n (answer ∷ answers) items =
     (this : List Item) × (rest : List Item) × IsAnswerTold (checked_on standing refine answer request book) answer this
-    × AreTold (left_by standing request answer) (Some 1) (still answer requests) book (suc n) answers rest × (items ≡ number n ∷ (this ++ rest))
+    × AreTold (left_by standing request answer) (Some 1) (still answer requests) book (suc n) answers rest × (items ≡ step_told n ∷ (this ++ rest))
 
 -- pictures that tell this were added behind others
 abbrev pub Continues : List Item → List ℕ → List ℕ → Type 0

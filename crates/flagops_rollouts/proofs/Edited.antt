@@ -77,7 +77,7 @@ no_document bytes other false e = (NotJson, doc_of-none bytes max_bytes (ltb-fal
 pub not_text : (bytes : List ℕ) (flags : Definitions) (key : List ℕ) (site : ℕ) (rule : Entries) (wanted : Definitions) → (IsUtf8 bytes → ⊥) → IsRefused bytes (place_in bytes flags key site) rule wanted Differs
 not_text bytes flags key site rule wanted other =
     let none = no_document bytes other (nat_lt max_bytes (length bytes)) refl in
-    subst (λ (r : Result Shape TextFault). IsRefused bytes (in_tree r key (option_and_then targeting_in (lookup (bytes_eq key) flags)) site) rule wanted Differs) (sym none.1) (λ s. s, λ text kept means. kept)
+    subst (λ (r : Result Shape TextFault). IsRefused bytes (in_tree r key (option_and_then targeting_in (lookup (bytes_eq key) flags)) site) rule wanted Differs) (sym none.1) (λ s. s, λ text kept. absurd kept)
 
 module _ (document : List ℕ) (place : SitePlace) (rule : Entries) (applied : Result Definitions RolloutFault) where
   pub edited_to : (wanted : Definitions) (r : Result (Vec ℕ Global) Refused) → applied ≡ Ok wanted → GivesOne some_view r (IsEdited document place rule wanted) → GivesOne some_view r (IsEditedTo document place rule applied)

@@ -1,4 +1,5 @@
 //! One subscriber: its seat, its numbers and its connection.
+ghost use Rattle.std.specs.Prelude.{◌≡◌};
 ghost use mathlib.Core.List.{IsPrefix};
 
 use crate::board::{Board, Disconnected, Numbers};
@@ -26,9 +27,11 @@ struct Learning<'a, J: ShareName> {
 }
 
 impl<J: ShareName> Current for Learning<'_, J> {
-    ghost use Rattle.snap_share.specs.Known.{snapshots_of};
+    ghost use Rattle.snap_share.specs.Known.{WasRead, snapshots_of};
 
-    ghost known = { λ l. snapshots_of l.seat };
+    ghost known = { λ l. snapshots_of l.seat.known };
+
+    ghost was_read = { λ old answer new. WasRead old.seat answer new.seat };
 
     fn current(&mut self) -> Result<SharedSnapshot, ShareFault> {
         self.learn();
@@ -40,7 +43,8 @@ impl<J: ShareName> Learning<'_, J> {
     /// The seat learns what was told since it last learned.
     #[tactic(auto, using(crate::proofs::Learned::prefix_self))]
     fn learn(&mut self)
-        ensures { IsPrefix self.old.seat self.new.seat }
+        ensures forward { IsPrefix self.old.seat.known self.new.seat.known }
+        ensures reads { self.new.seat.reads ≡ self.old.seat.reads }
     {
         match self.told.replace(None) {
             Some(told) => self.seat.learn(told),

@@ -1,5 +1,5 @@
 -- What a text means, and where a site's buckets stand.
-use Rattle.std.proofs.Common.{◌≡◌, ◌≢◌, ℕ, Bool, true, false, List, Option, Some, Result, Ok, Err, Vec, Global, sym, ap, ◌∙◌, subst}
+use Rattle.std.proofs.Common.{◌≡◌, ◌≢◌, ◌≤◌, ℕ, Bool, true, false, List, length, Option, Some, Result, Ok, Err, Vec, Global, sym, ap, ◌∙◌, subst}
 use Rattle.std.specs.Prelude.{IfErr}
 use Rattle.std.proofs.lemmas.Bool.{true≢false}
 use Rattle.flag_text.specs.Shape.{Shape}
@@ -8,13 +8,13 @@ use Rattle.flag_text.specs.declared.fault.TextFault.TheVariants as text_fault
 use Rattle.bucket_core.specs.Rule.{Entries}
 use Rattle.logic_ast.specs.Expression.{Expression}
 use Rattle.logic_ast.specs.Writing.{written}
-use Rattle.flag_defs.specs.Document.{Definitions, DocumentMeans, printed}
+use Rattle.flag_defs.specs.Document.{Definitions, DocumentMeans, max_bytes, printed}
 use Rattle.flag_defs.proofs.Meanings.{one_meaning}
 use Rattle.flag_defs.specs.declared.fault.DefFault.{DefFault}
 use Rattle.flag_defs.specs.declared.fault.DefFault.TheVariants as document_fault
 use Rattle.text_spans.specs.Path.{Step}
 use Rattle.site_places.specs.Place.{SitePlace, buckets, site_place}
-use Rattle.kept_document.specs.Kept.{IsKept, IsRefused, IsRefusedText, in_tree, of_document, of_reading}
+use Rattle.kept_document.specs.Kept.{IsKept, IsOther, IsRefused, IsRefusedText, in_tree, of_document, of_reading}
 use Rattle.kept_document.specs.declared.fault.KeepFault.{KeepFault}
 use Rattle.kept_document.specs.declared.fault.KeepFault.TheVariants.{WantOfMemory, Shared, TooLong, Differs}
 use Rattle.kept_document.proofs.Texts.{one_kept}
@@ -62,15 +62,15 @@ unread d (Ok t) key o n rule wanted TooLong h = let is : Ok t ≡ Err TooLong = 
 unread d (Ok t) key o n rule wanted Differs h = let is : Ok t ≡ Err Differs = h (λ z. cc) in cc
 unread d (Err f) key o n rule wanted Shared h = never f Shared (h (λ z. cc)) (λ z. cc) (λ z. cc)
 unread d (Err f) key o n rule wanted TooLong h = never f TooLong (h (λ z. cc)) (λ z. cc) (λ z. cc)
-unread d (Err f) key o n rule wanted Differs h = (λ s. s, λ kept s m. s)
+unread d (Err f) key o n rule wanted Differs h = (λ s. s, λ kept s. absurd s)
 
 -- ---- the text that was made
 
-pub refused_document : (t : List ℕ) (wanted : Definitions) (e : DefFault) (r : KeepFault) → r ≡ of_document e → (e ≢ document_fault.WantOfMemory → DocumentMeans t (Err e)) → IsRefusedText t wanted r
-refused_document t wanted e r is means = subst (IsRefusedText t wanted) (sym is) (by e means)
+pub refused_document : (t : List ℕ) (wanted : Definitions) (e : DefFault) (r : KeepFault) → length t ≤ max_bytes → r ≡ of_document e → (e ≢ document_fault.WantOfMemory → DocumentMeans t (Err e)) → IsRefusedText t wanted r
+refused_document t wanted e r fits is means = subst (IsRefusedText t wanted) (sym is) (by e means)
   where
-    differs : (f : DefFault) → DocumentMeans t (Err f) → DocumentMeans t (Ok wanted) → ⊥
-    differs f p q = let never : Err f ≡ Ok wanted = one_meaning t (Err f) (Ok wanted) p q in cc
+    differs : (f : DefFault) → DocumentMeans t (Err f) → IsOther t wanted
+    differs f p = (fits, λ q. let never : Err f ≡ Ok wanted = one_meaning t (Err f) (Ok wanted) p q in cc)
 
     by : (f : DefFault) → (f ≢ document_fault.WantOfMemory → DocumentMeans t (Err f)) → IsRefusedText t wanted (of_document f)
     by document_fault.WantOfMemory h = tt
@@ -78,8 +78,8 @@ refused_document t wanted e r is means = subst (IsRefusedText t wanted) (sym is)
     by document_fault.NoFlags h = differs document_fault.NoFlags (h (λ z. cc))
     by document_fault.TooLarge h = differs document_fault.TooLarge (h (λ z. cc))
 
-pub other_flags : (t : List ℕ) (fs wanted : Definitions) (b : Bool) → DocumentMeans t (Ok fs) → (fs ≡ wanted → b ≡ true) → b ≡ false → DocumentMeans t (Ok wanted) → ⊥
-other_flags t fs wanted b means same differs m = true≢false (sym (same (means_one t fs wanted means m)) ∙ differs)
+pub other_flags : (t : List ℕ) (fs wanted : Definitions) (b : Bool) → length t ≤ max_bytes → DocumentMeans t (Ok fs) → (fs ≡ wanted → b ≡ true) → b ≡ false → IsOther t wanted
+other_flags t fs wanted b fits means same differs = (fits, λ m. true≢false (sym (same (means_one t fs wanted means m)) ∙ differs))
 
 -- the condition of a refusal, where the text with the rule in its place was refused
 pub refused_text : (d : List ℕ) (place : SitePlace) (list : List Step) (first last : ℕ) (rule : Entries) (wanted : Definitions) (kept : List ℕ) (r : Result (Vec ℕ Global) KeepFault)
@@ -91,4 +91,4 @@ refused_text d place list first last rule wanted kept (Err e) is there h = subst
     by WantOfMemory h = tt
     by Shared h = absurd h
     by TooLong h = (kept, there, h)
-    by Differs h = (λ s. s, λ other k m. h (subst (λ (t : List ℕ). DocumentMeans t (Ok wanted)) (one_kept d list first last rule kept other there k) m))
+    by Differs h = (λ s. s, λ other k. subst (λ (t : List ℕ). IsOther t wanted) (sym (one_kept d list first last rule kept other there k)) h)

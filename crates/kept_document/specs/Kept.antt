@@ -70,9 +70,13 @@ KeptAt document nowhere rule kept = ⊥
 
 -- ---- the refusals
 
--- no text with the rule in its place means these flags
-abbrev pub NoneMeans : List ℕ → SitePlace → Entries → Definitions → Type 0
-NoneMeans document place rule wanted = (kept : List ℕ) → KeptAt document place rule kept → DocumentMeans kept (Ok wanted) → ⊥
+-- the text is no longer than a document may be, and does not mean these flags
+abbrev pub IsOther : List ℕ → Definitions → Type 0
+IsOther kept wanted = (length kept ≤ max_bytes) × (DocumentMeans kept (Ok wanted) → ⊥)
+
+-- so is each text with the rule in its place
+abbrev pub AreOthers : List ℕ → SitePlace → Entries → Definitions → Type 0
+AreOthers document place rule wanted = (kept : List ℕ) → KeptAt document place rule kept → IsOther kept wanted
 
 abbrev pub IsShared : SitePlace → Type 0
 IsShared (buckets list first last) = ⊥
@@ -84,14 +88,14 @@ abbrev pub IsRefused : List ℕ → SitePlace → Entries → Definitions → Ke
 IsRefused document place rule wanted WantOfMemory = Unit {0}
 IsRefused document place rule wanted Shared = IsShared place
 IsRefused document place rule wanted TooLong = (kept : List ℕ) × KeptAt document place rule kept × (max_bytes < length kept)
-IsRefused document place rule wanted Differs = (IsShared place → ⊥) × NoneMeans document place rule wanted
+IsRefused document place rule wanted Differs = (IsShared place → ⊥) × AreOthers document place rule wanted
 
 -- the condition of each refusal of a text that was made
 abbrev pub IsRefusedText : List ℕ → Definitions → KeepFault → Type 0
 IsRefusedText kept wanted WantOfMemory = Unit {0}
 IsRefusedText kept wanted Shared = ⊥
 IsRefusedText kept wanted TooLong = max_bytes < length kept
-IsRefusedText kept wanted Differs = DocumentMeans kept (Ok wanted) → ⊥
+IsRefusedText kept wanted Differs = IsOther kept wanted
 
 -- a text that is no document means no flags
 abbrev pub of_document : DefFault → KeepFault

@@ -1,11 +1,14 @@
 //! A rule in the place of a site's buckets.
-ghost use Rattle.std.specs.Prelude.{◌≡◌, Ok, IfOk, IfErr};
+ghost use Rattle.std.specs.Map.{lookup};
+ghost use Rattle.std.specs.Prelude.{◌≡◌, None, Ok, Err, IfOk, IfErr, option_and_then};
+ghost use Rattle.std.specs.Str.{bytes_eq};
 ghost use Rattle.flag_text.specs.Outcome.{GivesUnless};
 ghost use Rattle.flag_text.specs.Reading.{doc_of};
 ghost use Rattle.flag_text.specs.View.{view as tree_view};
 ghost use Rattle.logic_ast.specs.Expr.{view};
 ghost use Rattle.logic_ast.specs.Writing.{written};
 ghost use Rattle.flag_defs.specs.Document.{DocumentMeans, max_bytes};
+ghost use Rattle.flag_defs.specs.Flag.{targeting_in};
 ghost use Rattle.flag_defs.specs.Flags.{flags_view};
 ghost use Rattle.site_places.specs.Place.{site_place};
 ghost use Rattle.kept_document.specs.Kept.{IsRefused, KeptAt, of_reading, of_text, place_in};
@@ -24,8 +27,9 @@ use std::alloc::Global;
 /// The bytes of the document with the rule's entries as the buckets of a site, and all else as it was. `flags` are those of
 /// the document, and `wanted` those that it should mean then.
 ///
-/// Refusals: `Shared` where the buckets stand in an evaluator; `TooLong` above 4,194,304 bytes; `Differs` where the text with
-/// the rule in this place means other flags, or there is no such place.
+/// Refusals: `Differs` where there is no such flag, or it has no targeting, before memory is taken; `Shared` where the buckets
+/// stand in an evaluator; `TooLong` above 4,194,304 bytes; `Differs` where the text with the rule in this place is not longer and
+/// means other flags, or there is no such place.
 pub fn keep(
     alloc: Global,
     document: &str,
@@ -38,6 +42,8 @@ pub fn keep(
     ensures kept { IfOk result (λ v. KeptAt document.now (place_in document.now (flags_view flags.now) key.now site) rule.now v.items) }
     ensures means { IfOk result (λ v. DocumentMeans v.items (Ok (flags_view wanted.now))) }
     ensures refused { IfErr result (IsRefused document.now (place_in document.now (flags_view flags.now) key.now site) rule.now (flags_view wanted.now)) }
+    // No such flag, or one without a targeting, is answered without memory.
+    ensures nowhere { option_and_then targeting_in (lookup (bytes_eq key.now) (flags_view flags.now)) ≡ None → result ≡ Err KeepFault.Differs }
 {
     let Some(flag) = flags.get(key) else {
         return Err(KeepFault::Differs);

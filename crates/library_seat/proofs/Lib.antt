@@ -1,3 +1,4 @@
+mod Feeds
 mod KeyTexts
 mod Loops
 mod NotEarly

@@ -1,6 +1,8 @@
 pub mod About
 pub mod Answer
+pub mod Connection
 pub mod Early
+pub mod Feeding
 pub mod Keys
 pub mod Lines
 pub mod Question

@@ -12,6 +12,7 @@ use Rattle.flag_resolve.specs.Resolved.{Resolved}
 use Rattle.library_seat.specs.Refusal.{of_default, of_context}
 use Rattle.library_seat.specs.declared.refusal.Refusal.{Refusal}
 use Rattle.library_seat.specs.declared.refusal.Refusal.TheVariants as refusal
+use Rattle.sent_numbers.specs.Sent.{sent_tree_of}
 
 -- the bytes of a flag's key, the number of a kind of value, the bytes of the default, and the moment in seconds since 1970
 pub record AskedBytes : Type 0 where
@@ -52,7 +53,7 @@ abbrev pub default_of : List ℕ → Result Shape Refusal
 default_of bytes = refused_by of_default (tree_of bytes max_text)
 
 abbrev pub context_of : List ℕ → Result Shape Refusal
-context_of bytes = refused_by of_context (tree_of bytes max_text)
+context_of bytes = refused_by of_context (sent_tree_of bytes max_text)
 
 abbrev pub or_refused : {A : Type 0} → Refusal → Option A → Result A Refusal
 or_refused e (Some a) = Ok a

@@ -4,17 +4,19 @@ use Rattle.flag_text.specs.Shape.{Shape}
 use Rattle.logic_eval.specs.Run.{Reach}
 use Rattle.flag_defs.specs.Document.{Definitions}
 use Rattle.kept_lines.specs.Kept.{Kept, nothing, with_lines}
+use Rattle.library_seat.specs.Connection.{Connection, begun}
 use Rattle.library_seat.specs.Lines.{lines_of}
 
--- its flags, where it has some; the context that was read last; and the note lines that nobody has taken
+-- its flags, where it has some; the context that was read last; the note lines that nobody has taken; and its connection
 pub record Standing : Type 0 where
   pub flags : Option Definitions
   pub context : Option Shape
   pub notes : Kept
+  pub connection : Connection
 
--- a seat without flags, which keeps no note lines
+-- a seat without flags, which keeps no note lines, and to which no piece of a stream came
 abbrev pub fresh : Standing
-fresh = record { flags = None; context = None; notes = nothing 0 }
+fresh = record { flags = None; context = None; notes = nothing 0; connection = begun }
 
 -- with these flags, and all else as it was
 abbrev pub with_flags : Definitions → Standing → Standing
@@ -26,6 +28,10 @@ sharing other s = record s { flags = other.flags }
 
 abbrev pub with_context : Shape → Standing → Standing
 with_context context s = record s { context = Some context }
+
+-- with this over its connection
+abbrev pub with_connection : Connection → Standing → Standing
+with_connection c s = record s { connection = c }
 
 -- the most bytes of note lines, of which those that are kept stay
 abbrev pub with_most : ℕ → Standing → Standing

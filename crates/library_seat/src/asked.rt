@@ -1,6 +1,6 @@
 //! What is asked of a seat.
 ghost use Rattle.std.specs.Prelude.{◌≡◌, ◌<◌, ◌^◌, true};
-ghost use Rattle.flag_text.specs.Shape.{is_whole};
+ghost use Rattle.flag_text.specs.Shape.{is_tidy, is_whole};
 ghost use Rattle.flag_text.specs.View.{view};
 
 use flag_resolve::Kind;
@@ -34,5 +34,5 @@ pub(crate) struct Question<'a> {
 #[derive(Drop)]
 pub(crate) struct ReadContext {
     pub(crate) tree: Tree,
-    pub ghost whole: { is_whole (view tree) ≡ true },
+    pub ghost tidy: { is_tidy (view tree) ≡ true },
 }

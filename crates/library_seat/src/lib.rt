@@ -12,6 +12,8 @@
 
 mod answer;
 mod asked;
+mod feeding;
+mod held;
 mod keys;
 mod lines;
 mod opening;

@@ -1,6 +1,5 @@
 //! Documents.
 ghost use Rattle.std.specs.Prelude.{◌≡◌, ◌≢◌, ◌<◌, ◌≤◌, false, length, Ok, IfErr, IfOk, IsErrOf};
-ghost use Rattle.std.specs.Arc.{arc_value};
 ghost use Rattle.std.specs.Str.{is_utf8};
 ghost use Rattle.flag_defs.specs.Document.{DocumentMeans, max_bytes};
 ghost use Rattle.flag_defs.specs.Flags.{flags_view};
@@ -11,17 +10,16 @@ ghost use Rattle.library_seat.specs.declared.refusal.Refusal.TheVariants as refu
 use crate::refusal::Refusal;
 use flag_defs::{Flags, read_flags};
 use std::alloc::Global;
-use std::sync::Arc;
 
-/// The flags of a document, for any number of seats.
-pub(crate) fn shared_flags(alloc: Global, document: &[u8]) -> Result<Arc<Flags, Global>, Refusal>
-    ensures flags { IfOk result (λ flags. DocumentMeans document.now (Ok (flags_view (arc_value flags)))) }
+/// The flags of a document.
+pub(crate) fn flags_of(alloc: Global, document: &[u8]) -> Result<Flags, Refusal>
+    ensures flags { IfOk result (λ flags. DocumentMeans document.now (Ok (flags_view flags))) }
     ensures refused { IfErr result (λ e. e ≢ refusal.WantOfMemory → IsRefused document.now e) }
     ensures large { max_bytes < length document.now → IsErrOf result (refusal.Document fault.TooLarge) }
     ensures no_text { length document.now ≤ max_bytes → is_utf8 document.now ≡ false → IsErrOf result (refusal.Document fault.NotJson) }
 {
     match read_flags(alloc, document) {
-        Ok(flags) => Ok(Arc::new(alloc, flags)?),
+        Ok(flags) => Ok(flags),
         Err(fault) => Err(Refusal::of_document(fault)),
     }
 }

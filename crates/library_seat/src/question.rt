@@ -14,6 +14,7 @@ use crate::refusal::Refusal;
 use flag_resolve::Kind;
 use flag_text::{Tree, read_tree};
 use limits::{LATEST_MOMENT, TEXT_BYTES};
+use sent_numbers::read_sent_tree;
 use std::alloc::Global;
 
 /// Reads what is asked. The refusals come in the order of the kind, the key, the moment and the default.
@@ -95,7 +96,7 @@ pub(crate) fn context_of(alloc: Global, bytes: &[u8]) -> Result<ReadContext, Ref
     ensures exact { GivesUnless refusal.WantOfMemory context_view result (context_of bytes.now) }
     ensures early { IfSome (text_refusal bytes.now) (λ e. IsErrOf result (refusal.Context e)) }
 {
-    match read_tree(alloc, bytes, TEXT_BYTES) {
+    match read_sent_tree(alloc, bytes, TEXT_BYTES) {
         Ok(tree) => Ok(ReadContext { tree }),
         Err(fault) => Err(Refusal::of_context(fault)),
     }

@@ -1,11 +1,12 @@
 //! Why there is no answer.
 ghost use Rattle.std.specs.Prelude.{◌≡◌};
-ghost use Rattle.library_seat.specs.Refusal.{number_of, of_context, of_default, of_document};
+ghost use Rattle.library_seat.specs.Refusal.{number_of, of_context, of_default, of_document, of_frame};
 ghost use Rattle.library_seat.specs.declared.refusal.Refusal.TheVariants as variant;
 
 use flag_defs::DefFault;
 use flag_text::TextFault;
 use std::alloc::{AllocError, AllocFailed};
+use sync_frames::FrameFault;
 
 /// Why there is no answer.
 #[derive(Clone, Copy, Debug, PartialEq, Eq)]
@@ -30,6 +31,8 @@ pub enum Refusal {
     Default(TextFault),
     /// The context is none.
     Context(TextFault),
+    /// The stream has a fault.
+    Frame(FrameFault),
 }
 
 impl Refusal {
@@ -48,6 +51,7 @@ impl Refusal {
             Refusal::Document(fault) => 10 + fault.number(),
             Refusal::Default(fault) => 20 + fault.number(),
             Refusal::Context(fault) => 30 + fault.number(),
+            Refusal::Frame(fault) => 40 + fault.number(),
         }
     }
 
@@ -78,6 +82,16 @@ impl Refusal {
         match fault {
             TextFault::WantOfMemory => Refusal::WantOfMemory,
             fault => Refusal::Context(fault),
+        }
+    }
+
+    /// The refusal of a piece of a stream with this fault.
+    pub(crate) fn of_frame(fault: FrameFault) -> Refusal
+        ensures { result ≡ of_frame fault }
+    {
+        match fault {
+            FrameFault::WantOfMemory => Refusal::WantOfMemory,
+            fault => Refusal::Frame(fault),
         }
     }
 }

@@ -11,20 +11,23 @@ ghost use Rattle.library_seat.specs.View.{seat_view};
 ghost use Rattle.library_seat.specs.declared.refusal.Refusal.TheVariants as refusal;
 
 use crate::asked::ReadContext;
-use crate::opening::shared_flags;
+use crate::feeding::new_feed;
+use crate::held::{HeldFlags, shared};
+use crate::opening::flags_of;
 use crate::question::context_of;
 use crate::refusal::Refusal;
 use flag_defs::Flags;
 use kept_lines::KeptLines;
 use std::alloc::Global;
-use std::sync::Arc;
+use sync_frames::Feed;
 
 /// What one thread of an application resolves with: flags, a context that was read, and note lines that are to be taken.
 #[derive(Drop)]
 pub struct Seat {
-    pub(crate) flags: Option<Arc<Flags, Global>>,
+    pub(crate) flags: Option<HeldFlags>,
     pub(crate) context: Option<ReadContext>,
     pub(crate) notes: KeptLines,
+    pub(crate) feed: Feed,
 }
 
 impl Seat {
@@ -36,6 +39,7 @@ impl Seat {
             flags: None,
             context: None,
             notes: KeptLines::new(alloc, 0),
+            feed: new_feed(alloc),
         }
     }
 
@@ -46,22 +50,20 @@ impl Seat {
         ensures large { max_bytes < length document.now → IsErrOf result (refusal.Document fault.TooLarge) }
         ensures no_text { length document.now ≤ max_bytes → is_utf8 document.now ≡ false → IsErrOf result (refusal.Document fault.NotJson) }
     {
-        let flags = shared_flags(alloc, document)?;
-        self.flags = Some(flags);
+        let flags = flags_of(alloc, document)?;
+        self.flags = Some(HeldFlags::Own(flags));
         Ok(())
     }
 
     /// From now on the seat has the flags of another, which has them too.
-    pub fn share(&mut self, other: &Seat) -> Result<(), Refusal>
-        ensures shared { OnOk result (seat_view self.new ≡ sharing (seat_view other.now) (seat_view self.old)) }
+    pub fn share(&mut self, alloc: Global, other: &mut Seat) -> Result<(), Refusal>
+        ensures kept { seat_view other.new ≡ seat_view other.old }
+        ensures shared { OnOk result (seat_view self.new ≡ sharing (seat_view other.old) (seat_view self.old)) }
         ensures refused { IfErr result (λ e. (e ≡ refusal.WantOfMemory) × (seat_view self.new ≡ seat_view self.old)) }
         // this needs no memory
-        ensures no_flags { (seat_view other.now).flags ≡ None → IsOk result }
+        ensures no_flags { (seat_view other.old).flags ≡ None → IsOk result }
     {
-        let flags = match &other.flags {
-            Some(flags) => Some(Arc::try_clone(flags)?),
-            None => None,
-        };
+        let flags = shared(alloc, &mut other.flags)?;
         self.flags = flags;
         Ok(())
     }
@@ -89,7 +91,7 @@ impl Seat {
         ensures { option_map (λ f. flags_view f.now) result ≡ (seat_view self.now).flags }
     {
         match &self.flags {
-            Some(flags) => Some(&**flags),
+            Some(flags) => Some(flags.get()),
             None => None,
         }
     }

@@ -1,20 +1,17 @@
 -- The constants of the program are the limits that are defined.
 use Rattle.std.specs.Prelude.{◌≡◌, pos}
-use Rattle.limits.specs.Limits.{json_levels, tree_levels, text_bytes, file_bytes, flags, variants, expression_nodes, expression_levels, largest_whole, latest_moment}
+use Rattle.limits.specs.Limits.{text_bytes, file_bytes, flags, variants, expression_nodes, expression_levels, latest_moment}
 use Rattle.limits.specs.Limits.{sites, input_bytes, page_inputs, point_inputs, tally_inputs, planned_total, largest_price, sources, seats, ramp_steps, stack_bytes, interruptions}
-use Rattle.limits.specs.declared.TheConstants.{JSON_LEVELS, TREE_LEVELS, TEXT_BYTES, FILE_BYTES, FLAGS, VARIANTS, EXPRESSION_NODES, EXPRESSION_LEVELS, LARGEST_WHOLE, LATEST_MOMENT}
+use Rattle.limits.specs.declared.TheConstants.{TEXT_BYTES, FILE_BYTES, FLAGS, VARIANTS, EXPRESSION_NODES, EXPRESSION_LEVELS, LATEST_MOMENT}
 use Rattle.limits.specs.declared.TheConstants.{SITES, INPUT_BYTES, PAGE_INPUTS, POINT_INPUTS, TALLY_INPUTS, PLANNED_TOTAL, LARGEST_PRICE, SOURCES, SEATS, RAMP_STEPS, STACK_BYTES, INTERRUPTIONS}
 
 pub record AreTheConstants : Type 0 where
-  pub json_levels : JSON_LEVELS ≡ json_levels
-  pub tree_levels : TREE_LEVELS ≡ tree_levels
   pub text_bytes : TEXT_BYTES ≡ text_bytes
   pub file_bytes : FILE_BYTES ≡ file_bytes
   pub flags : FLAGS ≡ flags
   pub variants : VARIANTS ≡ variants
   pub expression_nodes : EXPRESSION_NODES ≡ expression_nodes
   pub expression_levels : EXPRESSION_LEVELS ≡ expression_levels
-  pub largest_whole : LARGEST_WHOLE ≡ largest_whole
   pub latest_moment : LATEST_MOMENT ≡ latest_moment
   pub sites : SITES ≡ pos sites
   pub input_bytes : INPUT_BYTES ≡ input_bytes

@@ -2,14 +2,6 @@
 -- that the constant of its name has, and the specifications of the crates cite it here.
 use Rattle.std.specs.Prelude.{ℕ, ◌^◌, ◌-◌}
 
--- how deep lists and objects of a JSON text nest at most, as `serde_json` reads it
-abbrev pub json_levels : ℕ
-json_levels = 127
-
--- how deep lists and objects of a context, a request or another text of whole numbers nest at most
-abbrev pub tree_levels : ℕ
-tree_levels = 120
-
 -- the most bytes of a document, request, context, file of keys or of asks, and of a line of contexts
 abbrev pub text_bytes : ℕ
 text_bytes = 4194304
@@ -34,13 +26,9 @@ expression_nodes = 10000
 abbrev pub expression_levels : ℕ
 expression_levels = 100
 
--- the largest whole number of a context, 2^53-1: from there on a double no longer holds each integer
-abbrev pub largest_whole : ℕ
-largest_whole = 2 ^ 53 - 1
-
--- the latest moment of an evaluation, in seconds since 1970
+-- the latest moment of an evaluation, in seconds since 1970: the largest whole number of a context
 abbrev pub latest_moment : ℕ
-latest_moment = largest_whole
+latest_moment = 2 ^ 53 - 1
 
 -- how many numbers a site may have: they are below it
 abbrev pub sites : ℕ

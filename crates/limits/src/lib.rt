@@ -1,16 +1,10 @@
 //! The limits of the product, each declared once: how large what is read or written may be, and how many of a kind there may be.
 //!
-//! A crate of its own, though it is small, so that the crates at the bottom have them too. `specs/` defines each by the same name
-//! for contracts, which hold the code to that number.
+//! How deep a JSON text nests and how large its numbers are is a limit of its reader, `flag_text`. `specs/` defines each limit by the
+//! same name for contracts, which hold the code to that number.
 #![tactic(auto)]
 
 ghost use Rattle.limits.specs.Constants.{AreTheConstants};
-
-/// How deep lists and objects of a JSON text nest at most, as `serde_json` reads it.
-pub const JSON_LEVELS: usize = 127;
-
-/// How deep lists and objects of a context, a request or another text of whole numbers nest at most.
-pub const TREE_LEVELS: usize = 120;
 
 /// The most bytes of a document, request, context, file of keys or of asks, and of a line of contexts.
 pub const TEXT_BYTES: usize = 4_194_304;
@@ -30,11 +24,8 @@ pub const EXPRESSION_NODES: u32 = 10_000;
 /// How deep the nodes of a targeting nest at most.
 pub const EXPRESSION_LEVELS: u32 = 100;
 
-/// The largest whole number of a context: from there on a double no longer holds each integer.
-pub const LARGEST_WHOLE: u64 = (1 << 53) - 1;
-
 /// The latest moment of an evaluation, in seconds since 1970: the largest whole number of a context.
-pub const LATEST_MOMENT: u64 = LARGEST_WHOLE;
+pub const LATEST_MOMENT: u64 = (1 << 53) - 1;
 
 /// How many numbers a site may have: they are below it.
 pub const SITES: i64 = 1 << 32;

@@ -1,7 +1,7 @@
 //! From a stream to a batch of its bytes.
-ghost use Rattle.std.specs.Prelude.{◌≡◌, ◌≤◌, ◌<◌, ◌+◌, length, take, true, false, IfOk, IfErr, OnOk};
-ghost use Rattle.std.specs.Io.KnownBytes.{Consumes, IsAtEnd};
-ghost use Rattle.line_batches.specs.Fill.{Grows};
+ghost use Rattle.std.specs.Prelude.{◌≡◌, ◌≤◌, ◌<◌, ◌+◌, length, take, true, false, IfOk, IfErr, OnOk, OnErr};
+ghost use Rattle.std.specs.Io.KnownBytes.{Consumes, IsAtEnd, Keeps};
+ghost use Rattle.line_batches.specs.Fill.{Grows, GrowsPartly};
 ghost use Rattle.line_batches.specs.declared.filling.FillFault.TheVariants.{WantOfMemory};
 
 use crate::inlet::Inlet;
@@ -29,6 +29,9 @@ impl From<AllocError> for FillFault {
 
 /// Reads, by way of `piece`, until the batch has at least `size` bytes or the stream ends. Returns true at the end of the
 /// stream. A batch that begins with at most `size` bytes ends with at most `size + piece.len()`. `piece` must not be empty.
+///
+/// What was read before a read that failed is in the batch. At `WantOfMemory` what was read last is lost, at most
+/// `piece.len()` bytes, and the batch has what was read before.
 pub fn fill<I: Inlet>(
     batch: &mut Vec<u8>,
     input: &mut I,
@@ -44,6 +47,8 @@ pub fn fill<I: Inlet>(
     ensures few { OnOk result (length batch.old.items ≤ size → length batch.new.items ≤ size + length piece.old) }
     ensures unbroken { OnOk result (I.is_broken input.new ≡ false) }
     ensures broken { IfErr result (λ e. e ≡ FillFault.Read → I.is_broken input.new ≡ true) }
+    ensures read { IfErr result (λ e. e ≡ FillFault.Read → Grows (I.bytes input.old) (I.bytes input.new) batch.old.items batch.new.items) }
+    ensures partly { OnErr result (GrowsPartly (length piece.old) (I.bytes input.old) (I.bytes input.new) batch.old.items batch.new.items) }
 {
     'reads: while batch.len() < size {
         let n = read_piece(input, piece)?;
@@ -64,6 +69,7 @@ fn read_piece<I: Inlet>(input: &mut I, piece: &mut [u8]) -> Result<usize, FillFa
     ensures end { IfOk result (λ n. n ≡ 0 → 0 < length piece.new → IsAtEnd (I.bytes input.new)) }
     ensures unbroken { OnOk result (I.is_broken input.new ≡ false) }
     ensures broken { IfErr result (λ e. (e ≡ FillFault.Read) × (I.is_broken input.new ≡ true)) }
+    ensures kept { OnErr result (Keeps (I.bytes input.old) (I.bytes input.new)) }
 {
     match input.read(piece) {
         Ok(n) => Ok(n),

@@ -20,7 +20,7 @@ length-counts_on [] total counts = refl
 length-counts_on (x ∷ xs) total counts =
     length-counts_on xs total (counted total counts x) ∙ length-set counts (point_of total x) (get_or counts (point_of total x) 0 + 1)
 
-one_at : (total : ℕ) (counts x : List ℕ) (p : ℕ) → point_of total x < length counts → get_or (counted total counts x) p 0 ≡ get_or counts p 0 + (if eqb (point_of total x) p then 1 else 0)
+pub one_at : (total : ℕ) (counts x : List ℕ) (p : ℕ) → point_of total x < length counts → get_or (counted total counts x) p 0 ≡ get_or counts p 0 + (if eqb (point_of total x) p then 1 else 0)
 one_at total counts x p room =
     let q = point_of total x in
     let v = get_or counts q 0 + 1 in

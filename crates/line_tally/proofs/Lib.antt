@@ -1,4 +1,5 @@
 mod Counted
 mod Kept
 pub mod Refused
+mod Sorted
 mod Tallying

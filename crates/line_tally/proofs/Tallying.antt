@@ -22,13 +22,13 @@ use Rattle.line_tally.specs.declared.fault.LineTallyFault.TheVariants.{Order, To
 use Rattle.line_tally.proofs.Counted.{counts_on, counts_from_nothing}
 
 -- the lines of a page's notes
-abbrev lines_of : PageName → List Noted → List (List ℕ)
+abbrev pub lines_of : PageName → List Noted → List (List ℕ)
 lines_of page notes = map note_line (notes_of page notes)
 
 -- ---- the lines rise
 
 -- each line is above the one before it
-abbrev Follows : Option (List ℕ) → List (List ℕ) → Type 0
+abbrev pub Follows : Option (List ℕ) → List (List ℕ) → Type 0
 Follows before [] = Unit {0}
 Follows before (x ∷ xs) = (is_above_last before x ≡ true) × Follows (Some x) xs
 
@@ -54,10 +54,10 @@ record Goes (t : Tallied) (notes : List Noted) (u : Tallied) : Type 0 where
   last : u.last ≡ option_or (last_line (lines_of t.page notes)) t.last
   rising : Follows t.before (map note_line notes)
 
-inputs_here : (page : PageName) (note : Noted) (notes : List Noted) → page_eq note.page page ≡ true → inputs_of page (note ∷ notes) ≡ note.input ∷ inputs_of page notes
+pub inputs_here : (page : PageName) (note : Noted) (notes : List Noted) → page_eq note.page page ≡ true → inputs_of page (note ∷ notes) ≡ note.input ∷ inputs_of page notes
 inputs_here page note notes same = rw same refl
 
-inputs_there : (page : PageName) (note : Noted) (notes : List Noted) → page_eq note.page page ≡ false → inputs_of page (note ∷ notes) ≡ inputs_of page notes
+pub inputs_there : (page : PageName) (note : Noted) (notes : List Noted) → page_eq note.page page ≡ false → inputs_of page (note ∷ notes) ≡ inputs_of page notes
 inputs_there page note notes other = rw other refl
 
 lines_here : (page : PageName) (note : Noted) (notes : List Noted) → page_eq note.page page ≡ true → lines_of page (note ∷ notes) ≡ note_line note ∷ lines_of page notes
@@ -157,7 +157,7 @@ rise_kept page (note ∷ notes) rising =
     (cases_Bool (page_eq note.page page))
 
 -- they are those of the page's inputs
-of_page : (page : PageName) (notes : List Noted) → lines_of page notes ≡ lines_on page (inputs_of page notes)
+pub of_page : (page : PageName) (notes : List Noted) → lines_of page notes ≡ lines_on page (inputs_of page notes)
 of_page page [] = refl
 of_page page (note ∷ notes) =
     let later = of_page page notes in
@@ -180,7 +180,9 @@ tally_of_notes page total notes t some e =
         rising = subst (IsStrictlySortedBy bytes_cmp) lines (rise_kept page notes rising);
         first = g.first ∙ ap first_line lines;
         last = g.last ∙ none_before (last_line (lines_of page notes)) ∙ ap last_line lines;
-        inputs = g.inputs ∙ omega arith;
-        counts = g.counts ∙ counts_from_nothing (inputs_of page notes) total some ∙ ap (counts_of (inputs_of page notes)) (sym g.total);
+        tally = record {
+          inputs = g.inputs ∙ omega arith;
+          counts = g.counts ∙ counts_from_nothing (inputs_of page notes) total some ∙ ap (counts_of (inputs_of page notes)) (sym g.total);
+        };
       };
     }

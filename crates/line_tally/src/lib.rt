@@ -5,7 +5,8 @@
 //!
 //! Proved, over the definitions of `specs/`: what each line changes, or why it is refused (`Lines`, `Refusals`); a
 //! refused line leaves the tally as it was; and where none was refused, what was tallied is the number of the page's
-//! inputs and how many are on each point, each input there once ([`a_tally_is_of_its_lines`], `Law`).
+//! inputs and how many are on each point, each input there once ([`a_tally_is_of_its_lines`], `Law`). The lines of a page of
+//! a book, once sorted, are tallied as the inputs of the book ([`a_book_page_is_tallied`]).
 #![tactic(auto)]
 
 mod fault;
@@ -13,6 +14,6 @@ mod laws;
 mod tally;
 
 pub use fault::LineTallyFault;
-pub use laws::a_tally_is_of_its_lines;
+pub use laws::{a_book_page_is_tallied, a_tally_is_of_its_lines, sorted_notes_are_tallied};
 pub use tally::LineTally;
 pub use tally_core::{JoinFault, PageTally, join};

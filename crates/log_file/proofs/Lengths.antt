@@ -1,9 +1,9 @@
 -- How many bytes a file has as it is cut and grows.
-use Rattle.std.proofs.Common.{◌≡◌, ◌≤◌, ◌<◌, ◌+◌, ◌-◌, ◌^◌, ℕ, List, length, min, take, ◌++◌, drop, Option, Some, None, IfSome, refl, inl, inr, sym, ap, ◌∙◌, subst, arith}
+use Rattle.std.proofs.Common.{◌≡◌, ◌≤◌, ◌<◌, ◌+◌, ◌-◌, ◌^◌, ℕ, List, length, min, take, ◌++◌, Option, Some, None, IfSome, refl, inl, inr, sym, ap, ◌∙◌, subst, arith}
 use Rattle.std.proofs.Math.Logic.{∥∥₁_map}
-use Rattle.std.proofs.lemmas.List.{length-append, length-take-le, take-append-drop, take_all}
+use Rattle.std.proofs.lemmas.List.{length-append, length-take-le, take_all}
 use Rattle.std.specs.Io.KnownBytes.{append_known}
-use Rattle.log_file.specs.File.{IsLength, Shows, cut_known}
+use Rattle.log_file.specs.File.{IsLength, cut_known}
 use Rattle.log_file.specs.Journal.{LeavesLines}
 use Rattle.log_file.specs.Line.{EndsLine, IsWholePart}
 
@@ -47,9 +47,3 @@ all_length len n (Some bs) most is h = omega (arith, most, is, h.0)
 pub left_ends : (old new : Option (List ℕ)) → LeavesLines old new → IfSome new EndsLine
 left_ends None new h = subst (λ (o : Option (List ℕ)). IfSome o EndsLine) (sym h) tt
 left_ends (Some bs) new h = subst (λ (o : Option (List ℕ)). IfSome o EndsLine) (sym h.2) h.1.1
-
--- the bytes from a place on stand there
-pub shown_there : (bytes part : List ℕ) (start n : ℕ) → start ≤ length bytes → part ≡ take n (drop start bytes) → Shows (Some bytes) start part
-shown_there bytes part start n within is =
-    let rest : drop start bytes ≡ part ++ drop n (drop start bytes) = sym (take-append-drop n (drop start bytes)) ∙ ap (λ (l : List ℕ). l ++ drop n (drop start bytes)) (sym is) in
-    (take start bytes, drop n (drop start bytes), sym (take-append-drop start bytes) ∙ ap (λ (l : List ℕ). take start bytes ++ l) rest, length-take-le start bytes within)

@@ -1,18 +1,18 @@
 //! Logs of lines at the end of a file that others may take away: it is moved, unlinked, replaced or cut, and is made again.
 //!
 //! A [`LogFile`] is the file at a path. A [`Journal`] over it opens with whole lines and nothing else, appends to it, and looks
-//! whether it is still there: where it is not, the path is opened anew. [`SystemLog`] is a file of the system, which no other process
-//! has open as a log, and [`MemoryLog`] one in memory, for tests.
+//! whether it is still there: where it is not, the path is opened anew, in a folder that is made again where it is missing.
+//! [`SystemLog`] is a file of the system, which no other process has open as a log.
 //!
 //! Proved, over the definitions of `specs/`: a journal that opens has left the whole lines of its file, the longest prefix that
-//! ends with a line feed; it appends only to a file that stood at its path when it was last looked for.
+//! ends with a line feed; it appends only to a file that stood at its path when it was last looked for; what it makes it asks the
+//! system to make for its owner alone.
 #![tactic(auto)]
 
 mod fault;
 mod file;
 mod journal;
 mod loss;
-mod memory;
 mod paths;
 mod system;
 mod torn;
@@ -22,7 +22,6 @@ pub use fault::LogFault;
 pub use file::LogFile;
 pub use journal::{Journal, Look};
 pub use loss::Loss;
-pub use memory::MemoryLog;
 pub use paths::LogPaths;
 pub use system::{SystemLog, make_folder};
 pub use whole::whole_lines;

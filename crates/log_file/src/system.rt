@@ -5,7 +5,7 @@ ghost use Rattle.std.specs.Fs.{metadata_len};
 use crate::fault::{LogFault, fault_of};
 use crate::file::LogFile;
 use crate::loss::{FileMark, Loss, loss_of};
-use crate::paths::LogPaths;
+use crate::paths::{FILE_MODE, FOLDER_MODE, LogPaths};
 use http_server::Log;
 use persistent_io::PersistentOutput;
 use std::fs::{File, Metadata, TryLockError};
@@ -46,7 +46,7 @@ impl SystemLog {
 
 /// Makes the folder of logs where it is missing, for its owner alone.
 pub fn make_folder<P: LogPaths>(paths: &P, folder: &str) -> Result<(), LogFault> {
-    match paths.make_folder(folder) {
+    match paths.make_folder(folder, FOLDER_MODE) {
         Ok(()) => Ok(()),
         Err(error) => Err(fault_of(&error)),
     }
@@ -101,7 +101,7 @@ impl LogFile for SystemLog {
     fn reopen<P: LogPaths>(&mut self, paths: &P) -> Result<(), LogFault> {
         self.looks = self.looks.and(&0, &0);
         self.stands = false;
-        let file = open_file(paths, self.path.as_str())?;
+        let file = open_anew(paths, self.path.as_str())?;
         // The path may still name the same file, whose lock is then to be taken by the other handle.
         let _ = self.file.unlock();
         lock(&file)?;
@@ -112,9 +112,17 @@ impl LogFile for SystemLog {
     }
 }
 
-/// Opens a file to read it and to add to its end. It is made where it is missing.
+/// Opens a file as [`open_file`] does. Its folder is made too where it is missing.
+fn open_anew<P: LogPaths>(paths: &P, path: &str) -> Result<File, LogFault> {
+    if let Some((folder, _)) = path.rsplit_once('/') {
+        make_folder(paths, folder)?;
+    }
+    open_file(paths, path)
+}
+
+/// Opens a file to read it and to add to its end. It is made where it is missing, for its owner alone.
 fn open_file<P: LogPaths>(paths: &P, path: &str) -> Result<File, LogFault> {
-    match paths.open_log(path) {
+    match paths.open_log(path, FILE_MODE) {
         Ok(file) => Ok(file),
         Err(error) => Err(fault_of(&error)),
     }

@@ -262,7 +262,7 @@ module _ (n : ℕ) (old new : Entries) where
     same-strict o es ks scope = same-bind _ _ _ _ (same-values es ks scope) (λ vs. same-ends (applied o scope vs))
 
     same-operated : (o : Operator) (es : Expressions) → AllAlike es → (scope : Shape) → Same n old new (operated o (meanings d es) scope) (operated o (meanings d (all_with_entries n new es)) scope)
-    same-operated op.Var es ks scope = same-bind _ _ _ _ (same-values es ks scope) (λ vs. same-cost (size (variable scope vs)) _ _ (same-gives (variable scope vs)))
+    same-operated op.Var es ks scope = same-bind _ _ _ _ (same-values es ks scope) (λ vs. same-bind _ _ _ _ (same-cost (size (variable scope vs)) _ _ (same-gives (variable scope vs))) (λ v. same-ends _))
     same-operated op.If es ks scope = same-conditional es ks scope
     same-operated op.And es ks scope = same-first false es ks scope
     same-operated op.Or es ks scope = same-first true es ks scope

@@ -6,7 +6,7 @@ use Rattle.std.specs.Result.{IsErrAnd}
 use Rattle.std.proofs.lemmas.List.Elements.{All-head}
 use Rattle.std.proofs.lemmas.Option.{slice_get-get_or}
 use Rattle.bucket_core.specs.Rule.{Entries}
-use Rattle.flag_text.specs.Shape.{Shape, is_whole}
+use Rattle.flag_text.specs.Shape.{Shape, is_tidy, is_whole}
 use Rattle.flag_text.proofs.Bools.{left}
 use Rattle.logic_ast.specs.Expression.{Expression}
 use Rattle.logic_ast.specs.Formed.{is_formed, is_well_formed}
@@ -23,7 +23,7 @@ use Rattle.logic_eval.specs.Run.{Reach, Run, most_units, units_of, reached_of, w
 use Rattle.logic_eval.specs.Scope.{Situation, default_input, root_scope}
 use Rattle.logic_eval.proofs.Reaching.{IsReachOf, keeps-meaning}
 use Rattle.logic_eval.proofs.Runs.{Runs}
-use Rattle.logic_eval.proofs.WholeValues.{IsWhole, root_scope-whole}
+use Rattle.logic_eval.proofs.WholeValues.{IsWhole, root_scope-tidy}
 
 -- the element at a place
 pub at_place : {A : Type 0} (xs : List A) (x : A) (i : Contains xs x) → slice_get xs i.0 ≡ Some x
@@ -47,7 +47,7 @@ pub record Answer (e : Expression) (r : Shape × List Reach) : Type 0 where
   pub whole : is_whole r.0 ≡ true
   pub reached : All (IsOfSite e) r.1
 
-pub answered : (e : Expression) (s : Situation) → is_well_formed e ≡ true → is_whole s.context ≡ true → s.moment < 2 ^ 53 → IfOk (evaluation_of e s) (Answer e)
+pub answered : (e : Expression) (s : Situation) → is_well_formed e ≡ true → is_tidy s.context ≡ true → s.moment < 2 ^ 53 → IfOk (evaluation_of e s) (Answer e)
 unfolding evaluation_of
 answered e s formed w small = go (nat_lt most_units (units_of run.trace)) run.ending all.value
   where
@@ -56,7 +56,7 @@ answered e s formed w small = go (nat_lt most_units (units_of run.trace)) run.en
 
     all : Runs IsWhole (IsOfSite e) run
     all = let h = left (is_formed 0 e) (not (is_too_big (written e))) formed in
-        keeps-meaning (IsOfSite e) (default_input s) 0 e h (of_site e h) (root_scope s) (root_scope-whole s w small)
+        keeps-meaning (IsOfSite e) (default_input s) 0 e h (of_site e h) (root_scope s) (root_scope-tidy s w small)
 
     ended : (r : Result Shape EvalFault) → IfOk r IsWhole → IfOk (with_reached (reached_of run.trace) r) (Answer e)
     ended (Ok v) h = record { whole = h; reached = all.reached }
@@ -67,7 +67,7 @@ answered e s formed w small = go (nat_lt most_units (units_of run.trace)) run.en
     go false r h = ended r h
 
 -- what an evaluation that gave a value answered
-pub answer_of : (e : Expression) (s : Situation) (r : Shape × List Reach) → is_well_formed e ≡ true → is_whole s.context ≡ true → s.moment < 2 ^ 53 → evaluation_of e s ≡ Ok r → Answer e r
+pub answer_of : (e : Expression) (s : Situation) (r : Shape × List Reach) → is_well_formed e ≡ true → is_tidy s.context ≡ true → s.moment < 2 ^ 53 → evaluation_of e s ≡ Ok r → Answer e r
 answer_of e s r formed w small is = subst (λ x. IfOk x (Answer e)) is (answered e s formed w small)
 
 -- an expression without sites reaches none

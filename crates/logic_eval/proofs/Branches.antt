@@ -2,7 +2,7 @@
 use Rattle.std.proofs.Common.{◌≡◌, ◌≢◌, ℕ, ◌+◌, ◌<◌, ◌≤◌, Bool, true, false, List, [], ◌∷◌, length, get_or, drop, Option, Ok, Err, Vec, Global, refl, ap, ◌∙◌, arith}
 use Rattle.std.proofs.lemmas.List.{drop_all, get_or_default}
 use Rattle.flag_text.specs.declared.tree.Tree.{Tree}
-use Rattle.flag_text.specs.Shape.{Shape, null}
+use Rattle.flag_text.specs.Shape.{Shape, null, has_other}
 use Rattle.flag_text.specs.View.{view}
 use Rattle.logic_ast.specs.declared.node.Node.{Node, the_lemmas}
 use Rattle.logic_ast.specs.declared.node.Node.TheVariants as node
@@ -12,14 +12,15 @@ use Rattle.logic_ast.specs.Expression.{Expression, literal, operation}
 use Rattle.logic_ast.specs.Expression as ast
 use Rattle.logic_ast.specs.View.{node_view, nodes_view}
 use Rattle.logic_values.specs.declared.fault.EvalFault.{EvalFault}
+use Rattle.logic_values.specs.declared.fault.EvalFault.TheVariants.{Arithmetic}
 use Rattle.logic_eval.specs.Budget.{Progress, paid}
 use Rattle.logic_values.specs.Comparison.{bool_eq}
 use Rattle.logic_eval.specs.Evaluation.{meaning, meanings}
-use Rattle.logic_eval.specs.Operators.{Meaning, operated, strict, conditional, first_of_truth, found}
+use Rattle.logic_eval.specs.Operators.{Meaning, operated, strict, conditional, first_of_truth, found, read}
 use Rattle.logic_eval.specs.Run.{spends, gives}
 use Rattle.logic_eval.specs.Scope.{size}
 use Rattle.logic_values.specs.Truth.{is_true}
-use Rattle.logic_eval.proofs.Budgets.{bind_ok, bind_err, cost_ok, cost_err, paid-gives}
+use Rattle.logic_eval.proofs.Budgets.{bind_ok, bind_err, cost_ok, cost_err, ends_ok, ends_err, paid-gives}
 use Rattle.logic_values.proofs.Items.{drop_at}
 
 pub node_view-literal : (t : Tree) → node_view (node.Literal t) ≡ literal (view t)
@@ -34,6 +35,13 @@ node_view-operation o v = simp the_lemmas refl
 -- a node is paid for as the expression that it is
 pub as_seen : (d : Option (List ℕ)) (scope : Shape) (p : Progress) (n : Node) (e : Expression) → node_view n ≡ e → paid p (meaning d (node_view n) scope) ≡ paid p (meaning d e scope)
 as_seen d scope p n e is = ap (λ x. paid p (meaning d x scope)) is
+
+-- a value that can be read, and one that can't
+pub read_ok : (p : Progress) (v : Shape) → has_other v ≡ false → paid p (read v) ≡ Ok (v, p)
+read_ok p v e = ends_ok p _ v (rw e refl)
+
+pub read_err : (p : Progress) (v : Shape) → has_other v ≡ true → paid p (read v) ≡ Err Arithmetic
+read_err p v e = ends_err p _ Arithmetic (rw e refl)
 
 -- a value that was found is paid for by its size
 pub found_ok : (p q : Progress) (v : Shape) (u : Unit {0}) → paid p (spends (size v)) ≡ Ok (u, q) → paid p (found v) ≡ Ok (v, q)

@@ -20,3 +20,4 @@ pub mod Budgets
 pub mod Choices
 pub mod Replacing
 pub mod Runs
+pub mod Tidy

@@ -4,7 +4,7 @@ use Rattle.std.specs.Prelude.{IfOk, IfSome}
 use Rattle.std.specs.List.{Contains}
 use Rattle.std.proofs.lemmas.List.Elements.{Contains-append_left, Contains-append_right}
 use Rattle.bucket_core.specs.Rule.{Entries, total_weight, choice}
-use Rattle.flag_text.specs.Shape.{Shape, null, boolean, whole, text, list, is_whole}
+use Rattle.flag_text.specs.Shape.{Shape, null, boolean, whole, text, list, is_whole, is_tidy}
 use Rattle.flag_text.specs.View.{items_of}
 use Rattle.flag_text.proofs.Bools.{both, left, right}
 use Rattle.logic_ast.specs.Expression.{Expression, literal, operation, fractional, Expressions, no_expressions, expression, By, no_by, by, Buckets, no_buckets, bucket, Bucket, literal_bucket, computed_bucket}
@@ -27,7 +27,8 @@ use Rattle.logic_eval.specs.Scope.{size, variable}
 use Rattle.logic_values.specs.Truth.{is_true}
 use Rattle.logic_eval.proofs.Choices.{buckets_entries}
 use Rattle.logic_eval.proofs.Runs.{Runs, runs-ends, runs-gives, runs-faults, runs-cost, runs-reach, runs-bind}
-use Rattle.logic_eval.proofs.WholeValues.{IsWhole, are_whole, are_whole-items_in, variable-whole, applied-whole, reduce_scope-whole}
+use Rattle.logic_eval.proofs.Tidy.{tidy_whole}
+use Rattle.logic_eval.proofs.WholeValues.{IsWhole, are_whole, are_whole-items_in, IsTidy, variable-tidy, read-whole, applied-whole, reduce_scope-tidy}
 
 -- an entry of a site
 pub record IsReachOf (s : Site) (r : Reach) : Type 0 where
@@ -45,15 +46,15 @@ abbrev pub Spells : Buckets → List (Shape × Shape) → Type 0
 Spells bs ps = (es : Entries) → entries_of bs ≡ Some es → buckets.entries_of ps ≡ Some es
 
 module _ (Q : Reach → Type 0) where
-  -- in a whole scope it gives a whole value, and each site that it reaches has Q
+  -- in a tidy scope it gives a whole value, and each site that it reaches has Q
   abbrev pub Keeps : Meaning → Type 0
-  Keeps m = (scope : Shape) → is_whole scope ≡ true → Runs IsWhole Q (m scope)
+  Keeps m = (scope : Shape) → is_tidy scope ≡ true → Runs IsWhole Q (m scope)
 
   abbrev pub AllKeep : List Meaning → Type 0
   AllKeep [] = Unit {0}
   AllKeep (m ∷ ms) = Keeps m × AllKeep ms
 
-  keeps-values : (ms : List Meaning) (scope : Shape) → AllKeep ms → is_whole scope ≡ true → Runs AreWhole Q (values ms scope)
+  keeps-values : (ms : List Meaning) (scope : Shape) → AllKeep ms → is_tidy scope ≡ true → Runs AreWhole Q (values ms scope)
   keeps-values [] scope ks w = runs-gives Q AreWhole [] refl
   keeps-values (m ∷ ms) scope ks w =
       runs-bind Q IsWhole AreWhole _ _ (ks.0 scope w) (λ v p. runs-bind Q AreWhole AreWhole _ _ (keeps-values ms scope ks.1 w) (λ vs ps. runs-gives Q AreWhole (v ∷ vs) (both (is_whole v) _ p ps)))
@@ -61,7 +62,8 @@ module _ (Q : Reach → Type 0) where
   keeps-variable : (ms : List Meaning) → AllKeep ms → Keeps (variable_run ms)
   keeps-variable ms ks scope w =
       runs-bind Q AreWhole IsWhole _ _ (keeps-values ms scope ks w)
-      (λ vs ps. runs-cost Q IsWhole (size (variable scope vs)) _ (runs-gives Q IsWhole (variable scope vs) (variable-whole scope vs w ps)))
+      (λ vs ps. runs-bind Q IsTidy IsWhole _ _ (runs-cost Q IsTidy (size (variable scope vs)) _ (runs-gives Q IsTidy (variable scope vs) (variable-tidy scope vs w ps)))
+      (λ v p. runs-ends Q IsWhole _ (read-whole v p)))
 
   keeps-strict : (o : Operator) (ms : List Meaning) → AllKeep ms → Keeps (strict o ms)
   keeps-strict o ms ks scope w = runs-bind Q AreWhole IsWhole _ _ (keeps-values ms scope ks w) (λ vs ps. runs-ends Q IsWhole (applied o scope vs) (applied-whole o scope vs ps))
@@ -86,7 +88,7 @@ module _ (Q : Reach → Type 0) where
     keeps-mapped : (ts : List Shape) → AreWhole ts → Runs AreWhole Q (mapped body ts)
     keeps-mapped [] w = runs-gives Q AreWhole [] refl
     keeps-mapped (t ∷ ts) w =
-        runs-bind Q IsWhole AreWhole _ _ (k t (left (is_whole t) _ w))
+        runs-bind Q IsWhole AreWhole _ _ (k t (tidy_whole t (left (is_whole t) _ w)))
         (λ v p. runs-bind Q AreWhole AreWhole _ _ (keeps-mapped ts (right (is_whole t) _ w)) (λ vs ps. runs-gives Q AreWhole (v ∷ vs) (both (is_whole v) _ p ps)))
 
     kept-whole : (b : Bool) (t : Shape) (vs : List Shape) → is_whole t ≡ true → AreWhole vs → AreWhole (cond b (t ∷ vs) vs)
@@ -96,7 +98,7 @@ module _ (Q : Reach → Type 0) where
     keeps-kept : (ts : List Shape) → AreWhole ts → Runs AreWhole Q (kept body ts)
     keeps-kept [] w = runs-gives Q AreWhole [] refl
     keeps-kept (t ∷ ts) w =
-        runs-bind Q IsWhole AreWhole _ _ (k t (left (is_whole t) _ w))
+        runs-bind Q IsWhole AreWhole _ _ (k t (tidy_whole t (left (is_whole t) _ w)))
         (λ v p. runs-bind Q AreWhole AreWhole _ _ (keeps-kept ts (right (is_whole t) _ w)) (λ vs ps. runs-gives Q AreWhole (cond (is_true v) (t ∷ vs) vs) (kept-whole (is_true v) t vs (left (is_whole t) _ w) ps)))
 
     keeps-occurs_if : (b : Bool) (r s : Run Bool) → Runs Anything Q r → Runs Anything Q s → Runs Anything Q (cond b r s)
@@ -106,7 +108,7 @@ module _ (Q : Reach → Type 0) where
     keeps-occurs : (wanted : Bool) (ts : List Shape) → AreWhole ts → Runs Anything Q (occurs wanted body ts)
     keeps-occurs wanted [] w = runs-gives Q Anything false tt
     keeps-occurs wanted (t ∷ ts) w =
-        runs-bind Q IsWhole Anything _ _ (k t (left (is_whole t) _ w))
+        runs-bind Q IsWhole Anything _ _ (k t (tidy_whole t (left (is_whole t) _ w)))
         (λ v p. keeps-occurs_if (bool_eq wanted (is_true v)) _ _ (runs-gives Q Anything true tt) (keeps-occurs wanted ts (right (is_whole t) _ w)))
 
     keeps-all_of : (ts : List Shape) → AreWhole ts → Runs IsWhole Q (all_of body ts)
@@ -115,7 +117,7 @@ module _ (Q : Reach → Type 0) where
     keeps-reduced : (so_far : Shape) (ts : List Shape) → is_whole so_far ≡ true → AreWhole ts → Runs IsWhole Q (reduced body so_far ts)
     keeps-reduced so_far [] h w = runs-gives Q IsWhole so_far h
     keeps-reduced so_far (t ∷ ts) h w =
-        runs-bind Q IsWhole IsWhole _ _ (k (reduce_scope so_far t) (reduce_scope-whole so_far t h (left (is_whole t) _ w)))
+        runs-bind Q IsWhole IsWhole _ _ (k (reduce_scope so_far t) (reduce_scope-tidy so_far t h (left (is_whole t) _ w)))
         (λ v p. keeps-reduced v ts p (right (is_whole t) _ w))
 
     keeps-over_items : (o : Operator) (ts : List Shape) → AreWhole ts → Runs IsWhole Q (over_items o body ts)
@@ -244,11 +246,11 @@ module _ (Q : Reach → Type 0) where
     keep-meanings default k (expression e es) h a =
         (keeps-meaning default k e (left (is_formed k e) _ h) (allows-left (preorder e) _ a), keep-meanings default (k + sites e) es (right (is_formed k e) _ h) (allows-right (preorder e) _ a))
 
-    keeps-by : (default : Option (List ℕ)) (k : ℕ) (b : By) → by_is_formed k b ≡ true → Allows (preorder_in_by b) → (scope : Shape) → is_whole scope ≡ true → IfSome (by_meaning default b) (λ m. Runs IsWhole Q (m scope))
+    keeps-by : (default : Option (List ℕ)) (k : ℕ) (b : By) → by_is_formed k b ≡ true → Allows (preorder_in_by b) → (scope : Shape) → is_tidy scope ≡ true → IfSome (by_meaning default b) (λ m. Runs IsWhole Q (m scope))
     keeps-by default k no_by h a scope w = tt
     keeps-by default k (by e) h a scope w = keeps-meaning default k e (right (not (is_list e)) _ h) a scope w
 
-    keeps-pairs : (default : Option (List ℕ)) (k : ℕ) (bs : Buckets) → buckets_are_formed k bs ≡ true → Allows (preorder_in_buckets bs) → (scope : Shape) → is_whole scope ≡ true
+    keeps-pairs : (default : Option (List ℕ)) (k : ℕ) (bs : Buckets) → buckets_are_formed k bs ≡ true → Allows (preorder_in_buckets bs) → (scope : Shape) → is_tidy scope ≡ true
         → Runs (Spells bs) Q (pairs (bucket_meanings default bs) scope)
     keeps-pairs default k no_buckets h a scope w = runs-gives Q (Spells no_buckets) [] (λ es e. e)
     keeps-pairs default k (bucket (literal_bucket name weight) bs) h a scope w =

@@ -1,5 +1,5 @@
 -- The size of a scope, part by part.
-use Rattle.std.proofs.Common.{◌≡◌, ℕ, ◌+◌, ◌<◌, ◌≤◌, true, false, List, length, get_or, drop, string_bytes, String, Global, refl, sym, ap, ◌∙◌, arith, Ordering, Less, Equal, Greater, nat_cmp}
+use Rattle.std.proofs.Common.{◌≡◌, ℕ, ◌+◌, ◌<◌, ◌≤◌, ◌||◌, Bool, true, false, List, length, get_or, drop, string_bytes, String, Global, refl, sym, ap, ◌∙◌, arith, Ordering, Less, Equal, Greater, nat_cmp}
 use Rattle.std.specs.Prelude.{Box, codes, if◌then◌else◌}
 use Rattle.std.specs.Cmp.Lexicographic.{slice_cmp}
 use Rattle.std.specs.Ordering.{match_ordering, ordering_reverse, is_eq}
@@ -8,12 +8,12 @@ use Rattle.std.proofs.lemmas.Cmp.{nat_list_cmp_total}
 use Rattle.std.proofs.lemmas.Map.Text.{is_eq-slice_cmp}
 use Rattle.std.proofs.lemmas.List.{drop_all}
 use Rattle.flag_text.specs.declared.tree.Tree.{Tree}
-use Rattle.flag_text.specs.Shape.{Shape, object, Members, no_members, member, comes_first, names_rise}
+use Rattle.flag_text.specs.Shape.{Shape, object, Members, no_members, member, comes_first, names_rise, has_other, members_have_other}
 use Rattle.flag_text.specs.View.{view, members_view}
 use Rattle.flag_text.proofs.Bools.{left, right}
 use Rattle.flag_text.proofs.Halving.{same_name}
 use Rattle.logic_values.specs.Objects.{reduce_scope, with_member, with_flagd}
-use Rattle.logic_eval.specs.Scope.{size, members_size, others_size}
+use Rattle.logic_eval.specs.Scope.{size, members_size, others_size, others_have_other}
 use Rattle.logic_values.specs.Views.{value_view}
 use Rattle.logic_values.specs.declared.value.Value.{Value}
 use Rattle.logic_values.specs.declared.value.Value.TheVariants as value
@@ -69,6 +69,49 @@ size-with_member k t (member l u ms) rise =
 
 pub size-root : (t : Shape) (ms : Members) → names_rise ms ≡ true → size (with_flagd t (object ms)) ≡ 1 + (size t + others_size (codes "$flagd") ms)
 size-root t ms rise = ap (λ n. 1 + n) (size-with_member (codes "$flagd") t ms rise)
+
+-- the same of numbers that are not whole
+others_other-first : (k : List ℕ) (ms : Members) → comes_first k ms ≡ true → names_rise ms ≡ true → others_have_other k ms ≡ members_have_other ms
+others_other-first k no_members first rise = refl
+others_other-first k (member l t ms) first rise =
+    let less : slice_cmp nat_cmp k l ≡ Less = less_if (slice_cmp nat_cmp k l) first in
+    let rest = others_other-first k ms (first_later k l ms less (left (comes_first l ms) _ rise)) (right (comes_first l ms) _ rise) in
+    rw (other_later k l less, rest) refl
+
+either_first : (a b c d : Bool) → a ≡ (b || c) → (d || a) ≡ (b || (d || c))
+either_first a true c true e = refl
+either_first a true c false e = e
+either_first a false c true e = refl
+either_first a false c false e = e
+
+other-put : (o : Ordering) (k l : List ℕ) (t u : Shape) (ms : Members) → slice_cmp nat_cmp k l ≡ o → names_rise (member l u ms) ≡ true → members_have_other (with_member k t ms) ≡ (has_other t || others_have_other k ms)
+    → members_have_other (match_ordering o (member k t (member l u ms)) (member k t ms) (member l u (with_member k t ms))) ≡ (has_other t || others_have_other k (member l u ms))
+other-put Less k l t u ms e rise more =
+    let first : comes_first k (member l u ms) ≡ true = rw e refl in
+    ap (λ b. has_other t || b) (sym (others_other-first k (member l u ms) first rise))
+other-put Equal k l t u ms e rise more =
+    let same : k ≡ l = same_name k l e in
+    let first : comes_first k ms ≡ true = rw same (left (comes_first l ms) _ rise) in
+    let rest = others_other-first k ms first (right (comes_first l ms) _ rise) in
+    rw (same_as k l e, rest) refl
+other-put Greater k l t u ms e rise more = rw (other_earlier k l e) (either_first _ (has_other t) (others_have_other k ms) (has_other u) more)
+
+other-with_member : (k : List ℕ) (t : Shape) (ms : Members) → names_rise ms ≡ true → members_have_other (with_member k t ms) ≡ (has_other t || others_have_other k ms)
+unfolding with_member
+other-with_member k t no_members rise = refl
+other-with_member k t (member l u ms) rise =
+    other-put (slice_cmp nat_cmp k l) k l t u ms refl rise (other-with_member k t ms (right (comes_first l ms) _ rise))
+
+pub other-root : (t : Shape) (ms : Members) → names_rise ms ≡ true → has_other (with_flagd t (object ms)) ≡ (has_other t || others_have_other (codes "$flagd") ms)
+other-root t ms rise = other-with_member (codes "$flagd") t ms rise
+
+pub fold_other : (so_far current : Box Value Global) → has_other (value_view (value.Fold so_far current)) ≡ (has_other (value_view so_far.value) || has_other (value_view current.value))
+fold_other so_far current = ap has_other (value_fold so_far current) ∙ or_false (has_other (value_view so_far.value)) (has_other (value_view current.value))
+  where
+    or_false : (a b : Bool) → (a || (b || false)) ≡ (a || b)
+    or_false true b = refl
+    or_false false true = refl
+    or_false false false = refl
 
 -- the members from i on, one by one
 module _ (k : List ℕ) (xs : List (String Global × Tree)) (i : ℕ) where

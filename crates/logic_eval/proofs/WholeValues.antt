@@ -10,13 +10,15 @@ use Rattle.std.specs.Cmp.Lexicographic.{slice_cmp}
 use Rattle.std.proofs.lemmas.Cmp.{nat_list_cmp_total}
 use Rattle.std.proofs.lemmas.Int.{rem_below}
 use Rattle.flag_text.specs.Readers.{as_list}
-use Rattle.flag_text.specs.Shape.{Shape, null, boolean, whole, other, text, list, object, Items, no_items, item, Members, no_members, member, is_in_range, comes_first, is_whole, items_are_whole, members_are_whole}
+use Rattle.flag_text.specs.Shape.{Shape, null, boolean, whole, other, text, list, object, Items, no_items, item, Members, no_members, member, is_in_range, comes_first, is_whole, items_are_whole, members_are_whole, is_tidy, items_are_tidy, members_are_tidy, has_other}
 use Rattle.flag_text.specs.View.{items_of}
 use Rattle.flag_text.proofs.Bools.{both, left, right, Holds}
-use Rattle.flag_text.proofs.Halving.{is_whole-find_member, same_name}
+use Rattle.flag_text.proofs.Halving.{is_tidy-find_member, same_name}
+use Rattle.flag_text.proofs.Rising.{is_whole-tidy}
 use Rattle.logic_ast.specs.declared.operator.Operator.{Operator}
 use Rattle.logic_ast.specs.declared.operator.Operator.TheVariants as op
 use Rattle.logic_values.specs.declared.fault.EvalFault.{EvalFault}
+use Rattle.logic_values.specs.declared.fault.EvalFault.TheVariants.{Arithmetic}
 use Rattle.logic_values.specs.Arithmetic.{if_number, step, folded, folded_from_first, difference, remainder, remainder_of}
 use Rattle.logic_values.specs.Lists.{shapes_of, items_in, parts_of}
 use Rattle.logic_values.specs.Number.{in_range, number_of, signed_value}
@@ -24,6 +26,7 @@ use Rattle.logic_eval.specs.Operators.{applied, argument}
 use Rattle.logic_values.specs.Objects.{reduce_scope, with_member, with_flagd}
 use Rattle.logic_eval.specs.Scope.{Situation, flagd, root_scope, index_of, step as path_step, follow, find, variable, is_missing, names_from, missing, found_count, missing_unless}
 use Rattle.logic_values.specs.Text.{if_text, part_result, part}
+use Rattle.logic_eval.proofs.Tidy.{tidy_whole}
 
 -- the values of a list are whole
 abbrev pub are_whole : List Shape → Bool
@@ -150,59 +153,84 @@ if_number-whole : (o : Option ℤ) → Holds is_in_range o → IfOk (if_number o
 if_number-whole None h = tt
 if_number-whole (Some n) h = h
 
--- ---- paths
+-- ---- what a scope holds: names that rise and whole numbers in range, and perhaps numbers that are not whole
+
+abbrev pub IsTidy : Shape → Type 0
+IsTidy v = is_tidy v ≡ true
 
 abbrev is_whole_if : Option Shape → Type 0
 is_whole_if o = Holds is_whole o
+
+abbrev is_tidy_if : Option Shape → Type 0
+is_tidy_if o = Holds is_tidy o
+
+-- ---- paths
 
 get-whole : (vs : List Shape) (i : ℕ) → are_whole vs ≡ true → is_whole_if (slice_get vs i)
 get-whole [] i h = tt
 get-whole (v ∷ vs) zero h = left (is_whole v) _ h
 get-whole (v ∷ vs) (suc i) h = get-whole vs i (right (is_whole v) _ h)
 
-indexed-whole : (vs : List Shape) (o : Option ℕ) → are_whole vs ≡ true → is_whole_if (option_and_then (slice_get vs) o)
-indexed-whole vs None h = tt
-indexed-whole vs (Some i) h = get-whole vs i h
+get-tidy : (ts : Items) (i : ℕ) → items_are_tidy ts ≡ true → is_tidy_if (slice_get (shapes_of ts) i)
+get-tidy no_items i h = tt
+get-tidy (item t ts) zero h = left (is_tidy t) _ h
+get-tidy (item t ts) (suc i) h = get-tidy ts i (right (is_tidy t) _ h)
 
-step-whole : (t : Shape) (name : List ℕ) → is_whole t ≡ true → is_whole_if (path_step t name)
-step-whole null name h = tt
-step-whole (boolean b) name h = tt
-step-whole (whole n) name h = tt
-step-whole other name h = tt
-step-whole (text s) name h = tt
-step-whole (list ts) name h = indexed-whole (shapes_of ts) (index_of name) (are_whole-shapes ts h)
-step-whole (object ms) name h = is_whole-find_member name ms h
+indexed-tidy : (ts : Items) (o : Option ℕ) → items_are_tidy ts ≡ true → is_tidy_if (option_and_then (slice_get (shapes_of ts)) o)
+indexed-tidy ts None h = tt
+indexed-tidy ts (Some i) h = get-tidy ts i h
 
-follow-whole : (t : Shape) (names : List (List ℕ)) → is_whole t ≡ true → is_whole_if (follow t names)
-follow-whole t [] h = h
-follow-whole t (name ∷ names) h = go (path_step t name) (step-whole t name h) (λ u k. follow-whole u names k)
+step-tidy : (t : Shape) (name : List ℕ) → is_tidy t ≡ true → is_tidy_if (path_step t name)
+step-tidy null name h = tt
+step-tidy (boolean b) name h = tt
+step-tidy (whole n) name h = tt
+step-tidy other name h = tt
+step-tidy (text s) name h = tt
+step-tidy (list ts) name h = indexed-tidy ts (index_of name) h
+step-tidy (object ms) name h = is_tidy-find_member name ms h
+
+follow-tidy : (t : Shape) (names : List (List ℕ)) → is_tidy t ≡ true → is_tidy_if (follow t names)
+follow-tidy t [] h = h
+follow-tidy t (name ∷ names) h = go (path_step t name) (step-tidy t name h) (λ u k. follow-tidy u names k)
   where
-    go : (o : Option Shape) → is_whole_if o → ((u : Shape) → is_whole u ≡ true → is_whole_if (follow u names)) → is_whole_if (option_and_then (λ u. follow u names) o)
+    go : (o : Option Shape) → is_tidy_if o → ((u : Shape) → is_tidy u ≡ true → is_tidy_if (follow u names)) → is_tidy_if (option_and_then (λ u. follow u names) o)
     go None k of_rest = tt
     go (Some u) k of_rest = of_rest u k
 
-find_text-whole : (scope : Shape) (b : Bool) (names : List (List ℕ)) → is_whole scope ≡ true → is_whole_if (cond b (Some scope) (follow scope names))
-find_text-whole scope true names h = h
-find_text-whole scope false names h = follow-whole scope names h
+find_text-tidy : (scope : Shape) (b : Bool) (names : List (List ℕ)) → is_tidy scope ≡ true → is_tidy_if (cond b (Some scope) (follow scope names))
+find_text-tidy scope true names h = h
+find_text-tidy scope false names h = follow-tidy scope names h
 
-find-whole : (scope path : Shape) → is_whole scope ≡ true → is_whole_if (find scope path)
-find-whole scope null h = h
-find-whole scope (boolean b) h = tt
-find-whole scope (whole n) h = find_text-whole scope _ _ h
-find-whole scope other h = tt
-find-whole scope (text s) h = find_text-whole scope _ _ h
-find-whole scope (list ts) h = tt
-find-whole scope (object ms) h = tt
+find-tidy : (scope path : Shape) → is_tidy scope ≡ true → is_tidy_if (find scope path)
+find-tidy scope null h = h
+find-tidy scope (boolean b) h = tt
+find-tidy scope (whole n) h = find_text-tidy scope _ _ h
+find-tidy scope other h = tt
+find-tidy scope (text s) h = find_text-tidy scope _ _ h
+find-tidy scope (list ts) h = tt
+find-tidy scope (object ms) h = tt
 
 or-whole : (o : Option Shape) (v : Shape) → is_whole_if o → is_whole v ≡ true → is_whole (unwrap_or o v) ≡ true
 or-whole None v h k = k
 or-whole (Some u) v h k = h
 
-pub variable-whole : (scope : Shape) (vs : List Shape) → is_whole scope ≡ true → are_whole vs ≡ true → is_whole (variable scope vs) ≡ true
-variable-whole scope [] h k = h
-variable-whole scope (path ∷ []) h k = or-whole (find scope path) null (find-whole scope path h) refl
-variable-whole scope (path ∷ default ∷ rest) h k =
-    or-whole (find scope path) default (find-whole scope path h) (left (is_whole default) _ (right (is_whole path) _ k))
+or-tidy : (o : Option Shape) (v : Shape) → is_tidy_if o → is_tidy v ≡ true → is_tidy (unwrap_or o v) ≡ true
+or-tidy None v h k = k
+or-tidy (Some u) v h k = h
+
+pub variable-tidy : (scope : Shape) (vs : List Shape) → is_tidy scope ≡ true → are_whole vs ≡ true → is_tidy (variable scope vs) ≡ true
+variable-tidy scope [] h k = h
+variable-tidy scope (path ∷ []) h k = or-tidy (find scope path) null (find-tidy scope path h) refl
+variable-tidy scope (path ∷ default ∷ rest) h k =
+    or-tidy (find scope path) default (find-tidy scope path h) (tidy_whole default (left (is_whole default) _ (right (is_whole path) _ k)))
+
+-- what is read is whole
+pub read-whole : (v : Shape) → is_tidy v ≡ true → IfOk (cond (has_other v) (let r : Result Shape EvalFault = Err Arithmetic in r) (Ok v)) IsWhole
+read-whole v h = go (has_other v) refl
+  where
+    go : (b : Bool) → has_other v ≡ b → IfOk (cond b (let r : Result Shape EvalFault = Err Arithmetic in r) (Ok v)) IsWhole
+    go true e = tt
+    go false e = is_whole-tidy v h e
 
 -- ---- the names that are missing
 
@@ -265,8 +293,8 @@ applied-whole o scope vs h = refl
 
 -- ---- scopes
 
-pub reduce_scope-whole : (v t : Shape) → is_whole v ≡ true → is_whole t ≡ true → is_whole (reduce_scope v t) ≡ true
-reduce_scope-whole v t h k = both (is_whole v) _ h (both (is_whole t) true k refl)
+pub reduce_scope-tidy : (v t : Shape) → is_whole v ≡ true → is_whole t ≡ true → is_tidy (reduce_scope v t) ≡ true
+reduce_scope-tidy v t h k = both (is_tidy v) _ (tidy_whole v h) (both (is_tidy t) true (tidy_whole t k) refl)
 
 -- a name in front of all, and of the one that is put, is in front of the result
 first-put : (o : Ordering) (h k l : List ℕ) (t u : Shape) (ms : Members) → slice_cmp nat_cmp h k ≡ Less → comes_first h (member l u ms) ≡ true
@@ -284,35 +312,35 @@ same_first : (k l : List ℕ) (ms : Members) → slice_cmp nat_cmp k l ≡ Equal
 same_first k l no_members e f = refl
 same_first k l (member m t ms) e f = let same : k ≡ l = same_name k l e in rw same f
 
-with_member-put : (o : Ordering) (k l : List ℕ) (t u : Shape) (ms : Members) → slice_cmp nat_cmp k l ≡ o → is_whole t ≡ true → members_are_whole (member l u ms) ≡ true
-    → members_are_whole (with_member k t ms) ≡ true
-    → members_are_whole (match_ordering o (member k t (member l u ms)) (member k t ms) (member l u (with_member k t ms))) ≡ true
-with_member-put Less k l t u ms e w h more = rw e (both (is_whole t) _ w h)
+with_member-put : (o : Ordering) (k l : List ℕ) (t u : Shape) (ms : Members) → slice_cmp nat_cmp k l ≡ o → is_tidy t ≡ true → members_are_tidy (member l u ms) ≡ true
+    → members_are_tidy (with_member k t ms) ≡ true
+    → members_are_tidy (match_ordering o (member k t (member l u ms)) (member k t ms) (member l u (with_member k t ms))) ≡ true
+with_member-put Less k l t u ms e w h more = rw e (both (is_tidy t) _ w h)
 with_member-put Equal k l t u ms e w h more =
-    both (comes_first k ms) _ (same_first k l ms e (left (comes_first l ms) _ h)) (both (is_whole t) _ w (right (is_whole u) _ (right (comes_first l ms) _ h)))
+    both (comes_first k ms) _ (same_first k l ms e (left (comes_first l ms) _ h)) (both (is_tidy t) _ w (right (is_tidy u) _ (right (comes_first l ms) _ h)))
 with_member-put Greater k l t u ms e w h more =
     let less : slice_cmp nat_cmp l k ≡ Less = nat_list_cmp_total.antisymm l k ∙ ap ordering_reverse e in
     both (comes_first l (with_member k t ms)) _ (first-with_member l k t ms less (left (comes_first l ms) _ h))
-    (both (is_whole u) _ (left (is_whole u) _ (right (comes_first l ms) _ h)) more)
+    (both (is_tidy u) _ (left (is_tidy u) _ (right (comes_first l ms) _ h)) more)
 
-with_member-whole : (k : List ℕ) (t : Shape) (ms : Members) → is_whole t ≡ true → members_are_whole ms ≡ true → members_are_whole (with_member k t ms) ≡ true
+with_member-tidy : (k : List ℕ) (t : Shape) (ms : Members) → is_tidy t ≡ true → members_are_tidy ms ≡ true → members_are_tidy (with_member k t ms) ≡ true
 unfolding with_member
-with_member-whole k t no_members w h = both (is_whole t) true w refl
-with_member-whole k t (member l u ms) w h =
+with_member-tidy k t no_members w h = both (is_tidy t) true w refl
+with_member-tidy k t (member l u ms) w h =
     with_member-put (slice_cmp nat_cmp k l) k l t u ms refl w h
-    (with_member-whole k t ms w (right (is_whole u) _ (right (comes_first l ms) _ h)))
+    (with_member-tidy k t ms w (right (is_tidy u) _ (right (comes_first l ms) _ h)))
 
-with_flagd-whole : (t u : Shape) → is_whole t ≡ true → is_whole u ≡ true → is_whole (with_flagd t u) ≡ true
-with_flagd-whole t null h k = k
-with_flagd-whole t (boolean b) h k = k
-with_flagd-whole t (whole n) h k = k
-with_flagd-whole t other h k = k
-with_flagd-whole t (text s) h k = k
-with_flagd-whole t (list ts) h k = k
-with_flagd-whole t (object ms) h k = with_member-whole (codes "$flagd") t ms h k
+with_flagd-tidy : (t u : Shape) → is_tidy t ≡ true → is_tidy u ≡ true → is_tidy (with_flagd t u) ≡ true
+with_flagd-tidy t null h k = k
+with_flagd-tidy t (boolean b) h k = k
+with_flagd-tidy t (whole n) h k = k
+with_flagd-tidy t other h k = k
+with_flagd-tidy t (text s) h k = k
+with_flagd-tidy t (list ts) h k = k
+with_flagd-tidy t (object ms) h k = with_member-tidy (codes "$flagd") t ms h k
 
-flagd-whole : (s : Situation) → s.moment < 2 ^ 53 → is_whole (flagd s) ≡ true
-flagd-whole s h = let small : nat_lt s.moment (2 ^ 53) ≡ true = grind (arith, h) in rw small refl
+flagd-tidy : (s : Situation) → s.moment < 2 ^ 53 → is_tidy (flagd s) ≡ true
+flagd-tidy s h = let small : nat_lt s.moment (2 ^ 53) ≡ true = grind (arith, h) in rw small refl
 
-pub root_scope-whole : (s : Situation) → is_whole s.context ≡ true → s.moment < 2 ^ 53 → is_whole (root_scope s) ≡ true
-root_scope-whole s h k = with_flagd-whole (flagd s) s.context (flagd-whole s k) h
+pub root_scope-tidy : (s : Situation) → is_tidy s.context ≡ true → s.moment < 2 ^ 53 → is_tidy (root_scope s) ≡ true
+root_scope-tidy s h k = with_flagd-tidy (flagd s) s.context (flagd-tidy s k) h

@@ -1,10 +1,11 @@
 -- The operators over the meanings of their arguments, each by its JsonLogic or flagd name.
-use Rattle.std.specs.Prelude.{ℕ, unwrap_or, slice_get, Bool, true, false, not, List, [], ◌∷◌, if◌then◌else◌, Result, Ok}
-use Rattle.flag_text.specs.Shape.{Shape, null, boolean, list}
+use Rattle.std.specs.Prelude.{ℕ, unwrap_or, slice_get, Bool, true, false, not, List, [], ◌∷◌, if◌then◌else◌, Result, Ok, Err}
+use Rattle.flag_text.specs.Shape.{Shape, null, boolean, list, has_other}
 use Rattle.flag_text.specs.View.{items_of}
 use Rattle.logic_ast.specs.declared.operator.Operator.{Operator}
 use Rattle.logic_ast.specs.declared.operator.Operator.TheVariants as op
 use Rattle.logic_values.specs.declared.fault.EvalFault.{EvalFault}
+use Rattle.logic_values.specs.declared.fault.EvalFault.TheVariants.{Arithmetic}
 use Rattle.logic_values.specs.Arithmetic.{if_number, sum, product, difference, remainder, maximum, minimum}
 use Rattle.logic_values.specs.Comparison.{bool_eq, is_same, is_equal, is_less, is_at_most, is_chain}
 use Rattle.logic_values.specs.Lists.{items_in, merged, is_in}
@@ -67,8 +68,15 @@ applied o scope vs = Ok (boolean (test_of o (argument 0 vs) (argument 1 vs)))
 abbrev pub found : Shape → Run Shape
 found v = after (cost (size v)) (gives v)
 
+-- no evaluation goes on with a number that is not whole: the context may have one, which is in nobody's way until it is read
+abbrev pub read : Shape → Run Shape
+read v = ends (if has_other v then Err Arithmetic else Ok v)
+
+abbrev pub found_whole : Shape → Run Shape
+found_whole v = found v >>= read
+
 abbrev pub variable_run : List Meaning → Meaning
-variable_run ms scope = values ms scope >>= λ vs. found (variable scope vs)
+variable_run ms scope = values ms scope >>= λ vs. found_whole (variable scope vs)
 
 -- the values of all arguments, then the operator on them
 abbrev pub strict : Operator → List Meaning → Meaning

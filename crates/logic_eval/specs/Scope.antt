@@ -1,9 +1,9 @@
 -- The scope of an evaluation, and what a path finds in it (JsonLogic: `var`, `missing`, `missing_some`; flagd: `$flagd`, `targetingKey`).
-use Rattle.std.specs.Prelude.{ℕ, ◌+◌, ◌/◌, ◌==◌, ℤ, pos, Bool, true, false, not, List, [], ◌∷◌, ◌++◌, length, filter, codes, if◌then◌else◌, int_lt, Option, Some, None, unwrap_or, option_map, option_and_then, slice_get, Result, Ok, Err}
+use Rattle.std.specs.Prelude.{ℕ, ◌+◌, ◌/◌, ◌==◌, ℤ, pos, Bool, true, false, not, ◌||◌, List, [], ◌∷◌, ◌++◌, length, filter, codes, if◌then◌else◌, int_lt, Option, Some, None, unwrap_or, option_map, option_and_then, slice_get, Result, Ok, Err}
 use Rattle.std.specs.Fmt.{signed_decimal}
 use Rattle.std.specs.List.{slice_split}
 use Rattle.std.specs.Str.{bytes_eq}
-use Rattle.flag_text.specs.Shape.{Shape, null, boolean, whole, other, text, list, object, Items, no_items, item, Members, no_members, member}
+use Rattle.flag_text.specs.Shape.{Shape, null, boolean, whole, other, text, list, object, Items, no_items, item, Members, no_members, member, has_other}
 use Rattle.flag_text.specs.Readers.{as_text, as_list, find_member, member_of}
 use Rattle.flag_text.specs.View.{items_of}
 use Rattle.logic_values.specs.declared.fault.EvalFault.{EvalFault}
@@ -124,6 +124,11 @@ abbrev mutual
   pub members_size : Members → ℕ
   members_size no_members = 0
   members_size (member k t ms) = size t + members_size ms
+
+-- whether a number that is not whole stands in a member of another name
+abbrev pub others_have_other : List ℕ → Members → Bool
+others_have_other name no_members = false
+others_have_other name (member k t ms) = (if bytes_eq k name then false else has_other t) || others_have_other name ms
 
 -- the sizes of the members of other names
 abbrev pub others_size : List ℕ → Members → ℕ

@@ -1,7 +1,7 @@
 //! What an evaluation is given beside the expression.
 ghost use Rattle.std.specs.Prelude.{◌≡◌, ◌<◌, ◌^◌, true, IfOk, IsSome};
 ghost use Rattle.flag_text.specs.Readers.{as_object};
-ghost use Rattle.flag_text.specs.Shape.{is_whole, members_are_whole};
+ghost use Rattle.flag_text.specs.Shape.{is_tidy, members_are_tidy};
 ghost use Rattle.flag_text.specs.View.{view, members_view};
 
 use crate::scope::{Scope, Subject};
@@ -11,13 +11,14 @@ use std::alloc::{AllocError, Global};
 
 /// The evaluation context, the flag's key and the moment: the last two are seen as `$flagd`.
 ///
-/// It borrows the context and the key. By its type the context is whole and the moment is below 2^53.
+/// It borrows the context and the key. By its type the context's names rise and its whole numbers are in range, and the moment is
+/// below 2^53. A number of it may be one that is not whole, which is a fault of the evaluations alone that read it.
 #[derive(Drop)]
 pub struct Context<'a> {
     members: &'a [(String, Tree)],
     flag: &'a str,
     moment: u64,
-    pub ghost whole: { members_are_whole (members_view members.now) ≡ true },
+    pub ghost tidy: { members_are_tidy (members_view members.now) ≡ true },
     pub ghost small: { moment < 2 ^ 53 },
 }
 
@@ -25,10 +26,10 @@ impl<'a> Context<'a> {
     ghost use Rattle.logic_eval.specs.Scope.{flagd, root_scope, default_input};
     ghost use Rattle.logic_eval.specs.Views.{scope_view, default_view, situation};
 
-    /// The context is an object of whole numbers, and the moment is at most 2^53-1.
+    /// The context is an object, and the moment is at most 2^53-1.
     pub fn make(context: &'a Tree, flag: &'a str, moment: u64) -> Context<'a>
         requires object { IsSome (as_object (view context.now)) }
-        requires whole { is_whole (view context.now) ≡ true }
+        requires tidy { is_tidy (view context.now) ≡ true }
         requires moment { moment < 2 ^ 53 }
         ensures { situation result ≡ record { context = view context.now; flag = flag.now; moment = moment } }
     {

@@ -36,6 +36,7 @@ mod laws;
 mod meter;
 mod missing;
 mod nodes;
+mod other;
 mod scalar;
 mod scope;
 mod variable;

@@ -1,13 +1,14 @@
 //! `var`, and the whole scope as a value.
 ghost use Rattle.std.specs.Prelude.{◌≡◌, IfOk, map};
 ghost use Rattle.logic_eval.specs.Budget.{Follows};
-ghost use Rattle.logic_eval.specs.Operators.{found};
+ghost use Rattle.logic_eval.specs.Operators.{found, found_whole};
 ghost use Rattle.logic_eval.specs.Scope.{variable};
 ghost use Rattle.logic_eval.specs.Views.{progress, scope_view, source_view};
 ghost use Rattle.logic_values.specs.Views.{value_view};
 
 use crate::find::{Found, Place, find};
 use crate::meter::{Meter, pay_for_place, pay_for_scope, pay_for_value};
+use crate::other::has_other;
 use crate::scope::Scope;
 use logic_values::{EvalFault, Value, copy, fold};
 use smallvec::SmallVec;
@@ -64,9 +65,24 @@ fn source_of<'s, 'a>(
     }
 }
 
-/// `var`: no path is the whole scope; where nothing is found, the second argument, or null. What it gives is paid for
-/// before it is copied.
+/// `var`: no path is the whole scope; where nothing is found, the second argument, or null. A number that is not whole, which the
+/// context may have, can't be read: `Arithmetic` where one stands in what is given.
 pub(crate) fn variable<'a>(
+    meter: &mut Meter,
+    scope: Scope<'_, 'a>,
+    values: SmallVec<Value<'a>, 3>,
+) -> Result<Value<'a>, EvalFault>
+    ensures exact { Follows value_view (progress meter.old) (progress meter.new) result (found_whole (variable (scope_view scope.entry) (map value_view values.entry.items))) }
+{
+    let value = found(meter, scope, values)?;
+    if has_other(&value) {
+        return Err(EvalFault::Arithmetic);
+    }
+    Ok(value)
+}
+
+// What `var` gives, paid for before it is copied.
+fn found<'a>(
     meter: &mut Meter,
     scope: Scope<'_, 'a>,
     values: SmallVec<Value<'a>, 3>,

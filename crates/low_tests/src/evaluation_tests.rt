@@ -29,6 +29,7 @@ fn comes_to(alloc: Global, expr: &Expr, context: &Context, want: &str) -> bool {
 }
 
 /// Whether an expression comes to this in the context of a text, under the flag key `te` at the moment 7.
+#[tactic(auto, using(logic_eval::proofs::Tidy::tidy_whole))]
 fn comes_to_in(alloc: Global, expr: &Expr, context: &str, want: &str) -> bool {
     match read_tree(alloc, context.as_bytes(), 4_194_304) {
         Ok(tree) => match &tree {

@@ -8,6 +8,7 @@ use flag_text::{Tree, read_tree};
 use std::alloc::Global;
 
 /// Whether a text resolves so without flags.
+#[tactic(auto, using(logic_eval::proofs::Tidy::tidy_whole))]
 fn is_resolved(alloc: Global, default: &Tree, context: &Tree, want: &str) -> bool
     requires default { is_whole (view default.now) ≡ true }
     requires context { is_whole (view context.now) ≡ true }

@@ -1,8 +1,8 @@
 -- One line more in the memory.
 use Rattle.std.proofs.Common.{◌≡◌, Bool, List, ℕ, Vec, Result, Ok, Err, OnOk, OnErr, sym, subst, inl, inr}
 use Rattle.std.specs.declared.alloc.Global.{Global}
-use Rattle.lru.specs.LruCache.{LruCache, lru_cache, put_entries}
-use Rattle.lru.proofs.CallerLemmas.{Contains-put_entries}
+use Rattle.lru.specs.LruCache.{LruCache, lru_cache, promoted, put_entries}
+use Rattle.lru.proofs.CallerLemmas.{Contains-promoted, Contains-put_entries}
 use Rattle.note_log.specs.Line.{HasLine}
 use Rattle.note_log.specs.Sound.{Stand}
 
@@ -17,3 +17,8 @@ with_line (Ok x) eq old new line v bytes ok err stand has =
       ]
     ])
 with_line (Err x) eq old new line v bytes ok err stand has = subst (λ (c : LruCache (Vec ℕ Global) (Unit {0})). Stand bytes c.entries) (sym err) stand
+
+-- one that was used again
+pub promoted_stand : (test : Vec ℕ Global → Bool) (old new : LruCache (Vec ℕ Global) (Unit {0})) (bytes : List ℕ) → new ≡ lru_cache (promoted test old.entries) old.cap → Stand bytes old.entries → Stand bytes new.entries
+promoted_stand test old new bytes is stand =
+    subst (λ (c : LruCache (Vec ℕ Global) (Unit {0})). Stand bytes c.entries) (sym is) (λ e d. stand e (Contains-promoted test old.entries e d))

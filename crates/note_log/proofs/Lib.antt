@@ -5,3 +5,4 @@ mod Recorded
 mod Kept
 mod Faults
 mod Anew
+mod Counted

@@ -1,5 +1,5 @@
 -- A log of notes over a file that may take less than it is given, and that others may take away.
-use Rattle.std.specs.Prelude.{◌≡◌, ◌≤◌, ◌<◌, ◌⊎◌, ℕ, Bool, true, false, List, [], ◌∷◌, ◌++◌, length, Option, is_some, Contains}
+use Rattle.std.specs.Prelude.{◌≡◌, ◌≤◌, ◌<◌, ◌⊎◌, ℕ, Bool, true, false, List, [], ◌∷◌, ◌++◌, length, sum_by, Option, Some, None, is_some, Contains}
 use Rattle.std.specs.List.{flat_map}
 use Rattle.std.specs.Io.KnownBytes.{append_known}
 use Rattle.log_file.specs.declared.file.LogFile.{Ghosts}
@@ -7,8 +7,10 @@ use Rattle.log_file.specs.declared.journal.Look.{Look}
 use Rattle.log_file.specs.declared.journal.Look.TheVariants.{Stands, Reopened, Lost}
 use Rattle.note_lines.specs.Note.{Noted, most_noted, note_line}
 use Rattle.note_log.specs.Line.{HasLine}
-use Rattle.note_log.specs.Sound.{Remembered, earlier_in, handed_in}
+use Rattle.note_log.specs.Sound.{Remembered, earlier_in, handed_in, lines_in}
 use Rattle.note_log.specs.declared.log.NoteLog.{NoteLog}
+use Rattle.note_log.specs.declared.trouble.Trouble.{Trouble}
+use Rattle.note_log.specs.declared.trouble.Trouble.TheVariants as trouble
 
 -- what each file that was lost was handed, what the one that is open was handed, and what of the lines waits
 pub record Logged : Type 0 where
@@ -22,6 +24,16 @@ logged log = record { earlier = earlier_in log.earlier.items; handed = handed_in
 -- what all files were handed, the one that is open last
 abbrev pub files_of : Logged → List (List ℕ)
 files_of l = l.earlier ++ l.handed ∷ []
+
+-- how many lines the files have taken whole
+abbrev pub lines_of : Logged → ℕ
+lines_of l = sum_by lines_in (files_of l)
+
+-- why a log can't be written: its file is lost, or else bytes wait for it
+abbrev pub trouble_of : Bool → List ℕ → Option Trouble
+trouble_of true waiting = Some trouble.Lost
+trouble_of false [] = None
+trouble_of false (byte ∷ bytes) = Some trouble.Unwritten
 
 -- another file is open, or none: nothing was handed to it, nothing waits for it
 abbrev pub begun_anew : Logged → Logged

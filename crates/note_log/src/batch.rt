@@ -9,11 +9,12 @@ use note_lines::{Note, note_line};
 use std::alloc::{AllocError, Global};
 use std::hash::RandomState;
 
-/// The lines of notes, and the same one after the other.
+/// The lines of notes, and the same one after the other; and those that are remembered.
 #[derive(Drop)]
 pub(crate) struct Batch {
     pub(crate) lines: Vec<Vec<u8>>,
     pub(crate) bytes: BytesMut,
+    pub(crate) known: Vec<Vec<u8>>,
     /// How many inputs were too long for a note.
     pub(crate) too_long: u64,
 }
@@ -29,6 +30,7 @@ pub(crate) fn batch_of(
     let mut batch = Batch {
         lines: Vec::new(alloc),
         bytes: BytesMut::new(alloc),
+        known: Vec::new(alloc),
         too_long: 0,
     };
     for note in notes {
@@ -53,6 +55,7 @@ impl Batch {
         }
         let line = note_line(alloc, &note.page, note.input.as_str())?;
         if remembered.contains(line.as_slice()) {
+            self.known.push(line)?;
             return Ok(());
         }
         self.bytes.extend_from_slice(line.as_slice())?;

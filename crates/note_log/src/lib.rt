@@ -8,12 +8,14 @@
 //! Proved, over the definitions of `specs/Log.antt`: what is handed over is whole lines of the notes that were given, one after
 //! the other, and nothing else; where the answer is true, the line of each of these notes stands among what the file that is open
 //! was handed, which stood at its path when that was last looked for; and so does each line that is remembered. It is false only
-//! where the file is lost or a write has failed.
+//! where the file is lost or a write has failed. The lines that are counted are those that the files have taken whole.
 #![tactic(auto)]
 
 mod batch;
 mod handing;
 mod log;
 mod memory;
+mod trouble;
 
 pub use log::NoteLog;
+pub use trouble::Trouble;

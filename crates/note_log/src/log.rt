@@ -1,10 +1,12 @@
 //! The log.
-ghost use Rattle.std.specs.Prelude.{◌≡◌, ◌<◌, ◌⊎◌, [], true, false, OnErr, IfOk, is_some};
-ghost use Rattle.note_log.specs.Sound.{IsSound, handed_in};
+ghost use Rattle.std.specs.Prelude.{◌≡◌, ◌<◌, ◌⊎◌, ◌-◌, ◌^◌, [], true, false, OnErr, IfOk, is_some, min, sum_by};
+ghost use Rattle.std.specs.NonZero.{non_zero_usize_get};
+ghost use Rattle.note_log.specs.Sound.{IsCounted, IsSound, earlier_in, handed_in, lines_in};
 
 use crate::batch::{Batch, batch_of};
 use crate::handing::hand_over;
-use crate::memory::remember;
+use crate::memory::{remember, use_again};
+use crate::trouble::Trouble;
 use bytes::BytesMut;
 use http_server::Log;
 use log_file::{Journal, LogFile, LogPaths, Look};
@@ -13,9 +15,6 @@ use note_lines::Note;
 use std::alloc::{AllocError, Global};
 use std::hash::RandomState;
 use std::num::NonZeroUsize;
-
-/// How many lines are remembered.
-const REMEMBERED: usize = 65_536;
 
 /// A log of notes at the end of a file. The bytes that stand in the file before are whole lines.
 #[derive(Drop)]
@@ -30,22 +29,27 @@ pub struct NoteLog<F: LogFile> {
     written: u64,
     too_long: u64,
     ghost sound: { ∥ IsSound (handed_in handed.items) waiting.items remembered.entries ∥₁ },
+    ghost counted: { IsCounted (sum_by lines_in (earlier_in earlier.items)) (handed_in handed.items) written },
 }
 
 impl<F: LogFile + Drop> NoteLog<F> {
     ghost use Rattle.note_log.specs.Log.{logged};
 
-    /// A log that nothing was recorded in yet. `keys` are for a table of lines, whose texts others choose.
+    /// A log that nothing was recorded in yet. It remembers so many lines, of which it forgets the least recently used first. `keys`
+    /// are for a table of lines, whose texts others choose.
     pub fn new(
         alloc: Global,
         keys: RandomState,
         journal: Journal<F>,
+        remember: NonZeroUsize,
     ) -> Result<NoteLog<F>, AllocError>
         ensures fresh { IfOk result (λ log. logged log ≡ record { earlier = []; handed = []; waiting = [] }) }
         ensures journal { IfOk result (λ log. log.journal ≡ journal) }
+        ensures remember { IfOk result (λ log. log.remembered.cap ≡ non_zero_usize_get remember) }
     {
-        let most = NonZeroUsize::new(REMEMBERED).unwrap_or(NonZeroUsize::MIN);
-        let remembered = LruCache::with_hasher(alloc, most, keys)?;
+        // The memory for lines is taken as they come.
+        let mut remembered = LruCache::unbounded_with_hasher(alloc, keys)?;
+        remembered.resize(remember);
         Ok(NoteLog {
             journal,
             earlier: Log::new(),
@@ -61,7 +65,7 @@ impl<F: LogFile + Drop> NoteLog<F> {
 impl<F: LogFile> NoteLog<F> {
     ghost use Rattle.log_file.specs.Journal.{Looked, lost_after};
     ghost use Rattle.note_log.specs.Batch.{IsBatch};
-    ghost use Rattle.note_log.specs.Log.{Records, begun_anew, logged, logged_after, remembered_after};
+    ghost use Rattle.note_log.specs.Log.{Records, begun_anew, lines_of, logged, logged_after, remembered_after, trouble_of};
 
     /// Records notes, and says whether the line of each stands in the file that is open now. One whose input has more than 1,024
     /// bytes has no line. What waits of earlier lines is handed over first, and where not all of it is taken nothing is added. It
@@ -71,6 +75,7 @@ impl<F: LogFile> NoteLog<F> {
         ensures stands { IfOk result (λ all. all ≡ true → F.stands self.new.journal.file ≡ true) }
         ensures refused { IfOk result (λ all. all ≡ false → (is_some self.old.journal.lost ≡ true) ⊎ (F.faults self.old.journal.file < F.faults self.new.journal.file)) }
         ensures lost { self.new.journal.lost ≡ self.old.journal.lost }
+        ensures looks { F.looks self.new.journal.file ≡ F.looks self.old.journal.file }
         ensures err { OnErr result (self.new ≡ self.old) }
     {
         let batch = batch_of(alloc, notes, &self.remembered)?;
@@ -84,26 +89,38 @@ impl<F: LogFile> NoteLog<F> {
         ensures stands { result ≡ true → F.stands self.new.journal.file ≡ true }
         ensures refused { result ≡ false → (is_some self.old.journal.lost ≡ true) ⊎ (F.faults self.old.journal.file < F.faults self.new.journal.file) }
         ensures lost { self.new.journal.lost ≡ self.old.journal.lost }
+        ensures looks { F.looks self.new.journal.file ≡ F.looks self.old.journal.file }
     {
         // The contract alone names the notes.
         let _ = notes;
         if self.journal.is_lost() {
             return false;
         }
-        if !hand_over(&mut self.journal, &mut self.handed, &mut self.waiting) {
+        if !hand_over(
+            &mut self.journal,
+            &mut self.handed,
+            &mut self.waiting,
+            &mut self.written,
+        ) {
             return false;
         }
         let Batch {
             lines,
             bytes,
+            known,
             too_long,
         } = batch;
         self.too_long = self.too_long.saturating_add(too_long);
-        self.written = self.written.saturating_add(lines.len() as u64);
         self.waiting = bytes;
-        if !hand_over(&mut self.journal, &mut self.handed, &mut self.waiting) {
+        if !hand_over(
+            &mut self.journal,
+            &mut self.handed,
+            &mut self.waiting,
+            &mut self.written,
+        ) {
             return false;
         }
+        use_again(&mut self.remembered, known.as_slice());
         remember(&mut self.remembered, lines);
         true
     }
@@ -126,7 +143,7 @@ impl<F: LogFile> NoteLog<F> {
     }
 
     /// Forgets what the file that was open was handed.
-    #[tactic(auto, using(crate::proofs::Anew::one_lost))]
+    #[tactic(auto, using(crate::proofs::Anew::one_lost, crate::proofs::Counted::counted_anew))]
     fn begin_anew(&mut self)
         ensures logged { logged self.new ≡ begun_anew (logged self.old) }
         ensures remembered { self.new.remembered.entries ≡ [] }
@@ -138,11 +155,26 @@ impl<F: LogFile> NoteLog<F> {
         self.remembered.clear();
     }
 
-    /// How many lines were added.
+    /// How many lines its files have taken whole.
+    #[tactic(auto, using(crate::proofs::Counted::counted_all))]
     pub fn written(&self) -> u64
-        ensures { result ≡ self.now.written }
+        ensures { result ≡ min (lines_of (logged self.now)) (2 ^ 64 - 1) }
     {
         self.written
+    }
+
+    /// Why it can't be written, where it can't: its file is lost, or a write has failed and what it was given waits.
+    pub fn trouble(&self) -> Option<Trouble>
+        ensures { result ≡ trouble_of (is_some self.now.journal.lost) self.now.waiting.items }
+    {
+        if self.journal.is_lost() {
+            return Some(Trouble::Lost);
+        }
+        if self.waiting.is_empty() {
+            None
+        } else {
+            Some(Trouble::Unwritten)
+        }
     }
 
     /// How many inputs were too long for a note.

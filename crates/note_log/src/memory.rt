@@ -6,7 +6,7 @@ ghost use Rattle.note_log.specs.Sound.{Stand};
 use lru::LruCache;
 use std::hash::RandomState;
 
-/// Remembers lines, of which the oldest are forgotten where there are too many. Where memory runs out a line is not
+/// Remembers lines, of which the least recently used are forgotten where there are too many. Where memory runs out a line is not
 /// remembered.
 pub(crate) fn remember(remembered: &mut LruCache<Vec<u8>, (), RandomState>, lines: Vec<Vec<u8>>)
     ensures { (bytes : List ℕ) → Stand bytes remembered.old.entries → StandAll bytes lines.items → Stand bytes remembered.new.entries }
@@ -14,5 +14,14 @@ pub(crate) fn remember(remembered: &mut LruCache<Vec<u8>, (), RandomState>, line
     let mut lines = lines;
     while let Some(line) = lines.pop() {
         let _ = remembered.put(line, ());
+    }
+}
+
+/// Makes lines that are remembered the most recently used.
+pub(crate) fn use_again(remembered: &mut LruCache<Vec<u8>, (), RandomState>, lines: &[Vec<u8>])
+    ensures { (bytes : List ℕ) → Stand bytes remembered.old.entries → Stand bytes remembered.new.entries }
+{
+    for line in lines {
+        let _ = remembered.promote(line.as_slice());
     }
 }

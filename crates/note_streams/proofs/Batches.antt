@@ -1,6 +1,6 @@
 -- Batches that are recorded one after another.
 use denote.Ref.{Bor}
-use Rattle.std.proofs.Common.{◌≡◌, ◌≢◌, ◌<◌, ◌≤◌, ◌+◌, ◌-◌, ℕ, Bool, true, false, if◌then◌else◌, List, [], ◌∷◌, ◌++◌, length, take, map, Option, Some, None, IfSome, append-nil, append_assoc, length-append, refl, sym, ap, ◌∙◌, subst, inl, inr, arith}
+use Rattle.std.proofs.Common.{◌≡◌, ◌≢◌, ◌<◌, ◌≤◌, ◌+◌, ◌-◌, nat_eq, nat_lt, ℕ, Bool, true, false, if◌then◌else◌, List, [], ◌∷◌, ◌++◌, length, take, map, Option, Some, None, IfSome, append-nil, append_assoc, length-append, refl, sym, ap, ◌∙◌, subst, inl, inr, arith}
 use Rattle.std.proofs.KnownBytes.{Appends-nil, Appends-trans}
 use Rattle.std.proofs.lemmas.Bool.{le-ltb, lt-ltb}
 use Rattle.std.proofs.Math.Seq.{take-append-add, take-append_seam}
@@ -14,10 +14,8 @@ use Rattle.record_lines.proofs.Folded.{few_lines, joined-assoc, joined-first, jo
 use Rattle.record_lines.specs.Record.{Recorded, Scene, joined, most_line, nothing, of_line, record_of, refused}
 use Rattle.note_streams.specs.Batch.{Follows, Fronts, Leaves, Stands, Stops}
 use Rattle.note_streams.specs.Recorded.{of_parts, recorded_of}
-
-some_more : (xs ys : List (List ℕ)) → ys ≢ [] → xs ++ ys ≢ []
-some_more [] ys some = some
-some_more (x ∷ xs) ys some = λ e. cc
+use Rattle.note_streams.specs.Rest.{is_empty, is_torn}
+use Rattle.note_streams.proofs.Behind.{at_end, keeps_cut, some_more}
 
 -- ---- the fold over parts
 
@@ -110,7 +108,7 @@ module _ (s : Scene) where
     good = refl;
     number = refl;
     text = Appends-nil out;
-    follows = (joined-first (recorded_of s bytes), omega arith);
+    follows = (joined-first (recorded_of s bytes), omega arith, refl);
   }
 
   pub begun : (start out : Option (List ℕ)) → Known s [] 0 0 start start out out
@@ -125,7 +123,7 @@ module _ (s : Scene) where
         let all : after ++ more ≡ held ++ left = ap (λ (t : List ℕ). t ++ more) grows.batch ∙ append_assoc held grows.added more ∙ ap (λ (t : List ℕ). held ++ t) (sym grows.stream) in
         let a : length after ≡ length held + length grows.added = ap length grows.batch ∙ length-append held grows.added in
         let b : length left ≡ length grows.added + length more = ap length grows.stream ∙ length-append grows.added more in
-        (ap (λ (t : List ℕ). joined acc (recorded_of s t)) all ∙ follows.0, omega (arith, a, b, follows.1))
+        (ap (λ (t : List ℕ). joined acc (recorded_of s t)) all ∙ follows.0, omega (arith, a, b, follows.1), ap is_torn all ∙ follows.2)
 
     grown_at : (held after : List ℕ) (lines taken : ℕ) (now next old new : Option (List ℕ)) → Grows now next held after → Stands s bytes held lines taken now old new → Stands s bytes after lines (taken + (length after - length held)) next old new
     grown_at held after lines taken now next old new grows stands = record {
@@ -139,7 +137,7 @@ module _ (s : Scene) where
     left_follows : (held rest : List ℕ) (lines : List (List ℕ)) (taken : ℕ) (acc : Recorded) (now : Option (List ℕ)) → IsCut held lines rest → Follows s bytes held taken acc now → Follows s bytes rest taken (joined acc (record_of s lines)) now
     left_follows held rest lines taken acc None cut follows = absurd follows
     left_follows held rest lines taken acc (Some left) cut follows =
-        (joined-assoc acc (record_of s lines) (recorded_of s (rest ++ left)) ∙ ap (joined acc) (sym (batch_more s held rest lines left cut)) ∙ follows.0, follows.1)
+        (joined-assoc acc (record_of s lines) (recorded_of s (rest ++ left)) ∙ ap (joined acc) (sym (batch_more s held rest lines left cut)) ∙ follows.0, follows.1, keeps_cut held rest lines cut left ∙ follows.2)
 
     left_at : (held rest : List ℕ) (before after taken : ℕ) (now old mid new : Option (List ℕ)) → Leaves s held rest before after mid new → Stands s bytes held before taken now old mid → Stands s bytes rest after taken now old new
     left_at held rest before after taken now old mid new leaves stands =
@@ -190,6 +188,17 @@ module _ (s : Scene) where
     ended_at rest lines taken now old new none short end stands =
         let is = ended_of rest taken stands.acc now none short end stands.follows in
         (ap (λ (r : Recorded). r.refused) (sym is) ∙ stands.good, subst (λ (r : Recorded). Appends old new r.text) is stands.text)
+
+    -- what was passed over there, of so many bytes
+    rest_of : (rest : List ℕ) (taken : ℕ) (acc : Recorded) (now : Option (List ℕ)) → HasNoFeed rest → IsAtEnd now → Follows s bytes rest taken acc now → (nat_lt 0 (length rest) ≡ is_torn bytes) × (nat_eq taken 0 ≡ is_empty bytes)
+    rest_of rest taken acc None none end follows = absurd follows
+    rest_of rest taken acc (Some left) none end follows =
+        let no_more = ap length end in
+        let all : taken ≡ length bytes = omega (arith, no_more, follows.1) in
+        (sym (at_end rest none) ∙ ap (λ (t : List ℕ). is_torn (rest ++ t)) (sym end) ∙ follows.2, ap (λ (n : ℕ). nat_eq n 0) all)
+
+    pub rest_at : (rest : List ℕ) (lines taken : ℕ) (now old new : Option (List ℕ)) → HasNoFeed rest → IsAtEnd now → Stands s bytes rest lines taken now old new → (nat_lt 0 (length rest) ≡ is_torn bytes) × (nat_eq taken 0 ≡ is_empty bytes)
+    rest_at rest lines taken now old new none end stands = rest_of rest taken stands.acc now none end stands.follows
 
     -- ---- a line that is no context
 

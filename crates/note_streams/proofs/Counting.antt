@@ -1,18 +1,22 @@
 -- Lines that are tallied one after another.
-use Rattle.std.proofs.Common.{◌≡◌, ◌≢◌, ◌<◌, ◌≤◌, ◌⊎◌, ◌+◌, ◌-◌, ℕ, nat_lt, Bool, true, false, if◌then◌else◌, List, [], ◌∷◌, ◌++◌, length, Option, Some, None, IfSome, Result, Ok, Err, append-nil, append_assoc, length-append, refl, sym, ap, ◌∙◌, subst, inl, inr, arith}
+use Rattle.std.proofs.Common.{◌≡◌, ◌≢◌, ◌<◌, ◌≤◌, ◌⊎◌, ◌+◌, ◌-◌, ℕ, nat_eq, nat_lt, Bool, true, false, if◌then◌else◌, List, [], ◌∷◌, ◌++◌, length, Option, Some, None, IfSome, Result, Ok, Err, append-nil, append_assoc, length-append, refl, sym, ap, ◌∙◌, subst, inl, inr, arith}
 use Rattle.std.proofs.lemmas.Bool.{le-ltb, lt-ltb}
 use Rattle.std.specs.Io.KnownBytes.{IsAtEnd}
 use Rattle.line_batches.proofs.Cutting.{begins, line_first, no_line, some_part}
 use Rattle.line_batches.specs.Fill.{Grows}
 use Rattle.line_batches.specs.Lines.{HasNoFeed, IsFirst, parts_of}
-use Rattle.line_tally.specs.Lines.{Tallied, untallied}
+use Rattle.line_tally.specs.Law.{inputs_of}
+use Rattle.line_tally.specs.Lines.{Tallied, finished, untallied}
+use Rattle.tally_core.specs.Law.{TalliesInAnyOrder}
 use Rattle.record_lines.specs.Record.{most_line}
 use Rattle.tally_filters.specs.Filter.{Filtered, RefusesLine, StreamIsTallied, Takes, TakesAll}
 use Rattle.tally_filters.specs.declared.fault.FilterFault.{FilterFault}
 use Rattle.tally_filters.specs.declared.fault.FilterFault.TheVariants.{Line, WantOfMemory}
-use Rattle.note_streams.specs.Batch.{Goes, GoesOn}
-use Rattle.note_streams.specs.Law.{StreamIsOfItsLines, lines_in}
+use Rattle.note_streams.specs.Batch.{Goes, GoesOn, KeepsRest}
+use Rattle.note_streams.specs.Law.{StreamIsOfItsInputs, StreamIsOfItsLines, lines_in}
+use Rattle.note_streams.specs.Rest.{has_rest, is_empty, is_torn}
 use Rattle.note_streams.specs.Tallied.{RefusesNext, TakesNext, Tallies, behind}
+use Rattle.note_streams.proofs.Behind.{at_end, behind_one}
 
 abbrev Next : Tallied → ℕ → List ℕ → List (List ℕ) → Result Tallied FilterFault → Type 0
 Next t n line parts r = ((new : Tallied) × TakesNext t line new × Tallies new (n + 1) parts r) ⊎ ((fault : FilterFault) × RefusesNext t n line fault × (r ≡ Err fault))
@@ -22,7 +26,7 @@ next_line t n line [] r some next = absurd (some refl)
 next_line t n line (part ∷ parts) r some next = next
 
 -- the first line of some bytes, and what follows
-first_parts : (bytes line rest : List ℕ) (first : IsFirst bytes line rest) (more : List ℕ) → parts_of (bytes ++ more) ≡ first.text ∷ parts_of (rest ++ more)
+pub first_parts : (bytes line rest : List ℕ) (first : IsFirst bytes line rest) (more : List ℕ) → parts_of (bytes ++ more) ≡ first.text ∷ parts_of (rest ++ more)
 first_parts bytes line rest first more =
     ap (λ (t : List ℕ). parts_of (t ++ more)) first.whole ∙ ap parts_of (append_assoc first.text (10 ∷ rest) more) ∙ line_first first.text (rest ++ more) first.none
 
@@ -39,6 +43,10 @@ module _ (bytes line rest : List ℕ) (first : IsFirst bytes line rest) where
       let low : nat_lt most_line (length first.text) ≡ false = le-ltb most_line (length first.text) (omega (arith, short, text_length)) in
       at_line old.tally old.lines more r
       (inl (new.tally, (low, subst (λ (l : List ℕ). Takes old.tally l new.tally) first.ended takes), subst (λ (n : ℕ). Tallies new.tally n (parts_of (rest ++ more)) r) number later))
+
+  -- what stands behind the lines stands behind the others
+  pub keeps_line : KeepsRest bytes rest
+  keeps_line = λ more. sym (ap has_rest (first_parts bytes line rest first more) ∙ behind_one first.text (parts_of (rest ++ more)) (some_part (rest ++ more)))
 
   -- a line that is refused
   pub stops_line : (old new : Filtered) (fault : FilterFault) → length line ≤ most_line + 1 → RefusesLine old line fault new → (more : List ℕ) → Tallies old.tally old.lines (parts_of (bytes ++ more)) (Err fault)
@@ -91,7 +99,7 @@ Known start held taken f known now = IfSome known (λ bytes. GoesOn start bytes 
 module _ (start : Tallied) where
   pub begun : (f : Filtered) (known : Option (List ℕ)) → f ≡ behind start 0 → Known start [] 0 f known known
   begun f None is = tt
-  begun f (Some bytes) is = (λ r all. subst (λ (x : Filtered). Tallies x.tally x.lines (parts_of bytes) r) is all, omega arith)
+  begun f (Some bytes) is = (λ r all. subst (λ (x : Filtered). Tallies x.tally x.lines (parts_of bytes) r) is all, omega arith, refl)
 
   grown_at : (bytes held after : List ℕ) (taken : ℕ) (f : Filtered) (now next : Option (List ℕ)) (grows : Grows now next held after) → GoesOn start bytes held taken f now → GoesOn start bytes after (taken + (length after - length held)) f next
   grown_at bytes held after taken f None next grows goes = absurd goes
@@ -100,19 +108,19 @@ module _ (start : Tallied) where
       let all : after ++ more ≡ held ++ left = ap (λ (t : List ℕ). t ++ more) grows.batch ∙ append_assoc held grows.added more ∙ ap (λ (t : List ℕ). held ++ t) (sym grows.stream) in
       let a : length after ≡ length held + length grows.added = ap length grows.batch ∙ length-append held grows.added in
       let b : length left ≡ length grows.added + length more = ap length grows.stream ∙ length-append grows.added more in
-      (λ r is. goes.0 r (subst (λ (t : List ℕ). Tallies f.tally f.lines (parts_of t) r) all is), omega (arith, a, b, goes.1))
+      (λ r is. goes.0 r (subst (λ (t : List ℕ). Tallies f.tally f.lines (parts_of t) r) all is), omega (arith, a, b, goes.1), ap is_torn all ∙ goes.2)
 
   pub grown : (held after : List ℕ) (taken : ℕ) (f : Filtered) (known now next : Option (List ℕ)) → Grows now next held after → Known start held taken f known now → Known start after (taken + (length after - length held)) f known next
   grown held after taken f None now next grows goes = tt
   grown held after taken f (Some bytes) now next grows goes = grown_at bytes held after taken f now next grows goes
 
-  left_at : (bytes held rest : List ℕ) (taken : ℕ) (old new : Filtered) (now : Option (List ℕ)) → Goes old held new rest → GoesOn start bytes held taken old now → GoesOn start bytes rest taken new now
-  left_at bytes held rest taken old new None goes on = absurd on
-  left_at bytes held rest taken old new (Some left) goes on = (λ r is. on.0 r (goes left r is), on.1)
+  left_at : (bytes held rest : List ℕ) (taken : ℕ) (old new : Filtered) (now : Option (List ℕ)) → Goes old held new rest → KeepsRest held rest → GoesOn start bytes held taken old now → GoesOn start bytes rest taken new now
+  left_at bytes held rest taken old new None goes keeps on = absurd on
+  left_at bytes held rest taken old new (Some left) goes keeps on = (λ r is. on.0 r (goes left r is), on.1, keeps left ∙ on.2)
 
-  pub left_so : (held rest : List ℕ) (taken : ℕ) (old new : Filtered) (known now : Option (List ℕ)) → Goes old held new rest → Known start held taken old known now → Known start rest taken new known now
-  left_so held rest taken old new None now goes on = tt
-  left_so held rest taken old new (Some bytes) now goes on = left_at bytes held rest taken old new now goes on
+  pub left_so : (held rest : List ℕ) (taken : ℕ) (old new : Filtered) (known now : Option (List ℕ)) → Goes old held new rest → KeepsRest held rest → Known start held taken old known now → Known start rest taken new known now
+  left_so held rest taken old new None now goes keeps on = tt
+  left_so held rest taken old new (Some bytes) now goes keeps on = left_at bytes held rest taken old new now goes keeps on
 
   stopped_at : (bytes held : List ℕ) (taken : ℕ) (f : Filtered) (now : Option (List ℕ)) (fault : FilterFault) → ((more : List ℕ) → Tallies f.tally f.lines (parts_of (held ++ more)) (Err fault)) → GoesOn start bytes held taken f now → Tallies start 0 (parts_of bytes) (Err fault)
   stopped_at bytes held taken f None fault stops on = absurd on
@@ -130,6 +138,18 @@ module _ (start : Tallied) where
   pub ended : (rest : List ℕ) (taken : ℕ) (f : Filtered) (known now : Option (List ℕ)) → HasNoFeed rest → length rest ≤ most_line → IsAtEnd now → Known start rest taken f known now → IfSome known (λ bytes. Tallies start 0 (parts_of bytes) (Ok f.tally))
   ended rest taken f None now none short end on = tt
   ended rest taken f (Some bytes) now none short end on = ended_at bytes rest taken f now none short end on
+
+  -- what was passed over there, of so many bytes
+  rest_at : (bytes rest : List ℕ) (taken : ℕ) (f : Filtered) (now : Option (List ℕ)) → HasNoFeed rest → IsAtEnd now → GoesOn start bytes rest taken f now → (nat_lt 0 (length rest) ≡ is_torn bytes) × (nat_eq taken 0 ≡ is_empty bytes)
+  rest_at bytes rest taken f None none end on = absurd on
+  rest_at bytes rest taken f (Some left) none end on =
+      let no_more = ap length end in
+      let all : taken ≡ length bytes = omega (arith, no_more, on.1) in
+      (sym (at_end rest none) ∙ ap (λ (t : List ℕ). is_torn (rest ++ t)) (sym end) ∙ on.2, ap (λ (n : ℕ). nat_eq n 0) all)
+
+  pub rest_so : (rest : List ℕ) (taken : ℕ) (f : Filtered) (known now : Option (List ℕ)) → HasNoFeed rest → IsAtEnd now → Known start rest taken f known now → IfSome known (λ bytes. (nat_lt 0 (length rest) ≡ is_torn bytes) × (nat_eq taken 0 ≡ is_empty bytes))
+  rest_so rest taken f None now none end on = tt
+  rest_so rest taken f (Some bytes) now none end on = rest_at bytes rest taken f now none end on
 
   long_at : (bytes held : List ℕ) (taken : ℕ) (f : Filtered) (now : Option (List ℕ)) → GoesOn start bytes held taken f now → taken ≤ length bytes
   long_at bytes held taken f None on = absurd on
@@ -160,3 +180,8 @@ takes_all t n (line ∷ next ∷ parts) last (inr refused) = absurd (no_fault la
 
 pub of_lines : StreamIsTallied → StreamIsOfItsLines
 of_lines law page total bytes last some tallies = law page total (lines_in (parts_of bytes)) last some (takes_all (untallied page total) 0 (parts_of bytes) last tallies)
+
+pub of_inputs : StreamIsTallied → TalliesInAnyOrder → StreamIsOfItsInputs
+of_inputs law any page total bytes last some tallies =
+    let is = of_lines law page total bytes last some tallies in
+    (is.0, is.1, λ inputs same. any (finished last) (inputs_of page is.0) inputs is.2.tally.tally same)

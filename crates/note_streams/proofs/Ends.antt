@@ -1,5 +1,5 @@
 -- How the tally of a stream ends, by how each of its parts ends.
-use Rattle.std.proofs.Common.{◌≡◌, ◌≤◌, ◌<◌, ◌+◌, ◌-◌, ℕ, Bool, true, List, length, Option, Some, None, IfSome, Result, Ok, Err, refl, arith}
+use Rattle.std.proofs.Common.{◌≡◌, ◌≤◌, ◌<◌, ◌+◌, ◌-◌, ℕ, nat_eq, nat_lt, Bool, true, List, length, Option, Some, None, IfSome, Result, Ok, Err, refl, ◌∙◌, arith}
 use Rattle.std.specs.Io.KnownBytes.{IsAtEnd}
 use Rattle.line_batches.specs.Fill.{Grows}
 use Rattle.line_batches.specs.Lines.{HasNoFeed, parts_of}
@@ -7,17 +7,17 @@ use Rattle.line_batches.specs.declared.filling.FillFault.{FillFault}
 use Rattle.line_batches.specs.declared.filling.FillFault.TheVariants as fill
 use Rattle.line_tally.specs.Lines.{Tallied, finished}
 use Rattle.record_lines.specs.Record.{most_line}
-use Rattle.tally_core.specs.Tally.{PageTally}
 use Rattle.tally_filters.specs.Filter.{Filtered}
 use Rattle.tally_filters.specs.declared.fault.FilterFault.TheVariants.{WantOfMemory}
 use Rattle.note_streams.specs.Batch.{LeavesLines, TalliesBatch}
 use Rattle.note_streams.specs.Recorded.{most_bytes}
+use Rattle.note_streams.specs.Rest.{is_empty, is_torn}
 use Rattle.note_streams.specs.Stop.{tallied_fill}
 use Rattle.note_streams.specs.Tallied.{Tallies, TalliesStream}
 use Rattle.note_streams.specs.declared.stop.TallyStop.{TallyStop}
 use Rattle.note_streams.specs.declared.stop.TallyStop.TheVariants.{Filter, Unreadable, TooLong}
 use Rattle.note_streams.specs.declared.tallying.StreamTally.{StreamTally}
-use Rattle.note_streams.proofs.Counting.{Known, grown, left_so, stopped, long}
+use Rattle.note_streams.proofs.Counting.{Known, grown, left_so, long, rest_so, stopped}
 use Rattle.note_streams.proofs.Counting.{ended as ended_so}
 
 module _ (start : Tallied) (is_cut : Bool) where
@@ -47,19 +47,18 @@ module _ (start : Tallied) (is_cut : Bool) where
   pub next_batch : (known : Option (List ℕ)) (held after rest : List ℕ) (taken : ℕ) (old new : Filtered) (now next : Option (List ℕ)) → Grows now next held after → LeavesLines after rest old new → Known start held taken old known now
       → Known start rest (taken + (length after - length held)) new known next
   next_batch known held after rest taken old new now next grows leaves goes =
-      left_so start after rest (taken + (length after - length held)) old new known next leaves.goes (grown start held after taken old known now next grows goes)
+      left_so start after rest (taken + (length after - length held)) old new known next leaves.goes leaves.keeps (grown start held after taken old known now next grows goes)
 
-  -- the tally of all lines, where the bytes are known
-  abbrev pub IsTallied : Option (List ℕ) → PageTally → Type 0
-  IsTallied known t = IfSome known (λ bytes. (last : Tallied) × Tallies start 0 (parts_of bytes) (Ok last) × (t ≡ finished last))
-
-  tallied_at : (known : Option (List ℕ)) (f : Filtered) (t : PageTally) → t ≡ finished f.tally → IfSome known (λ bytes. Tallies start 0 (parts_of bytes) (Ok f.tally)) → IsTallied known t
-  tallied_at None f t is tallies = tt
-  tallied_at (Some bytes) f t is tallies = (f.tally, tallies, is)
+  tallied_at : (known : Option (List ℕ)) (f : Filtered) (t : StreamTally) (torn empty : Bool) → t.tally ≡ finished f.tally → t.torn ≡ torn → t.empty ≡ empty → IfSome known (λ bytes. Tallies start 0 (parts_of bytes) (Ok f.tally)) → IfSome known (λ bytes. (torn ≡ is_torn bytes) × (empty ≡ is_empty bytes))
+      → Comes known (Ok t)
+  tallied_at None f t torn empty is one other tallies rest = tt
+  tallied_at (Some bytes) f t torn empty is one other tallies rest = (f.tally, tallies, is, one ∙ rest.0, other ∙ rest.1)
 
   -- the stream ended
-  pub ended : (known : Option (List ℕ)) (rest : List ℕ) (taken : ℕ) (f : Filtered) (now : Option (List ℕ)) (t : PageTally) → HasNoFeed rest → length rest ≤ most_line → IsAtEnd now → t ≡ finished f.tally → Known start rest taken f known now → IsTallied known t
-  ended known rest taken f now t none short end is goes = tallied_at known f t is (ended_so start rest taken f known now none short end goes)
+  pub ended : (known : Option (List ℕ)) (rest : List ℕ) (taken : ℕ) (f : Filtered) (now : Option (List ℕ)) (t : StreamTally) → HasNoFeed rest → length rest ≤ most_line → IsAtEnd now → t.tally ≡ finished f.tally → t.torn ≡ nat_lt 0 (length rest) → t.empty ≡ nat_eq taken 0
+      → Known start rest taken f known now → Comes known (Ok t)
+  ended known rest taken f now t none short end is torn empty goes =
+      tallied_at known f t (nat_lt 0 (length rest)) (nat_eq taken 0) is torn empty (ended_so start rest taken f known now none short end goes) (rest_so start rest taken f known now none end goes)
 
   long_at : (known : Option (List ℕ)) (taken : ℕ) → most_bytes < taken → IfSome known (λ bytes. taken ≤ length bytes) → Comes known (Err TooLong)
   long_at None taken more within = tt

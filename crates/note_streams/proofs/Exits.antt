@@ -1,5 +1,5 @@
 -- How the recording of a stream ends, by how each of its parts ends.
-use Rattle.std.proofs.Common.{◌≡◌, ◌≤◌, ◌<◌, ◌+◌, ◌-◌, ℕ, Bool, true, false, List, [], length, Option, IfSome, Result, Err, refl, sym, subst, arith}
+use Rattle.std.proofs.Common.{◌≡◌, ◌≤◌, ◌<◌, ◌+◌, ◌-◌, ℕ, Bool, true, false, List, [], length, Option, IfSome, Result, Err, nat_eq, nat_lt, refl, sym, ◌∙◌, subst, arith}
 use Rattle.std.specs.Io.KnownBytes.{Appends, IsAtEnd}
 use Rattle.flag_text.specs.Outlet.{AppendsPart}
 use Rattle.line_batches.specs.Fill.{Grows}
@@ -8,12 +8,12 @@ use Rattle.line_batches.specs.declared.filling.FillFault.{FillFault}
 use Rattle.line_batches.specs.declared.filling.FillFault.TheVariants as fill
 use Rattle.record_lines.specs.Record.{Scene, most_line}
 use Rattle.note_streams.specs.Batch.{Leaves, RecordsBatch, Stands}
-use Rattle.note_streams.specs.Recorded.{RecordsStream, most_bytes, recorded_of}
+use Rattle.note_streams.specs.Recorded.{RecordsStream, TellsOf, most_bytes, recorded_of}
 use Rattle.note_streams.specs.Stop.{is_output_fault, of_fill}
 use Rattle.note_streams.specs.declared.recording.Counted.{Counted}
 use Rattle.note_streams.specs.declared.stop.RecordStop.{RecordStop}
 use Rattle.note_streams.specs.declared.stop.RecordStop.TheVariants.{WantOfMemory, Line, Unreadable, TooLong, Broken}
-use Rattle.note_streams.proofs.Batches.{Known, all_at, begun, cut_at, ended_at, front_at, grown, left_so, stopped_at, when_known}
+use Rattle.note_streams.proofs.Batches.{Known, all_at, begun, cut_at, ended_at, front_at, grown, left_so, rest_at, stopped_at, when_known}
 
 -- a batch that is not filled is no fault of the output
 pub no_output_fault : (fault : FillFault) → is_output_fault {X = Counted} (Err (of_fill fault)) ≡ false
@@ -71,6 +71,12 @@ module _ (s : Scene) (is_cut : Bool) where
     ended rest lines taken now new none short end known =
         when_known s (λ bytes. ((recorded_of s bytes).refused ≡ false) × Appends old new (recorded_of s bytes).text) rest lines taken start now old new known
         (λ bytes stands. ended_at s bytes rest lines taken now old new none short end stands)
+
+    -- what a person is told then
+    pub told : (rest : List ℕ) (lines taken : ℕ) (now new : Option (List ℕ)) (c : Counted) → HasNoFeed rest → IsAtEnd now → c.torn ≡ nat_lt 0 (length rest) → c.empty ≡ nat_eq taken 0 → Known s rest lines taken start now old new → IfSome start (λ bytes. TellsOf bytes c)
+    told rest lines taken now new c none end torn empty known =
+        when_known s (λ bytes. TellsOf bytes c) rest lines taken start now old new known
+        (λ bytes stands. (let behind = rest_at s bytes rest lines taken now old new none end stands in (torn ∙ behind.0, empty ∙ behind.1)))
 
     -- the stream is too long
     pub too_long : (held : List ℕ) (lines taken : ℕ) (now new : Option (List ℕ)) → most_bytes < taken → Known s held lines taken start now old new → Comes start old new (Err TooLong)

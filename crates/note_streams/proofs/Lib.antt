@@ -1,4 +1,5 @@
 pub mod Batches
+mod Behind
 pub mod Counting
 pub mod Crossings
 pub mod Ends

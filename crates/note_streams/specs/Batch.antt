@@ -10,6 +10,7 @@ use Rattle.tally_filters.specs.Filter.{Filtered}
 use Rattle.tally_filters.specs.declared.fault.FilterFault.{FilterFault}
 use Rattle.tally_filters.specs.declared.fault.FilterFault.TheVariants as filter
 use Rattle.note_streams.specs.Recorded.{recorded_of}
+use Rattle.note_streams.specs.Rest.{is_torn}
 use Rattle.note_streams.specs.Tallied.{Tallies}
 use Rattle.note_streams.specs.declared.stop.RecordStop.{RecordStop}
 use Rattle.note_streams.specs.declared.stop.RecordStop.TheVariants.{WantOfMemory, Line, Unreadable, TooLong, Broken}
@@ -56,7 +57,7 @@ RecordsBatch s bytes before after old new (Err WantOfMemory) = new ≡ old
 -- the bytes that are left of a stream of known bytes, behind those of which so much is recorded
 abbrev pub Follows : Scene → List ℕ → List ℕ → ℕ → Recorded → Option (List ℕ) → Type 0
 Follows s bytes held taken acc None = ⊥
-Follows s bytes held taken acc (Some left) = (joined acc (recorded_of s (held ++ left)) ≡ recorded_of s bytes) × (taken + length left ≡ length bytes)
+Follows s bytes held taken acc (Some left) = (joined acc (recorded_of s (held ++ left)) ≡ recorded_of s bytes) × (taken + length left ≡ length bytes) × (is_torn (held ++ left) ≡ is_torn bytes)
 
 -- so much is recorded and written of a stream of known bytes, of which these are held
 pub record Stands (s : Scene) (bytes held : List ℕ) (lines taken : ℕ) (now old new : Option (List ℕ)) : Type 0 where
@@ -72,11 +73,16 @@ pub record Stands (s : Scene) (bytes held : List ℕ) (lines taken : ℕ) (now o
 abbrev pub Goes : Filtered → List ℕ → Filtered → List ℕ → Type 0
 Goes old bytes new rest = (more : List ℕ) (r : Result Tallied FilterFault) → Tallies new.tally new.lines (parts_of (rest ++ more)) r → Tallies old.tally old.lines (parts_of (bytes ++ more)) r
 
+-- what stands behind the last line of the rest stands behind that of all, whatever follows
+abbrev pub KeepsRest : List ℕ → List ℕ → Type 0
+KeepsRest bytes rest = (more : List ℕ) → is_torn (rest ++ more) ≡ is_torn (bytes ++ more)
+
 pub record LeavesLines (bytes rest : List ℕ) (old new : Filtered) : Type 0 where
   pub none : HasNoFeed rest
   pub short : length rest ≤ most_line
   pub few : new.lines + length rest ≤ old.lines + length bytes
   pub goes : Goes old bytes new rest
+  pub keeps : KeepsRest bytes rest
 
 abbrev pub TalliesBatch : List ℕ → Filtered → Filtered → Result (Bor (List ℕ)) TallyStop → Type 0
 TalliesBatch bytes old new (Ok rest) = LeavesLines bytes rest.now old new
@@ -88,4 +94,4 @@ TalliesBatch bytes old new (Err tally.TooLong) = ⊥
 abbrev pub GoesOn : Tallied → List ℕ → List ℕ → ℕ → Filtered → Option (List ℕ) → Type 0
 GoesOn start bytes held taken f None = ⊥
 GoesOn start bytes held taken f (Some left) =
-    ((r : Result Tallied FilterFault) → Tallies f.tally f.lines (parts_of (held ++ left)) r → Tallies start 0 (parts_of bytes) r) × (taken + length left ≡ length bytes)
+    ((r : Result Tallied FilterFault) → Tallies f.tally f.lines (parts_of (held ++ left)) r → Tallies start 0 (parts_of bytes) r) × (taken + length left ≡ length bytes) × (is_torn (held ++ left) ≡ is_torn bytes)

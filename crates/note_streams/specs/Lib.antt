@@ -7,6 +7,7 @@ pub use Rattle.tally_filters.specs.Filter
 pub mod Batch
 pub mod Law
 pub mod Recorded
+pub mod Rest
 pub mod Runs
 pub mod Stop
 pub mod Tallied

@@ -4,6 +4,7 @@ use Rattle.std.specs.Io.KnownBytes.{Appends}
 use Rattle.flag_text.specs.Outlet.{AppendsPart}
 use Rattle.line_batches.specs.Lines.{parts_of}
 use Rattle.record_lines.specs.Record.{Recorded, Scene, joined, most_line, nothing, of_line, refused}
+use Rattle.note_streams.specs.Rest.{is_empty, is_torn}
 use Rattle.note_streams.specs.declared.recording.Counted.{Counted}
 use Rattle.note_streams.specs.declared.stop.RecordStop.{RecordStop}
 use Rattle.note_streams.specs.declared.stop.RecordStop.TheVariants.{WantOfMemory, Line, Unreadable, TooLong, Broken}
@@ -34,3 +35,7 @@ RecordsStream r size is_cut old new (Err Unreadable) = (is_cut ≡ true) × Appe
 RecordsStream r size is_cut old new (Err TooLong) = (most_bytes < size) × AppendsPart old new r.text
 RecordsStream r size is_cut old new (Err Broken) = AppendsPart old new r.text
 RecordsStream r size is_cut old new (Err WantOfMemory) = AppendsPart old new r.text
+
+-- what a person is told beside it: that the last line of these bytes has no end, and that there are none
+abbrev pub TellsOf : List ℕ → Counted → Type 0
+TellsOf bytes c = (c.torn ≡ is_torn bytes) × (c.empty ≡ is_empty bytes)

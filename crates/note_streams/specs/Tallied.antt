@@ -7,6 +7,7 @@ use Rattle.tally_filters.specs.Filter.{Filtered, RefusesLine, Takes}
 use Rattle.tally_filters.specs.declared.fault.FilterFault.{FilterFault}
 use Rattle.tally_filters.specs.declared.fault.FilterFault.TheVariants as filter
 use Rattle.note_streams.specs.Recorded.{most_bytes}
+use Rattle.note_streams.specs.Rest.{is_empty, is_torn}
 use Rattle.note_streams.specs.declared.stop.TallyStop.{TallyStop}
 use Rattle.note_streams.specs.declared.stop.TallyStop.TheVariants.{Filter, Unreadable, TooLong}
 use Rattle.note_streams.specs.declared.tallying.StreamTally.{StreamTally}
@@ -33,9 +34,9 @@ Tallies t n (line ∷ next ∷ parts) r =
     ((new : Tallied) × TakesNext t line new × Tallies new (n + 1) (next ∷ parts) r)
     ⊎ ((fault : FilterFault) × RefusesNext t n line fault × (r ≡ Err fault))
 
--- The tally of a stream of these bytes, from this one on, or why there is none.
+-- The tally of a stream of these bytes, from this one on, and what of it is passed over; or why there is none.
 abbrev pub TalliesStream : Tallied → List ℕ → Bool → Result StreamTally TallyStop → Type 0
-TalliesStream start bytes is_cut (Ok t) = (last : Tallied) × Tallies start 0 (parts_of bytes) (Ok last) × (t.tally ≡ finished last)
+TalliesStream start bytes is_cut (Ok t) = (last : Tallied) × Tallies start 0 (parts_of bytes) (Ok last) × (t.tally ≡ finished last) × (t.torn ≡ is_torn bytes) × (t.empty ≡ is_empty bytes)
 TalliesStream start bytes is_cut (Err (Filter fault)) = fault ≢ filter.WantOfMemory → Tallies start 0 (parts_of bytes) (Err fault)
 TalliesStream start bytes is_cut (Err Unreadable) = is_cut ≡ true
 TalliesStream start bytes is_cut (Err TooLong) = most_bytes < length bytes

@@ -1,6 +1,7 @@
 //! What the definitions amount to.
-ghost use Rattle.note_streams.specs.Law.{StreamIsOfItsLines};
+ghost use Rattle.note_streams.specs.Law.{StreamIsOfItsInputs, StreamIsOfItsLines};
 
+use tally_core::a_tally_is_in_any_order;
 use tally_filters::a_stream_is_tallied;
 
 /// Where no line of a stream was refused, its note lines rise strictly, and what was tallied is the tally of the page's inputs
@@ -9,4 +10,12 @@ pub fn a_stream_is_of_its_lines()
     ensures { StreamIsOfItsLines }
 {
     a_stream_is_tallied();
+}
+
+/// What was tallied of a stream is the tally of its inputs in any order: of a book with these inputs.
+pub fn a_stream_is_of_its_inputs()
+    ensures { StreamIsOfItsInputs }
+{
+    a_stream_is_tallied();
+    a_tally_is_in_any_order();
 }

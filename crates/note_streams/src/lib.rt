@@ -15,7 +15,7 @@ mod runs;
 mod stop;
 mod tallying;
 
-pub use laws::a_stream_is_of_its_lines;
+pub use laws::{a_stream_is_of_its_inputs, a_stream_is_of_its_lines};
 pub use recording::{Counted, record_stream};
 pub use stop::{RecordStop, TallyStop};
 pub use tallying::{StreamTally, tally_stream};

@@ -1,8 +1,8 @@
 //! From a stream of contexts to note lines.
-ghost use Rattle.std.specs.Prelude.{◌≡◌, ◌<◌, ◌+◌, ◌^◌, length, false, IfSome};
+ghost use Rattle.std.specs.Prelude.{nat_eq, nat_lt, ◌≡◌, ◌<◌, ◌+◌, ◌^◌, length, false, IfOk, IfSome};
 ghost use Rattle.record_lines.specs.Scene.{scene_of};
 ghost use Rattle.note_streams.specs.Batch.{RecordsBatch};
-ghost use Rattle.note_streams.specs.Recorded.{RecordsStream, recorded_of};
+ghost use Rattle.note_streams.specs.Recorded.{RecordsStream, TellsOf, recorded_of};
 ghost use Rattle.note_streams.specs.Stop.{is_output_fault};
 
 use crate::runs::{record_runs, write_runs};
@@ -33,6 +33,8 @@ pub struct Counted {
     pub long: u64,
     /// Whether bytes stood behind the last line, which were passed over.
     pub torn: bool,
+    /// Whether the stream has no bytes.
+    pub empty: bool,
 }
 
 /// The lines of the batches so far, and the inputs that were not noted.
@@ -59,6 +61,7 @@ pub fn record_stream<R: Threads + Sync, I: Inlet, O: Outlet>(
     requires unbroken { I.is_broken input.old ≡ false }
     requires whole { O.is_broken out.old ≡ false }
     ensures exact { IfSome (I.bytes input.old) (λ bytes. RecordsStream (recorded_of (scene_of recorder.now) bytes) (length bytes) (I.is_broken input.new) (O.bytes out.old) (O.bytes out.new) result) }
+    ensures told { IfOk result (λ c. IfSome (I.bytes input.old) (λ bytes. TellsOf bytes c)) }
     ensures broken { O.is_broken out.new ≡ is_output_fault result }
 {
     let mut piece = vec![in alloc; 0u8; PIECE]?;
@@ -79,14 +82,23 @@ pub fn record_stream<R: Threads + Sync, I: Inlet, O: Outlet>(
             out,
         )?;
         if ended {
-            return Ok(Counted {
-                long: totals.long,
-                torn: !rest.is_empty(),
-            });
+            return Ok(passed_over(totals.long, rest, taken));
         }
         held = rest.to_vec(alloc)?;
     }
     Err(RecordStop::TooLong)
+}
+
+/// What a person is told of a stream of so many bytes, where these stand behind its last line.
+fn passed_over(long: u64, rest: &[u8], taken: u64) -> Counted
+    ensures torn { result.torn ≡ nat_lt 0 (length rest.now) }
+    ensures empty { result.empty ≡ nat_eq taken 0 }
+{
+    Counted {
+        long,
+        torn: !rest.is_empty(),
+        empty: taken == 0,
+    }
 }
 
 /// Writes the note lines of the lines that ended in a batch, and gives what stands behind them.

@@ -1,5 +1,5 @@
 //! From a stream of note lines to a tally.
-ghost use Rattle.std.specs.Prelude.{◌≡◌, ◌<◌, ◌+◌, ◌^◌, length, false, IfSome};
+ghost use Rattle.std.specs.Prelude.{nat_eq, nat_lt, ◌≡◌, ◌<◌, ◌+◌, ◌^◌, length, false, IfSome};
 ghost use Rattle.tally_core.specs.Tally.{IsTallyTotal};
 ghost use Rattle.line_tally.specs.Lines.{untallied};
 ghost use Rattle.note_streams.specs.Batch.{TalliesBatch};
@@ -20,6 +20,8 @@ pub struct StreamTally {
     pub tally: PageTally,
     /// Whether bytes stood behind the last line, which were passed over.
     pub torn: bool,
+    /// Whether the stream has no bytes.
+    pub empty: bool,
 }
 
 /// The tally of the lines of a stream that are of this page, in so many points. A last line without its end is passed over. The
@@ -47,15 +49,24 @@ pub fn tally_stream<I: Inlet>(
         taken += (held.len() - had) as u64;
         let rest = tally_batch(alloc, &mut filter, held.as_slice())?;
         if ended {
-            let torn = !rest.is_empty();
-            return Ok(StreamTally {
-                tally: filter.finish(),
-                torn,
-            });
+            return Ok(stream_tally(filter.finish(), rest, taken));
         }
         held = rest.to_vec(alloc)?;
     }
     Err(TallyStop::TooLong)
+}
+
+/// The tally of a stream of so many bytes, where these stand behind its last line.
+fn stream_tally(tally: PageTally, rest: &[u8], taken: u64) -> StreamTally
+    ensures tally { result.tally ≡ tally }
+    ensures torn { result.torn ≡ nat_lt 0 (length rest.now) }
+    ensures empty { result.empty ≡ nat_eq taken 0 }
+{
+    StreamTally {
+        tally,
+        torn: !rest.is_empty(),
+        empty: taken == 0,
+    }
 }
 
 /// Tallies the lines that ended in a batch, and gives what stands behind them.

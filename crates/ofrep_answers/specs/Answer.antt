@@ -23,7 +23,7 @@ use Rattle.ofrep_bodies.specs.Failure.{code_status}
 use Rattle.ofrep_contexts.specs.Context.{context_of}
 use Rattle.ofrep_contexts.specs.Way.{details_in}
 use Rattle.ofrep_contexts.specs.declared.fault.ContextFault.{ContextFault}
-use Rattle.ofrep_contexts.specs.declared.fault.ContextFault.TheVariants.{WantOfMemory, TooLarge, NotJson, BodyNotObject, NotObject, TooDeep, NotWhole}
+use Rattle.ofrep_contexts.specs.declared.fault.ContextFault.TheVariants.{WantOfMemory, TooLarge, NotJson, BodyNotObject, NotObject, TooDeep}
 use Rattle.ofrep_requests.specs.Request.{key_in, method_at, place_of}
 use Rattle.ofrep_requests.specs.declared.place.Place.{Place}
 use Rattle.ofrep_requests.specs.declared.place.Place.TheVariants.{OneFlag, EveryFlag, Health, Metrics, Nowhere}
@@ -82,7 +82,6 @@ fault_code NotJson = Some ParseError
 fault_code BodyNotObject = Some InvalidContext
 fault_code NotObject = Some InvalidContext
 fault_code TooDeep = Some InvalidContext
-fault_code NotWhole = Some InvalidContext
 
 abbrev pub failed : Option (List ℕ) → Option Code → List ℕ → Answered
 failed key None details = too_large

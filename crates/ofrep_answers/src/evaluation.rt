@@ -2,7 +2,7 @@
 ghost use Rattle.std.specs.Prelude.{◌≡◌, ◌<◌, ◌^◌, true, IfOk};
 ghost use Rattle.flag_defs.specs.Flags.{flags_view};
 ghost use Rattle.flag_resolve.specs.Views.{resolution_view};
-ghost use Rattle.flag_text.specs.Shape.{is_whole};
+ghost use Rattle.flag_text.specs.Shape.{is_tidy};
 ghost use Rattle.flag_text.specs.View.{view};
 ghost use Rattle.ofrep_answers.specs.Evaluation.{evaluation};
 
@@ -22,7 +22,7 @@ pub(crate) fn evaluate(
     context: &Tree,
     moment: u64,
 ) -> Result<Resolution, AllocError>
-    requires context { is_whole (view context.now) ≡ true }
+    requires context { is_tidy (view context.now) ≡ true }
     requires moment { moment < 2 ^ 53 }
     ensures { IfOk result (λ r. resolution_view r ≡ evaluation (flags_view flags.now) key.now (view context.now) moment) }
 {

@@ -2,7 +2,7 @@
 ghost use Rattle.std.specs.Prelude.{◌≡◌, ◌<◌, ◌≤◌, ◌++◌, ◌^◌, true, length, map, if◌then◌else◌, IfOk, OnOk, IsOk};
 ghost use Rattle.flag_defs.specs.Flags.{flags_view};
 ghost use Rattle.flag_resolve.specs.Views.{resolution_view};
-ghost use Rattle.flag_text.specs.Shape.{is_whole, items_are_whole};
+ghost use Rattle.flag_text.specs.Shape.{is_tidy, items_are_whole};
 ghost use Rattle.flag_text.specs.View.{view, items_view};
 ghost use Rattle.flag_text.specs.Printing.{text_of};
 ghost use Rattle.ofrep_answers.specs.Answer.{answer_view, body_view, json, nothing, reached_view, tagged};
@@ -63,7 +63,7 @@ fn told_flags(
     context: &Tree,
 ) -> Result<Evaluations, AllocError>
     requires moment { moment < 2 ^ 53 }
-    requires context { is_whole (view context.now) ≡ true }
+    requires context { is_tidy (view context.now) ≡ true }
     ensures bodies { IfOk result (λ t. map view t.bodies.items ≡ bodies (flags_view flags.now) (view context.now) moment (flags_view flags.now)) }
     ensures reached { IfOk result (λ t. map reached_view t.reached.items ≡ reached_in (flags_view flags.now) (view context.now) moment (flags_view flags.now)) }
 {

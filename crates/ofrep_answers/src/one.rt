@@ -1,7 +1,7 @@
 //! The answer to a request for one flag.
 ghost use Rattle.std.specs.Prelude.{◌≡◌, ◌<◌, ◌≢◌, ◌^◌, true, Some, IfOk, IsOk, option_copied, option_map};
 ghost use Rattle.flag_defs.specs.Flags.{flags_view};
-ghost use Rattle.flag_text.specs.Shape.{is_whole};
+ghost use Rattle.flag_text.specs.Shape.{is_tidy};
 ghost use Rattle.flag_text.specs.View.{view};
 ghost use Rattle.ofrep_answers.specs.Answer.{answer_view, failed, fault_code, one_told};
 ghost use Rattle.ofrep_answers.specs.Answer as spec;
@@ -64,7 +64,7 @@ fn one_told(
     context: &Tree,
 ) -> Result<Answer, AllocError>
     requires moment { moment < 2 ^ 53 }
-    requires context { is_whole (view context.now) ≡ true }
+    requires context { is_tidy (view context.now) ≡ true }
     ensures { IfOk result (λ a. answer_view a ≡ one_told key.now (evaluation (flags_view flags.now) key.now (view context.now) moment)) }
 {
     let resolution = evaluate(alloc, flags, key, context, moment)?;
@@ -118,6 +118,5 @@ fn fault_code(fault: ContextFault) -> Option<Code>
         ContextFault::BodyNotObject => Some(Code::InvalidContext),
         ContextFault::NotObject => Some(Code::InvalidContext),
         ContextFault::TooDeep => Some(Code::InvalidContext),
-        ContextFault::NotWhole => Some(Code::InvalidContext),
     }
 }

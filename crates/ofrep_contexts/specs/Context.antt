@@ -1,10 +1,10 @@
 -- The evaluation context that a request's body carries (OpenFeature Remote Evaluation Protocol: evaluationRequest; OpenFeature: evaluation context).
 use Rattle.std.specs.Prelude.{ℕ, List, [], ◌∷◌, codes, Option, Some, None, Result, Ok, Err}
 use Rattle.limits.specs.Limits.{text_bytes}
-use Rattle.flag_text.specs.Reading.{doc_of, if_whole}
 use Rattle.flag_text.specs.Readers.{find_member}
 use Rattle.flag_text.specs.Shape.{Shape, null, object, no_members}
 use Rattle.flag_text.specs.declared.fault.TextFault.{TextFault}
+use Rattle.sent_numbers.specs.Sent.{if_shallow, sent_of}
 use Rattle.ofrep_contexts.specs.Fault.{of_text}
 use Rattle.ofrep_contexts.specs.declared.fault.ContextFault.{ContextFault}
 use Rattle.ofrep_contexts.specs.declared.fault.ContextFault.TheVariants.{BodyNotObject, NotObject}
@@ -22,11 +22,11 @@ abbrev pub read_as : Result Shape TextFault → Result Shape ContextFault
 read_as (Ok t) = Ok t
 read_as (Err e) = Err (of_text e)
 
--- the member `context`: absent and null are the empty context, an object is a context with at most 120 levels and whole numbers alone
+-- the member `context`: absent and null are the empty context, an object is a context with at most 120 levels
 abbrev pub context_in : Option Shape → Result Shape ContextFault
 context_in None = Ok empty_context
 context_in (Some null) = Ok empty_context
-context_in (Some (object ms)) = read_as (if_whole (Ok (object ms)))
+context_in (Some (object ms)) = read_as (if_shallow (Ok (object ms)))
 context_in (Some t) = Err NotObject
 
 -- the context of a body that was read; its other members are passed over
@@ -38,4 +38,4 @@ body_context (Err e) = Err (of_text e)
 -- the context of a body: an empty one has the empty context
 abbrev pub context_of : List ℕ → Result Shape ContextFault
 context_of [] = Ok empty_context
-context_of (b ∷ bytes) = body_context (doc_of (b ∷ bytes) max_body)
+context_of (b ∷ bytes) = body_context (sent_of (b ∷ bytes) max_body)

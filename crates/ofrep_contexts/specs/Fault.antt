@@ -3,7 +3,7 @@ use Rattle.std.specs.Prelude.{ℕ, List, codes}
 use Rattle.flag_text.specs.declared.fault.TextFault.{TextFault}
 use Rattle.flag_text.specs.declared.fault.TextFault.TheVariants as text_fault
 use Rattle.ofrep_contexts.specs.declared.fault.ContextFault.{ContextFault}
-use Rattle.ofrep_contexts.specs.declared.fault.ContextFault.TheVariants.{WantOfMemory, TooLarge, NotJson, BodyNotObject, NotObject, TooDeep, NotWhole}
+use Rattle.ofrep_contexts.specs.declared.fault.ContextFault.TheVariants.{WantOfMemory, TooLarge, NotJson, BodyNotObject, NotObject, TooDeep}
 
 -- what is wrong, for people
 abbrev pub details_of : ContextFault → List ℕ
@@ -13,12 +13,11 @@ details_of NotJson = codes "the body is no JSON text"
 details_of BodyNotObject = codes "the body is no object"
 details_of NotObject = codes "`context` is no object"
 details_of TooDeep = codes "`context` has more than 120 levels"
-details_of NotWhole = codes "a number in `context` is not whole"
 
--- the same fault, of a text
+-- the same fault, of a text; none is refused for a number of it that is not whole
 abbrev pub of_text : TextFault → ContextFault
 of_text text_fault.WantOfMemory = WantOfMemory
 of_text text_fault.TooLarge = TooLarge
 of_text text_fault.NotJson = NotJson
 of_text text_fault.TooDeep = TooDeep
-of_text text_fault.NotWhole = NotWhole
+of_text text_fault.NotWhole = NotJson

@@ -1,11 +1,10 @@
 -- What holds of every body whose context is refused.
-use Rattle.std.specs.Prelude.{◌≡◌, ℕ, true, List, Err, Some, is_some}
-use Rattle.flag_text.specs.Reading.{doc_of}
+use Rattle.std.specs.Prelude.{◌≡◌, ℕ, true, List, Err, is_some}
 use Rattle.ofrep_contexts.specs.Context.{context_of, max_body}
-use Rattle.ofrep_contexts.specs.Way.{sought_of, way_of}
-use Rattle.ofrep_contexts.specs.declared.fault.ContextFault.{ContextFault}
-use Rattle.ofrep_contexts.specs.declared.sought.Sought.{Sought}
+use Rattle.ofrep_contexts.specs.Way.{way_of}
+use Rattle.ofrep_contexts.specs.declared.fault.ContextFault.TheVariants.{TooDeep}
+use Rattle.sent_numbers.specs.Sent.{sent_of}
 
--- A context that is refused for what stands at a place within it has a way to that place, which the details then name.
+-- A context that is refused for its levels has a way to the first place that is too deep, which the details then name.
 abbrev pub HasWays : Type 0
-HasWays = (body : List ℕ) (fault : ContextFault) (s : Sought) → context_of body ≡ Err fault → sought_of fault ≡ Some s → is_some (way_of s (doc_of body max_body)) ≡ true
+HasWays = (body : List ℕ) → context_of body ≡ Err TooDeep → is_some (way_of (sent_of body max_body)) ≡ true

@@ -3,26 +3,27 @@ ghost use Rattle.std.specs.Prelude.{◌≡◌, ◌<◌, ◌≤◌, ◌↔◌, tr
 ghost use Rattle.std.specs.Str.{is_utf8};
 ghost use Rattle.flag_text.specs.Outcome.{GivesUnless, seen_as};
 ghost use Rattle.flag_text.specs.Readers.{find_member};
-ghost use Rattle.flag_text.specs.Shape.{is_tidy, is_whole, members_are_tidy};
+ghost use Rattle.flag_text.specs.Shape.{is_tidy, members_are_tidy};
 ghost use Rattle.flag_text.specs.View.{view, members_view};
 ghost use Rattle.ofrep_contexts.specs.Context.{body_context, context_of, max_body};
 ghost use Rattle.ofrep_contexts.specs.Context as spec;
 
 use crate::fault::ContextFault;
-use flag_text::{Tree, position_of, read_doc, whole_tree};
+use flag_text::{Tree, position_of};
+use sent_numbers::{read_sent, shallow};
 use std::alloc::Global;
 
 /// The most bytes of a request's body.
 pub const MAX_BODY: usize = limits::TEXT_BYTES;
 
 /// The evaluation context that the body of a request carries: the object that is its member `context`. Where that is absent or
-/// null, or the body is empty, it is the empty object. The body's other members are passed over.
+/// null, or the body is empty, it is the empty object. The body's other members are passed over. A number whose value is whole and in
+/// range is that whole number however it is spelled; any other is `Tree::Other`, which is in nobody's way until it is read.
 ///
-/// Refusals, in this order: `TooLarge`, before anything is read; `NotJson`; `BodyNotObject`; `NotObject`; `TooDeep`;
-/// `NotWhole`. The first, the second of bytes that are not UTF-8, and the context of an empty body take no memory.
+/// Refusals, in this order: `TooLarge`, before anything is read; `NotJson`; `BodyNotObject`; `NotObject`; `TooDeep`. The first, the second of bytes that are not UTF-8, and the context of an empty body take no memory.
 pub fn read_context(alloc: Global, body: &[u8]) -> Result<Tree, ContextFault>
     ensures exact { GivesUnless ContextFault.WantOfMemory view result (context_of body.now) }
-    ensures whole { IfOk result (λ t. is_whole (view t) ≡ true) }
+    ensures tidy { IfOk result (λ t. is_tidy (view t) ≡ true) }
     ensures empty { length body.now ≡ 0 → IsOk result }
     ensures large { IsErrOf result ContextFault.TooLarge ↔ (max_body < length body.now) }
     ensures no_text { length body.now ≤ max_body → is_utf8 body.now ≡ false → IsErrOf result ContextFault.NotJson }
@@ -30,7 +31,7 @@ pub fn read_context(alloc: Global, body: &[u8]) -> Result<Tree, ContextFault>
     if body.is_empty() {
         return Ok(Tree::Object(Vec::new(alloc)));
     }
-    let tree = read_doc(alloc, body, MAX_BODY)?;
+    let tree = read_sent(alloc, body, MAX_BODY)?;
     body_context(alloc, tree)
 }
 
@@ -38,7 +39,7 @@ pub fn read_context(alloc: Global, body: &[u8]) -> Result<Tree, ContextFault>
 fn body_context(alloc: Global, body: Tree) -> Result<Tree, ContextFault>
     requires { is_tidy (view body) ≡ true }
     ensures exact { seen_as view result ≡ body_context (Ok (view body)) }
-    ensures whole { IfOk result (λ t. is_whole (view t) ≡ true) }
+    ensures tidy { IfOk result (λ t. is_tidy (view t) ≡ true) }
 {
     match body {
         Tree::Object(members) => context_in(alloc, member_named(members, "context")),
@@ -50,11 +51,11 @@ fn body_context(alloc: Global, body: Tree) -> Result<Tree, ContextFault>
 fn context_in(alloc: Global, context: Option<Tree>) -> Result<Tree, ContextFault>
     requires { IfSome context (λ t. is_tidy (view t) ≡ true) }
     ensures exact { seen_as view result ≡ spec.context_in (option_map view context) }
-    ensures whole { IfOk result (λ t. is_whole (view t) ≡ true) }
+    ensures tidy { IfOk result (λ t. is_tidy (view t) ≡ true) }
 {
     match context {
         None | Some(Tree::Null) => Ok(Tree::Object(Vec::new(alloc))),
-        Some(Tree::Object(members)) => Ok(whole_tree(Tree::Object(members))?),
+        Some(Tree::Object(members)) => Ok(shallow(Tree::Object(members))?),
         Some(_) => Err(ContextFault::NotObject),
     }
 }

@@ -28,9 +28,6 @@ pub enum ContextFault {
     /// The context has more than 120 levels.
     #[error("`context` has more than 120 levels")]
     TooDeep,
-    /// A number in the context is not whole.
-    #[error("a number in `context` is not whole")]
-    NotWhole,
 }
 
 impl ContextFault {
@@ -47,7 +44,6 @@ impl ContextFault {
             ContextFault::BodyNotObject => "the body is no object",
             ContextFault::NotObject => "`context` is no object",
             ContextFault::TooDeep => "`context` has more than 120 levels",
-            ContextFault::NotWhole => "a number in `context` is not whole",
         }
     }
 }
@@ -67,9 +63,9 @@ impl From<TextFault> for ContextFault {
         match fault {
             TextFault::WantOfMemory => ContextFault::WantOfMemory,
             TextFault::TooLarge => ContextFault::TooLarge,
-            TextFault::NotJson => ContextFault::NotJson,
+            // (no text is refused for a number of it that is not whole)
+            TextFault::NotJson | TextFault::NotWhole => ContextFault::NotJson,
             TextFault::TooDeep => ContextFault::TooDeep,
-            TextFault::NotWhole => ContextFault::NotWhole,
         }
     }
 }

@@ -1,8 +1,7 @@
 //! What the definitions amount to.
 ghost use Rattle.ofrep_contexts.specs.Law.{HasWays};
 
-/// The details of a context that is refused for a number that is not whole, or for its levels, name the way to the first such
-/// place.
+/// The details of a context that is refused for its levels name the way to the first place that is too deep.
 pub fn refused_contexts_have_ways()
     ensures ways { HasWays }
 {}

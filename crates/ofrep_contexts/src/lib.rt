@@ -10,7 +10,6 @@ mod context;
 mod details;
 mod fault;
 mod laws;
-mod sought;
 mod way;
 
 pub use context::{MAX_BODY, read_context};

@@ -1,9 +1,8 @@
-//! The way to what is wrong in a context.
+//! The way to what nests too deep in a context.
 ghost use Rattle.std.specs.Prelude.{◌≡◌, ◌++◌, codes, IfOk, option_map, string_bytes};
 ghost use Rattle.flag_text.specs.View.{view, items_view, members_view};
 ghost use Rattle.ofrep_contexts.specs.Way.{joined, way_in_items, way_in_members, way_to};
 
-use crate::sought::Sought;
 use flag_text::Tree;
 use std::alloc::{AllocError, Global};
 
@@ -13,35 +12,27 @@ const MAX_WAY: usize = 200;
 /// What stands for the rest of a way that is too long.
 const REST: &str = "..";
 
-/// The way to the first value in the tree that is sought, in at most 200 bytes: its front and `..` where it is longer.
+/// The way to the first list or object in the tree that stands within so many others, in at most 200 bytes: its first bytes and `..`
+/// where it is longer.
 #[cycle(way)]
-pub(crate) fn way_to(
-    alloc: Global,
-    sought: Sought,
-    tree: &Tree,
-) -> Result<Option<String>, AllocError>
-    ensures { IfOk result (λ way. option_map string_bytes way ≡ way_to sought (view tree.now)) }
+pub(crate) fn way_to(alloc: Global, levels: u32, tree: &Tree) -> Result<Option<String>, AllocError>
+    ensures { IfOk result (λ way. option_map string_bytes way ≡ way_to levels (view tree.now)) }
 {
     match tree {
-        Tree::Other if sought.is_fraction() => Ok(Some(String::new(alloc))),
-        Tree::List(_) if sought.is_beyond() => Ok(Some(String::new(alloc))),
-        Tree::Object(_) if sought.is_beyond() => Ok(Some(String::new(alloc))),
-        Tree::List(items) => way_in_items(alloc, sought.within(), items),
-        Tree::Object(members) => way_in_members(alloc, sought.within(), members),
+        Tree::List(_) if levels == 0 => Ok(Some(String::new(alloc))),
+        Tree::Object(_) if levels == 0 => Ok(Some(String::new(alloc))),
+        Tree::List(items) => way_in_items(alloc, levels - 1, items),
+        Tree::Object(members) => way_in_members(alloc, levels - 1, members),
         _ => Ok(None),
     }
 }
 
 #[cycle(way)]
-fn way_in_items(
-    alloc: Global,
-    sought: Sought,
-    items: &Vec<Tree>,
-) -> Result<Option<String>, AllocError>
-    ensures { IfOk result (λ way. option_map string_bytes way ≡ way_in_items sought (items_view items.now.items) 0) }
+fn way_in_items(alloc: Global, levels: u32, items: &Vec<Tree>) -> Result<Option<String>, AllocError>
+    ensures { IfOk result (λ way. option_map string_bytes way ≡ way_in_items levels (items_view items.now.items) 0) }
 {
     for place in 0..items.len() {
-        if let Some(rest) = way_to(alloc, sought, &items[place])? {
+        if let Some(rest) = way_to(alloc, levels, &items[place])? {
             let step = format!(in alloc; "[{place}]")?;
             return Ok(Some(joined(step, rest)?));
         }
@@ -52,13 +43,13 @@ fn way_in_items(
 #[cycle(way)]
 fn way_in_members(
     alloc: Global,
-    sought: Sought,
+    levels: u32,
     members: &Vec<(String, Tree)>,
 ) -> Result<Option<String>, AllocError>
-    ensures { IfOk result (λ way. option_map string_bytes way ≡ way_in_members sought (members_view members.now.items)) }
+    ensures { IfOk result (λ way. option_map string_bytes way ≡ way_in_members levels (members_view members.now.items)) }
 {
     for (name, member) in members {
-        if let Some(rest) = way_to(alloc, sought, member)? {
+        if let Some(rest) = way_to(alloc, levels, member)? {
             let step = format!(in alloc; ".{name}")?;
             return Ok(Some(joined(step, rest)?));
         }

@@ -41,13 +41,13 @@ RandomState-send : IsSend RandomState.the_row
 RandomState-send = search (sendable, crosses) depth 40
 
 Counts-sync : IsSync Counts.the_row
-Counts-sync = search (sendable, crosses) depth 80
+Counts-sync = search (sendable, crosses) depth 120
 
 Load-sync : IsSync Load.the_row
 Load-sync = search (sendable, crosses) depth 40
 
 Board-sync : IsSync Board.the_row
-Board-sync = declared_sync Board.the_type (Counts-sync, (Load-sync, (search (sendable, crosses) depth 40, (search (sendable, crosses) depth 40, tt))))
+Board-sync = declared_sync Board.the_type (Counts-sync, (Load-sync, (search (sendable, crosses) depth 40, (search (sendable, crosses) depth 40, (search (sendable, crosses) depth 40, (search (sendable, crosses) depth 40, tt))))))
 
 TcpListener-send : IsSend TcpListener.the_row
 TcpListener-send = search (sendable, crosses) depth 40

@@ -1,1 +1,2 @@
 mod Crossings
+mod Resting

@@ -1,27 +1,52 @@
 //! What the threads of a service tell each other.
+ghost use Rattle.std.specs.Prelude.{◌≡◌};
+ghost use Rattle.ofrep_worker.specs.declared.unrecorded.WithoutRecord.TheVariants.{Refuse};
+
 use log_file::Loss;
+use note_log::Trouble;
 use ofrep_connections::Load;
-use ofrep_worker::Counts;
+use ofrep_worker::{Counts, WithoutRecord};
+use std::num::NonZeroUsize;
 use std::sync::atomic::{AtomicBool, AtomicU64, Ordering};
 
+/// How many notes each worker remembers where nothing else is said.
+const REMEMBERED: usize = 65_536;
+
 /// What the threads of a service tell each other: what the workers count, how many connections they hold, which snapshot was
-/// published last, and whether all of them are to end.
+/// published last, whether all of them are to end; and what becomes of answers that can't be recorded, and how many notes each
+/// worker remembers.
 #[derive(Drop)]
 pub struct Board {
     pub(crate) counts: Counts,
     pub(crate) load: Load,
     pub(crate) is_over: AtomicBool,
     published: AtomicU64,
+    pub(crate) without_record: WithoutRecord,
+    pub(crate) remember: NonZeroUsize,
 }
 
 impl Board {
-    /// A board where nothing was counted or published yet.
-    pub fn new() -> Board {
+    /// A board where nothing was counted or published yet. What can't be recorded is not answered, and each worker remembers 65,536
+    /// notes.
+    pub fn new() -> Board
+        ensures { result.without_record ≡ Refuse }
+    {
+        let remember = NonZeroUsize::new(REMEMBERED).unwrap_or(NonZeroUsize::MIN);
+        Board::with(WithoutRecord::Refuse, remember)
+    }
+
+    /// The same, where this becomes of answers that can't be recorded, and each worker remembers so many notes.
+    pub fn with(without_record: WithoutRecord, remember: NonZeroUsize) -> Board
+        ensures without { result.without_record ≡ without_record }
+        ensures remember { result.remember ≡ remember }
+    {
         Board {
             counts: Counts::new(),
             load: Load::new(),
             is_over: AtomicBool::new(false),
             published: AtomicU64::new(0),
+            without_record,
+            remember,
         }
     }
 
@@ -43,6 +68,23 @@ impl Board {
     /// How often the path of a log whose file was lost could not be opened anew.
     pub fn logs_unopened(&self) -> u64 {
         self.counts.unopened()
+    }
+
+    /// What becomes of answers that can't be recorded.
+    pub fn without_record(&self) -> WithoutRecord
+        ensures { result ≡ self.now.without_record }
+    {
+        self.without_record
+    }
+
+    /// Why a log can't be written now, where one can't.
+    pub fn log_trouble(&self) -> Option<Trouble> {
+        self.counts.trouble()
+    }
+
+    /// How often a log that could be written began to fail.
+    pub fn log_failures(&self) -> u64 {
+        self.counts.failures()
     }
 
     /// All threads are to end.

@@ -8,7 +8,8 @@
 //!
 //! What answers rest on is proved there: no byte of an answer is written to a socket before its notes stand in the log of the
 //! worker, where it keeps one, and a subscriber is sent whole frames whose numbers rise. Here: where a folder is named each worker
-//! keeps a log, of a path of its own. What files and sockets do with bytes, and that threads run, is not proved.
+//! keeps a log, of a path of its own; and what a worker does on its thread is turns, each a look for its log and then answers. What
+//! files and sockets do with bytes, and that threads run, is not proved.
 #![tactic(auto)]
 
 mod board;

@@ -1,6 +1,9 @@
 //! The threads of the workers.
 ghost use denote.Param.Send.{IsSend, IsSync};
-ghost use Rattle.std.specs.Prelude.{◌≡◌, IfOk, option_map};
+ghost use Rattle.std.specs.Prelude.{◌≡◌, List, IfOk, option_map};
+ghost use Rattle.http_server.specs.Exchange.{Call};
+ghost use Rattle.std.specs.List.{flat_map};
+ghost use Rattle.recorded_answers.specs.Stand.{AllStand, Works};
 
 use crate::board::Board;
 use crate::logs::Journal;
@@ -11,7 +14,8 @@ use limits::{STACK_BYTES, TEXT_BYTES};
 use log_file::{LogPaths, SystemLog};
 use note_log::NoteLog;
 use ofrep_connections::answer_connections;
-use ofrep_worker::{Counts, OfrepWorker};
+use ofrep_worker::OfrepWorker;
+use recorded_answers::Recording;
 use snap_share::{ReadSeat, ShareName};
 use std::alloc::{AllocError, Global};
 use std::hash::RandomState;
@@ -111,7 +115,22 @@ fn answer<J: ShareName, R: Net + LogPaths + Clock>(
     post: Post,
 ) -> io::Result<()> {
     let Post { listener, journal } = post;
-    let mut worker = worker_of(rt, alloc, keys, &board.counts, seat, journal)?;
+    let mut worker = worker_of(rt, alloc, keys, board, seat, journal)?;
+    serve(rt, alloc, keys, board, listener, &mut worker)
+}
+
+/// Has a worker answer the connections of a listener until all threads are to end or the system fails: turn by turn it looks for its
+/// log, and then answers. What its answers rest on stands in the end.
+fn serve<S: Recording, R: Net + Clock>(
+    rt: &R,
+    alloc: Global,
+    keys: RandomState,
+    board: &Board,
+    listener: TcpListener,
+    worker: &mut S,
+) -> io::Result<()>
+    ensures { (turns : List (List Call)) × Works S.answers S.looked worker.old turns worker.new × AllStand S.stands worker.new (flat_map (λ calls. calls) turns) }
+{
     let config = Config {
         max_body_len: TEXT_BYTES,
         max_pending: MOST_PENDING,
@@ -125,7 +144,7 @@ fn answer<J: ShareName, R: Net + LogPaths + Clock>(
         listener,
         &board.load,
         &board.is_over,
-        &mut worker,
+        worker,
     )
 }
 
@@ -134,16 +153,17 @@ fn worker_of<'a, J: ShareName, R: Clock>(
     rt: &'a R,
     alloc: Global,
     keys: RandomState,
-    counts: &'a Counts,
+    board: &'a Board,
     seat: ReadSeat<J>,
     journal: Option<Journal>,
 ) -> Result<OfrepWorker<'a, J, R, SystemLog>, AllocError>
     ensures seat { IfOk result (λ worker. worker.seat ≡ seat) }
     ensures log { IfOk result (λ worker. option_map (λ l. l.journal) worker.log ≡ journal) }
+    ensures without { IfOk result (λ worker. worker.without_record ≡ board.now.without_record) }
 {
     let log = match journal {
-        Some(journal) => Some(NoteLog::new(alloc, keys, journal)?),
+        Some(journal) => Some(NoteLog::new(alloc, keys, journal, board.remember)?),
         None => None,
     };
-    Ok(OfrepWorker::new(rt, alloc, seat, log, counts))
+    Ok(OfrepWorker::new(rt, alloc, seat, log, &board.counts, board.without_record))
 }

@@ -1,6 +1,5 @@
 -- Recorded first: what a worker answers, and what its log then holds.
-use Rattle.std.specs.Prelude.{◌≡◌, ◌<◌, ◌^◌, ◌⊎◌, ℕ, Bool, true, false, List, [], Option, Some, None, option_map, is_some, IfSome, Contains}
-use mathlib.Core.List.{IsPrefix}
+use Rattle.std.specs.Prelude.{◌≡◌, ◌<◌, ◌^◌, ◌⊎◌, ◌||◌, ◌++◌, ℕ, Bool, true, false, List, [], Option, Some, None, option_map, is_some, IfSome, Contains}
 use Rattle.flag_defs.specs.declared.flags.Flags.{Flags}
 use Rattle.flag_defs.specs.Document.{Definitions}
 use Rattle.http.specs.declared.request.Request.{Request}
@@ -10,14 +9,17 @@ use Rattle.log_file.specs.declared.file.LogFile.{Ghosts}
 use Rattle.log_file.specs.declared.journal.Look.{Look}
 use Rattle.note_lines.specs.Note.{Noted, note_line}
 use Rattle.note_log.specs.Line.{HasLine}
-use Rattle.note_log.specs.Log.{Logged, Records, Wants, files_of, logged, logged_after}
+use Rattle.note_log.specs.Log.{Logged, Records, Wants, files_of, logged, logged_after, trouble_of}
 use Rattle.note_log.specs.declared.log.NoteLog.{NoteLog}
+use Rattle.note_log.specs.declared.trouble.Trouble.{Trouble}
 use Rattle.ofrep_answers.specs.Answer.{answer_of}
 use Rattle.ofrep_worker.specs.Asked.{asked_of}
 use Rattle.ofrep_worker.specs.Notes.{notes_of}
-use Rattle.ofrep_worker.specs.Sent.{Fails, Gives, Sends}
+use Rattle.ofrep_worker.specs.Sent.{Fails, GivesIn, Sends, TellsUnready, unready}
+use Rattle.ofrep_worker.specs.declared.unrecorded.WithoutRecord.{WithoutRecord}
+use Rattle.ofrep_worker.specs.declared.unrecorded.WithoutRecord.TheVariants.{Answer, Refuse}
 use Rattle.snap_core.specs.Hub.{Numbered}
-use Rattle.snap_share.specs.Known.{IsLastOf, snapshots_of}
+use Rattle.snap_share.specs.Known.{IsReadOnce, Seat, WasRead, snapshots_of}
 
 -- what a log was given, what its file shows, whether that stood at its path when it was last looked for, whether it is lost, and how many writes have failed
 pub record Kept : Type 0 where
@@ -60,27 +62,44 @@ RecordedIn all notes (Some old) (Some new) = RecordedFirst all notes old new
 RecordedIn all notes None None = all ≡ true
 RecordedIn _ _ _ _ = ⊥
 
--- At some moment the response is the answer to the request, of these flags, and its notes were recorded. Or they were not, and the response tells that.
-abbrev pub Answers : Definitions → Request (List ℕ) → Response → Option Kept → Option Kept → Type 0
-Answers flags request response old new =
-    (moment : ℕ) × (moment < 2 ^ 53) × (all : Bool)
-    × Gives all (answer_of flags moment (asked_of request)) response
+-- why the log can't be written, of a worker that keeps one
+abbrev pub trouble_in : Option Kept → Option Trouble
+trouble_in None = None
+trouble_in (Some k) = trouble_of k.is_lost k.logged.waiting
+
+-- what can't be recorded is answered all the same
+abbrev pub is_answered : WithoutRecord → Bool
+is_answered Answer = true
+is_answered Refuse = false
+
+-- At some moment the response is the answer to the request, of these flags, and its notes were recorded. Or they were not, and the response tells that, unless what can't be recorded is answered. While a log can't be written, its own or another's, who asks whether the service is ready is told that it is not.
+abbrev pub Answers : WithoutRecord → Definitions → Request (List ℕ) → Response → Option Kept → Option Kept → Type 0
+Answers without flags request response old new =
+    (moment : ℕ) × (moment < 2 ^ 53) × (all : Bool) × (trouble : Option Trouble)
+    × (is_some (trouble_in old) ≡ true → is_some trouble ≡ true)
+    × GivesIn (unready trouble (asked_of request) (answer_of flags moment (asked_of request))) (all || is_answered without) (answer_of flags moment (asked_of request)) response
     × RecordedIn all (notes_of flags (answer_of flags moment (asked_of request))) old new
 
--- The answer is of the snapshot that is the last of the published flags that are known then; and no more is known before.
-abbrev pub RespondsFrom : List Flags → List Flags → Request (List ℕ) → Response → Option Kept → Option Kept → Type 0
-RespondsFrom known known' request response old new =
-    IsPrefix known known' × ((s : Numbered) × IsLastOf known' s × Answers s.flags request response old new)
+-- The seat is read once, and the answer is of the snapshot that it then answers: the last of the published flags that it knows.
+abbrev pub RespondsFrom : WithoutRecord → Seat → Seat → Request (List ℕ) → Response → Option Kept → Option Kept → Type 0
+RespondsFrom without seat seat' request response old new = (s : Numbered) × WasRead seat (Some s) seat' × Answers without s.flags request response old new
 
 -- So it answers; or memory ran out, and the response is empty: it tells nothing, and nothing is recorded.
-abbrev pub Responds : List Flags → List Flags → Request (List ℕ) → Response → Option Kept → Option Kept → Type 0
-Responds known known' request response old new =
-    RespondsFrom known known' request response old new
-    ⊎ (IsPrefix known known' × IsResponse 500 [] [] response × (new ≡ old))
+abbrev pub Responds : WithoutRecord → Seat → Seat → Request (List ℕ) → Response → Option Kept → Option Kept → Type 0
+Responds without seat seat' request response old new =
+    RespondsFrom without seat seat' request response old new
+    ⊎ (IsReadOnce seat seat' × IsResponse 500 [] [] response × (new ≡ old))
 
--- what a look leaves of a log that is kept
+-- what waited is handed over as far as the file takes it
+pub record HandsOver (old new : Logged) : Type 0 where
+  pub more : List ℕ
+  pub earlier : new.earlier ≡ old.earlier
+  pub handed : new.handed ≡ old.handed ++ more
+  pub waiting : old.waiting ≡ more ++ new.waiting
+
+-- what a look leaves of a log that is kept: it is found or begins anew, and then what waits for it is handed over
 abbrev pub LooksIn : Option Kept → Option Kept → Type 0
-LooksIn (Some old) (Some new) = (look : Look) × (new.logged ≡ logged_after look old.logged)
+LooksIn (Some old) (Some new) = (look : Look) × (∥ HandsOver (logged_after look old.logged) new.logged ∥₁)
 LooksIn None None = Unit {0}
 LooksIn _ _ = ⊥
 
@@ -106,15 +125,24 @@ HasLines notes bytes = (note : Noted) → Wants notes note → HasLine (note_lin
 abbrev pub HaveLines : List Noted → List (List ℕ) → Type 0
 HaveLines notes handed = (file : List ℕ) × Contains handed file × HasLines notes file
 
--- The response is the answer to the request of a snapshot among these, and where a log is kept, whose files were handed these bytes, the line of each of its notes stands in one of them.
-pub record RestsOn (known : List Flags) (handed : Option (List (List ℕ))) (request : Request (List ℕ)) (response : Response) : Type 0 where
+-- The response is the answer to the request, of a snapshot among these.
+pub record IsAnswer (known : List Flags) (request : Request (List ℕ)) (response : Response) : Type 0 where
   pub s : Numbered
   pub is_known : Contains (snapshots_of known) s
   pub moment : ℕ
   pub is_moment : moment < 2 ^ 53
   pub sends : Sends (answer_of s.flags moment (asked_of request)) response
-  pub lines : IfSome handed (HaveLines (notes_of s.flags (answer_of s.flags moment (asked_of request))))
 
--- What a response rests on stands: it is such an answer, or it tells a failure and nothing of flags.
-abbrev pub Stands : List Flags → Option (List (List ℕ)) → Request (List ℕ) → Response → Type 0
-Stands known handed request response = Fails response ⊎ (∥ RestsOn known handed request response ∥₁)
+-- It is such an answer, and where a log is kept, whose files were handed these bytes, the line of each of its notes stands in one of them.
+pub record RestsOn (known : List Flags) (handed : Option (List (List ℕ))) (request : Request (List ℕ)) (response : Response) : Type 0 where
+  pub answer : IsAnswer known request response
+  pub lines : IfSome handed (HaveLines (notes_of answer.s.flags (answer_of answer.s.flags answer.moment (asked_of request))))
+
+-- the response tells a failure, or that the service is not ready, and nothing of flags
+abbrev pub TellsNoFlag : Response → Type 0
+TellsNoFlag response = Fails response ⊎ ((trouble : Trouble) × TellsUnready trouble response)
+
+-- What a response rests on stands: it is such an answer, or it tells nothing of flags. Where what can't be recorded is answered it may be an answer without its notes.
+abbrev pub Stands : WithoutRecord → List Flags → Option (List (List ℕ)) → Request (List ℕ) → Response → Type 0
+Stands without known handed request response =
+    TellsNoFlag response ⊎ (∥ RestsOn known handed request response ∥₁) ⊎ ((is_answered without ≡ true) × (∥ IsAnswer known request response ∥₁))

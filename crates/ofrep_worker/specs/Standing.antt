@@ -1,5 +1,5 @@
 -- What answers rest on stands, and stays: the laws of a worker.
-use Rattle.std.proofs.Common.{◌≡◌, ◌++◌, ◌∷◌, ◌<◌, ◌^◌, ℕ, Bool, true, false, List, [], Option, Some, None, IfSome, Contains, ap, ◌∙◌, append-nil, sym, subst, refl, inl, inr}
+use Rattle.std.proofs.Common.{◌≡◌, ◌++◌, ◌∷◌, ◌<◌, ◌^◌, ◌||◌, ℕ, Bool, true, false, List, [], Option, Some, None, IfSome, Contains, ap, ◌∙◌, append-nil, append_assoc, sym, subst, refl, inl, inr}
 use Rattle.std.proofs.Math.Logic.{∥∥₁_map, ∥∥₁_map₂}
 use Rattle.std.proofs.lemmas.List.Elements.{Contains-append_left, Contains-push, Contains-push_cases}
 use mathlib.Core.List.{IsPrefix}
@@ -12,14 +12,17 @@ use Rattle.log_file.specs.declared.journal.Look.{Look}
 use Rattle.log_file.specs.declared.journal.Look.TheVariants.{Stands as Still, Reopened, Lost}
 use Rattle.note_log.specs.Log.{Logged, Records, files_of, logged_after}
 use Rattle.note_log.proofs.Lines.{has_more, not_in}
-use Rattle.ofrep_answers.specs.Answer.{answer_of}
+use Rattle.ofrep_answers.specs.Answer.{Answered, answer_of}
 use Rattle.snap_core.specs.Hub.{Numbered}
-use Rattle.snap_share.specs.Known.{IsLastOf, snapshots_of}
+use Rattle.snap_share.specs.Known.{IsLastOf, Seat, snapshots_of}
 use Rattle.snap_share.proofs.Numbers.{is_known, starts}
-use Rattle.ofrep_worker.specs.Answers.{AllRecorded, HasLines, HaveLines, Kept, LooksIn, RecordedFirst, RecordedIn, Responds, RestsOn, Stands, files}
+use Rattle.note_log.specs.declared.trouble.Trouble.{Trouble}
+use Rattle.ofrep_worker.specs.Answers.{AllRecorded, HandsOver, HasLines, HaveLines, IsAnswer, Kept, LooksIn, RecordedFirst, RecordedIn, Responds, RestsOn, Stands, files, is_answered}
 use Rattle.ofrep_worker.specs.Asked.{asked_of}
 use Rattle.ofrep_worker.specs.Notes.{notes_of}
-use Rattle.ofrep_worker.specs.Sent.{Gives}
+use Rattle.ofrep_worker.specs.Sent.{Gives, GivesIn, Sends, unready}
+use Rattle.ofrep_worker.specs.declared.unrecorded.WithoutRecord.{WithoutRecord}
+use Rattle.ofrep_worker.specs.declared.unrecorded.WithoutRecord.TheVariants.{Answer, Refuse}
 
 all_stand : (notes : List Noted) (old new : Kept) → AllRecorded notes old new → ∥ HasLines notes new.logged.handed ∥₁
 all_stand notes old new (inl none) = ∣ (λ note w. absurd (not_in note (subst (λ (l : List Noted). Contains l note) none.0 w.0))) ∣₁
@@ -32,26 +35,34 @@ all_stand_in notes (Some old) None r = absurd r
 all_stand_in notes None (Some new) r = absurd r
 all_stand_in notes None None r = ∣ tt ∣₁
 
-module _ (known : List Flags) (request : Request (List ℕ)) (response : Response) (old new : Option Kept) (s : Numbered) (last : IsLastOf known s) where
-  answered : (moment : ℕ) → moment < 2 ^ 53 → (all : Bool) → Gives all (answer_of s.flags moment (asked_of request)) response
-      → RecordedIn all (notes_of s.flags (answer_of s.flags moment (asked_of request))) old new
-      → Stands known (files new) request response
-  answered moment small false gives records = inl gives
-  answered moment small true gives records = inr (∥∥₁_map (all_stand_in (notes_of s.flags (answer_of s.flags moment (asked_of request))) old new records) (λ lines. record {
-    s = s;
-    is_known = is_known known s last;
-    moment = moment;
-    is_moment = small;
-    sends = gives;
-    lines = lines;
-  }))
+module _ (known : List Flags) (request : Request (List ℕ)) (response : Response) (old new : Option Kept) (s : Numbered) (last : IsLastOf known s) (moment : ℕ) (small : moment < 2 ^ 53) where
+  abbrev a : Answered
+  a = answer_of s.flags moment (asked_of request)
 
-pub responded : (known known' : List Flags) (request : Request (List ℕ)) (response : Response) (old new : Option Kept)
-    → Responds known known' request response old new → Stands known' (files new) request response
-responded known known' request response old new (inl r) =
-    let a = r.1.2 in
-    answered known' request response old new r.1.0 r.1.1 a.0 a.1 a.2 a.3 a.4
-responded known known' request response old new (inr r) = inl (inr r.1)
+  abbrev given : Sends a response → IsAnswer known request response
+  given sends = record { s = s; is_known = is_known known s last; moment = moment; is_moment = small; sends = sends }
+
+  answered : (without : WithoutRecord) (all : Bool) → Gives (all || is_answered without) a response → RecordedIn all (notes_of s.flags a) old new → Stands without known (files new) request response
+  answered without true gives records = inr (inl (∥∥₁_map (all_stand_in (notes_of s.flags a) old new records) (λ lines. record { answer = given gives; lines = lines })))
+  answered Answer false gives records = inr (inr (refl, ∣ given gives ∣₁))
+  answered Refuse false gives records = inl (inl gives)
+
+  answered_in : (without : WithoutRecord) (all : Bool) (why : Option Trouble) → GivesIn why (all || is_answered without) a response → RecordedIn all (notes_of s.flags a) old new
+      → Stands without known (files new) request response
+  answered_in without all None gives records = answered without all gives records
+  answered_in without all (Some trouble) gives records = inl (inr (trouble, gives))
+
+responded_so : (without : WithoutRecord) (seat seat' : Seat) (request : Request (List ℕ)) (response : Response) (old new : Option Kept)
+    → Responds without seat seat' request response old new → Stands without seat'.known (files new) request response
+responded_so without seat seat' request response old new (inl r) =
+    let b = r.2 in
+    answered_in seat'.known request response old new r.0 r.1.1 b.0 b.1 without b.2 (unready b.3 (asked_of request) (answer_of r.0.flags b.0 (asked_of request))) b.5 b.6
+responded_so without seat seat' request response old new (inr r) = inl (inl (inr r.1))
+
+pub responded : (without without' : WithoutRecord) (seat seat' : Seat) (request : Request (List ℕ)) (response : Response) (old new : Option Kept)
+    → (without' ≡ without) × Responds without seat seat' request response old new → Stands without' seat'.known (files new) request response
+responded without without' seat seat' request response old new r =
+    subst (λ (w : WithoutRecord). Stands w seat'.known (files new) request response) (sym r.0) (responded_so without seat seat' request response old new r.1)
 
 -- ---- it stays
 
@@ -93,12 +104,12 @@ grown_in notes (Some old) None all r = absurd r
 grown_in notes None (Some new) all r = absurd r
 grown_in notes None None all r = ∣ tt ∣₁
 
-further : (known known' : List Flags) (request : Request (List ℕ)) (response : Response) (old new : Option Kept)
-    → Responds known known' request response old new → IsPrefix known known' × (∥ GrowsIn (files old) (files new) ∥₁)
-further known known' request response old new (inl r) =
-    let a = r.1.2 in
-    (r.0, grown_in (notes_of r.1.0.flags (answer_of r.1.0.flags a.0 (asked_of request))) old new a.2 a.4)
-further known known' request response old new (inr r) = (r.0, ∣ (subst (λ (k : Option Kept). GrowsIn (files old) (files k)) (sym r.2) (same_in (files old))) ∣₁)
+further : (without : WithoutRecord) (seat seat' : Seat) (request : Request (List ℕ)) (response : Response) (old new : Option Kept)
+    → Responds without seat seat' request response old new → IsPrefix seat.known seat'.known × (∥ GrowsIn (files old) (files new) ∥₁)
+further without seat seat' request response old new (inl r) =
+    let a = r.2 in
+    (r.1.0.forward, grown_in (notes_of r.0.flags (answer_of r.0.flags a.0 (asked_of request))) old new a.2 a.6)
+further without seat seat' request response old new (inr r) = (r.0.forward, ∣ (subst (λ (k : Option Kept). GrowsIn (files old) (files k)) (sym r.2) (same_in (files old))) ∣₁)
 
 more_lines : (notes : List Noted) (old new : Option (List (List ℕ))) → GrowsIn old new → IfSome old (HaveLines notes) → IfSome new (HaveLines notes)
 more_lines notes (Some old) (Some new) g h =
@@ -108,25 +119,38 @@ more_lines notes (Some old) None g h = absurd g
 more_lines notes None (Some new) g h = absurd g
 more_lines notes None None g h = tt
 
--- where more is known, and more stands in the log, an answer rests on no less
-rests_still : (known known' : List Flags) (handed handed' : Option (List (List ℕ))) (request : Request (List ℕ)) (response : Response)
-    → IsPrefix known known' → GrowsIn handed handed' → RestsOn known handed request response → RestsOn known' handed' request response
-rests_still known known' handed handed' request response k b r =
+-- where more is known, it is an answer still
+abbrev answer_still : (known known' : List Flags) (request : Request (List ℕ)) (response : Response) → IsPrefix known known' → IsAnswer known request response → IsAnswer known' request response
+answer_still known known' request response k r =
     let more = starts known known' k in record {
       s = r.s;
       is_known = subst (λ (l : List Numbered). Contains l r.s) (sym more.1) (Contains-append_left (snapshots_of known) more.0 r.s r.is_known);
       moment = r.moment;
       is_moment = r.is_moment;
       sends = r.sends;
-      lines = more_lines (notes_of r.s.flags (answer_of r.s.flags r.moment (asked_of request))) handed handed' b r.lines;
     }
 
-pub still_stands : (known known' : List Flags) (request : Request (List ℕ)) (response : Response) (old new : Option Kept)
-    → Responds known known' request response old new → (earlier : Request (List ℕ)) (told : Response) → Stands known (files old) earlier told → Stands known' (files new) earlier told
-still_stands known known' request response old new r earlier told (inl fails) = inl fails
-still_stands known known' request response old new r earlier told (inr rests) =
-    let f = further known known' request response old new r in
-    inr (∥∥₁_map₂ f.1 rests (rests_still known known' (files old) (files new) earlier told f.0))
+-- and where more stands in the log, it rests on no less
+rests_still : (known known' : List Flags) (handed handed' : Option (List (List ℕ))) (request : Request (List ℕ)) (response : Response)
+    → IsPrefix known known' → GrowsIn handed handed' → RestsOn known handed request response → RestsOn known' handed' request response
+rests_still known known' handed handed' request response k b r = record {
+  answer = answer_still known known' request response k r.answer;
+  lines = more_lines (notes_of r.answer.s.flags (answer_of r.answer.s.flags r.answer.moment (asked_of request))) handed handed' b r.lines;
+}
+
+stands_still : (without without' : WithoutRecord) (known known' : List Flags) (handed handed' : Option (List (List ℕ))) (request : Request (List ℕ)) (response : Response)
+    → without' ≡ without → IsPrefix known known' → ∥ GrowsIn handed handed' ∥₁ → Stands without known handed request response → Stands without' known' handed' request response
+stands_still without without' known known' handed handed' request response same k b (inl fails) = inl fails
+stands_still without without' known known' handed handed' request response same k b (inr (inl rests)) = inr (inl (∥∥₁_map₂ b rests (rests_still known known' handed handed' request response k)))
+stands_still without without' known known' handed handed' request response same k b (inr (inr is)) =
+    inr (inr (ap is_answered same ∙ is.0, ∥∥₁_map is.1 (answer_still known known' request response k)))
+
+pub still_stands : (without without' : WithoutRecord) (seat seat' : Seat) (request : Request (List ℕ)) (response : Response) (old new : Option Kept)
+    → (without' ≡ without) × Responds without seat seat' request response old new
+    → (earlier : Request (List ℕ)) (told : Response) → Stands without seat.known (files old) earlier told → Stands without' seat'.known (files new) earlier told
+still_stands without without' seat seat' request response old new r earlier told stands =
+    let f = further without seat seat' request response old new r.1 in
+    stands_still without without' seat.known seat'.known (files old) (files new) earlier told r.0 f.0 f.1 stands
 
 -- ---- it stays, whatever a look finds
 
@@ -135,15 +159,25 @@ looked_files Still l file c = (file, c, ([], append-nil file))
 looked_files (Reopened loss) l file c = (file, Contains-append_left (files_of l) ([] ∷ []) file c, ([], append-nil file))
 looked_files (Lost loss fault) l file c = (file, Contains-append_left (files_of l) ([] ∷ []) file c, ([], append-nil file))
 
-looked_in : (old new : Option Kept) → LooksIn old new → GrowsIn (files old) (files new)
-looked_in (Some old) (Some new) k = subst (λ (l : Logged). GoOn (files_of old.logged) (files_of l)) (sym k.1) (looked_files k.0 old.logged)
+handed_over : (old new : Logged) → HandsOver old new → GoOn (files_of old) (files_of new)
+handed_over old new h = grown_files old new h.earlier (h.more, sym h.handed)
+
+then_on : (a b c : List (List ℕ)) → GoOn a b → GoOn b c → GoOn a c
+then_on a b c x y file d =
+    let first = x file d in
+    let later = y first.0 first.1 in
+    (later.0, later.1, (first.2.0 ++ later.2.0, sym (append_assoc file first.2.0 later.2.0) ∙ ap (λ (l : List ℕ). l ++ later.2.0) first.2.1 ∙ later.2.1))
+
+looked_in : (old new : Option Kept) → LooksIn old new → ∥ GrowsIn (files old) (files new) ∥₁
+looked_in (Some old) (Some new) k =
+    ∥∥₁_map k.1 (λ (h : HandsOver (logged_after k.0 old.logged) new.logged).
+    then_on (files_of old.logged) (files_of (logged_after k.0 old.logged)) (files_of new.logged) (looked_files k.0 old.logged) (handed_over (logged_after k.0 old.logged) new.logged h))
 looked_in (Some old) None k = absurd k
 looked_in None (Some new) k = absurd k
-looked_in None None k = tt
+looked_in None None k = ∣ tt ∣₁
 
-pub still_stands_looked : (known known' : List Flags) (old new : Option Kept) → known' ≡ known → LooksIn old new
-    → (earlier : Request (List ℕ)) (told : Response) → Stands known (files old) earlier told → Stands known' (files new) earlier told
-still_stands_looked known known' old new same looked earlier told (inl fails) = inl fails
-still_stands_looked known known' old new same looked earlier told (inr rests) =
-    let prefix : IsPrefix known known' = ([], append-nil known ∙ sym same) in
-    inr (∥∥₁_map rests (rests_still known known' (files old) (files new) earlier told prefix (looked_in old new looked)))
+pub still_stands_looked : (without without' : WithoutRecord) (seat seat' : Seat) (old new : Option Kept) → without' ≡ without → seat' ≡ seat → LooksIn old new
+    → (earlier : Request (List ℕ)) (told : Response) → Stands without seat.known (files old) earlier told → Stands without' seat'.known (files new) earlier told
+still_stands_looked without without' seat seat' old new same knows looked earlier told stands =
+    let prefix : IsPrefix seat.known seat'.known = ([], append-nil seat.known ∙ ap (λ (s : Seat). s.known) (sym knows)) in
+    stands_still without without' seat.known seat'.known (files old) (files new) earlier told same prefix (looked_in old new looked) stands

@@ -1,40 +1,43 @@
 //! One answer, from one snapshot.
-ghost use Rattle.std.specs.Prelude.{◌≡◌, ◌<◌, ◌^◌, IfOk, OnErr, OnOk};
+ghost use Rattle.std.specs.Prelude.{◌≡◌, ◌<◌, ◌^◌, true, is_some, IfOk, OnErr, OnOk};
 ghost use Rattle.std.specs.Arc.{arc_value};
 ghost use Rattle.flag_defs.specs.Flags.{flags_view};
 ghost use Rattle.http_server.specs.Response.{IsBlank};
 ghost use Rattle.ofrep_answers.specs.Answer.{answer_of, answer_view};
-ghost use Rattle.ofrep_worker.specs.Answers.{Answers, kept_in};
+ghost use Rattle.ofrep_worker.specs.Answers.{Answers, kept_in, trouble_in};
 ghost use Rattle.ofrep_worker.specs.Asked.{asked_of};
-ghost use Rattle.ofrep_worker.specs.Sent.{Sends};
+ghost use Rattle.ofrep_worker.specs.Sent.{GivesIn, Sends, unready};
 
 use crate::asked::tags_named;
 use crate::counts::Counts;
-use crate::failing::give;
+use crate::failing::{give, tell_unready};
 use crate::filling::fill;
 use crate::moment::moment_of;
-use crate::recording::record_answer;
+use crate::recording::{record_answer, trouble_in};
+use crate::unrecorded::WithoutRecord;
 use bytes::{BufMut, Bytes};
-use http::Request;
+use http::{Request, StatusCode};
 use http_server::Response;
 use log_file::LogFile;
-use note_log::NoteLog;
+use note_log::{NoteLog, Trouble};
 use ofrep_answers::{Answer, Content, answer_to};
 use std::alloc::{AllocError, Global};
 use std::time::Clock;
 use sync_frames::SharedSnapshot;
 
-/// What an answer is made with: the snapshot that it is of, and what was counted so far.
+/// What an answer is made with: the snapshot that it is of, what becomes of it where its notes can't be recorded, and what was
+/// counted so far.
 #[derive(Drop)]
 pub(crate) struct Answering<'a, R> {
     pub(crate) rt: &'a R,
     pub(crate) alloc: Global,
     pub(crate) counts: &'a Counts,
     pub(crate) snapshot: &'a SharedSnapshot,
+    pub(crate) without_record: WithoutRecord,
 }
 
-/// Answers a request of the flags of a snapshot, once the notes of the answer are recorded, where a log is kept. Where memory
-/// runs out the log is as it was.
+/// Answers a request of the flags of a snapshot, once the notes of the answer are recorded, where a log is kept. While a log can't
+/// be written, who asks whether the service is ready is told so. Where memory runs out the log is as it was.
 pub(crate) fn answer_from<R: Clock, F: LogFile>(
     with: &Answering<'_, R>,
     log: &mut Option<NoteLog<F>>,
@@ -42,14 +45,18 @@ pub(crate) fn answer_from<R: Clock, F: LogFile>(
     response: &mut Response,
 ) -> Result<(), AllocError>
     requires { IsBlank response.old }
-    ensures ok { OnOk result (Answers (flags_view (arc_value with.now.snapshot.now).flags) request.now response.new (kept_in log.old) (kept_in log.new)) }
+    ensures ok { OnOk result (Answers with.now.without_record (flags_view (arc_value with.now.snapshot.now).flags) request.now response.new (kept_in log.old) (kept_in log.new)) }
     ensures err { OnErr result (log.new ≡ log.old) }
 {
     let moment = moment_of(with.rt);
     let answer = with.answer_at(moment, request)?;
-    with.tell(&answer, response)?;
+    let cause = with.trouble(log);
+    let why = unready(cause, request, &answer);
+    with.tell_in(why, &answer, response)?;
     let recorded = record_answer(with.alloc, log, with.snapshot.flags(), &answer)?;
-    give(recorded, response);
+    let is_given = with.without_record.gives(recorded);
+    give(why, is_given, response);
+    with.counts.count_given(recorded, is_given);
     with.counts.count_evaluations(answer.reasons);
     Ok(())
 }
@@ -70,6 +77,32 @@ impl<R> Answering<'_, R> {
         answer_to(self.alloc, self.snapshot.flags(), moment, &asked)
     }
 
+    /// Why a log can't be written, where one can't: the worker's own, or else another's.
+    fn trouble<F: LogFile>(&self, log: &Option<NoteLog<F>>) -> Option<Trouble>
+        ensures { is_some (trouble_in (kept_in log.now)) ≡ true → is_some result ≡ true }
+    {
+        match trouble_in(log) {
+            Some(trouble) => Some(trouble),
+            None => self.counts.trouble(),
+        }
+    }
+
+    /// Fills a response with an answer, or with why the service is not ready.
+    fn tell_in(
+        &self,
+        unready: Option<Trouble>,
+        answer: &Answer,
+        response: &mut Response,
+    ) -> Result<(), AllocError>
+        requires { IsBlank response.old }
+        ensures { OnOk result (GivesIn unready true (answer_view answer.now) response.new) }
+    {
+        match unready {
+            Some(trouble) => tell_unready(trouble, response),
+            None => self.tell(answer, response),
+        }
+    }
+
     /// Fills a response with an answer, and with what is counted where that is asked for.
     fn tell(&self, answer: &Answer, response: &mut Response) -> Result<(), AllocError>
         requires { IsBlank response.old }
@@ -83,5 +116,16 @@ impl<R> Answering<'_, R> {
             response.body.put_slice(text.as_bytes())?;
         }
         Ok(())
+    }
+}
+
+/// Why the service is not ready, where that is asked, and the answer would say that it is.
+fn unready(trouble: Option<Trouble>, request: &Request<Bytes>, answer: &Answer) -> Option<Trouble>
+    ensures { result ≡ unready trouble (asked_of request.now) (answer_view answer.now) }
+{
+    if request.uri().path() == "/readyz" && answer.status == StatusCode::OK {
+        trouble
+    } else {
+        None
     }
 }

@@ -1,12 +1,13 @@
 //! What the workers of a service count together.
 use http::StatusCode;
 use log_file::{Look, Loss};
+use note_log::Trouble;
 use ofrep_answers::Reasons;
 use std::alloc::{AllocError, Global};
 use std::sync::atomic::{AtomicU64, Ordering};
 
-/// How many requests were answered with each status, how many evaluations ended with each reason, how many notes were made, and how
-/// often a log was opened anew after each kind of loss.
+/// How many requests were answered with each status, how many evaluations ended with each reason, how many notes were written, how
+/// often a log was opened anew after each kind of loss, and how many logs can't be written now.
 #[derive(Drop)]
 pub struct Counts {
     ok: AtomicU64,
@@ -16,6 +17,7 @@ pub struct Counts {
     not_allowed: AtomicU64,
     too_large: AtomicU64,
     failed: AtomicU64,
+    unready: AtomicU64,
     error: AtomicU64,
     disabled: AtomicU64,
     fixed: AtomicU64,
@@ -28,6 +30,11 @@ pub struct Counts {
     shorter: AtomicU64,
     unseen: AtomicU64,
     unopened: AtomicU64,
+    /// How many logs can't be written now, by the reason, and how often one began to fail.
+    lost: AtomicU64,
+    unwritten: AtomicU64,
+    failures: AtomicU64,
+    unrecorded: AtomicU64,
 }
 
 impl Counts {
@@ -41,6 +48,7 @@ impl Counts {
             not_allowed: AtomicU64::new(0),
             too_large: AtomicU64::new(0),
             failed: AtomicU64::new(0),
+            unready: AtomicU64::new(0),
             error: AtomicU64::new(0),
             disabled: AtomicU64::new(0),
             fixed: AtomicU64::new(0),
@@ -53,6 +61,10 @@ impl Counts {
             shorter: AtomicU64::new(0),
             unseen: AtomicU64::new(0),
             unopened: AtomicU64::new(0),
+            lost: AtomicU64::new(0),
+            unwritten: AtomicU64::new(0),
+            failures: AtomicU64::new(0),
+            unrecorded: AtomicU64::new(0),
         }
     }
 
@@ -65,6 +77,7 @@ impl Counts {
             404 => &self.not_found,
             405 => &self.not_allowed,
             413 => &self.too_large,
+            503 => &self.unready,
             _ => &self.failed,
         };
         count.fetch_add(1, Ordering::Relaxed);
@@ -83,6 +96,48 @@ impl Counts {
     pub(crate) fn count_notes(&self, notes: u64, inputs_too_long: u64) {
         add(&self.notes, notes);
         add(&self.inputs_too_long, inputs_too_long);
+    }
+
+    /// Counts an answer that was given without its notes, where it was.
+    pub(crate) fn count_given(&self, recorded: bool, is_given: bool) {
+        add(&self.unrecorded, u64::from(is_given && !recorded));
+    }
+
+    /// Counts that a log which could not be written for one reason can't be now for another, or can.
+    pub(crate) fn count_trouble(&self, old: Option<Trouble>, new: Option<Trouble>) {
+        if old == new {
+            return;
+        }
+        if let Some(trouble) = new {
+            add(self.count_in(trouble), 1);
+            add(&self.failures, u64::from(old.is_none()));
+        }
+        if let Some(trouble) = old {
+            self.count_in(trouble).fetch_sub(1, Ordering::Relaxed);
+        }
+    }
+
+    fn count_in(&self, trouble: Trouble) -> &AtomicU64 {
+        match trouble {
+            Trouble::Lost => &self.lost,
+            Trouble::Unwritten => &self.unwritten,
+        }
+    }
+
+    /// Why a log can't be written now, where one can't.
+    pub fn trouble(&self) -> Option<Trouble> {
+        if self.lost.load(Ordering::Relaxed) > 0 {
+            return Some(Trouble::Lost);
+        }
+        if self.unwritten.load(Ordering::Relaxed) > 0 {
+            return Some(Trouble::Unwritten);
+        }
+        None
+    }
+
+    /// How often a log that could be written began to fail.
+    pub fn failures(&self) -> u64 {
+        self.failures.load(Ordering::Relaxed)
     }
 
     /// Counts what a look for a log came to.
@@ -128,8 +183,10 @@ impl Counts {
         push_requests(&mut text, "405", &self.not_allowed)?;
         push_requests(&mut text, "413", &self.too_large)?;
         push_requests(&mut text, "500", &self.failed)?;
+        push_requests(&mut text, "503", &self.unready)?;
         self.push_evaluations(&mut text)?;
         self.push_reopened(&mut text)?;
+        self.push_failures(&mut text)?;
         let notes = self.notes.load(Ordering::Relaxed);
         let too_long = self.inputs_too_long.load(Ordering::Relaxed);
         write!(
@@ -150,6 +207,22 @@ impl Counts {
         write!(
             text,
             "# TYPE ofrep_log_unopened_total counter\nofrep_log_unopened_total {unopened}\n"
+        )
+    }
+
+    /// Adds how many logs can't be written, how often one began to fail, and how many answers were given without their notes.
+    fn push_failures(&self, text: &mut String) -> Result<(), AllocError> {
+        let lost = self.lost.load(Ordering::Relaxed);
+        let unwritten = self.unwritten.load(Ordering::Relaxed);
+        let failures = self.failures();
+        let unrecorded = self.unrecorded.load(Ordering::Relaxed);
+        write!(
+            text,
+            "# TYPE ofrep_log_failing gauge\nofrep_log_failing{{reason=\"lost\"}} {lost}\nofrep_log_failing{{reason=\"unwritten\"}} {unwritten}\n"
+        )?;
+        write!(
+            text,
+            "# TYPE ofrep_log_failures_total counter\nofrep_log_failures_total {failures}\n# TYPE ofrep_unrecorded_total counter\nofrep_unrecorded_total {unrecorded}\n"
         )
     }
 

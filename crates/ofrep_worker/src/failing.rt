@@ -1,23 +1,46 @@
 //! The answer where notes can't be recorded.
-ghost use Rattle.std.specs.Prelude.{[], OnOk};
+ghost use Rattle.std.specs.Prelude.{◌≡◌, [], true, OnOk};
 ghost use Rattle.http_server.specs.Response.{IsBlank, IsResponse};
 ghost use Rattle.ofrep_answers.specs.Answer.{Answered};
-ghost use Rattle.ofrep_worker.specs.Sent.{Fails, Gives, Sends, TellsFailure};
+ghost use Rattle.ofrep_worker.specs.Sent.{Fails, GivesIn, TellsFailure, TellsUnready, unready_text};
 
 use bytes::BufMut;
 use http::header::CONTENT_TYPE;
 use http::{HeaderValue, StatusCode};
 use http_server::Response;
+use note_log::Trouble;
 use std::alloc::AllocError;
 
 const UNRECORDED: &[u8] = br#"{"errorDetails":"the log can't be written"}"#;
 
-/// Leaves the response as it is where all notes were recorded, and else makes it one that tells of that.
-pub(crate) fn give(recorded: bool, response: &mut Response)
-    ensures { (a : Answered) → Sends a response.old → Gives recorded a response.new }
+/// Leaves the response as it is where the answer is to be given, or it tells why the service is not ready; and else makes it one
+/// that tells that the log failed.
+pub(crate) fn give(unready: Option<Trouble>, is_given: bool, response: &mut Response)
+    ensures { (a : Answered) → GivesIn unready true a response.old → GivesIn unready is_given a response.new }
 {
-    if !recorded {
+    if unready.is_none() && !is_given {
         fail(response);
+    }
+}
+
+/// Fills a response with why the service is not ready.
+pub(crate) fn tell_unready(trouble: Trouble, response: &mut Response) -> Result<(), AllocError>
+    requires { IsBlank response.old }
+    ensures { OnOk result (TellsUnready trouble response.new) }
+{
+    response.status = StatusCode::SERVICE_UNAVAILABLE;
+    let plain = HeaderValue::from_static("text/plain; charset=utf-8");
+    response.add_header(CONTENT_TYPE, plain)?;
+    response.body.put_slice(unready_text(trouble).as_bytes())
+}
+
+/// Why the service is not ready.
+fn unready_text(trouble: Trouble) -> &'static str
+    ensures { result.now ≡ unready_text trouble }
+{
+    match trouble {
+        Trouble::Lost => "a log is lost, and its path can't be opened",
+        Trouble::Unwritten => "a log can't be written",
     }
 }
 

@@ -6,8 +6,9 @@
 //!
 //! Proved, over the definitions of `specs/`: each answer is that of `ofrep_answers` to the request at some moment, of the flags
 //! of the last snapshot that the seat then knows, and the log was given the notes of what it reached (`Answers`); or the log
-//! failed, and nothing is told but that; or memory ran out, and the answer is empty. What is told with 200 or 304 rests on
-//! notes that stand in the log, then and ever after (`Stands`). Where no log is kept no note is made.
+//! failed, and nothing is told but that, unless what can't be recorded is to be answered; or memory ran out, and the answer is
+//! empty. While its log can't be written the worker says of the service that it is not ready. What is told with 200 or 304 rests
+//! on notes that stand in the log, then and ever after (`Stands`). Where no log is kept no note is made.
 #![tactic(auto)]
 
 mod answering;
@@ -19,7 +20,9 @@ mod moment;
 mod notes;
 mod recording;
 mod standing;
+mod unrecorded;
 mod worker;
 
 pub use counts::Counts;
+pub use unrecorded::WithoutRecord;
 pub use worker::OfrepWorker;

@@ -1,15 +1,16 @@
 //! Notes before answers.
 ghost use Rattle.std.specs.Prelude.{◌≡◌, IfOk, OnErr};
 ghost use Rattle.flag_defs.specs.Flags.{flags_view};
+ghost use Rattle.note_log.specs.Log.{logged};
 ghost use Rattle.ofrep_answers.specs.Answer.{answer_view};
-ghost use Rattle.ofrep_worker.specs.Answers.{RecordedFirst, RecordedIn, kept_in, kept_of};
+ghost use Rattle.ofrep_worker.specs.Answers.{HandsOver, RecordedFirst, RecordedIn, kept_in, kept_of, trouble_in};
 ghost use Rattle.ofrep_worker.specs.Notes.{notes_of};
 
 use crate::notes::notes_of;
 use flag_defs::Flags;
 use log_file::LogFile;
 use note_lines::Note;
-use note_log::NoteLog;
+use note_log::{NoteLog, Trouble};
 use ofrep_answers::Answer;
 use std::alloc::{AllocError, Global};
 
@@ -45,4 +46,23 @@ fn record_first<F: LogFile>(
         return Ok(true);
     }
     log.record(alloc, notes)
+}
+
+/// Hands over what waits of earlier notes, as far as the file takes it.
+#[tactic(auto, using(crate::proofs::Recorded::handed_over))]
+pub(crate) fn record_waiting<F: LogFile>(alloc: Global, log: &mut NoteLog<F>)
+    ensures handed { ∥ HandsOver (logged log.old) (logged log.new) ∥₁ }
+    ensures looks { F.looks log.new.journal.file ≡ F.looks log.old.journal.file }
+{
+    let _ = log.record(alloc, &[]);
+}
+
+/// Why the log can't be written, where one is kept and it can't.
+pub(crate) fn trouble_in<F: LogFile>(log: &Option<NoteLog<F>>) -> Option<Trouble>
+    ensures { result ≡ trouble_in (kept_in log.now) }
+{
+    match log {
+        Some(log) => log.trouble(),
+        None => None,
+    }
 }

@@ -1,17 +1,19 @@
 //! The worker.
 ghost use Rattle.std.specs.Prelude.{◌≡◌, OnErr, OnOk};
-ghost use mathlib.Core.List.{IsPrefix};
 ghost use Rattle.http_server.specs.Response.{IsBlank};
+ghost use Rattle.snap_share.specs.Known.{IsReadOnce};
 ghost use Rattle.ofrep_worker.specs.Answers.{LooksIn, Responds, RespondsFrom, Rises, kept_in, looks_in};
 
 use crate::answering::{Answering, answer_from};
 use crate::counts::Counts;
 use crate::failing::leave_empty;
+use crate::recording::{record_waiting, trouble_in};
+use crate::unrecorded::WithoutRecord;
 use bytes::Bytes;
 use http::Request;
 use http_server::{Response, Service};
 use log_file::{LogFile, LogPaths};
-use note_log::NoteLog;
+use note_log::{NoteLog, Trouble};
 use snap_share::{Current, ReadSeat, ShareFault, ShareName};
 use std::alloc::{AllocError, Global};
 use std::time::Clock;
@@ -24,20 +26,27 @@ pub struct OfrepWorker<'a, J: ShareName, R, F: LogFile> {
     pub(crate) seat: ReadSeat<J>,
     pub(crate) log: Option<NoteLog<F>>,
     counts: &'a Counts,
+    pub(crate) without_record: WithoutRecord,
+    /// What was counted of its log: the notes that were written, the inputs that were too long for one, and why it can't be written.
+    notes: u64,
+    too_long: u64,
+    trouble: Option<Trouble>,
 }
 
 impl<'a, J: ShareName, R: Clock, F: LogFile> OfrepWorker<'a, J, R, F> {
     /// A worker that answers from the snapshots of a seat, and records in a log where it has one. The workers of a service count
-    /// together.
+    /// together. `without_record` says what becomes of answers that can't be recorded.
     pub fn new(
         rt: &'a R,
         alloc: Global,
         seat: ReadSeat<J>,
         log: Option<NoteLog<F>>,
         counts: &'a Counts,
+        without_record: WithoutRecord,
     ) -> OfrepWorker<'a, J, R, F>
         ensures seat { result.seat ≡ seat }
         ensures log { result.log ≡ log }
+        ensures without { result.without_record ≡ without_record }
     {
         OfrepWorker {
             rt,
@@ -45,14 +54,10 @@ impl<'a, J: ShareName, R: Clock, F: LogFile> OfrepWorker<'a, J, R, F> {
             seat,
             log,
             counts,
-        }
-    }
-
-    /// How many notes the log was given, and how many inputs were too long for one.
-    fn noted(&self) -> (u64, u64) {
-        match &self.log {
-            Some(log) => (log.written(), log.too_long()),
-            None => (0, 0),
+            without_record,
+            notes: 0,
+            too_long: 0,
+            trouble: None,
         }
     }
 
@@ -63,8 +68,9 @@ impl<'a, J: ShareName, R: Clock, F: LogFile> OfrepWorker<'a, J, R, F> {
         response: &mut Response,
     ) -> Result<(), ShareFault>
         requires { IsBlank response.old }
-        ensures ok { OnOk result (RespondsFrom self.old.seat self.new.seat request.now response.new (kept_in self.old.log) (kept_in self.new.log)) }
-        ensures err { OnErr result (IsPrefix self.old.seat self.new.seat × (self.new.log ≡ self.old.log)) }
+        ensures ok { OnOk result (RespondsFrom self.old.without_record self.old.seat self.new.seat request.now response.new (kept_in self.old.log) (kept_in self.new.log)) }
+        ensures err { OnErr result (IsReadOnce self.old.seat self.new.seat × (self.new.log ≡ self.old.log)) }
+        ensures without { self.new.without_record ≡ self.old.without_record }
     {
         let snapshot = self.seat.current()?;
         let answering = Answering {
@@ -72,6 +78,7 @@ impl<'a, J: ShareName, R: Clock, F: LogFile> OfrepWorker<'a, J, R, F> {
             alloc: self.alloc,
             counts: self.counts,
             snapshot: &snapshot,
+            without_record: self.without_record,
         };
         answer_from(&answering, &mut self.log, request, response)?;
         Ok(())
@@ -80,7 +87,8 @@ impl<'a, J: ShareName, R: Clock, F: LogFile> OfrepWorker<'a, J, R, F> {
     /// Answers from the current snapshot, or leaves the response empty where memory runs out.
     fn respond_or_leave(&mut self, request: &Request<Bytes>, response: &mut Response)
         requires { IsBlank response.old }
-        ensures { Responds self.old.seat self.new.seat request.now response.new (kept_in self.old.log) (kept_in self.new.log) }
+        ensures responds { Responds self.old.without_record self.old.seat self.new.seat request.now response.new (kept_in self.old.log) (kept_in self.new.log) }
+        ensures without { self.new.without_record ≡ self.old.without_record }
     {
         match self.respond(request, response) {
             Ok(()) => {}
@@ -91,37 +99,62 @@ impl<'a, J: ShareName, R: Clock, F: LogFile> OfrepWorker<'a, J, R, F> {
 
 impl<J: ShareName, R: LogPaths, F: LogFile> OfrepWorker<'_, J, R, F> {
     /// Looks whether the file of its log, where it keeps one, stands at its path, and is as long as it was left. Where it is not
-    /// the path is opened anew, and nothing is remembered of the file that was lost.
+    /// the path is opened anew, and nothing is remembered of the file that was lost. Then what waits is handed over.
     #[tactic(auto, using(crate::proofs::Recorded::looks_kept))]
     pub(crate) fn look_for_log(&mut self)
         ensures seat { self.new.seat ≡ self.old.seat }
+        ensures without { self.new.without_record ≡ self.old.without_record }
         ensures log { LooksIn (kept_in self.old.log) (kept_in self.new.log) }
         ensures looks { Rises (looks_in self.old.log) (looks_in self.new.log) }
     {
         if let Some(log) = &mut self.log {
             let look = log.look(self.alloc, self.rt);
             self.counts.count_look(look);
+            record_waiting(self.alloc, log);
         }
+    }
+}
+
+impl<J: ShareName, R, F: LogFile> OfrepWorker<'_, J, R, F> {
+    /// How many notes the log has taken, and how many inputs were too long for one.
+    fn noted(&self) -> (u64, u64) {
+        match &self.log {
+            Some(log) => (log.written(), log.too_long()),
+            None => (0, 0),
+        }
+    }
+
+    /// Counts what has become of its log since that was last counted.
+    pub(crate) fn count_log(&mut self)
+        ensures seat { self.new.seat ≡ self.old.seat }
+        ensures log { self.new.log ≡ self.old.log }
+        ensures without { self.new.without_record ≡ self.old.without_record }
+    {
+        let (notes, too_long) = self.noted();
+        let trouble = trouble_in(&self.log);
+        self.counts.count_notes(
+            notes.saturating_sub(self.notes),
+            too_long.saturating_sub(self.too_long),
+        );
+        self.counts.count_trouble(self.trouble, trouble);
+        self.notes = notes;
+        self.too_long = too_long;
+        self.trouble = trouble;
     }
 }
 
 impl<J: ShareName, R: Clock, F: LogFile> Service for OfrepWorker<'_, J, R, F> {
     ghost answers = { λ old request response new.
-        Responds old.seat new.seat request response (kept_in old.log) (kept_in new.log) };
+        (new.without_record ≡ old.without_record) × Responds old.without_record old.seat new.seat request response (kept_in old.log) (kept_in new.log) };
 
     fn call(
         &mut self,
         request: &Request<Bytes>,
         response: &mut Response,
     ) -> Result<(), AllocError> {
-        let (notes, too_long) = self.noted();
         self.respond_or_leave(request, response);
         self.counts.count(response.status);
-        let (more_notes, more_too_long) = self.noted();
-        self.counts.count_notes(
-            more_notes.saturating_sub(notes),
-            more_too_long.saturating_sub(too_long),
-        );
+        self.count_log();
         Ok(())
     }
 }

@@ -1,5 +1,5 @@
 //! Whether the inputs of a page are those of its flag, with no text for each input.
-ghost use Rattle.std.specs.Prelude.{◌≡◌, ◌+◌, ◌<◌, ◌≤◌, ◌||◌, List, [], ◌∷◌, length, Ok, IfOk, IfSome, MatchOption, if◌then◌else◌};
+ghost use Rattle.std.specs.Prelude.{◌≡◌, ◌+◌, ◌<◌, ◌≤◌, ◌||◌, List, [], ◌∷◌, length, false, is_none, Ok, IfOk, IfSome, MatchOption, if◌then◌else◌};
 ghost use Rattle.std.specs.List.{list_any};
 ghost use Rattle.book_core.specs.Book.{Contents, inputs_on};
 ghost use Rattle.book_core.specs.Reading.{FileLine, book_of, leading, lines_of, pages_in};
@@ -16,15 +16,18 @@ use std::thread::Threads;
 
 impl BookFile {
     /// Whether an input stands on a page that no evaluation of its flag reaches there: the page has no bucketing
-    /// expression, and the input does not begin with the flag's key. Want of memory is its one fault. Cost: a pass over
-    /// the bytes up to the end of the page, whose plain lines are looked through by all processors.
+    /// expression, and the input does not begin with the flag's key. Want of memory is its one fault, and a page with a
+    /// bucketing expression takes none. Cost: a pass over the bytes up to the end of the page, whose plain lines are looked
+    /// through by all processors.
     pub fn has_foreign<R: Threads>(
         &self,
         rt: &R,
         alloc: Global,
         page: &Page,
     ) -> Result<bool, AllocError>
-        ensures { IfOk result (λ foreign. foreign ≡ has_foreign page.now (inputs_on self.now page.now)) }
+        ensures exact { IfOk result (λ foreign. foreign ≡ has_foreign page.now (inputs_on self.now page.now)) }
+        // Of a page with a bucketing expression it is answered without memory.
+        ensures bucketed { is_none page.now.by ≡ false → result ≡ Ok false }
     {
         match page.by {
             Some(_) => Ok(false),

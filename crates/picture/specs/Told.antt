@@ -1,5 +1,5 @@
--- What a picture tells: names and numbers, in order.
-use Rattle.std.specs.Prelude.{ℕ, ℤ, List, [], ◌∷◌, ◌++◌, map, nat_lt, ◌||◌, Option, Some, None, if◌then◌else◌}
+-- What a picture tells: its texts with their places, the points that each bar and each band stands for, and the rows of its tables.
+use Rattle.std.specs.Prelude.{ℕ, ◌+◌, ◌-◌, ◌*◌, ◌/◌, min, max, ℤ, List, [], ◌∷◌, ◌++◌, map, length, nat_lt, ◌||◌, Option, Some, None, if◌then◌else◌}
 use Rattle.std.specs.List.{flat_map, range_with_len}
 use Rattle.std.specs.Map.{keys_of, lookup}
 use Rattle.std.specs.Str.{bytes_eq}
@@ -10,34 +10,36 @@ use Rattle.switch_table.specs.Runs.{Run}
 use Rattle.switch_table.specs.Switches.{name_of, switch_at}
 use Rattle.switch_table.specs.declared.table.Switch.{Switch}
 use Rattle.transport_instance.specs.Certificate.{DualPrices}
+use Rattle.transport_instance.specs.declared.certificate.CutKind.{CutKind}
+use Rattle.transport_instance.specs.declared.certificate.CutKind.TheVariants as kind
 use Rattle.picture.specs.declared.element.Content.{Content}
 use Rattle.picture.specs.declared.element.Content.TheVariants as content
 use Rattle.picture.specs.declared.element.Element.{Element}
 use Rattle.picture.specs.declared.element.Element.TheVariants as element
+use Rattle.picture.specs.declared.element.Extent.{Extent}
 use Rattle.picture.specs.declared.element.Place.{Place}
+use Rattle.picture.specs.declared.words.Style.{Style}
 use Rattle.picture.specs.declared.words.Style.TheVariants as style
+use Rattle.picture.specs.declared.words.Word.{Word}
+use Rattle.picture.specs.declared.words.Word.TheVariants as word
 
--- a name, a number, a number with a sign, or that a change is not allowed
+-- What an element tells: a caption at its place; a text of a table, or a name, so far from the left edge; points of a variant, or points
+-- that go from one variant to another with their number and that of their users, as a rectangle.
 pub data Item : Type 0 where
-  name : List ℕ → Item
-  number : ℕ → Item
-  signed : ℤ → Item
-  barred : Item
-
-abbrev pub told_content : Content → List Item
-told_content (content.Word w) = []
-told_content (content.Number n) = number n ∷ []
-told_content (content.Counted w n) = number n ∷ []
-told_content (content.Signed z) = signed z ∷ []
-told_content (content.Price (Some n)) = number n ∷ []
-told_content (content.Price None) = barred ∷ []
+  caption : Place → Content → Item
+  cell : ℕ → Content → Item
+  name : ℕ → List ℕ → Item
+  piece : List ℕ → Place → Extent → Item
+  band : List ℕ → List ℕ → ℕ → ℕ → Place → Extent → Item
 
 -- The names on the bars and beside them are for the eye: each is told in the lists below.
 abbrev pub told_element : Element → List Item
-told_element (element.Text s p c) = told_content c
-told_element (element.Name p n t) = name t.now ∷ []
-told_element (element.Piece p) = []
-told_element (element.Band b) = name b.from.now ∷ name b.to.now ∷ number b.points ∷ number b.users ∷ []
+told_element (element.Caption s p c) = caption p c ∷ []
+told_element (element.Text s p c) = cell p.x c ∷ []
+told_element (element.Name p n t) = name p.x t.now ∷ []
+told_element (element.Piece p) = piece p.name.now p.place p.extent ∷ []
+told_element (element.Swatch p) = []
+told_element (element.Band b) = band b.from.now b.to.now b.points b.users b.place b.extent ∷ []
 told_element (element.Line p e) = []
 
 abbrev pub told : List Element → List Item
@@ -47,32 +49,104 @@ told es = flat_map told_element es
 abbrev pub number_element : ℕ → ℕ → ℕ → Element
 number_element x y n = element.Text style.Value (record { x = x; y = y }) (content.Number n)
 
+-- ---- captions and headings
+
+abbrev pub says : ℕ → ℕ → Content → Item
+says x y c = caption (record { x = x; y = y }) c
+
+abbrev pub number : ℕ → ℕ → Item
+number x n = cell x (content.Number n)
+
+abbrev pub heading : ℕ → Word → Item
+heading x w = cell x (content.Word w)
+
+-- headings of the program, each over the column that it names
+abbrev pub headings_told : List (Style × ℕ × Word) → List Item
+headings_told hs = map (λ h. heading h.1 h.2) hs
+
+-- ---- points over the width of a picture
+
+-- how far from the left edge a point begins, of so many: the points share 1120 units, from 40 on
+abbrev pub edge : ℕ → ℕ → ℕ
+edge total p = 40 + (p * 1120) / total
+
+-- the rectangle of the points from one to another, at a height
+abbrev pub place_of : ℕ → ℕ → ℕ → Place
+place_of y total p = record { x = edge total p; y = y }
+
+abbrev pub extent_of : ℕ → ℕ → ℕ → Extent
+extent_of total p q = record { width = edge total q - edge total p; height = 80 }
+
+-- the bar of the entries of a rule, from a point on: each with its name over its points
+abbrev pub pieces_told : ℕ → ℕ → ℕ → Entries → List Item
+pieces_told y total p [] = []
+pieces_told y total p (e ∷ es) = piece e.0 (place_of y total p) (extent_of total p (p + e.1)) ∷ pieces_told y total (p + e.1) es
+
+-- that of a rule
+abbrev pub bar_told : ℕ → Entries → List Item
+bar_told y rule = pieces_told y (total_weight rule) 0 rule
+
 -- ---- a change
 
--- runs that move, each with its names, its points and its users
-abbrev pub run_told : Run → List Item
-run_told r = if bytes_eq r.from r.to then [] else name r.from ∷ name r.to ∷ number r.points ∷ number r.users ∷ []
+-- its cost, and the captions of both bars with the number of the points
+abbrev pub head_told : ℕ → ℕ → List Item
+head_told cost total =
+    says 40 66 (content.Counted word.Cost cost) ∷ says 40 110 (content.Word word.Least) ∷ says 40 170 (content.Word word.Before) ∷ says 1160 170 (content.Counted word.Points total) ∷ says 40 466 (content.Word word.After) ∷ []
+
+-- the point behind a run
+abbrev pub behind : ℕ → ℕ → Run → ℕ
+behind total p r = min (p + r.points) total
+
+-- a run that moves, with its names, its points and its users, between the two bars
+abbrev pub run_told : ℕ → ℕ → Run → List Item
+run_told total p r =
+    if bytes_eq r.from r.to then [] else band r.from r.to r.points r.users (place_of 264 total p) (extent_of total p (behind total p r)) ∷ []
+
+-- those of runs, from a point on
+abbrev pub runs_told : ℕ → ℕ → List Run → List Item
+runs_told total p [] = []
+runs_told total p (r ∷ rs) = run_told total p r ++ runs_told total (behind total p r) rs
+
+-- the old rule below the one caption, the runs that move, and the new rule above the other
+abbrev pub bars_told : Entries → Entries → List Run → List Item
+bars_told old new runs = bar_told 184 old ++ (runs_told (total_weight old) 0 runs ++ bar_told 344 new)
 
 abbrev pub dual_told : Option ℤ → List Item
 dual_told None = []
-dual_told (Some z) = signed z ∷ []
+dual_told (Some z) = cell 1160 (content.Signed z) ∷ []
+
+abbrev pub variant_headings : List Item
+variant_headings = heading 100 word.Variant ∷ heading 600 word.Before ∷ heading 720 word.After ∷ heading 860 word.AtLeast ∷ heading 990 word.AtMost ∷ heading 1160 word.DualPrice ∷ []
 
 -- a variant with its points before and after, and its limits
 abbrev pub totals_told : Entries → Entries → List ℕ × (ℕ × ℕ) → List Item
-totals_told old new l = name l.0 ∷ number (total_of old l.0) ∷ number (total_of new l.0) ∷ number l.1.0 ∷ number l.1.1 ∷ []
+totals_told old new l = name 100 l.0 ∷ number 600 (total_of old l.0) ∷ number 720 (total_of new l.0) ∷ number 860 l.1.0 ∷ number 990 l.1.1 ∷ []
 
 -- the same, with its dual price
 abbrev pub variant_told : Entries → Entries → List (List ℕ × ℤ) → List ℕ × (ℕ × ℕ) → List Item
 variant_told old new duals l = totals_told old new l ++ dual_told (lookup (bytes_eq l.0) duals)
 
--- the price of a change, or that it is not allowed
-abbrev pub price_told : Pricing → List ℕ → List ℕ → Item
-price_told pricing a b = if is_forbidden pricing a b then barred else number (price_of pricing a b)
+abbrev pub variants_told : Entries → Entries → Limits → List (List ℕ × ℤ) → List Item
+variants_told old new limits duals = variant_headings ++ flat_map (variant_told old new duals) limits
+
+abbrev pub switch_headings : List Item
+switch_headings = heading 100 word.From ∷ heading 410 word.To ∷ heading 820 word.Points ∷ heading 970 word.Users ∷ heading 1160 word.Price ∷ []
+
+-- the price of a change, where it is allowed
+abbrev pub price_told : Pricing → List ℕ → List ℕ → Option ℕ
+price_told pricing a b = if is_forbidden pricing a b then None else Some (price_of pricing a b)
+
+-- where the second name stands: beside the first, or below it where one of them is long
+abbrev pub second_name : List ℕ → List ℕ → ℕ
+second_name a b = if nat_lt 17 (max (length a) (length b)) then 100 else 410
+
+abbrev pub names_told : List ℕ → List ℕ → List Item
+names_told a b = name 100 a ∷ name (second_name a b) b ∷ []
 
 -- a switch that has points or is not allowed, with its names, its points, its users and its price
 abbrev pub switch_told : Pricing → List ℕ → List ℕ → Switch → List Item
 switch_told pricing a b s =
-    if nat_lt 0 s.points || is_forbidden pricing a b then name a ∷ name b ∷ number s.points ∷ number s.users ∷ price_told pricing a b ∷ [] else []
+    if nat_lt 0 s.points || is_forbidden pricing a b then names_told a b ++ (number 820 s.points ∷ number 970 s.users ∷ cell 1160 (content.Price (price_told pricing a b)) ∷ []) else []
 
 -- the switches from one variant to each
 abbrev pub row_told : Pricing → List (List ℕ) → ℕ × List Switch → ℕ → List Item
@@ -80,22 +154,42 @@ row_told pricing names t i = flat_map (λ j. switch_told pricing (name_of names 
 
 -- those from each
 abbrev pub table_told : Pricing → List (List ℕ) → ℕ × List Switch → List Item
-table_told pricing names t = flat_map (row_told pricing names t) (range_with_len 0 t.0)
+table_told pricing names t = switch_headings ++ flat_map (row_told pricing names t) (range_with_len 0 t.0)
 
--- the cost and the points, the runs that move, the variants, and the switches between them
+-- the cost and the points, both rules and the runs that move between them, the variants, and the switches between these
 unfoldable pub change_told : Entries → Entries → Limits → Pricing → List Run → ℕ × List Switch → DualPrices → List Item
 change_told old new limits pricing runs t duals =
-    number duals.cost ∷ number (total_weight old) ∷ (flat_map run_told runs ++ (flat_map (variant_told old new duals.beta) limits ++ table_told pricing (keys_of limits) t))
+    head_told duals.cost (total_weight old) ++ (bars_told old new runs ++ (variants_told old new limits duals.beta ++ table_told pricing (keys_of limits) t))
 
 -- ---- a set that shows that no rule fits
 
+-- of which kind a set is, in words
+abbrev pub kind_word : CutKind → Word
+kind_word kind.Over = word.Over
+kind_word kind.Under = word.Under
+
+-- that no rule keeps the limits, the number of the points, and the kind of the set
+abbrev pub none_head_told : CutKind → ℕ → List Item
+none_head_told k total = says 40 66 (content.Word word.NoRule) ∷ says 1160 66 (content.Counted word.Points total) ∷ says 40 114 (content.Word (kind_word k)) ∷ []
+
 abbrev pub set_told : List (List ℕ) → List Item
-set_told names = map name names
+set_told names = map (name 100) names
+
+abbrev pub limit_headings : List Item
+limit_headings = heading 100 word.Variant ∷ heading 820 word.Points ∷ heading 990 word.AtLeast ∷ heading 1160 word.AtMost ∷ []
 
 -- a variant with its points and its limits
 abbrev pub limit_told : Entries → List ℕ × (ℕ × ℕ) → List Item
-limit_told old l = name l.0 ∷ number (total_of old l.0) ∷ number l.1.0 ∷ number l.1.1 ∷ []
+limit_told old l = name 100 l.0 ∷ number 820 (total_of old l.0) ∷ number 990 l.1.0 ∷ number 1160 l.1.1 ∷ []
 
--- the points, the set, and the variants
-unfoldable pub none_told : Entries → Limits → List (List ℕ) → List Item
-none_told old limits names = number (total_weight old) ∷ (set_told names ++ flat_map (limit_told old) limits)
+abbrev pub limits_told : Entries → Limits → List Item
+limits_told old limits = limit_headings ++ flat_map (limit_told old) limits
+
+-- the kind and the names of the set, the rule below them as a bar at a height, and the variants
+unfoldable pub none_told : ℕ → Entries → Limits → CutKind → List (List ℕ) → List Item
+none_told y old limits k names = none_head_told k (total_weight old) ++ (set_told names ++ (bar_told y old ++ limits_told old limits))
+
+-- ---- the number of a step
+
+abbrev pub step_told : ℕ → Item
+step_told n = says 40 96 (content.Counted word.Step n)

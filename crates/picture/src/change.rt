@@ -1,15 +1,14 @@
 //! The picture of a rule that replaces another.
-ghost use Rattle.std.specs.Prelude.{◌≡◌, ◌++◌, ◌∷◌, [], OnOk, length, string_bytes};
-ghost use Rattle.std.specs.List.{flat_map};
+ghost use Rattle.std.specs.Prelude.{◌≡◌, ◌≤◌, ◌++◌, min, OnErr, OnOk, length, string_bytes};
 ghost use Rattle.std.specs.Map.{keys_of};
-ghost use Rattle.bucket_core.specs.Rule.{total_weight};
+ghost use Rattle.bucket_core.specs.Rule.{IsRuleTotal, total_weight};
 ghost use Rattle.price_core.specs.Limits.{limits_view};
-ghost use Rattle.switch_table.specs.Runs.{runs_view};
+ghost use Rattle.switch_table.specs.Runs.{run_view, runs_view};
 ghost use Rattle.transport_instance.specs.Certificate.{certificate_view};
 ghost use Rattle.picture.specs.Spelling.{Adds};
-ghost use Rattle.picture.specs.Told.{change_told, number, run_told, told};
+ghost use Rattle.picture.specs.Told.{bars_told, behind, change_told, extent_of, head_told, place_of, runs_told, told};
 
-use crate::bars::{BAR, LEFT, add_bar, edge, look_of};
+use crate::bars::{BAR, LEFT, add_bar, edge, extent, look_of};
 use crate::element::{Band, Content, Element, Extent, Place, add};
 use crate::print::place;
 use crate::switches::add_table;
@@ -37,8 +36,8 @@ pub struct Change<'a> {
     pub certificate: &'a Certificate,
 }
 
-/// Adds the picture of a change to those of a page, so far below its top, and gives how far below it the picture ends. The
-/// condition is that the table has a place for each variant that has limits.
+/// Adds the picture of a change to those of a page, so far below its top, and gives how far below it the picture ends. Where
+/// memory runs out the pictures are as they were. The condition is that the table has a place for each variant that has limits.
 #[tactic(auto, unfolding(crate::specs::Spelling::Adds, crate::specs::Told::change_told))]
 pub fn draw_change(
     alloc: Global,
@@ -47,9 +46,10 @@ pub fn draw_change(
     change: &Change<'_>,
 ) -> Result<u64, AllocError>
     requires { change.now.table.now.0 ≡ length (keys_of change.now.totals.now) }
-    ensures { OnOk result (Adds
+    ensures adds { OnOk result (Adds
         (change_told change.now.old.now change.now.new.now change.now.totals.now change.now.prices.now (runs_view change.now.runs.now) change.now.table.now (certificate_view change.now.certificate.now))
         (string_bytes pictures.old) (string_bytes pictures.new)) }
+    ensures kept { OnErr result (string_bytes pictures.new ≡ string_bytes pictures.old) }
 {
     let limits = change.totals.entries();
     let mut elements = Vec::new(alloc);
@@ -57,32 +57,39 @@ pub fn draw_change(
     add_bars(&mut elements, change, limits)?;
     let below = add_variants(&mut elements, change, limits, 540)?;
     let height = add_table(&mut elements, change, limits, below)?;
-    place(pictures, y, elements.as_slice())?;
+    place(alloc, pictures, y, elements.as_slice())?;
     Ok(y.saturating_add(height))
 }
 
+/// The heights of the bar of the old rule, of the bands, and of the bar of the new rule.
+const BEFORE: u64 = 184;
+
+const BANDS: u64 = BEFORE + BAR;
+
+const AFTER: u64 = BANDS + BAR;
+
 /// What a change costs, and how many points there are.
 fn add_head<'a>(elements: &mut Vec<Element<'a>>, change: &Change<'a>) -> Result<(), AllocError>
-    ensures { OnOk result (told elements.new.items ≡ told elements.old.items ++ (number change.now.certificate.now.cost ∷ number (total_weight change.now.old.now) ∷ [])) }
+    ensures { OnOk result (told elements.new.items ≡ told elements.old.items ++ head_told change.now.certificate.now.cost (total_weight change.now.old.now)) }
 {
     let cost = Content::Counted(Word::Cost, change.certificate.cost);
     let points = Content::Counted(Word::Points, u64::from(change.old.total()));
     add(
         elements,
         &[
-            Element::Text(Style::Title, Place { x: LEFT, y: 66 }, cost),
-            Element::Text(
+            Element::Caption(Style::Title, Place { x: LEFT, y: 66 }, cost),
+            Element::Caption(
                 Style::Row,
                 Place { x: LEFT, y: 110 },
                 Content::Word(Word::Least),
             ),
-            Element::Text(
+            Element::Caption(
                 Style::Heading,
                 Place { x: LEFT, y: 170 },
                 Content::Word(Word::Before),
             ),
-            Element::Text(Style::Value, Place { x: 1160, y: 170 }, points),
-            Element::Text(
+            Element::Caption(Style::Value, Place { x: 1160, y: 170 }, points),
+            Element::Caption(
                 Style::Heading,
                 Place { x: LEFT, y: 466 },
                 Content::Word(Word::After),
@@ -97,11 +104,11 @@ fn add_bars<'a>(
     change: &Change<'a>,
     limits: &[Limit],
 ) -> Result<(), AllocError>
-    ensures { OnOk result (told elements.new.items ≡ told elements.old.items ++ flat_map run_told (runs_view change.now.runs.now)) }
+    ensures { OnOk result (told elements.new.items ≡ told elements.old.items ++ bars_told change.now.old.now change.now.new.now (runs_view change.now.runs.now)) }
 {
-    add_bar(elements, change.old, limits, 184)?;
+    add_bar(elements, change.old, limits, BEFORE)?;
     add_bands(elements, change.runs, limits, u64::from(change.old.total()))?;
-    add_bar(elements, change.new, limits, 184 + 2 * BAR)
+    add_bar(elements, change.new, limits, AFTER)
 }
 
 /// The runs that move, among so many points.
@@ -111,33 +118,40 @@ fn add_bands<'a>(
     limits: &[Limit],
     total: u64,
 ) -> Result<(), AllocError>
-    ensures { OnOk result (told elements.new.items ≡ told elements.old.items ++ flat_map run_told (runs_view runs.now)) }
+    requires { IsRuleTotal total }
+    ensures { OnOk result (told elements.new.items ≡ told elements.old.items ++ runs_told total 0 (runs_view runs.now)) }
 {
     let mut begin = 0u64;
     for (i, run) in runs.iter().enumerate() {
-        let end = begin.saturating_add(u64::from(run.points));
+        let end = behind(begin, run, total);
         if run.from != run.to {
             let next = next_move(&runs[i + 1..], end, total);
-            let edges = Edges {
-                left: edge(begin, total),
-                right: edge(end, total),
-                next: edge(next, total),
-            };
-            elements.push(Element::Band(band(run, limits, edges)))?;
+            elements.push(Element::Band(band(run, limits, begin, end, next, total)))?;
         }
         begin = end;
     }
     Ok(())
 }
 
+/// The point behind a run that begins at a point.
+fn behind(begin: u64, run: &Run<'_>, total: u64) -> u64
+    ensures value { result ≡ behind total begin (run_view run.now) }
+    ensures inside { result ≤ total }
+{
+    begin.saturating_add(u64::from(run.points)).min(total)
+}
+
 /// Where the first of these runs that changes its variant begins, if the runs begin at `point`; `total` if none changes.
-fn next_move(runs: &[Run<'_>], point: u64, total: u64) -> u64 {
+fn next_move(runs: &[Run<'_>], point: u64, total: u64) -> u64
+    requires { point ≤ total }
+    ensures { result ≤ total }
+{
     let mut begin = point;
     for run in runs {
         if run.from != run.to {
             return begin;
         }
-        begin = begin.saturating_add(u64::from(run.points));
+        begin = behind(begin, run, total);
     }
     total
 }
@@ -159,7 +173,7 @@ fn label_for(users: u64, edges: Edges) -> Option<Place> {
         edges.right
     };
     if x == edges.left || edges.next.saturating_sub(x) >= room {
-        Some(Place { x, y: 184 + BAR })
+        Some(Place { x, y: BANDS })
     } else {
         None
     }
@@ -182,14 +196,31 @@ fn digits_of(number: u64) -> u64 {
     digits
 }
 
-/// The band of a run.
-fn band<'a>(run: &Run<'a>, limits: &[Limit], edges: Edges) -> Band<'a>
+/// The band of a run from one point to another, where the next one begins at `next`.
+fn band<'a>(
+    run: &Run<'a>,
+    limits: &[Limit],
+    begin: u64,
+    end: u64,
+    next: u64,
+    total: u64,
+) -> Band<'a>
+    requires total { IsRuleTotal total }
+    requires begin { begin ≤ total }
+    requires end { end ≤ total }
+    requires next { next ≤ total }
     ensures from { result.from.now ≡ run.now.from.now }
     ensures to { result.to.now ≡ run.now.to.now }
     ensures points { result.points ≡ run.now.points }
     ensures users { result.users ≡ run.now.users }
+    ensures place { result.place ≡ place_of 264 total begin }
+    ensures extent { result.extent ≡ extent_of total begin end }
 {
-    let width = edges.right.saturating_sub(edges.left);
+    let edges = Edges {
+        left: edge(begin, total),
+        right: edge(end, total),
+        next: edge(next, total),
+    };
     Band {
         from: run.from,
         to: run.to,
@@ -198,9 +229,9 @@ fn band<'a>(run: &Run<'a>, limits: &[Limit], edges: Edges) -> Band<'a>
         look: look_of(limits, run.to),
         place: Place {
             x: edges.left,
-            y: 184 + BAR,
+            y: BANDS,
         },
-        extent: Extent { width, height: BAR },
+        extent: extent(begin, end, total),
         label: label_for(run.users, edges),
     }
 }

@@ -7,7 +7,8 @@
 //!
 //! Proved, over the definitions of `specs/`: a picture is a list of elements, each spelled as `Spelling` says, so that no name
 //! adds markup of its own; and what the elements tell, in their order, is what `Told` says of the rules, the limits, the prices,
-//! the runs, the table and the certificate. Where things stand and how they look is not.
+//! the runs, the table and the certificate. Captions and bars are told with their places, a bar by the points of its rule, and
+//! each text of a table with its column. How high a row stands and how things look is not.
 #![tactic(auto)]
 
 mod bars;

@@ -1,10 +1,10 @@
 //! The picture of a set of variants which shows that no rule fits.
-ghost use Rattle.std.specs.Prelude.{◌≡◌, ◌++◌, ◌∷◌, [], OnOk, string_bytes};
+ghost use Rattle.std.specs.Prelude.{◌≡◌, ◌++◌, ◌∷◌, [], ℕ, OnErr, OnOk, string_bytes};
 ghost use Rattle.std.specs.List.{flat_map};
 ghost use Rattle.bucket_core.specs.Rule.{names_view, total_weight};
 ghost use Rattle.price_core.specs.Limits.{limit_view, limits_view};
 ghost use Rattle.picture.specs.Spelling.{Adds};
-ghost use Rattle.picture.specs.Told.{limit_told, name, none_told, number, set_told, told};
+ghost use Rattle.picture.specs.Told.{bar_told, limit_told, limits_told, name, none_head_told, none_told, set_told, told};
 
 use crate::bars::{BAR, LEFT, add_bar};
 use crate::element::{Content, Element, Place, add};
@@ -28,7 +28,7 @@ pub struct Deficit<'a> {
 }
 
 /// Adds the picture of a set which shows that no rule fits to those of a page, so far below its top, and gives how far below it
-/// the picture ends.
+/// the picture ends. Where memory runs out the pictures are as they were.
 #[tactic(auto, unfolding(crate::specs::Spelling::Adds, crate::specs::Told::none_told))]
 pub fn draw_none(
     alloc: Global,
@@ -36,7 +36,8 @@ pub fn draw_none(
     y: u64,
     deficit: &Deficit<'_>,
 ) -> Result<u64, AllocError>
-    ensures { OnOk result (Adds (none_told deficit.now.old.now deficit.now.totals.now (names_view deficit.now.cut.now.names.items)) (string_bytes pictures.old) (string_bytes pictures.new)) }
+    ensures adds { OnOk result ((bar : ℕ) × Adds (none_told bar deficit.now.old.now deficit.now.totals.now deficit.now.cut.now.kind (names_view deficit.now.cut.now.names.items)) (string_bytes pictures.old) (string_bytes pictures.new)) }
+    ensures kept { OnErr result (string_bytes pictures.new ≡ string_bytes pictures.old) }
 {
     let limits = deficit.totals.entries();
     let mut elements = Vec::new(alloc);
@@ -44,13 +45,13 @@ pub fn draw_none(
     let behind_set = add_set(&mut elements, deficit.cut.names.as_slice(), limits, 170)?;
     let behind_bar = add_rule(&mut elements, deficit.old, limits, behind_set)?;
     let height = add_limits(&mut elements, deficit.old, limits, behind_bar)?;
-    place(pictures, y, elements.as_slice())?;
+    place(alloc, pictures, y, elements.as_slice())?;
     Ok(y.saturating_add(height))
 }
 
 /// That no rule fits, and of which kind the set is.
 fn add_head(elements: &mut Vec<Element<'_>>, deficit: &Deficit<'_>) -> Result<(), AllocError>
-    ensures { OnOk result (told elements.new.items ≡ told elements.old.items ++ (number (total_weight deficit.now.old.now) ∷ [])) }
+    ensures { OnOk result (told elements.new.items ≡ told elements.old.items ++ none_head_told deficit.now.cut.now.kind (total_weight deficit.now.old.now)) }
 {
     let points = Content::Counted(Word::Points, u64::from(deficit.old.total()));
     let kind = match deficit.cut.kind {
@@ -60,13 +61,13 @@ fn add_head(elements: &mut Vec<Element<'_>>, deficit: &Deficit<'_>) -> Result<()
     add(
         elements,
         &[
-            Element::Text(
+            Element::Caption(
                 Style::Title,
                 Place { x: LEFT, y: 66 },
                 Content::Word(Word::NoRule),
             ),
-            Element::Text(Style::Value, Place { x: 1160, y: 66 }, points),
-            Element::Text(Style::Row, Place { x: LEFT, y: 114 }, Content::Word(kind)),
+            Element::Caption(Style::Value, Place { x: 1160, y: 66 }, points),
+            Element::Caption(Style::Row, Place { x: LEFT, y: 114 }, Content::Word(kind)),
         ],
     )
 }
@@ -95,12 +96,12 @@ fn add_named<'a>(
     limits: &[Limit],
     y: u64,
 ) -> Result<(), AllocError>
-    ensures { OnOk result (told elements.new.items ≡ told elements.old.items ++ (name variant.now ∷ [])) }
+    ensures { OnOk result (told elements.new.items ≡ told elements.old.items ++ (name 100 variant.now ∷ [])) }
 {
     add(
         elements,
         &[
-            Element::Piece(swatch(limits, variant, y)),
+            Element::Swatch(swatch(limits, variant, y)),
             Element::Name(Place { x: NAMES, y }, size_for(variant, 1060), variant),
         ],
     )
@@ -113,7 +114,7 @@ fn add_rule<'a>(
     limits: &[Limit],
     y: u64,
 ) -> Result<u64, AllocError>
-    ensures { OnOk result (told elements.new.items ≡ told elements.old.items) }
+    ensures { OnOk result (told elements.new.items ≡ told elements.old.items ++ bar_told y rule.now) }
 {
     add_bar(elements, rule, limits, y)?;
     Ok(y.saturating_add(BAR).saturating_add(ROW))
@@ -133,10 +134,21 @@ fn add_limits<'a>(
     limits: &'a [Limit],
     y: u64,
 ) -> Result<u64, AllocError>
-    ensures { OnOk result (told elements.new.items ≡ told elements.old.items ++ flat_map (limit_told old.now) (limits_view limits.entry.now)) }
+    ensures { OnOk result (told elements.new.items ≡ told elements.old.items ++ limits_told old.now (limits_view limits.entry.now)) }
 {
     add_headings(elements, HEADINGS, y)?;
-    let mut row = y.saturating_add(ROW);
+    add_rows(elements, old, limits, y.saturating_add(ROW))
+}
+
+fn add_rows<'a>(
+    elements: &mut Vec<Element<'a>>,
+    old: &Rule,
+    limits: &'a [Limit],
+    y: u64,
+) -> Result<u64, AllocError>
+    ensures { OnOk result (told elements.new.items ≡ told elements.old.items ++ flat_map (limit_told old.now) (limits_view limits.entry.now)) }
+{
+    let mut row = y;
     for limit in limits {
         row = add_limit(elements, old, limits, limit, row)?;
     }

@@ -1,5 +1,5 @@
 //! The text of a picture.
-ghost use Rattle.std.specs.Prelude.{◌≡◌, ◌++◌, List, Some, IfOk, OnOk, string_bytes};
+ghost use Rattle.std.specs.Prelude.{◌≡◌, ◌++◌, List, Some, IfOk, OnErr, OnOk, string_bytes};
 ghost use Rattle.std.specs.Fmt.{decimal, signed_decimal};
 ghost use Rattle.std.specs.List.{flat_map};
 ghost use Rattle.picture.specs.Spelling.{IsBody, IsPicture, at, band_title, coloured, label, page, patterned, placed, rectangles, sized, spelled, spelled_band, spelled_content, spelled_line, spelled_name, spelled_piece, spelled_text, users_label};
@@ -34,14 +34,30 @@ fn page_text(alloc: Global, height: u64, pictures: &str) -> Result<String, Alloc
     Ok(out)
 }
 
-/// Adds the elements of a picture, so far below the top of its page.
-#[tactic(auto, unfolding(crate::specs::Spelling::placed))]
-pub(crate) fn place(out: &mut String, y: u64, elements: &[Element<'_>]) -> Result<(), AllocError>
-    ensures { OnOk result (string_bytes out.new ≡ string_bytes out.old ++ placed y elements.now) }
+/// Adds the elements of a picture, so far below the top of its page; nothing where memory runs out.
+pub(crate) fn place(
+    alloc: Global,
+    out: &mut String,
+    y: u64,
+    elements: &[Element<'_>],
+) -> Result<(), AllocError>
+    ensures all { OnOk result (string_bytes out.new ≡ string_bytes out.old ++ placed y elements.now) }
+    ensures none { OnErr result (string_bytes out.new ≡ string_bytes out.old) }
 {
-    write!(out, "<g transform=\"translate(0 {y})\">\n")?;
-    push_all(out, elements)?;
-    out.push_str("</g>\n")
+    let text = placed(alloc, y, elements)?;
+    out.push_str(text.as_str())
+}
+
+/// The elements of a picture, so far below the top of its page.
+#[tactic(auto, unfolding(crate::specs::Spelling::placed))]
+fn placed(alloc: Global, y: u64, elements: &[Element<'_>]) -> Result<String, AllocError>
+    ensures { IfOk result (λ s. string_bytes s ≡ placed y elements.now) }
+{
+    let mut text = String::new(alloc);
+    write!(text, "<g transform=\"translate(0 {y})\">\n")?;
+    push_all(&mut text, elements)?;
+    text.push_str("</g>\n")?;
+    Ok(text)
 }
 
 fn push_all(out: &mut String, elements: &[Element<'_>]) -> Result<(), AllocError>
@@ -57,9 +73,11 @@ fn push(out: &mut String, element: &Element<'_>) -> Result<(), AllocError>
     ensures { OnOk result (string_bytes out.new ≡ string_bytes out.old ++ spelled element.now) }
 {
     match element {
+        Element::Caption(style, place, content) => push_text(out, *style, *place, *content),
         Element::Text(style, place, content) => push_text(out, *style, *place, *content),
         Element::Name(place, size, name) => push_name(out, *place, *size, name),
         Element::Piece(piece) => push_piece(out, piece),
+        Element::Swatch(piece) => push_piece(out, piece),
         Element::Band(band) => push_band(out, band),
         Element::Line(place, extent) => push_line(out, *place, *extent),
     }

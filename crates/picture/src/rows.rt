@@ -1,6 +1,6 @@
 //! What the lists and the tables of a picture share: their headings, and rows with names and numbers.
-ghost use Rattle.std.specs.Prelude.{◌≡◌, OnOk};
-ghost use Rattle.picture.specs.Told.{number_element, told};
+ghost use Rattle.std.specs.Prelude.{◌≡◌, ◌++◌, OnOk};
+ghost use Rattle.picture.specs.Told.{headings_told, number_element, told};
 
 use crate::bars::{LEFT, look_of};
 use crate::element::{Content, Element, Extent, Piece, Place};
@@ -29,7 +29,7 @@ pub(crate) fn add_headings(
     headings: &[(Style, u64, Word)],
     y: u64,
 ) -> Result<(), AllocError>
-    ensures { OnOk result (told elements.new.items ≡ told elements.old.items) }
+    ensures { OnOk result (told elements.new.items ≡ told elements.old.items ++ headings_told headings.now) }
 {
     for (style, x, word) in headings {
         elements.push(Element::Text(*style, Place { x: *x, y }, Content::Word(*word)))?;

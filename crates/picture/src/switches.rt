@@ -1,8 +1,9 @@
 //! The table of the switches.
 ghost use Rattle.std.specs.Prelude.{◌≡◌, ◌++◌, ◌<◌, [], OnOk, length};
+ghost use Rattle.std.specs.List.{flat_map, range_with_len};
 ghost use Rattle.std.specs.Map.{keys_of};
 ghost use Rattle.price_core.specs.Limits.{limits_view};
-ghost use Rattle.picture.specs.Told.{row_told, switch_told, table_told, told};
+ghost use Rattle.picture.specs.Told.{names_told, price_told, row_told, switch_told, table_told, told};
 
 use crate::change::Change;
 use crate::element::{Content, Element, Place, add};
@@ -31,7 +32,20 @@ pub(crate) fn add_table<'a>(
     ensures { OnOk result (told elements.new.items ≡ told elements.old.items ++ table_told change.now.prices.now (keys_of (limits_view limits.entry.now)) change.now.table.now) }
 {
     add_headings(elements, HEADINGS, y)?;
-    let mut row = y.saturating_add(ROW);
+    add_rows(elements, change, limits, y.saturating_add(ROW))
+}
+
+/// Adds the switches from each variant, from a height on, and gives the height below.
+fn add_rows<'a>(
+    elements: &mut Vec<Element<'a>>,
+    change: &Change<'a>,
+    limits: &'a [Limit],
+    y: u64,
+) -> Result<u64, AllocError>
+    requires { change.now.table.now.0 ≡ length limits.now }
+    ensures { OnOk result (told elements.new.items ≡ told elements.old.items ++ flat_map (row_told change.now.prices.now (keys_of (limits_view limits.entry.now)) change.now.table.now) (range_with_len 0 change.now.table.now.0)) }
+{
+    let mut row = y;
     for from in 0..limits.len() {
         row = add_row(elements, change, limits, from, row)?;
     }
@@ -59,8 +73,7 @@ fn add_row<'a>(
     Ok(row)
 }
 
-/// Adds a switch that has points or is not allowed, at a height, and gives the height below. Long names have lines of their
-/// own.
+/// Adds a switch that has points or is not allowed, at a height, and gives the height below.
 fn add_switch<'a>(
     elements: &mut Vec<Element<'a>>,
     prices: &Prices,
@@ -71,35 +84,14 @@ fn add_switch<'a>(
 ) -> Result<u64, AllocError>
     ensures { OnOk result (told elements.new.items ≡ told elements.old.items ++ switch_told prices.now from.now to.now switch) }
 {
-    let is_forbidden = prices.forbidden(from, to);
-    if switch.points == 0 && !is_forbidden {
+    let price = price_of(prices, from, to);
+    if switch.points == 0 && price.is_some() {
         return Ok(y);
     }
-    let is_long = from.len().max(to.len()) > 17;
-    let second = if is_long { y.saturating_add(ROW) } else { y };
-    let below = if is_long {
-        second.saturating_add(ROW)
-    } else {
-        y
-    };
-    let width = if is_long { 1060 } else { 300 };
-    let price = if is_forbidden {
-        None
-    } else {
-        Some(prices.price(from, to))
-    };
+    let below = add_names(elements, from, to, y)?;
     add(
         elements,
         &[
-            Element::Name(Place { x: NAMES, y }, size_for(from, width), from),
-            Element::Name(
-                Place {
-                    x: if is_long { NAMES } else { 410 },
-                    y: second,
-                },
-                size_for(to, width),
-                to,
-            ),
             number_at(820, below, switch.points),
             number_at(970, below, switch.users),
             Element::Text(
@@ -110,4 +102,48 @@ fn add_switch<'a>(
         ],
     )?;
     Ok(below.saturating_add(ROW))
+}
+
+/// The price of a change, where it is allowed.
+fn price_of(prices: &Prices, from: &str, to: &str) -> Option<u64>
+    ensures { result ≡ price_told prices.now from.now to.now }
+{
+    if prices.forbidden(from, to) {
+        None
+    } else {
+        Some(prices.price(from, to))
+    }
+}
+
+/// Adds the names of a switch at a height, and gives that of its numbers. Long names have lines of their own.
+fn add_names<'a>(
+    elements: &mut Vec<Element<'a>>,
+    from: &'a str,
+    to: &'a str,
+    y: u64,
+) -> Result<u64, AllocError>
+    ensures { OnOk result (told elements.new.items ≡ told elements.old.items ++ names_told from.now to.now) }
+{
+    let is_long = from.len().max(to.len()) > 17;
+    let width = if is_long { 1060 } else { 300 };
+    let second = if is_long {
+        Place {
+            x: NAMES,
+            y: y.saturating_add(ROW),
+        }
+    } else {
+        Place { x: 410, y }
+    };
+    add(
+        elements,
+        &[
+            Element::Name(Place { x: NAMES, y }, size_for(from, width), from),
+            Element::Name(second, size_for(to, width), to),
+        ],
+    )?;
+    Ok(if is_long {
+        second.y.saturating_add(ROW)
+    } else {
+        y
+    })
 }

@@ -6,7 +6,7 @@ ghost use Rattle.std.specs.Str.{bytes_eq};
 ghost use Rattle.bucket_core.specs.Rule.{total_of};
 ghost use Rattle.price_core.specs.Limits.{limit_view, limits_view};
 ghost use Rattle.transport_instance.specs.Certificate.{beta_view};
-ghost use Rattle.picture.specs.Told.{dual_told, told, totals_told, variant_told};
+ghost use Rattle.picture.specs.Told.{dual_told, told, totals_told, variant_told, variants_told};
 
 use crate::change::Change;
 use crate::element::{Content, Element, Place, add};
@@ -32,14 +32,28 @@ pub(crate) fn add_variants<'a>(
     y: u64,
 ) -> Result<u64, AllocError>
     ensures { OnOk result (told elements.new.items ≡ told elements.old.items
-        ++ flat_map (variant_told change.now.old.now change.now.new.now (beta_view change.now.certificate.now.beta.items)) (limits_view limits.entry.now)) }
+        ++ variants_told change.now.old.now change.now.new.now (limits_view limits.entry.now) (beta_view change.now.certificate.now.beta.items)) }
 {
     add_headings(elements, HEADINGS, y)?;
-    let mut row = y.saturating_add(ROW);
+    let below = add_rows(elements, change, limits, y.saturating_add(ROW))?;
+    Ok(below.saturating_add(ROW))
+}
+
+/// Adds a row for each variant, from a height on, and gives the height below.
+fn add_rows<'a>(
+    elements: &mut Vec<Element<'a>>,
+    change: &Change<'a>,
+    limits: &'a [Limit],
+    y: u64,
+) -> Result<u64, AllocError>
+    ensures { OnOk result (told elements.new.items ≡ told elements.old.items
+        ++ flat_map (variant_told change.now.old.now change.now.new.now (beta_view change.now.certificate.now.beta.items)) (limits_view limits.entry.now)) }
+{
+    let mut row = y;
     for limit in limits {
         row = add_variant(elements, change, limits, limit, row)?;
     }
-    Ok(row.saturating_add(ROW))
+    Ok(row)
 }
 
 /// Adds the row of a variant at a height, and gives the height below. A long name has a line of its own.
@@ -81,7 +95,7 @@ fn add_totals<'a>(
     add(
         elements,
         &[
-            Element::Piece(swatch(limits, name, y)),
+            Element::Swatch(swatch(limits, name, y)),
             Element::Name(Place { x: NAMES, y }, size_for(name, width), name),
             number_at(600, below, change.old.total_of(name)),
             number_at(720, below, change.new.total_of(name)),

@@ -4,7 +4,6 @@ use Rattle.std.specs.List.{list_all}
 use Rattle.std.specs.Map.{lookup}
 use Rattle.std.specs.Str.{bytes_eq}
 use Rattle.limits.specs.Limits.{text_bytes}
-use Rattle.flag_text.specs.Reading.{tree_of}
 use Rattle.flag_text.specs.Shape.{Shape, null, object}
 use Rattle.flag_text.specs.declared.fault.TextFault.{TextFault}
 use Rattle.flag_defs.specs.Definition.{Definition}
@@ -17,6 +16,7 @@ use Rattle.flag_defs.specs.declared.kind.Kind.TheVariants as kind
 use Rattle.book_core.specs.Page.{PageName}
 use Rattle.note_lines.specs.Note.{most_noted, note_line}
 use Rattle.site_pages.specs.Pages.{ArePages}
+use Rattle.sent_numbers.specs.Sent.{sent_tree_of}
 
 -- the flags, a key and a moment, and the pages of the sites of the key's flag
 pub record Scene : Type 0 where
@@ -83,7 +83,8 @@ note_of s r = if nat_lt most_noted (length r.input) then [] else page_line (slic
 abbrev pub of_reached : Scene → List Reach → Recorded
 of_reached s reached = record { text = flat_map (note_of s) reached; lines = 1; refused = false }
 
--- an object is a context
+-- an object is a context; a number of it whose value is whole is that whole number however it is spelled, and any other is in nobody's way until
+-- it is read
 abbrev pub object_in : Shape → Option Shape
 object_in (object ms) = Some (object ms)
 object_in t = None
@@ -93,7 +94,7 @@ context_in (Err fault) = None
 context_in (Ok t) = object_in t
 
 abbrev pub context_of : List ℕ → Option Shape
-context_of line = context_in (tree_of line (length line))
+context_of line = context_in (sent_tree_of line (length line))
 
 abbrev pub of_context : Scene → Option Shape → Recorded
 of_context s None = refused

@@ -1,6 +1,6 @@
 //! What is recorded of lines, one after another.
 ghost use Rattle.std.specs.Prelude.{◌≡◌, ◌+◌, ◌<◌, ◌^◌, false, true, option_map, IfOk, IfSome, OnOk, MatchOption, None, Some};
-ghost use Rattle.flag_text.specs.Shape.{is_whole};
+ghost use Rattle.flag_text.specs.Shape.{is_tidy};
 ghost use Rattle.flag_text.specs.View.{view};
 ghost use Rattle.record_lines.specs.Record.{context_of, is_blank, joined, object_in, of_line, record_of};
 ghost use Rattle.record_lines.specs.View.{recorded_view};
@@ -9,8 +9,9 @@ ghost use Rattle.record_lines.specs.Lines.{lines_view};
 
 use crate::recorded::Recorded;
 use crate::scene::Recorder;
-use flag_text::{TextFault, Tree, read_tree};
+use flag_text::{TextFault, Tree};
 use limits::TEXT_BYTES;
+use sent_numbers::read_sent_tree;
 use std::alloc::{AllocError, Global};
 
 /// What is recorded of some lines, without their line feeds, up to the first that is no context. Want of memory is its one
@@ -72,9 +73,9 @@ fn is_blank(line: &[u8]) -> bool
 /// The context that a line is.
 fn context_in(alloc: Global, line: &[u8]) -> Result<Option<Tree>, AllocError>
     ensures context { IfOk result (λ r. MatchOption r (context_of line.now ≡ None) (λ t. context_of line.now ≡ Some (view t))) }
-    ensures whole { IfOk result (λ r. IfSome r (λ t. is_whole (view t) ≡ true)) }
+    ensures tidy { IfOk result (λ r. IfSome r (λ t. is_tidy (view t) ≡ true)) }
 {
-    match read_tree(alloc, line, line.len()) {
+    match read_sent_tree(alloc, line, line.len()) {
         Ok(tree) => Ok(if_object(tree)),
         Err(TextFault::WantOfMemory) => Err(AllocError),
         Err(_) => Ok(None),
@@ -83,9 +84,9 @@ fn context_in(alloc: Global, line: &[u8]) -> Result<Option<Tree>, AllocError>
 
 /// A tree that is an object.
 fn if_object(tree: Tree) -> Option<Tree>
-    requires { is_whole (view tree) ≡ true }
+    requires { is_tidy (view tree) ≡ true }
     ensures context { option_map view result ≡ object_in (view tree) }
-    ensures whole { IfSome result (λ t. is_whole (view t) ≡ true) }
+    ensures tidy { IfSome result (λ t. is_tidy (view t) ≡ true) }
 {
     match tree {
         Tree::Object(members) => Some(Tree::Object(members)),

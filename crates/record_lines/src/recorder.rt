@@ -2,7 +2,7 @@
 ghost use Rattle.std.specs.Prelude.{◌≡◌, ◌≤◌, ◌<◌, ◌^◌, ◌+◌, ◌++◌, ◌||◌, ◌↔◌, true, false, map, flat_map, length, slice_get, string_bytes, IfOk, IfSome, OnOk, IfErr, Some, None, Err, Ok, ◌≢◌};
 ghost use Rattle.std.specs.Map.{lookup};
 ghost use Rattle.std.specs.Str.{bytes_eq};
-ghost use Rattle.flag_text.specs.Shape.{is_whole};
+ghost use Rattle.flag_text.specs.Shape.{is_tidy};
 ghost use Rattle.flag_text.specs.View.{view};
 ghost use Rattle.flag_defs.specs.Flag.{flag_view, is_broken, targeting_in};
 ghost use Rattle.flag_defs.specs.Flags.{flags_view};
@@ -52,6 +52,7 @@ fn good_flag<'a>(flags: &'a Flags, key: &str) -> Result<&'a Flag, RecordFault>
     ensures flag { IfOk result (λ f. lookup (bytes_eq key.now) (flags_view flags.entry.now) ≡ Some (flag_view f.now)) }
     ensures good { IfOk result (λ f. is_broken (flag_view f.now) ≡ false) }
     ensures refused { IfErr result (λ e. refusal_for (lookup (bytes_eq key.now) (flags_view flags.entry.now)) ≡ Some e) }
+    ensures refuses { IfSome (refusal_for (lookup (bytes_eq key.now) (flags_view flags.entry.now))) (λ e. result ≡ Err e) }
 {
     match flags.get(key) {
         None => Err(RecordFault::UnknownFlag),
@@ -64,6 +65,7 @@ fn if_good(flag: &Flag) -> Result<&Flag, RecordFault>
     ensures flag { IfOk result (λ f. flag_view f.now ≡ flag_view flag.entry.now) }
     ensures good { IfOk result (λ f. is_broken (flag_view f.now) ≡ false) }
     ensures refused { IfErr result (λ e. refusal_for (Some (flag_view flag.entry.now)) ≡ Some e) }
+    ensures refuses { IfSome (refusal_for (Some (flag_view flag.entry.now))) (λ e. result ≡ Err e) }
 {
     if flag.is_broken() {
         Err(RecordFault::Broken)
@@ -84,6 +86,8 @@ fn site_pages(alloc: Global, key: &str, flag: &Flag) -> Result<Vec<Page>, AllocE
 
 impl<'a> Recorder<'a> {
     /// Records the flag of a key. The condition is a moment of at most 2^53-1.
+    ///
+    /// Refusals, in this order: `UnknownFlag`, `Broken`. They take no memory.
     pub fn new(
         alloc: Global,
         flags: &'a Flags,
@@ -93,6 +97,7 @@ impl<'a> Recorder<'a> {
         requires { moment < 2 ^ 53 }
         ensures scene { IfOk result (λ r. IsSceneOf (flags_view flags.entry.now) key.entry.now moment (scene_of r)) }
         ensures refused { IfErr result (λ e. e ≢ RecordFault.WantOfMemory → refusal_for (lookup (bytes_eq key.entry.now) (flags_view flags.entry.now)) ≡ Some e) }
+        ensures refuses { IfSome (refusal_for (lookup (bytes_eq key.entry.now) (flags_view flags.entry.now))) (λ e. result ≡ Err e) }
     {
         let flag = good_flag(flags, key)?;
         let pages = site_pages(alloc, key, flag)?;
@@ -111,7 +116,7 @@ impl<'a> Recorder<'a> {
         context: &Tree,
         out: &mut Recorded,
     ) -> Result<(), AllocError>
-        requires { is_whole (view context.now) ≡ true }
+        requires { is_tidy (view context.now) ≡ true }
         ensures text { OnOk result (out.new.text.items ≡ out.old.text.items ++ flat_map (note_of (scene_of self.now)) (reached_in (scene_of self.now) (view context.now))) }
         ensures lines { out.new.lines ≡ out.old.lines }
         ensures refused { out.new.refused ≡ out.old.refused }

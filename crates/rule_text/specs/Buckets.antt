@@ -2,8 +2,8 @@
 use Rattle.std.specs.Prelude.{◌≡◌, ℕ, Bool, false, cond, List, [], ◌∷◌, ◌++◌, Vec, Option, Some, None, option_map, option_and_then, Result, Ok, Err}
 use Rattle.std.specs.Borrow.{Bor}
 use Rattle.std.specs.declared.alloc.Global.{Global}
-use Rattle.limits.specs.Limits.{json_levels}
 use Rattle.flag_text.specs.Readers.{as_list}
+use Rattle.flag_text.specs.Reading.{json_levels}
 use Rattle.flag_text.specs.Shape.{Shape, list, Items, levels, has_other}
 use Rattle.flag_text.specs.declared.fault.TextFault.{TextFault}
 use Rattle.bucket_core.specs.Reading.{buckets_of}

@@ -14,9 +14,8 @@ use crate::lent::LentEntry;
 use crate::look::look;
 use crate::part::{Extent, part_from, read_item};
 use bucket_core::RuleFault;
-use flag_text::TextFault;
+use flag_text::{JSON_LEVELS, TextFault};
 use json::{Reader, Scratch, Token};
-use limits::JSON_LEVELS;
 use std::alloc::{AllocError, Global};
 
 /// What was found in a text: its literal buckets, where it is a list of them alone, and its extent.

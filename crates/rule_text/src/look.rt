@@ -15,9 +15,8 @@ ghost use Rattle.flag_text.specs.declared.fault.TextFault.TheVariants as texts;
 use crate::fault::RuleTextFault;
 use crate::part::{Extent, part_from, read_item};
 use bucket_core::RuleFault;
-use flag_text::TextFault;
+use flag_text::{JSON_LEVELS, TextFault};
 use json::{Reader, Scratch, Token};
-use limits::JSON_LEVELS;
 use std::alloc::Global;
 
 /// What a text is to a rule.

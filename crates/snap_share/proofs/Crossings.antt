@@ -29,6 +29,7 @@ use Rattle.snap_share.specs.contracts.publisher.Told.TheInside as ToldInside
 use Rattle.snap_share.specs.contracts.seat.ReadSeat as ReadSeat
 use Rattle.snap_share.specs.contracts.seat.ReadSeat.TheInside as SeatInside
 use Rattle.snap_share.specs.contracts.history.LawRuleFlagsU64.TheImpl as law
+use Rattle.http_server.proofs.log.Log.TheSendSync as log
 use Rattle.logbook.proofs.tokens.Seen.TheSendSync as seen
 use Rattle.left_right.proofs.part.Part.TheSendSync as part
 use Rattle.atomic_table.proofs.shared.Seat.TheSendSync as place
@@ -138,7 +139,7 @@ module _ (T : RattleType) (g : ShareName.Ghosts T.Denot) (send : IsSend T) (sync
   pub ReadSeat-send : IsSend (ReadSeat.the_row T g)
   ReadSeat-send =
       view_send _ _ _ _ _
-      (declared_send (SeatInside.the_type T g) (search (sendable, crosses, Stamp-sync, part.the_send, place.the_send, shared.the_send, shared.the_sync, lease.the_send, lease.the_sync) depth 80, (HistoryPrefix-send, tt)))
+      (declared_send (SeatInside.the_type T g) (search (sendable, crosses, Stamp-sync, part.the_send, place.the_send, shared.the_send, shared.the_sync, lease.the_send, lease.the_sync) depth 80, (HistoryPrefix-send, (search (sendable, crosses, log.the_send) depth 40, tt))))
 
   -- what was told goes with a lock from thread to thread
   pub Told-send : IsSend (Told.the_row T g)

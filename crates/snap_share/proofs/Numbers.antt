@@ -1,12 +1,12 @@
 -- Published flags and their numbers.
-use Rattle.std.proofs.Common.{◌≡◌, ℕ, ◌+◌, List, [], ◌∷◌, ◌++◌, length, Contains, refl, ap, sym, subst, ◌∙◌, arith, length-append, Some, Result, Ok, Err, IfOk}
+use Rattle.std.proofs.Common.{◌≡◌, ℕ, ◌+◌, List, [], ◌∷◌, ◌++◌, length, Contains, refl, ap, sym, subst, ◌∙◌, arith, length-append, None, Some, Result, Ok, Err, IfOk, MatchResult}
 use Rattle.std.proofs.lemmas.List.Elements.{Contains-append_right}
 use mathlib.Core.List.{IsPrefix}
 use Rattle.flag_defs.specs.declared.flags.Flags.{Flags}
 use Rattle.snap_core.specs.Hub.{Numbered}
 use Rattle.snap_core.specs.HubView.{snapshot_view}
 use Rattle.snap_core.specs.declared.snapshot.Snapshot.{Snapshot}
-use Rattle.snap_share.specs.Known.{IsLastOf, IsSnapshotOf, last_of, numbered, numbered_from, snapshots_of}
+use Rattle.snap_share.specs.Known.{IsLastOf, IsSnapshotOf, Seat, WasRead, last_of, numbered, numbered_from, snapshots_of}
 use Rattle.snap_share.specs.Lists.{StartsWith}
 use Rattle.snap_share.specs.declared.fault.ShareFault.{ShareFault}
 
@@ -40,6 +40,12 @@ is_known xs s (f, last, is) =
 pub answer_known : {X : Type 0} (view : X → Snapshot) (r : Result X ShareFault) (xs : List Flags) → IfOk r (λ s. IsLastOf xs (snapshot_view (view s))) → IfOk r (λ s. Contains (snapshots_of xs) (snapshot_view (view s)))
 answer_known view (Ok s) xs h = is_known xs (snapshot_view (view s)) h
 answer_known view (Err e) xs h = tt
+
+-- a seat that was read, and what it answered
+pub answers : {X : Type 0} (view : X → Snapshot) (r : Result X ShareFault) (old new : Seat) → IsPrefix old.known new.known → new.reads ≡ old.reads + 1 → IfOk r (λ s. IsLastOf new.known (snapshot_view (view s)))
+    → MatchResult r (λ s. WasRead old (Some (snapshot_view (view s))) new) (λ _. WasRead old None new)
+answers view (Ok s) old new forward once last = (record { forward = forward; once = once }, last)
+answers view (Err e) old new forward once last = record { forward = forward; once = once }
 
 -- a snapshot of the last flags is the last of the snapshots
 pub is_last : (xs : List Flags) (s : Snapshot) → IsSnapshotOf xs s → IsLastOf xs (snapshot_view s)

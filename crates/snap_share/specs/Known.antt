@@ -1,5 +1,6 @@
 -- Published flags as snapshots.
 use Rattle.std.specs.Prelude.{◌≡◌, ℕ, ◌+◌, List, [], ◌∷◌, length, Option, Some, None}
+use mathlib.Core.List.{IsPrefix}
 use Rattle.flag_defs.specs.Flags.{flags_view}
 use Rattle.flag_defs.specs.declared.flags.Flags.{Flags}
 use Rattle.snap_core.specs.Hub.{Numbered}
@@ -29,3 +30,20 @@ IsLastOf published s = (f : Flags) × (last_of published ≡ Some f) × (s ≡ n
 pub record IsSnapshotOf (published : List Flags) (s : Snapshot) : Type 0 where
   pub last : last_of published ≡ Some s.flags
   pub number : s.number ≡ length published
+
+-- ---- seats
+
+-- a seat: the published flags that it knows, and how often it was read
+pub record Seat : Type 0 where
+  pub known : List Flags
+  pub reads : ℕ
+
+-- it was read once more, and knows no less
+pub record IsReadOnce (old new : Seat) : Type 0 where
+  pub forward : IsPrefix old.known new.known
+  pub once : new.reads ≡ old.reads + 1
+
+-- so it was read, and what it answered, if anything, is the last of what it then knows
+abbrev pub WasRead : Seat → Option Numbered → Seat → Type 0
+WasRead old (Some s) new = IsReadOnce old new × IsLastOf new.known s
+WasRead old None new = IsReadOnce old new

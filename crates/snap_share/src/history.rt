@@ -77,7 +77,9 @@ pub struct History {
 
 impl History {
     /// It takes no memory.
-    pub fn new() -> History {
+    pub fn new() -> History
+        ensures { result.seen.log ≡ [] }
+    {
         let (seen, mut first, _second) = Seen::open(Start::alone(), 0, 0);
         History {
             head: Word::tracked(0, &mut first),

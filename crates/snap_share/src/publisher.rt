@@ -130,7 +130,8 @@ where
         }
     }
 
-    /// Gives the publisher up. From then on no seat reads. It waits for readers that still copy.
+    /// Gives the publisher up. From then on no seat reads, which no clause can say: a seat learns of it when it is read next. It
+    /// waits for readers that still copy.
     pub fn close<R: Wait>(self, rt: &R) {
         let Publisher {
             writer,

@@ -32,7 +32,7 @@ pub fn share<J: ShareName, R: Wait>(
     ensures many { (result ≡ Err ShareFault.TooManySeats) ↔ (64 < seats) }
     ensures faults { IfErr result (λ fault. is_of_share fault ≡ true) }
     ensures published { IfOk result (λ r. r.0 ≡ flags ∷ []) }
-    ensures seats { IfOk result (λ r. (vec_len r.1 ≡ seats) × All (λ seat. seat ≡ flags ∷ []) r.1.items) }
+    ensures seats { IfOk result (λ r. (vec_len r.1 ≡ seats) × All (λ seat. seat.known ≡ flags ∷ []) r.1.items) }
 {
     if seats == 0 {
         return Err(ShareFault::NoSeats);
@@ -57,7 +57,7 @@ fn share_among<J: ShareName, R: Wait>(
     ensures other { IfErr result (λ fault. (fault ≢ ShareFault.NoSeats) × (fault ≢ ShareFault.TooManySeats)) }
     ensures faults { IfErr result (λ fault. is_of_share fault ≡ true) }
     ensures published { IfOk result (λ r. r.0 ≡ flags ∷ []) }
-    ensures seats { IfOk result (λ r. (vec_len r.1 ≡ seats) × All (λ seat. seat ≡ flags ∷ []) r.1.items) }
+    ensures seats { IfOk result (λ r. (vec_len r.1 ≡ seats) × All (λ seat. seat.known ≡ flags ∷ []) r.1.items) }
 {
     let framed = FramedSnapshot::make(alloc, Snapshot { number: 1, flags })?;
     let first = Arc::new(alloc, framed)?;
@@ -87,7 +87,7 @@ fn seated<J: ShareName>(
 ) -> Result<Vec<ReadSeat<J>>, ShareFault>
     ensures other { IfErr result (λ fault. (fault ≢ ShareFault.NoSeats) × (fault ≢ ShareFault.TooManySeats)) }
     ensures faults { IfErr result (λ fault. is_of_share fault ≡ true) }
-    ensures seats { IfOk result (λ all. (vec_len all ≡ seats) × All (λ seat. seat ≡ known.now) all.items) }
+    ensures seats { IfOk result (λ all. (vec_len all ≡ seats) × All (λ seat. seat.known ≡ known.now) all.items) }
 {
     let mut all = Vec::with_capacity(alloc, seats)?;
     for _seat in 0..seats {

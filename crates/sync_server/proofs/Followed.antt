@@ -1,12 +1,12 @@
 -- What a sink has as a piece of the stream comes.
-use Rattle.std.proofs.Common.{◌≡◌, ℕ, zero, suc, ◌<◌, ◌≤◌, take, drop, Bool, true, false, List, [], ◌∷◌, ◌++◌, map, length, ◌||◌, arith, Option, Some, None, refl, sym, ap, subst, ◌∙◌, append-nil, append_assoc}
+use Rattle.std.proofs.Common.{◌≡◌, ℕ, zero, suc, ◌<◌, ◌≤◌, take, drop, Bool, true, false, List, [], ◌∷◌, ◌++◌, length, ◌||◌, arith, Option, Some, None, refl, sym, ap, subst, ◌∙◌, append-nil, append_assoc}
 use Rattle.std.proofs.lemmas.Bool.{true≢false}
 use Rattle.std.proofs.lemmas.List.{append_cancel_left}
 use Rattle.snap_core.specs.Hub.{Numbered}
 use Rattle.sync_frames.specs.Feed.{HasBeenFed, has_failed, waiting, Refuses, Gives, snapshots_view, is_failed, waiting_in}
 use Rattle.sync_frames.specs.declared.stage.Stage.{Stage}
 use Rattle.sync_frames.specs.declared.stage.Stage.TheVariants as stage
-use Rattle.sync_frames.specs.Frames.{Reads, Gains, ShowsFault, ShowsNothing}
+use Rattle.sync_frames.specs.Frames.{Reads, Gains, ShowsNothing}
 use Rattle.sync_frames.specs.Header.{IsPart}
 use Rattle.std.specs.Io.KnownBytes.{Consumes, Keeps, IsAtEnd}
 use Rattle.snap_core.specs.declared.snapshot.Snapshot.{Snapshot}
@@ -22,7 +22,6 @@ use Rattle.sync_server.specs.Handed.{Took, Handed}
 use Rattle.sync_server.specs.Reads.{AfterReads, ReadUpTo, ReadWithin}
 use Rattle.sync_server.specs.declared.end.ReadEnd.{ReadEnd}
 use Rattle.sync_server.specs.declared.end.ReadEnd.TheVariants as end
-use Rattle.sync_server.specs.declared.follow.Step.{Step}
 use Rattle.sync_server.specs.declared.follow.Step.TheVariants as step
 
 pub gained : (x y : List ℕ) (ss new : List Numbered) → AllOf x ss → Gains x y new → AllOf y (ss ++ new)

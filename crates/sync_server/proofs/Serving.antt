@@ -1,5 +1,5 @@
 -- Frames that were written one after another.
-use Rattle.std.proofs.Common.{◌≡◌, ℕ, ◌<◌, List, [], ◌∷◌, ◌++◌, length, Contains, Bool, true, false, not, ◌||◌, take, drop, Option, Some, None, Ok, Err, ◌+◌, refl, sym, ap, ◌∙◌, subst, arith, ◌≤◌, append_assoc, append-nil, length-append}
+use Rattle.std.proofs.Common.{◌≡◌, ℕ, ◌<◌, List, [], ◌∷◌, ◌++◌, length, Contains, Bool, false, not, ◌||◌, take, drop, Option, Some, None, Ok, Err, ◌+◌, refl, sym, ap, ◌∙◌, subst, arith, ◌≤◌, append_assoc, append-nil, length-append}
 use Rattle.std.specs.List.{All}
 use Rattle.std.specs.Io.KnownBytes.{Appends}
 use Rattle.std.specs.Option.{is_some, is_none}
@@ -10,9 +10,9 @@ use Rattle.snap_core.specs.Hub.{Numbered}
 use Rattle.snap_share.specs.Lists.{StartsWith}
 use Rattle.sync_frames.specs.Frames.{Frames, IsDocumentOf, frame_of}
 use Rattle.sync_frames.proofs.Streams.{Frames-snoc}
-use Rattle.sync_server.specs.End.{is_limit_end}
-use Rattle.sync_server.specs.Served.{AskedTo, BeginsFrameOf, Ended, Sent, Wrote}
-use Rattle.sync_server.specs.Turns.{Asked, latest, newer}
+use Rattle.sync_server.specs.End.{is_closed_end, is_limit_end}
+use Rattle.sync_server.specs.Served.{BeginsFrameOf, Ended, Sent, TurnedTo, Wrote}
+use Rattle.sync_server.specs.Turns.{Turned, latest, newer}
 use Rattle.sync_server.proofs.Turned.{last_newer, latest_more, latest_same, newer_more, newer_same}
 use Rattle.sync_server.specs.declared.end.StreamEnd.{StreamEnd}
 use Rattle.sync_server.specs.declared.end.StreamEnd.TheVariants.{Closed, Limit, WriteFault, ReadSeatFault, WantOfMemory}
@@ -50,8 +50,9 @@ known_more : (known read : List Numbered) (s : Numbered) → All (Contains known
 known_more known read s all here = All-append (Contains known) read (s ∷ []) all (All-cons (Contains known) s [] here (All-nil (Contains known)))
 
 -- a turn that wrote nothing
-pub sent_same : (known : List Numbered) (before now after : Option (List ℕ)) (read : List Numbered) (last count : ℕ) → Sent known before now read last count → (w : Wrote known last now after (Ok None)) → Sent known before after (read ++ w.0 ∷ []) last count
-sent_same known before now after read last count sent (s, here, low, h) =
+pub sent_same : (known : List Numbered) (before now after : Option (List ℕ)) (read : List Numbered) (last count : ℕ) (s : Numbered) → Sent known before now read last count → Contains known s → s.number ≤ last → Appends now after []
+    → Sent known before after (read ++ s ∷ []) last count
+sent_same known before now after read last count s sent here low h =
     let under : s.number ≤ latest 0 read = subst (λ (k : ℕ). s.number ≤ k) sent.number low in
     let same : newer 0 (read ++ s ∷ []) ≡ newer 0 read = newer_same 0 read s under in record {
       out = sent.out;
@@ -63,27 +64,28 @@ sent_same known before now after read last count sent (s, here, low, h) =
     }
 
 -- a turn that wrote a frame
-pub sent_more : (known : List Numbered) (before now after : Option (List ℕ)) (read : List Numbered) (last count n : ℕ) → Sent known before now read last count → (w : Wrote known last now after (Ok (Some n))) → Sent known before after (read ++ w.0 ∷ []) n (count + 1)
-sent_more known before now after read last count n sent (s, d, doc, here, rises, is, h) =
+pub sent_more : (known : List Numbered) (before now after : Option (List ℕ)) (read : List Numbered) (last count n : ℕ) (s : Numbered) (text : List ℕ) → Sent known before now read last count → IsDocumentOf s text → Contains known s → last < s.number → n ≡ s.number
+    → Appends now after (frame_of s.number text) → Sent known before after (read ++ s ∷ []) n (count + 1)
+sent_more known before now after read last count n s text sent doc here rises is h =
     let above : latest 0 read < s.number = subst (λ (k : ℕ). k < s.number) sent.number rises in
     let more : newer 0 (read ++ s ∷ []) ≡ newer 0 read ++ s ∷ [] = newer_more 0 read s above in
-    let all = Frames-snoc 0 (newer 0 read) sent.out s d sent.frames (subst (λ (k : ℕ). k < s.number) (sym (last_newer 0 read)) above) doc in record {
-      out = sent.out ++ frame_of s.number d;
-      written = appends_both before now after sent.out (frame_of s.number d) sent.written h;
+    let all = Frames-snoc 0 (newer 0 read) sent.out s text sent.frames (subst (λ (k : ℕ). k < s.number) (sym (last_newer 0 read)) above) doc in record {
+      out = sent.out ++ frame_of s.number text;
+      written = appends_both before now after sent.out (frame_of s.number text) sent.written h;
       counted = omega (arith, ap length more, length-append (newer 0 read) (s ∷ []), sent.counted);
       all_known = known_more known read s sent.all_known here;
-      frames = subst (λ (l : List Numbered). Frames 0 l (sent.out ++ frame_of s.number d)) (sym more) all;
+      frames = subst (λ (l : List Numbered). Frames 0 l (sent.out ++ frame_of s.number text)) (sym more) all;
       number = is ∙ sym (latest_more 0 read s above);
     }
 
 -- ---- the end
 
-closed : (known : List Numbered) (before now : Option (List ℕ)) (read : List Numbered) (last count : ℕ) → Sent known before now read last count → Ended known before now read count Closed
-closed known before now read last count sent = (sent.out, sent.written, sent.counted, sent.all_known, sent.frames)
+closed : (known : List Numbered) (before now : Option (List ℕ)) (read : List Numbered) (last count : ℕ) → Sent known before now read last count → Ended known before now read count Closed None
+closed known before now read last count sent = (sent.out, sent.written, sent.counted, sent.all_known, (refl, sent.frames))
 
 -- no more numbers, or no more turns
-pub serves_closed : (known : List Numbered) (before now : Option (List ℕ)) (read : List Numbered) (last count : ℕ) → Sent known before now read last count → Ended known before now read count Closed × Ended known before now read count Limit
-serves_closed known before now read last count sent = (closed known before now read last count sent, (sent.out, sent.written, sent.counted, sent.all_known, sent.frames))
+pub serves_closed : (known : List Numbered) (before now : Option (List ℕ)) (read : List Numbered) (last count : ℕ) → Sent known before now read last count → Ended known before now read count Closed None × Ended known before now read count Limit None
+serves_closed known before now read last count sent = (closed known before now read last count sent, (sent.out, sent.written, sent.counted, sent.all_known, (refl, sent.frames)))
 
 -- a turn that wrote nothing at all
 silent : (known : List Numbered) (before now after : Option (List ℕ)) (read : List Numbered) (last count : ℕ) → Sent known before now read last count → Appends now after [] → Sent known before after read last count
@@ -96,27 +98,61 @@ silent known before now after read last count sent h = record {
   number = sent.number;
 }
 
--- a turn that ended the stream
-pub serves_to : (known : List Numbered) (before now after : Option (List ℕ)) (read : List Numbered) (last count : ℕ) (end : StreamEnd) → Sent known before now read last count → Wrote known last now after (Err end) → Ended known before after read count end
-serves_to known before now after read last count Closed sent h = closed known before after read last count (silent known before now after read last count sent h)
-serves_to known before now after read last count Limit sent h = let e = silent known before now after read last count sent h in (e.out, e.written, e.counted, e.all_known, e.frames)
-serves_to known before now after read last count ReadSeatFault sent h = let e = silent known before now after read last count sent h in (e.out, e.written, e.counted, e.all_known, e.frames)
-serves_to known before now after read last count WantOfMemory sent h = let e = silent known before now after read last count sent h in (e.out, e.written, e.counted, e.all_known, e.frames)
-serves_to known before now after read last count WriteFault sent (s, part, here, rises, begins, h) = (
-  sent.out ++ part,
-  appends_both before now after sent.out part sent.written h,
-  sent.counted,
-  sent.all_known,
-  (sent.out, part, s, refl, sent.frames, here, subst (λ (k : ℕ). k < s.number) (sent.number ∙ sym (last_newer 0 read)) rises, begins),
-)
+-- the last number, and how many frames, behind a turn that went on
+abbrev pub number_or : Option ℕ → ℕ → ℕ
+number_or None last = last
+number_or (Some n) last = n
 
--- a turn that ended the stream had asked for a number, within the limit
-pub asked_to : {X : Type 0} (asked : X → ℕ → X → Type 0) (x y z : X) (read : List Numbered) (last limit : ℕ) (end : StreamEnd) → is_limit_end end ≡ false → last ≡ latest 0 read → Asked asked 0 x read y → asked y last z → length read < limit → AskedTo asked x read z limit end
-asked_to asked x y z read last limit Limit other number h next few = absurd (true≢false other)
-asked_to asked x y z read last limit Closed other number h next few = (y, h, subst (λ (n : ℕ). asked y n z) number next, few)
-asked_to asked x y z read last limit WriteFault other number h next few = (y, h, subst (λ (n : ℕ). asked y n z) number next, few)
-asked_to asked x y z read last limit ReadSeatFault other number h next few = (y, h, subst (λ (n : ℕ). asked y n z) number next, few)
-asked_to asked x y z read last limit WantOfMemory other number h next few = (y, h, subst (λ (n : ℕ). asked y n z) number next, few)
+abbrev pub count_with : Option ℕ → ℕ → ℕ
+count_with None count = count
+count_with (Some n) count = count + 1
+
+module _ {C : Type 0} (was_read : C → Option Numbered → C → Type 0) (c d : C) (known : List Numbered) where
+  -- A turn that went on.
+  pub goes_on : (old : List Numbered) (now after : Option (List ℕ)) (last count : ℕ) (wrote : Option ℕ) → StartsWith known old → Wrote was_read c d known last now after (Ok wrote)
+      → (s : Numbered) × was_read c (Some s) d
+      × ((before : Option (List ℕ)) (read : List Numbered) → Sent old before now read last count → Sent known before after (read ++ s ∷ []) (number_or wrote last) (count_with wrote count))
+  goes_on old now after last count None grows (s, was, here, low, h) =
+      (s, was, λ before read sent. sent_same known before now after read last count s (still_known old known before now read last count grows sent) here low h)
+  goes_on old now after last count (Some n) grows (s, was, text, doc, here, rises, is, h) =
+      (s, was, λ before read sent. sent_more known before now after read last count n s text (still_known old known before now read last count grows sent) doc here rises is h)
+
+  -- A turn that ended the stream.
+  pub serves_to : (old : List Numbered) (now after : Option (List ℕ)) (last count : ℕ) (end : StreamEnd) → StartsWith known old → Wrote was_read c d known last now after (Err end)
+      → (more : Option Numbered) × was_read c more d × ((before : Option (List ℕ)) (read : List Numbered) → Sent old before now read last count → Ended known before after read count end more)
+  serves_to old now after last count Closed grows (was, h) =
+      (None, was, λ before read sent. closed known before after read last count (silent known before now after read last count (still_known old known before now read last count grows sent) h))
+  serves_to old now after last count Limit grows (was, h) =
+      (None, was, λ before read sent. let e = silent known before now after read last count (still_known old known before now read last count grows sent) h in (e.out, e.written, e.counted, e.all_known, (refl, e.frames)))
+  serves_to old now after last count ReadSeatFault grows (was, h) =
+      (None, was, λ before read sent. let e = silent known before now after read last count (still_known old known before now read last count grows sent) h in (e.out, e.written, e.counted, e.all_known, (refl, e.frames)))
+  serves_to old now after last count WantOfMemory grows (was, h) =
+      (None, was, λ before read sent. let e = silent known before now after read last count (still_known old known before now read last count grows sent) h in (e.out, e.written, e.counted, e.all_known, (refl, e.frames)))
+  serves_to old now after last count WriteFault grows (s, was, part, here, rises, begins, h) = (
+    Some s,
+    was,
+    λ before read sent.
+        let now_known = still_known old known before now read last count grows sent in (
+          now_known.out ++ part,
+          appends_both before now after now_known.out part now_known.written h,
+          now_known.counted,
+          now_known.all_known,
+          (now_known.out, part, refl, now_known.frames, here, subst (λ (k : ℕ). k < s.number) (now_known.number ∙ sym (last_newer 0 read)) rises, begins),
+        ),
+  )
+
+-- a turn that ended the stream had asked for a number, within the limit, and then read
+module _ {X C : Type 0} (asked : X → ℕ → X → Type 0) (was_read : C → Option Numbered → C → Type 0) (x y z : X) (c d e : C) (read : List Numbered) (last limit : ℕ) where
+  pub turned_closed : last ≡ latest 0 read → Turned asked was_read 0 x c read y d → asked y last z → length read < limit → TurnedTo asked was_read x c read z d limit Closed None
+  turned_closed number h next few = (y, h, subst (λ (n : ℕ). asked y n z) number next, few)
+
+  pub turned_to : (end : StreamEnd) (more : Option Numbered) → is_limit_end end ≡ false → is_closed_end end ≡ false → last ≡ latest 0 read → Turned asked was_read 0 x c read y d → asked y last z → was_read d more e → length read < limit
+      → TurnedTo asked was_read x c read z e limit end more
+  turned_to Limit more other more_to_come number h next this few = absurd (true≢false other)
+  turned_to Closed more other more_to_come number h next this few = absurd (true≢false more_to_come)
+  turned_to WriteFault more other more_to_come number h next this few = (y, d, h, subst (λ (n : ℕ). asked y n z) number next, this, few)
+  turned_to ReadSeatFault more other more_to_come number h next this few = (y, d, h, subst (λ (n : ℕ). asked y n z) number next, this, few)
+  turned_to WantOfMemory more other more_to_come number h next this few = (y, d, h, subst (λ (n : ℕ). asked y n z) number next, this, few)
 
 -- ---- one turn
 

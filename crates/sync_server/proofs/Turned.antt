@@ -1,9 +1,9 @@
 -- One turn more of a stream that is written.
-use Rattle.std.proofs.Common.{◌≡◌, ℕ, ◌<◌, ◌≤◌, Bool, true, false, if◌then◌else◌, nat_lt, List, [], ◌∷◌, ◌++◌, refl, sym, ap, subst, ◌∙◌}
+use Rattle.std.proofs.Common.{◌≡◌, ℕ, ◌<◌, ◌≤◌, Bool, true, false, if◌then◌else◌, nat_lt, Option, Some, List, [], ◌∷◌, ◌++◌, refl, ap, subst, ◌∙◌}
 use Rattle.std.proofs.lemmas.Bool.{lt-ltb, le-ltb}
 use Rattle.snap_core.specs.Hub.{Numbered}
 use Rattle.sync_frames.specs.Frames.{last_number}
-use Rattle.sync_server.specs.Turns.{Asked, latest, newer, raised}
+use Rattle.sync_server.specs.Turns.{Turned, latest, newer, raised}
 
 -- a snapshot above the last is one more
 pub newer_more : (last : ℕ) (read : List Numbered) (s : Numbered) → latest last read < s.number → newer last (read ++ s ∷ []) ≡ newer last read ++ s ∷ []
@@ -43,7 +43,7 @@ last_newer last (r ∷ read) =
     ]
 
 -- one more was asked for and read
-pub asked_more : {X : Type 0} (asked : X → ℕ → X → Type 0) (last : ℕ) (x y z : X) (read : List Numbered) (s : Numbered)
-    → Asked asked last x read y → asked y (latest last read) z → Asked asked last x (read ++ s ∷ []) z
-asked_more asked last x y z [] s h next = (z, subst (λ w. asked w last z) h next, refl)
-asked_more asked last x y z (r ∷ read) s (w, first, h) next = (w, first, asked_more asked (raised last r) w y z read s h next)
+pub turned_more : {X C : Type 0} (asked : X → ℕ → X → Type 0) (was_read : C → Option Numbered → C → Type 0) (last : ℕ) (x y z : X) (c d e : C) (read : List Numbered) (s : Numbered)
+    → Turned asked was_read last x c read y d → asked y (latest last read) z → was_read d (Some s) e → Turned asked was_read last x c (read ++ s ∷ []) z e
+turned_more asked was_read last x y z c d e [] s h next this = (z, e, subst (λ w. asked w last z) h.0 next, subst (λ w. was_read w (Some s) e) h.1 this, (refl, refl))
+turned_more asked was_read last x y z c d e (r ∷ read) s (w, v, first, one, h) next this = (w, v, first, one, turned_more asked was_read (raised last r) w y z v d e read s h next this)

@@ -1,5 +1,5 @@
 -- The turns of a stream that is written: each asks for a number above the last that was written, and reads a snapshot.
-use Rattle.std.specs.Prelude.{◌≡◌, ℕ, List, [], ◌∷◌, nat_lt, if◌then◌else◌}
+use Rattle.std.specs.Prelude.{◌≡◌, ℕ, List, [], ◌∷◌, Option, Some, nat_lt, if◌then◌else◌}
 use Rattle.snap_core.specs.Hub.{Numbered}
 
 -- the last number, behind a snapshot that was read
@@ -16,7 +16,8 @@ abbrev pub latest : ℕ → List Numbered → ℕ
 latest last [] = last
 latest last (s ∷ ss) = latest (raised last s) ss
 
--- before each snapshot was read, a number was asked for above the last
-abbrev pub Asked : {X : Type 0} → (X → ℕ → X → Type 0) → ℕ → X → List Numbered → X → Type 0
-Asked asked last x [] y = y ≡ x
-Asked asked last x (s ∷ ss) y = (z : _) × asked x last z × Asked asked (raised last s) z ss y
+-- Before each snapshot was read a number was asked for above the last. So the numbers became what they are, and so did the
+-- place that the current snapshot is read from.
+abbrev pub Turned : {X C : Type 0} → (X → ℕ → X → Type 0) → (C → Option Numbered → C → Type 0) → ℕ → X → C → List Numbered → X → C → Type 0
+Turned asked was_read last x c [] y d = (y ≡ x) × (d ≡ c)
+Turned asked was_read last x c (s ∷ ss) y d = (z : _) × (e : _) × asked x last z × was_read c (Some s) e × Turned asked was_read (raised last s) z e ss y d

@@ -29,7 +29,7 @@ pub fn serve_stream<C: Current, N: NextNumber, O: Outlet>(
 ) -> (StreamEnd, u64)
     requires open { N.is_closed next.old ≡ false }
     requires whole { O.is_broken out.old ≡ false }
-    ensures serves { Serves N.asked next.old next.new limit (C.known current.new) (O.bytes out.old) (O.bytes out.new) result.1 result.0 }
+    ensures serves { Serves N.asked C.was_read next.old next.new current.old current.new limit (C.known current.new) (O.bytes out.old) (O.bytes out.new) result.1 result.0 }
     ensures closed { N.is_closed next.new ≡ is_closed_end result.0 }
     ensures broken { O.is_broken out.new ≡ is_write_fault result.0 }
 {
@@ -54,11 +54,11 @@ fn take_turn<C: Current, O: Outlet>(
 ) -> Option<StreamEnd>
     requires whole { O.is_broken out.old ≡ false }
     requires room { progress.old.count + 1 < 2 ^ 64 }
-    ensures goes_on { IfNone result (SendsOn (C.known current.old) (C.known current.new) (O.bytes out.old) (O.bytes out.new) progress.old progress.new) }
+    ensures goes_on { IfNone result (SendsOn C.was_read current.old current.new (C.known current.old) (C.known current.new) (O.bytes out.old) (O.bytes out.new) progress.old progress.new) }
     ensures counts { IfNone result (progress.new.count ≤ progress.old.count + 1) }
     ensures works { IfNone result (O.is_broken out.new ≡ false) }
     ensures ends { IfSome result (λ end.
-        SendsLast (C.known current.old) (C.known current.new) (O.bytes out.old) (O.bytes out.new) progress.old progress.new end) }
+        SendsLast C.was_read current.old current.new (C.known current.old) (C.known current.new) (O.bytes out.old) (O.bytes out.new) progress.old progress.new end) }
     ensures closed { IfSome result (λ end. is_closed_end end ≡ false) }
     ensures limit { IfSome result (λ end. is_limit_end end ≡ false) }
     ensures broken { IfSome result (λ end. O.is_broken out.new ≡ is_write_fault end) }
@@ -82,7 +82,7 @@ fn write_newer<C: Current, O: Outlet>(
 ) -> Result<Option<u64>, StreamEnd>
     requires { O.is_broken out.old ≡ false }
     ensures grows { StartsWith (C.known current.new) (C.known current.old) }
-    ensures wrote { Wrote (C.known current.new) last (O.bytes out.old) (O.bytes out.new) result }
+    ensures wrote { Wrote C.was_read current.old current.new (C.known current.new) last (O.bytes out.old) (O.bytes out.new) result }
     ensures closed { IfErr result (λ end. is_closed_end end ≡ false) }
     ensures limit { IfErr result (λ end. is_limit_end end ≡ false) }
     ensures broken { MatchResult result (λ _. O.is_broken out.new ≡ false) (λ end. O.is_broken out.new ≡ is_write_fault end) }

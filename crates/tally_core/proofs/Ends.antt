@@ -1,5 +1,5 @@
 -- The least and the greatest line of a tally, and the sum of its counts.
-use Rattle.std.proofs.Common.{◌≡◌, ℕ, suc, ◌+◌, ◌<◌, ◌≤◌, ◌∙◌, true, false, eqb, List, [], ◌∷◌, length, get_or, sum, Option, Some, None, option_map, Ordering, refl, sym, ap, subst, arith}
+use Rattle.std.proofs.Common.{◌≡◌, ℕ, suc, ◌+◌, ◌≤◌, ◌∙◌, true, false, eqb, List, [], ◌∷◌, length, get_or, sum, Option, Some, None, option_map, Ordering, refl, sym, ap, subst, arith}
 use Rattle.std.specs.declared.cmp.Ordering.TheVariants.{Less, Equal, Greater}
 use Rattle.std.specs.Cmp.Lexicographic.{nat_list_cmp_total}
 use Rattle.std.specs.Option.{option_or}

@@ -1,5 +1,6 @@
 pub mod Ends
 pub mod Pages
+mod Reordered
 mod Summed
 mod Union
 pub mod Zeros

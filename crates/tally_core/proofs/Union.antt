@@ -1,5 +1,5 @@
 -- The tallies of two sets of inputs, joined, are the tally of the union.
-use Rattle.std.proofs.Common.{◌≡◌, ℕ, ◌+◌, ◌<◌, true, if◌then◌else◌, eqb, List, [], ◌∷◌, ◌++◌, map, length, get_or, Option, Some, None, Ok, refl, sym, ap, ◌∙◌, subst, arith, length-append}
+use Rattle.std.proofs.Common.{◌≡◌, ℕ, ◌+◌, true, if◌then◌else◌, eqb, List, [], ◌∷◌, ◌++◌, length, get_or, Option, Some, None, refl, sym, ap, ◌∙◌, subst, arith, length-append}
 use Rattle.std.specs.Cmp.Lexicographic.{nat_list_cmp_total}
 use Rattle.std.specs.List.{AllByRecursion}
 use Rattle.std.specs.List.Sorted.{IsStrictlySortedBy}
@@ -12,12 +12,12 @@ use Rattle.std.proofs.lemmas.List.Sums.{sum_by-append}
 use Rattle.bucket_core.specs.Point.{point_of}
 use Rattle.book_core.specs.Book.{Inputs}
 use Rattle.book_core.specs.Counts.{inputs_at, counts_of}
-use Rattle.book_core.specs.Page.{PageName, bytes_cmp, page_eq}
+use Rattle.book_core.specs.Page.{bytes_cmp, page_eq}
 use Rattle.book_core.proofs.Ordered.{All-weaker}
 use Rattle.book_core.proofs.Taken.{is_less}
-use Rattle.tally_core.specs.Join.{Joins, follows}
-use Rattle.tally_core.specs.Law.{lines_on, first_line, last_line, IsTallyOf, JoinsSets}
-use Rattle.tally_core.specs.Tally.{PageTally, line_on}
+use Rattle.tally_core.specs.Join.{follows}
+use Rattle.tally_core.specs.Law.{lines_on, first_line, last_line, JoinsSets}
+use Rattle.tally_core.specs.Tally.{line_on}
 use Rattle.tally_core.proofs.Pages.{same_page}
 
 -- ---- the lines
@@ -81,7 +81,7 @@ union one other both some more first second joins =
     let here : lines_on other.page more ≡ lines_on both.page more = ap (λ p. lines_on p more) (sym page ∙ sym joined.page) in
     let there : lines_on one.page some ≡ lines_on both.page some = ap (λ p. lines_on p some) (sym joined.page) in
     let lines : lines_on both.page some ++ lines_on both.page more ≡ lines_on both.page (some ++ more) = sym (map-append (line_on both.page) some more) in
-    let size : length both.counts ≡ both.total = joined.counts.whole ∙ ap length first.counts ∙ length-map-range_with_len (inputs_at some one.total) 0 one.total ∙ sym joined.total in
+    let size : length both.counts ≡ both.total = joined.counts.whole ∙ ap length first.tally.counts ∙ length-map-range_with_len (inputs_at some one.total) 0 one.total ∙ sym joined.total in
     record {
       rising = subst (IsStrictlySortedBy bytes_cmp) lines
           (rise_both (lines_on both.page some) (lines_on both.page more) (subst (IsStrictlySortedBy bytes_cmp) there first.rising) (subst (IsStrictlySortedBy bytes_cmp) here second.rising)
@@ -91,6 +91,8 @@ union one other both some more first second joins =
           (subst (λ o. follows one.last o ≡ true) second.first joins.1)))));
       first = joined.first ∙ ap (λ o. option_or o other.first) (first.first ∙ ap first_line there) ∙ ap (option_or (first_line (lines_on both.page some))) (second.first ∙ ap first_line here) ∙ first_of_both (lines_on both.page some) (lines_on both.page more) ∙ ap first_line lines;
       last = joined.last ∙ ap (λ o. option_or o one.last) (second.last ∙ ap last_line here) ∙ ap (option_or (last_line (lines_on both.page more))) (first.last ∙ ap last_line there) ∙ last_of_both (lines_on both.page some) (lines_on both.page more) ∙ ap last_line lines;
-      inputs = (let size = length-append some more in let one_has = first.inputs in let other_has = second.inputs in omega (arith, joined.inputs, one_has, other_has, size));
-      counts = counts_of_both both.counts one.counts other.counts both.total some more (first.counts ∙ ap (counts_of some) (sym joined.total)) (second.counts ∙ ap (counts_of more) (sym total ∙ sym joined.total)) size joined.counts.each;
+      tally = record {
+        inputs = (let size = length-append some more in let one_has = first.tally.inputs in let other_has = second.tally.inputs in omega (arith, joined.inputs, one_has, other_has, size));
+        counts = counts_of_both both.counts one.counts other.counts both.total some more (first.tally.counts ∙ ap (counts_of some) (sym joined.total)) (second.tally.counts ∙ ap (counts_of more) (sym total ∙ sym joined.total)) size joined.counts.each;
+      };
     }

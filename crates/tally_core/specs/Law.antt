@@ -1,5 +1,5 @@
 -- The tally of a finite set of inputs of one page: the definition that a reader has to believe, with no word of how it is found.
-use Rattle.std.specs.Prelude.{◌≡◌, ℕ, List, [], ◌∷◌, ◌++◌, length, map, Option, Some, None, Ok}
+use Rattle.std.specs.Prelude.{◌≡◌, ℕ, List, [], ◌∷◌, ◌++◌, length, map, IsPermutation, Option, Some, None, Ok}
 use Rattle.std.specs.Option.{option_or}
 use Rattle.std.specs.List.Sorted.{IsStrictlySortedBy}
 use Rattle.book_core.specs.Book.{Inputs}
@@ -20,14 +20,22 @@ abbrev pub last_line : List (List ℕ) → Option (List ℕ)
 last_line [] = None
 last_line (line ∷ lines) = option_or (last_line lines) (Some line)
 
--- of inputs of its page whose lines rise strictly, so that each is there once: the first and the last line, how many inputs they are, and how many on each point
+-- Of inputs of its page: how many they are, and how many on each point. In which order they stand does not matter.
 pub record IsTallyOf (members : Inputs) (t : PageTally) : Type 0 where
-  pub rising : IsStrictlySortedBy bytes_cmp (lines_on t.page members)
-  pub first : t.first ≡ first_line (lines_on t.page members)
-  pub last : t.last ≡ last_line (lines_on t.page members)
   pub inputs : t.inputs ≡ length members
   pub counts : t.counts ≡ counts_of members t.total
 
+-- Of inputs whose lines rise strictly, so that each is there once: their tally, with the first and the last line.
+pub record IsRangeOf (members : Inputs) (t : PageTally) : Type 0 where
+  pub rising : IsStrictlySortedBy bytes_cmp (lines_on t.page members)
+  pub first : t.first ≡ first_line (lines_on t.page members)
+  pub last : t.last ≡ last_line (lines_on t.page members)
+  pub tally : IsTallyOf members t
+
 -- what is joined of the tallies of two sets of inputs is the tally of their union, in which each is there once
 abbrev pub JoinsSets : Type 0
-JoinsSets = (one other both : PageTally) (some more : Inputs) → IsTallyOf some one → IsTallyOf more other → Joins one other (Ok both) → IsTallyOf (some ++ more) both
+JoinsSets = (one other both : PageTally) (some more : Inputs) → IsRangeOf some one → IsRangeOf more other → Joins one other (Ok both) → IsRangeOf (some ++ more) both
+
+-- a tally of inputs is one of them in any order, as of a book, whose order is not that of their lines
+abbrev pub TalliesInAnyOrder : Type 0
+TalliesInAnyOrder = (t : PageTally) (members others : Inputs) → IsTallyOf members t → IsPermutation members others → IsTallyOf others t

@@ -6,7 +6,8 @@
 //! Proved, over the definitions of `specs/`: each [`PageTally`] has a count for each point, counts that add up to its
 //! inputs, and a least and a greatest line exactly where it has inputs (`Tally`). [`join`] gives the sum of two tallies
 //! of which the second one's lines follow the first one's, and refuses only where there is none (`Join`). Where both are
-//! tallies of sets of inputs, the sum is the tally of the union ([`a_join_is_the_tally_of_both`], `Law`).
+//! tallies of sets of inputs, the sum is the tally of the union ([`a_join_is_the_tally_of_both`], `Law`), and a tally of
+//! inputs is one of them in any order ([`a_tally_is_in_any_order`]).
 #![tactic(auto)]
 
 mod joining;
@@ -14,5 +15,5 @@ mod laws;
 mod tally;
 
 pub use joining::{JoinFault, join};
-pub use laws::a_join_is_the_tally_of_both;
+pub use laws::{a_join_is_the_tally_of_both, a_tally_is_in_any_order};
 pub use tally::{MOST_AT_POINT, MOST_IN_ALL, MOST_POINTS, PageTally};

@@ -1,5 +1,5 @@
 //! The lines of a stream, tallied with their numbers.
-ghost use Rattle.std.specs.Prelude.{◌≡◌, ◌<◌, ◌+◌, ◌^◌, IfOk, OnErr, Ok, Err};
+ghost use Rattle.std.specs.Prelude.{◌≡◌, ◌≢◌, ◌<◌, ◌+◌, ◌++◌, ◌∷◌, [], ◌^◌, ℕ, List, true, false, IfOk, Ok, Err};
 ghost use Rattle.tally_core.specs.Tally.{IsTallyTotal};
 ghost use Rattle.line_tally.specs.Lines.{untallied, finished};
 ghost use Rattle.tally_filters.specs.Blank.{is_blank};
@@ -41,10 +41,13 @@ impl TallyFilter {
     /// Takes the next line, with its line feed. One that has nothing but blanks is passed over. The condition is fewer than
     /// 2^64-1 lines so far.
     ///
-    /// Refusals, in this order: `Line`, `Order`, `TooMany`.
+    /// Refusals, in this order: `Line`, `Order`, `TooMany`. That a line is blank, and that one without a line feed is that of no
+    /// note, takes no memory.
     pub fn take(&mut self, alloc: Global, line: &[u8]) -> Result<(), FilterFault>
         requires { self.old.lines + 1 < 2 ^ 64 }
-        ensures { TakesLine self.old line.now result self.new }
+        ensures exact { TakesLine self.old line.now result self.new }
+        ensures blank { is_blank line.now ≡ true → result ≡ Ok tt }
+        ensures unended { is_blank line.now ≡ false → ((text : List ℕ) → line.now ≢ text ++ 10 ∷ []) → result ≡ Err (FilterFault.Line (self.old.lines + 1)) }
     {
         self.lines += 1;
         if is_blank(line) {

@@ -1,5 +1,5 @@
 //! From a file to its tally.
-ghost use Rattle.std.specs.Prelude.{◌≡◌, ◌≢◌, ◌++◌, ◌↔◌, ℕ, List, length, IsTrue, MatchOption};
+ghost use Rattle.std.specs.Prelude.{◌≡◌, ◌≢◌, ◌++◌, ◌↔◌, Err, ℕ, List, length, IsTrue, MatchOption};
 ghost use Rattle.book_core.specs.Printing.{line_text};
 ghost use Rattle.tally_text.specs.File.{header_shape};
 ghost use Rattle.tally_text.specs.Counts.{AddsCounts, ReadsCounts};
@@ -15,9 +15,11 @@ use tally_core::PageTally;
 /// The tally whose file these bytes are. Only what [`print_tally`](crate::print_tally) gives is the file of a tally: with
 /// a blank, another escape or another order of members it is none.
 ///
-/// Refusals, in this order: `Header`, `Page`; `Line` and `Order` for the first line at fault; `Inputs`. Cost: linear.
+/// Refusals, in this order: `Header`, which takes no memory, and `Page`; `Line` and `Order` for the first line at fault;
+/// `Inputs`. Cost: linear.
 pub fn read_tally(alloc: Global, bytes: &[u8]) -> Result<PageTally, TallyFileFault>
-    ensures { ReadsTally bytes.now result }
+    ensures exact { ReadsTally bytes.now result }
+    ensures header { ((rest : List ℕ) → bytes.now ≢ line_text header_shape ++ rest) → result ≡ Err TallyFileFault.Header }
 {
     let Some(rest) = after_header(bytes) else {
         return Err(TallyFileFault::Header);

@@ -1,5 +1,5 @@
 -- Escaping, character by character.
-use Rattle.std.proofs.Common.{◌≡◌, ℕ, suc, List, [], ◌++◌, length, chars, encode_utf8, IsUtf8, flat_map, ap}
+use Rattle.std.proofs.Common.{◌≡◌, ℕ, suc, List, [], ◌++◌, length, chars, encode_utf8, IsUtf8}
 use Rattle.std.proofs.lemmas.List.{nil_from_length}
 use Rattle.std.proofs.lemmas.Str.{chars_past_char, chars-nil}
 use Rattle.xml_text.specs.Escape.{escaped, escaped_char, begun}

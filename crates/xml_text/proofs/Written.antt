@@ -1,5 +1,5 @@
 -- What is known of an escaped text.
-use Rattle.std.proofs.Common.{◌≡◌, ℕ, ◌+◌, ◌*◌, ◌/◌, ◌%◌, ◌≤◌, ◌==◌, Bool, true, false, cond, nat_lt, subst, lit≤, List, [], ◌∷◌, ◌++◌, map, flat_map, chars, encode_utf8_all, refl, sym, ap, ◌∙◌, arith}
+use Rattle.std.proofs.Common.{◌≡◌, ℕ, ◌+◌, ◌/◌, ◌%◌, ◌≤◌, ◌==◌, Bool, true, false, cond, nat_lt, subst, lit≤, List, [], ◌∷◌, ◌++◌, map, flat_map, chars, encode_utf8_all, refl, sym, ap, ◌∙◌, arith}
 use Rattle.std.specs.List.{AllByRecursion}
 use Rattle.std.proofs.lemmas.Bool.{eqb-true, ne_eqb}
 use Rattle.std.proofs.Math.Utf8.{encode}

@@ -29,6 +29,10 @@ begun n [] = []
 begun zero (c ∷ cs) = encode_utf8 8230
 begun (suc n) (c ∷ cs) = escaped_char c ++ begun n cs
 
+-- where memory runs out: a beginning of what was to be added was added
+abbrev pub AddsBeginning : List ℕ → List ℕ → List ℕ → Type 0
+AddsBeginning wanted before after = (added : List ℕ) × (rest : List ℕ) × (after ≡ before ++ added) × (added ++ rest ≡ wanted)
+
 -- ---- what it is for
 
 -- what stands behind the ampersand of a predefined entity

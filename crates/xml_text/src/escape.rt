@@ -1,6 +1,6 @@
 //! The escaping of texts.
-ghost use Rattle.std.specs.Prelude.{◌≡◌, ◌++◌, IfOk, OnOk, chars, string_bytes};
-ghost use Rattle.xml_text.specs.Escape.{allowed, begun, escaped, escaped_char};
+ghost use Rattle.std.specs.Prelude.{◌≡◌, ◌++◌, IfOk, OnErr, OnOk, chars, string_bytes};
+ghost use Rattle.xml_text.specs.Escape.{AddsBeginning, allowed, begun, escaped, escaped_char};
 
 use std::alloc::{AllocError, Global};
 
@@ -13,9 +13,10 @@ pub fn escaped(alloc: Global, text: &str) -> Result<String, AllocError>
     Ok(out)
 }
 
-/// Adds the text as character data of XML.
+/// Adds the text as character data of XML, or a beginning of it where memory runs out.
 pub fn push_escaped(out: &mut String, text: &str) -> Result<(), AllocError>
-    ensures { OnOk result (string_bytes out.new ≡ string_bytes out.old ++ escaped text.now) }
+    ensures all { OnOk result (string_bytes out.new ≡ string_bytes out.old ++ escaped text.now) }
+    ensures beginning { OnErr result (AddsBeginning (escaped text.now) (string_bytes out.old) (string_bytes out.new)) }
 {
     for c in text.chars() {
         push_char(out, c)?;
@@ -23,9 +24,11 @@ pub fn push_escaped(out: &mut String, text: &str) -> Result<(), AllocError>
     Ok(())
 }
 
-/// Adds the first characters of the text, so many at most, and an ellipsis where it has more.
+/// Adds the first characters of the text, so many at most, and an ellipsis where it has more; or a beginning of that where
+/// memory runs out.
 pub fn push_start(out: &mut String, text: &str, most: u32) -> Result<(), AllocError>
-    ensures { OnOk result (string_bytes out.new ≡ string_bytes out.old ++ begun most (chars text.now)) }
+    ensures all { OnOk result (string_bytes out.new ≡ string_bytes out.old ++ begun most (chars text.now)) }
+    ensures beginning { OnErr result (AddsBeginning (begun most (chars text.now)) (string_bytes out.old) (string_bytes out.new)) }
 {
     let mut left = most;
     for c in text.chars() {
@@ -40,7 +43,8 @@ pub fn push_start(out: &mut String, text: &str, most: u32) -> Result<(), AllocEr
 }
 
 fn push_char(out: &mut String, c: char) -> Result<(), AllocError>
-    ensures { OnOk result (string_bytes out.new ≡ string_bytes out.old ++ escaped_char c) }
+    ensures all { OnOk result (string_bytes out.new ≡ string_bytes out.old ++ escaped_char c) }
+    ensures none { OnErr result (string_bytes out.new ≡ string_bytes out.old) }
 {
     match c {
         '&' => out.push_str("&amp;"),

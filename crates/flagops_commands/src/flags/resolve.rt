@@ -73,6 +73,7 @@ fn default_in(alloc: Global, text: &str) -> Result<Tree, Refused>
     }
 }
 
+#[tactic(auto, using(logic_eval::proofs::Tidy::tidy_whole))]
 fn line(
     alloc: Global,
     flags: &Flags,

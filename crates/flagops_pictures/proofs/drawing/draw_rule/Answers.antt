@@ -29,4 +29,4 @@ returns c = λ inputs counted.
       switched = rw (c.as_slice-counts.ensures.value, counted) at c.in_ok-table.ensures;
       told = refl;
     } in
-    (items, told, rw (c.prices.ensures.value, c.as_slice.ensures.value) at c.in_ok-below.ensures)
+    (items, told, rw (c.prices.ensures.value, c.as_slice.ensures.value) at c.in_ok-below.ensures.adds)

@@ -31,7 +31,7 @@ returns c =
     let p : Progress = (100000, map reach_view c.new.result.items) in
     let is = evaluation_of-paid (view c.args.expr.now) s (default_input s) (root_scope s) p (node_view c.root.result.now) refl refl (ap (λ rs. let q : Progress = (100000, map reach_view rs) in q) c.new.ensures.items) c.root.ensures.value
     ∙ ap outcome c.in_ok-tree.ensures.exact in
-    let answer = answer_of (view c.args.expr.now) s _ c.args.expr.now.well_formed c.args.context.now.whole c.args.context.now.small is in record {
+    let answer = answer_of (view c.args.expr.now) s _ c.args.expr.now.well_formed c.args.context.now.tidy c.args.context.now.small is in record {
       exact = is;
       whole = answer.whole;
       reached = answer.reached;

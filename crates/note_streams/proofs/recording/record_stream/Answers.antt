@@ -1,4 +1,4 @@
-use Rattle.std.proofs.Common.{◌≡◌, ◌+◌, ◌-◌, ◌∙◌, ℕ, List, [], length, Result, Err, ap, length-append, drop, ◌++◌, sym, subst, arith, rules}
+use Rattle.std.proofs.Common.{◌≡◌, ◌+◌, ◌-◌, ◌∙◌, ℕ, nat_eq, List, [], length, Result, Err, ap, length-append, drop, ◌++◌, sym, subst, arith, rules}
 use Rattle.std.proofs.lemmas.List.{length-take-le}
 use Rattle.std.proofs.lemmas.Result.{err_from_is_err_and}
 use Rattle.line_batches.specs.Fill.{Grows}
@@ -9,7 +9,7 @@ use Rattle.note_streams.specs.declared.recording.Counted.{Counted}
 use Rattle.note_streams.specs.declared.stop.RecordStop.{RecordStop}
 use Rattle.note_streams.specs.declared.stop.RecordStop.TheVariants.{WantOfMemory}
 use Rattle.note_streams.proofs.Batches.{Known, begun}
-use Rattle.note_streams.proofs.Exits.{Comes, ended, failed, next_batch, no_output_fault, too_long, unfilled, wanted, wanted_first}
+use Rattle.note_streams.proofs.Exits.{Comes, ended, failed, next_batch, no_output_fault, told, too_long, unfilled, wanted, wanted_first}
 use Rattle.note_streams.proofs.recording.record_stream.Goals as goal
 
 pub batches-init : goal.batches-init
@@ -120,6 +120,28 @@ returns-then-ended-clause-exact g c =
     let leaves = subst (λ (t : List ℕ). Leaves s t rest c.batches.totals.lines lines mid new) same c.in_ok-rest.ensures.exact in
     let stands = next_batch s cut start old before after rest c.batches.totals.lines lines c.batches.taken now next mid new grows leaves c.batches.invariant.stands in
     ended s cut start old rest lines size next new leaves.none leaves.short (c.in_ok-ended.ensures.ended c.if-ended.true) stands
+
+pub returns-then-ended-clause-told : goal.returns-then-ended-clause-told
+returns-then-ended-clause-told g c =
+    let s = scene_of c.args.recorder.now in
+    let start = g.I.Inlet.bytes c.args.input.now in
+    let old = g.O.Outlet.bytes c.args.out.now in
+    let mid = g.O.Outlet.bytes c.batches.out in
+    let new = g.O.Outlet.bytes c.record_batch.new.out in
+    let cut = g.I.Inlet.is_broken c.fill.new.input in
+    let now = g.I.Inlet.bytes c.batches.input in
+    let next = g.I.Inlet.bytes c.fill.new.input in
+    let before = c.batches.held.items in
+    let after = c.fill.new.batch.items in
+    let rest = c.in_ok-rest.rest.now in
+    let lines = c.record_batch.new.totals.lines in
+    let size = c.batches.taken + (length after - length before) in
+    let grows : Grows now next before after = c.in_ok-ended.ensures.grows in
+    let same : c.as_slice.result.now ≡ after = search rules in
+    let leaves = subst (λ (t : List ℕ). Leaves s t rest c.batches.totals.lines lines mid new) same c.in_ok-rest.ensures.exact in
+    let stands = next_batch s cut start old before after rest c.batches.totals.lines lines c.batches.taken now next mid new grows leaves c.batches.invariant.stands in
+    let taken : size ≡ c.batches.taken + (c.len.result - c.len-had.result) = search rules in
+    told s cut start old rest lines size next new c.passed_over.result leaves.none (c.in_ok-ended.ensures.ended c.if-ended.true) c.passed_over.ensures.torn (c.passed_over.ensures.empty ∙ ap (λ (n : ℕ). nat_eq n 0) (sym taken)) stands
 
 pub returns-in_err-held-clause-exact : goal.returns-in_err-held-clause-exact
 returns-in_err-held-clause-exact g c =

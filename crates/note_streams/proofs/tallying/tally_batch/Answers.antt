@@ -6,13 +6,15 @@ use Rattle.tally_filters.specs.declared.fault.FilterFault.TheVariants.{Line}
 use Rattle.note_streams.specs.Batch.{TalliesBatch}
 use Rattle.note_streams.specs.Tallied.{Tallies}
 use Rattle.note_streams.specs.declared.stop.TallyStop.TheVariants.{Filter}
-use Rattle.note_streams.proofs.Counting.{goes_line, goes_more, goes_none, stops_all, stops_line, stops_long, stops_rest}
+use Rattle.note_streams.proofs.Behind.{keeps_all, keeps_more}
+use Rattle.note_streams.proofs.Counting.{goes_line, goes_more, goes_none, keeps_line, stops_all, stops_line, stops_long, stops_rest}
 use Rattle.note_streams.proofs.tallying.tally_batch.Goals as goal
 
 pub lines-init : goal.lines-init
 lines-init c = record {
   few = omega arith;
   goes = goes_none c.args.filter.now c.args.bytes.now;
+  keeps = keeps_all c.args.bytes.now;
 }
 
 pub lines-preserved : goal.lines-preserved
@@ -21,11 +23,12 @@ lines-preserved c =
     let behind = c.in-Some.behind.now in
     let old = c.lines.filter in
     let new = c.take.new.self in
-    let taken : (new.lines ≡ old.lines + 1) × Takes old.tally line new.tally = c.in_ok-take.ensures in
+    let taken : (new.lines ≡ old.lines + 1) × Takes old.tally line new.tally = c.in_ok-take.ensures.exact in
     record {
       few = omega (arith, c.lines.invariant.few, c.in-Some.ensures.fewer, taken.0);
       goes = goes_more c.args.filter.now old new c.args.bytes.now c.lines.rest.now behind c.lines.invariant.goes
           (goes_line c.lines.rest.now line behind c.in-Some.ensures.parts old new (omega (arith, c.if-line.false)) taken.0 taken.1);
+      keeps = keeps_more c.args.bytes.now c.lines.rest.now behind c.lines.invariant.keeps (keeps_line c.lines.rest.now line behind c.in-Some.ensures.parts);
     }
 
 pub returns-then-line : goal.returns-then-line
@@ -40,7 +43,7 @@ pub returns-in_err-take : goal.returns-in_err-take
 returns-in_err-take c =
     let fault = c.in_err-take.field-0.0 in
     let f = c.lines.filter in
-    let refuses : RefusesLine f c.in-Some.line.now fault c.take.new.self = c.in_err-take.ensures in
+    let refuses : RefusesLine f c.in-Some.line.now fault c.take.new.self = c.in_err-take.ensures.exact in
     let p = err_from_is_err_and c.from_residual.result c.from_residual.ensures.1 in
     let is : c.from_residual.result ≡ Err (Filter fault) = p.1 ∙ ap Err p.2 in
     subst (TalliesBatch c.args.bytes.now c.args.filter.now c.take.new.self) (sym is)

@@ -1,4 +1,4 @@
-use Rattle.std.proofs.Common.{◌≡◌, ◌+◌, ◌-◌, ◌∙◌, ℕ, List, [], length, Result, Err, ap, length-append, drop, ◌++◌, sym, subst, arith, rules}
+use Rattle.std.proofs.Common.{◌≡◌, ◌+◌, ◌-◌, ◌∙◌, ℕ, nat_eq, List, [], length, Result, Err, ap, length-append, drop, ◌++◌, sym, subst, arith, rules}
 use Rattle.std.proofs.lemmas.List.{length-take-le}
 use Rattle.std.proofs.lemmas.Result.{err_from_is_err_and}
 use Rattle.line_batches.specs.Fill.{Grows}
@@ -111,7 +111,9 @@ returns-then-ended g c =
     let same : c.as_slice.result.now ≡ after = search rules in
     let leaves = subst (λ (t : List ℕ). LeavesLines t rest old new) same c.in_ok-rest.ensures in
     let goes = next_batch start cut known before after rest c.batches.taken old new now next grows leaves c.batches.invariant.goes in
-    ended start cut known rest (c.batches.taken + (length after - length before)) new next c.finish.result leaves.none leaves.short (c.in_ok-ended.ensures.ended c.if-ended.true) c.finish.ensures goes
+    let taken : c.batches.taken + (length after - length before) ≡ c.batches.taken + (c.len.result - c.len-had.result) = search rules in
+    ended start cut known rest (c.batches.taken + (length after - length before)) new next c.stream_tally.result leaves.none leaves.short (c.in_ok-ended.ensures.ended c.if-ended.true) (c.stream_tally.ensures.tally ∙ c.finish.ensures) c.stream_tally.ensures.torn
+    (c.stream_tally.ensures.empty ∙ ap (λ (n : ℕ). nat_eq n 0) (sym taken)) goes
 
 pub returns-in_err-held : goal.returns-in_err-held
 returns-in_err-held g c =

@@ -4,7 +4,7 @@ use Rattle.ofrep_contexts.specs.Way.{way_in_items, way_in_members}
 use Rattle.ofrep_contexts.proofs.way.+way.Given as goal
 
 abbrev pub invariant-way_in_items-loop-place : goal.invariant-way_in_items-loop-place
-invariant-way_in_items-loop-place l = way_in_items l.fn.sought (items_view l.items.items) 0 ≡ way_in_items l.fn.sought (items_view (drop l.place-counter l.items.items)) l.place-counter
+invariant-way_in_items-loop-place l = way_in_items l.fn.levels (items_view l.items.items) 0 ≡ way_in_items l.fn.levels (items_view (drop l.place-counter l.items.items)) l.place-counter
 
 abbrev pub invariant-way_in_members-loop-name : goal.invariant-way_in_members-loop-name
-invariant-way_in_members-loop-name l = way_in_members l.fn.sought (members_view l.name-items) ≡ way_in_members l.fn.sought (members_view (drop l.name-index l.name-items))
+invariant-way_in_members-loop-name l = way_in_members l.fn.levels (members_view l.name-items) ≡ way_in_members l.fn.levels (members_view (drop l.name-index l.name-items))

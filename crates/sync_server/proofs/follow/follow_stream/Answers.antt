@@ -1,5 +1,4 @@
-use Rattle.std.proofs.Common.{ℕ, ◌+◌, ◌<◌, Some, add-one, List, [], ◌++◌, length, true, arith, refl, sym, subst, ◌∙◌}
-use Rattle.snap_core.specs.Hub.{Numbered}
+use Rattle.std.proofs.Common.{ℕ, ◌+◌, ◌<◌, Some, add-one, List, [], ◌++◌, length, true, arith, refl, sym, subst}
 use Rattle.sync_server.specs.Reads.{AfterReads}
 use Rattle.sync_server.proofs.Followed.{up_to, consumes_both, consumes_none, first_of_nothing, handed_behind, refilled, stands_first, took_both, works_first}
 use Rattle.sync_server.proofs.follow.follow_stream.Goals as goal

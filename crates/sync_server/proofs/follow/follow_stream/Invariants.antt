@@ -1,4 +1,4 @@
-use Rattle.std.proofs.Common.{◌≡◌, ℕ, ◌<◌, List, ◌++◌, false, length}
+use Rattle.std.proofs.Common.{◌≡◌, ℕ, ◌<◌, List, false, length}
 use Rattle.std.specs.Io.KnownBytes.{Consumes}
 use Rattle.snap_core.specs.Hub.{Numbered}
 use Rattle.sync_frames.specs.Feed.{has_failed}

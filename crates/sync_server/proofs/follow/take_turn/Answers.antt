@@ -1,4 +1,4 @@
-use Rattle.std.proofs.Common.{ℕ, List, [], ◌++◌, ◌<◌, Bool, false, take, length, refl, sym, subst}
+use Rattle.std.proofs.Common.{ℕ, [], ◌++◌, ◌<◌, Bool, take, length, refl, sym, subst}
 use Rattle.std.specs.Io.KnownBytes.{Consumes}
 use Rattle.sync_server.specs.Follows.{LeadsTo}
 use Rattle.sync_server.proofs.Followed.{at_end, at_fault, broken_now, consumes_kept, unbroken}

@@ -1,4 +1,4 @@
-use Rattle.std.proofs.Common.{◌≡◌, List, [], ◌∷◌, ◌++◌, sym, ap, subst, ◌∙◌}
+use Rattle.std.proofs.Common.{List, [], ◌∷◌, ◌++◌, sym, ap, subst, ◌∙◌}
 use Rattle.snap_core.specs.Hub.{Numbered}
 use Rattle.snap_core.specs.declared.snapshot.Snapshot.{Snapshot}
 use Rattle.sync_frames.specs.Feed.{snapshots_view}

@@ -15,6 +15,7 @@ returns-clause-wrote g c =
     let framed = subst (λ (x : Snapshot). IsFrameOf (snapshot_view x) bytes) c.deref-2.ensures c.frame.ensures in
     let b = c.if-write_whole.ensures.exact in (
       snapshot_view s,
+      c.in-Ok.ensures.read,
       take b.0 bytes,
       c.in-Ok.ensures.known,
       omega (arith, c.if-number-last.false, c.number-number.ensures, ap (λ (x : Snapshot). x.number) c.deref.ensures),

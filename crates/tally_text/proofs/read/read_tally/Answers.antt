@@ -5,8 +5,8 @@ use Rattle.tally_text.specs.Reading.{IsHead}
 use Rattle.tally_text.proofs.Told.{reads}
 use Rattle.tally_text.proofs.read.read_tally.Goals as goal
 
-pub returns-in-Some-2 : goal.returns-in-Some-2
-returns-in-Some-2 c =
+pub returns-in-Some-2-clause-exact : goal.returns-in-Some-2-clause-exact
+returns-in-Some-2-clause-exact c =
     let rest = c.in-Some.rest.now in
     let parts = subst (λ o. MatchOption o ((h : Head) (more : List ℕ) → IsHead h → rest ≢ line_text (head_shape h) ++ more) (λ r. IsHead r.0 × (rest ≡ line_text (head_shape r.0) ++ r.1.now))) c.in-Some-2.is c.in_ok-take_head.ensures in
     reads c.in-Some-2.head c.args.bytes.now rest c.in-Some-2.rest.now c.with_counts.result c.in-Some.ensures parts.1 parts.0 c.with_counts.ensures

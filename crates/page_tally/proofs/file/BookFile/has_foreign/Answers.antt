@@ -8,8 +8,8 @@ use Rattle.page_tally.specs.Foreign.{lacks}
 use Rattle.page_tally.proofs.Lacking.{foreign_by}
 use Rattle.page_tally.proofs.file.BookFile.has_foreign.Goals as goal
 
-pub returns-in-Some : goal.returns-in-Some
-returns-in-Some g c =
+pub returns-in-Some-clause-exact : goal.returns-in-Some-clause-exact
+returns-in-Some-clause-exact g c =
     let page = c.args.page.now in
     let inputs = inputs_on c.args.self.now page in
     let none : is_none page.by ≡ false = sym (ap (λ (p : PageName). is_none p.by) c.page.view_is) ∙ ap (λ o. is_none (option_map string_bytes o)) c.in-Some.is in

@@ -6,8 +6,8 @@ use Rattle.tally_filters.specs.declared.fault.FilterFault.{FilterFault}
 use Rattle.tally_filters.proofs.Filtering.{takes}
 use Rattle.tally_filters.proofs.filter.TallyFilter.take.Goals as goal
 
-pub returns : goal.returns
-returns c =
+pub returns-clause-exact : goal.returns-clause-exact
+returns-clause-exact c =
     let old : Filtered = record { tally = c.self.inside.tally; lines = c.self.inside.lines } in
     let line = c.args.line.now in
     let next : Filtered = record { tally = c.take.new.self; lines = c.self.inside.lines + 1 } in

@@ -1,0 +1,5 @@
+use Rattle.note_streams.proofs.Counting.{of_inputs}
+use Rattle.note_streams.proofs.laws.a_stream_is_of_its_inputs.Goals as goal
+
+pub returns : goal.returns
+returns c = of_inputs c.a_stream_is_tallied.ensures c.a_tally_is_in_any_order.ensures

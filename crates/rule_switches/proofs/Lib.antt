@@ -1,0 +1,6 @@
+mod Counts
+mod Edits
+mod Going
+mod Listed
+mod Placed
+mod Tallied

@@ -1,0 +1,16 @@
+-- What was written of a text, and what is to come.
+use Rattle.std.specs.Prelude.{ℕ, List, ◌++◌}
+use Rattle.sent_numbers.specs.Sent.{Standing, between, in_text, in_escape, in_number, respelled_from}
+use Rattle.sent_numbers.specs.declared.respelling.Place.{Place}
+use Rattle.sent_numbers.specs.declared.respelling.Place.TheVariants as place
+use Rattle.sent_numbers.specs.declared.respelling.Respelling.{Respelling}
+
+abbrev pub place_view : Place → List ℕ → Standing
+place_view place.Between run = between
+place_view place.Text run = in_text
+place_view place.Escape run = in_escape
+place_view place.Number run = in_number run
+
+-- all that is written once this rest has come
+abbrev pub shown : Respelling → List ℕ → List ℕ
+shown r rest = r.written.items ++ respelled_from (place_view r.place r.number.items) rest

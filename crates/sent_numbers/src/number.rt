@@ -1,0 +1,61 @@
+//! The spelling of one number.
+ghost use Rattle.std.specs.Prelude.{◌≡◌, ◌==◌, ◌&&◌, not, nat_lt, length};
+ghost use Rattle.std.specs.List.{list_all};
+ghost use Rattle.sent_numbers.specs.Sent.{begins_number, is_number, is_spelled_whole, value_of, whole_number};
+
+use fast_float::Numeral;
+use flag_text::is_in_range;
+
+/// The whole number that a run of the bytes of numbers stands for, where it is spelled otherwise than whole numbers are.
+pub(crate) fn whole_number(run: &[u8]) -> Option<i64>
+    ensures { result ≡ whole_number run.now }
+{
+    if is_spelled_whole(run) {
+        return None;
+    }
+    match run {
+        [b'-', digits @ ..] => value_of(true, digits),
+        digits => value_of(false, digits),
+    }
+}
+
+/// Whether the number is spelled as whole numbers are: by digits alone, perhaps behind a minus, and not as `-0`.
+fn is_spelled_whole(run: &[u8]) -> bool
+    ensures { result ≡ is_spelled_whole run.now }
+{
+    run != b"-0".as_slice() && are_digits(run)
+}
+
+/// Whether each byte is a digit or a minus.
+fn are_digits(run: &[u8]) -> bool
+    ensures { result ≡ list_all begins_number run.now }
+{
+    run.iter()
+        .all(|byte| *byte == b'-' || byte.is_ascii_digit())
+}
+
+/// The value of a number without its sign, where it is a JSON number whose value is whole and in range.
+fn value_of(negative: bool, digits: &[u8]) -> Option<i64>
+    ensures { result ≡ value_of negative digits.now }
+{
+    let numeral = Numeral::scan(digits);
+    if !is_number(&numeral, digits.len()) {
+        return None;
+    }
+    let value = numeral.whole_i64(negative)?;
+    if is_in_range(value) {
+        Some(value)
+    } else {
+        None
+    }
+}
+
+/// Whether a numeral of so many bytes is a number of JSON: `05`, `5.` and `.5` are none.
+fn is_number(numeral: &Numeral<'_>, len: usize) -> bool
+    ensures { result ≡ is_number numeral.now len }
+{
+    numeral.len() == len
+        && !numeral.whole().is_empty()
+        && (numeral.whole().len() == 1 || numeral.whole()[0] != b'0')
+        && (!numeral.has_point() || !numeral.fraction().is_empty())
+}

@@ -1,0 +1,85 @@
+"""The shipped library, or the one in the folder that FLAGOPS_LIBRARY_FOLDER names: its tests in C, by a C compiler where one is here."""
+import functools
+import os
+import re
+import shutil
+import subprocess
+import unittest
+
+from program import PROGRAM, ROOT, SECONDS
+
+SHIPPED = os.path.join(ROOT, "release", "x86_64-linux")
+FOLDER = os.environ.get("FLAGOPS_LIBRARY_FOLDER")
+
+# Tells whether the shipped library is built of these sources.
+ASK = f"here={ROOT}; . release/sources.sh; . release/prove.sh; . release/library.sh; is_library_of_these"
+
+
+@functools.cache
+def why_not():
+    """Why there is no library to be tested, or None."""
+    if FOLDER:
+        return None
+    if not os.path.exists(os.path.join(SHIPPED, "libflagops.so.0")):
+        return "no library is shipped"
+    if subprocess.run(["sh", "-c", ASK], cwd=ROOT, check=False).returncode:
+        return "the shipped library is built of other sources"
+    return None
+
+
+class WithLibrary(unittest.TestCase):
+    """Tests of a library, where there is one."""
+
+    folder = FOLDER or SHIPPED
+
+    def setUp(self):
+        if why_not():
+            self.skipTest(why_not())
+
+
+class SourcesTest(unittest.TestCase):
+    def test_nothing_is_forgotten(self):
+        """No clause refuses a body that loses memory, so no body calls what does. One takes a box apart, which another makes again."""
+        found = []
+        for crate in ("held_box", "kept_lines", "library_seat", "flagops_c"):
+            folder = os.path.join(ROOT, "crates", crate, "src")
+            for name in sorted(os.listdir(folder)):
+                with open(os.path.join(folder, name), encoding="utf-8") as file:
+                    found += [(crate, word) for word in re.findall(r"\b(?:forget|\w*leak\w*|into_raw\w*|ManuallyDrop)\b", file.read())]
+        self.assertEqual(found, [("held_box", "into_raw_with_allocator")])
+
+
+class LibraryTest(WithLibrary):
+    def assert_passes(self, part, tool=None):
+        if tool and not shutil.which(tool):
+            self.skipTest(f"{tool} is not here")
+        words = [os.path.join(ROOT, "library", "test"), self.folder, PROGRAM, part]
+        ran = subprocess.run(words, capture_output=True, text=True, timeout=SECONDS, check=False)
+        self.assertEqual((ran.returncode, ran.stdout.splitlines()[-1:]), (0, ["1 passed, 0 failed"]), ran.stderr)
+
+    def test_its_names_are_the_headers(self):
+        self.assert_passes("names", "cc")
+
+    def test_answers(self):
+        self.assert_passes("answers", "cc")
+
+    def test_threads(self):
+        self.assert_passes("threads", "cc")
+
+    def test_streams(self):
+        self.assert_passes("streams", "cc")
+
+    def test_each_request_for_memory_refused(self):
+        self.assert_passes("failing", "cc")
+
+    def test_it_agrees_with_the_program(self):
+        self.assert_passes("agree")
+
+    def test_the_header_is_the_shipped_one(self):
+        for name in ("flagops.h", "flagops.pc"):
+            with open(os.path.join(ROOT, "library", name), "rb") as one, open(os.path.join(self.folder, name), "rb") as other:
+                self.assertEqual(one.read(), other.read())
+
+
+if __name__ == "__main__":
+    unittest.main()
