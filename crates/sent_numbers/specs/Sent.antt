@@ -1,5 +1,5 @@
 -- JSON texts whose whole numbers are spelled in any way (RFC 8259, section 6: `5`, `5.0`, `0.5e1` and `-0` are numbers; their value is decimal).
-use Rattle.std.specs.Prelude.{ℕ, ◌==◌, ℤ, Bool, true, false, not, ◌&&◌, ◌||◌, nat_lt, nat_le, List, [], ◌∷◌, ◌++◌, length, take, drop, get_or, codes, if◌then◌else◌, Option, Some, None, Result, Ok, Err}
+use Rattle.std.specs.Prelude.{ℕ, ◌==◌, ℤ, Bool, true, false, not, ◌&&◌, ◌||◌, nat_lt, nat_le, List, [], ◌∷◌, ◌++◌, length, drop, get_or, codes, if◌then◌else◌, Option, Some, None, Result, Ok, Err}
 use Rattle.std.specs.Fmt.{signed_decimal}
 use Rattle.std.specs.List.{list_all}
 use Rattle.std.specs.Str.{is_utf8, bytes_eq}
@@ -93,6 +93,25 @@ respelled_from (in_number run) (b ∷ bs) = if continues_number b then respelled
 
 abbrev pub respelled : List ℕ → List ℕ
 respelled text = respelled_from between text
+
+-- a byte outside of quoted texts and numbers, by where the one after it stands
+abbrev pub entered : ℕ → (Standing → Bool) → Bool
+entered b rest = if begins_number b then rest (in_number (b ∷ [])) else rest (after b)
+
+-- each number of the rest of a text is spelled as whole ones are
+abbrev pub are_whole_from : Standing → List ℕ → Bool
+are_whole_from between [] = true
+are_whole_from in_text [] = true
+are_whole_from in_escape [] = true
+are_whole_from (in_number run) [] = is_spelled_whole run
+are_whole_from between (b ∷ bs) = entered b (λ s. are_whole_from s bs)
+are_whole_from in_text (b ∷ bs) = are_whole_from (after_in_text b) bs
+are_whole_from in_escape (b ∷ bs) = are_whole_from in_text bs
+are_whole_from (in_number run) (b ∷ bs) = if continues_number b then are_whole_from (in_number (run ++ b ∷ [])) bs else is_spelled_whole run && entered b (λ s. are_whole_from s bs)
+
+-- each number of a text is
+abbrev pub are_spelled_whole : List ℕ → Bool
+are_spelled_whole text = are_whole_from between text
 
 -- ---- the tree of a text
 

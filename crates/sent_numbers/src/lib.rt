@@ -20,6 +20,7 @@ mod laws;
 mod number;
 mod read;
 mod respelling;
+mod walk;
 
 pub use laws::whole_numbers_stay;
 pub use read::{read_sent, read_sent_tree, shallow};

@@ -20,7 +20,7 @@ pub(crate) fn whole_number(run: &[u8]) -> Option<i64>
 }
 
 /// Whether the number is spelled as whole numbers are: by digits alone, perhaps behind a minus, and not as `-0`.
-fn is_spelled_whole(run: &[u8]) -> bool
+pub(crate) fn is_spelled_whole(run: &[u8]) -> bool
     ensures { result ≡ is_spelled_whole run.now }
 {
     run != b"-0".as_slice() && are_digits(run)

@@ -8,6 +8,7 @@ ghost use Rattle.flag_text.specs.Reading.{if_json, json_of};
 ghost use Rattle.sent_numbers.specs.Sent.{if_shallow, respelled, sent_of, sent_tree_of};
 
 use crate::respelling::respelled;
+use crate::walk::are_spelled_whole;
 use flag_text::{TREE_LEVELS, TextFault, Tree, read_doc};
 use simdutf8::basic;
 use std::alloc::Global;
@@ -32,11 +33,14 @@ pub fn read_sent(alloc: Global, bytes: &[u8], max: usize) -> Result<Tree, TextFa
     }
 }
 
-/// The tree that a text stands for once it is respelled.
+/// The tree that a text stands for once it is respelled, which most are as themselves.
 fn respelled_tree(alloc: Global, text: &[u8]) -> Result<Tree, TextFault>
     ensures exact { GivesUnless TextFault.WantOfMemory view result (if_json (json_of (respelled text.now))) }
     ensures tidy { IfOk result (λ t. is_tidy (view t) ≡ true) }
 {
+    if are_spelled_whole(text) {
+        return read_doc(alloc, text, usize::MAX);
+    }
     let respelled = respelled(alloc, text)?;
     read_doc(alloc, respelled.as_slice(), usize::MAX)
 }

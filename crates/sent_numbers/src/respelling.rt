@@ -117,21 +117,21 @@ impl Respelling {
 }
 
 /// Whether the byte begins a number.
-fn begins_number(byte: u8) -> bool
+pub(crate) fn begins_number(byte: u8) -> bool
     ensures { result ≡ begins_number byte }
 {
     byte == b'-' || byte.is_ascii_digit()
 }
 
 /// Whether a byte after one of a number is of the number, too.
-fn continues_number(byte: u8) -> bool
+pub(crate) fn continues_number(byte: u8) -> bool
     ensures { result ≡ continues_number byte }
 {
     matches!(byte, b'-' | b'+' | b'.' | b'e' | b'E' | b'0'..=b'9')
 }
 
 /// Where the byte after this one stands, which is not in a text or a number.
-fn place_after(byte: u8) -> Place
+pub(crate) fn place_after(byte: u8) -> Place
     ensures { (run : List ℕ) → place_view result run ≡ after byte }
 {
     if byte == b'"' {
@@ -142,7 +142,7 @@ fn place_after(byte: u8) -> Place
 }
 
 /// Where the byte after this one stands, which is in a text.
-fn place_in_text(byte: u8) -> Place
+pub(crate) fn place_in_text(byte: u8) -> Place
     ensures { (run : List ℕ) → place_view result run ≡ after_in_text byte }
 {
     match byte {

@@ -1,5 +1,6 @@
 use Rattle.sent_numbers.proofs.Stays.{stays}
+use Rattle.sent_numbers.proofs.Whole.{respelled_as_it_is}
 use Rattle.sent_numbers.proofs.laws.whole_numbers_stay.Goals as goal
 
 pub returns : goal.returns
-returns c = stays
+returns c = λ bytes limit e. stays bytes limit (respelled_as_it_is bytes e)

@@ -1,6 +1,5 @@
-use Rattle.std.proofs.Common.{true, false, ap, sym, ◌∙◌, subst}
-use Rattle.std.proofs.lemmas.Str.{is_utf8-from_IsUtf8, IsUtf8-from_is_utf8}
-use Rattle.std.proofs.lemmas.Bool.{cases_Bool}
+use Rattle.std.proofs.Common.{ap, sym, ◌∙◌, subst}
+use Rattle.std.proofs.lemmas.Str.{is_utf8-from_IsUtf8}
 use Rattle.flag_text.specs.Outcome.{GivesUnless}
 use Rattle.flag_text.specs.Reading.{if_json, json_of}
 use Rattle.flag_text.specs.View.{view}
