@@ -1,0 +1,3 @@
+module flagops
+
+go 1.19
