@@ -1,4 +1,5 @@
-ghost use Rattle.std.specs.Prelude.{◌≡◌, ℕ, true, false, ⊤};
+ghost use Rattle.std.specs.Prelude.{◌≡◌, ◌<◌, ℕ, true, false, ⊤};
+ghost use Rattle.book_share.specs.Gated.{most_attempts};
 
 use std::marker::Brand;
 
@@ -23,8 +24,9 @@ pub trait Gate: Sync {
     // it was told that the ask was answered
     ghost told: { Self → ℕ → Type 0 } = { λ _ _. ⊤ };
 
-    /// Whether this ask may start now. Where it may not, it is asked again.
+    /// Whether this ask may start now. Where it may not, it is asked again, at most 1,000,000 times in all.
     fn may_start<A: Attempt>(&self, ask: usize) -> bool
+        requires { A.number < most_attempts }
         ensures started { result ≡ true → Self.started self.now ask }
         ensures refused { result ≡ false → Self.refused self.now ask A.number };
 

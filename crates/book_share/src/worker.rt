@@ -8,7 +8,7 @@ ghost use Rattle.book_lock.specs.Limits.{most_seats};
 ghost use Rattle.book_share.specs.Asked.{asks_of, mentions_of, resolved as resolution_of_ask};
 ghost use Rattle.book_share.specs.DriveFault.{is_of_workers};
 ghost use Rattle.book_share.specs.Driven.{IsAnswer, IsWork, Notes, NotesAsk};
-ghost use Rattle.book_share.specs.Gated.{EachTurn, IsClosed, StallsOf};
+ghost use Rattle.book_share.specs.Gated.{EachTurn, IsClosed, StallsOf, most_attempts};
 ghost use Rattle.book_share.specs.Known.{AreKnown};
 
 use crate::ask::Ask;
@@ -177,6 +177,7 @@ fn starts<G: Gate>(gate: &G, ask: usize) -> bool
 /// Whether the gate lets the ask start at this attempt.
 fn may_start<A: Attempt, G: Gate>(gate: &G, ask: usize, attempt: u32) -> bool
     requires { attempt ≡ A.number }
+    requires { attempt < most_attempts }
     ensures started { result ≡ true → G.started gate.now ask }
     ensures refused { result ≡ false → G.refused gate.now ask attempt }
 {
