@@ -176,8 +176,8 @@ fn starts<G: Gate>(gate: &G, ask: usize) -> bool
 
 /// Whether the gate lets the ask start at this attempt.
 fn may_start<A: Attempt, G: Gate>(gate: &G, ask: usize, attempt: u32) -> bool
-    requires { attempt ≡ A.number }
-    requires { attempt < most_attempts }
+    requires number { attempt ≡ A.number }
+    requires most { attempt < most_attempts }
     ensures started { result ≡ true → G.started gate.now ask }
     ensures refused { result ≡ false → G.refused gate.now ask attempt }
 {
