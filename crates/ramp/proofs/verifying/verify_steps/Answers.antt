@@ -26,13 +26,13 @@ left book s f steps answers i s' f' [] is inside none walk = absurd (omega (arit
 left book s f steps answers i s' f' (x ∷ xs) is inside none walk =
     few_told book s f (requests_view steps) answers i s' f' x.items (requests_view xs) none (subst (λ ys. Walked book s f (requests_view steps) answers i s' f' ys) (ap requests_view is) walk)
 
-pub returns-then-i-answers : goal.returns-then-i-answers
-returns-then-i-answers g c =
+pub returns-then-i-answers-clause-told : goal.returns-then-i-answers-clause-told
+returns-then-i-answers-clause-told g c =
     left (g.B.Recorded.contents c.args.book.now) (Ok (flags_view c.args.flags.now)) c.args.refine c.args.steps.now c.args.answers.now c.loop-i.i c.loop-i.invariant.walk.0 c.loop-i.factor
     (drop c.loop-i.i c.args.steps.now) refl (omega arith) (omega arith) c.loop-i.invariant.walk.1
 
-pub returns-in-Err : goal.returns-in-Err
-returns-in-Err g c = λ other.
+pub returns-in-Err-clause-told : goal.returns-in-Err-clause-told
+returns-in-Err-clause-told g c = λ other.
     let book = g.B.Recorded.contents c.args.book.now in
     let s : Standing = Ok (flags_view c.args.flags.now) in
     let steps = c.args.steps.now in
@@ -46,8 +46,8 @@ returns-in-Err g c = λ other.
           (c.in-Err.ensures walk.0 (walk.2 (omega arith)) other),
     )
 
-pub returns-then-not-goes_on : goal.returns-then-not-goes_on
-returns-then-not-goes_on g c =
+pub returns-then-not-goes_on-clause-told : goal.returns-then-not-goes_on-clause-told
+returns-then-not-goes_on-clause-told g c =
     let book = g.B.Recorded.contents c.args.book.now in
     let s : Standing = Ok (flags_view c.args.flags.now) in
     let steps = c.args.steps.now in
@@ -90,8 +90,8 @@ loop-i-preserved g c =
       some = omega arith;
     }
 
-pub returns : goal.returns
-returns g c =
+pub returns-clause-told : goal.returns-clause-told
+returns-clause-told g c =
     let book = g.B.Recorded.contents c.args.book.now in
     let s : Standing = Ok (flags_view c.args.flags.now) in
     let steps = c.args.steps.now in
