@@ -22,6 +22,7 @@ use std::thread::Threads;
 /// The first step whose answer is not right is told, and then whether there are fewer answers than steps, or more; a step for
 /// which no rule fits is the last. No step is told that has no answer, and where there is none at all no memory is taken. The
 /// conditions are a factor from 1, and fewer than 2^32 - 1 steps.
+#[tactic(auto, using(crate::proofs::Told::none_told))]
 pub fn verify_steps<R: Threads + Sync, B: Recorded>(
     rt: &R,
     alloc: Global,
