@@ -8,4 +8,3 @@ mod Described
 mod Members
 mod Noted
 pub mod Refusing
-mod Summary
