@@ -4,4 +4,3 @@ pub mod Diagnosed
 mod Loaded
 pub mod Matched
 mod Stepped
-mod Valid

@@ -7,6 +7,5 @@ pub mod Judging
 pub mod Ramp
 pub mod Refusal
 pub mod Report
-pub mod Valid
 pub mod Verify
 pub mod Words
