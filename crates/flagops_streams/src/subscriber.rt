@@ -86,7 +86,7 @@ fn attended<J: ShareName, R: Wait + Clock>(
 }
 
 /// Sends a subscriber its stream over its connection, while its time lasts, and says how it ended.
-#[tactic(auto, using(crate::proofs::Sending::failed))]
+#[tactic(auto, using(crate::proofs::Sending::attended_from, crate::proofs::Sending::failed))]
 fn send_in_time<J: ShareName, R: Wait + Clock>(
     rt: &R,
     board: &Board<J>,

@@ -15,8 +15,8 @@ loop-subscriber-preserved g c =
     let both = IsGone (nat_eq (l.missed + more) 0) in
     let before = lines_as (IsGone (nat_eq l.missed 0)) both (gone_as _ _ (left_zero l.missed more)) _ _ _ so_far.1 in
     let behind = lines_as (IsGone (nat_eq more 0)) both (gone_as _ _ (right_zero l.missed more)) _ _ _ c.tell_next-missed.ensures.lines in (
-      omega (arith, so_far.0, at_most_one l.published end.0, end.1),
+      omega (arith, so_far.0, at_most_one c.args.published end.0, end.1),
       lines_behind both _ _ _ _ _ c.tell_next-missed.ensures.stays before behind,
       λ works. so_far.2 (c.tell_next-missed.ensures.stays works),
-      (end.0 ∷ ends.0, omega (arith, ends.1), ap (λ n. n + more) ends.2 ∙ ap (λ n. missed_of l.published ends.0 + n) end.1),
+      (end.0 ∷ ends.0, omega (arith, ends.1), ap (λ n. n + more) ends.2 ∙ ap (λ n. missed_of c.args.published ends.0 + n) end.1),
     )
