@@ -1,5 +1,5 @@
 -- How many of the asks ended in what, and how many inputs they reached.
-use Rattle.std.specs.Prelude.{◌≡◌, ℕ, Bool, List, codes, count_by, Option, Some, None, option_map, unwrap_or}
+use Rattle.std.specs.Prelude.{◌≡◌, ℕ, Bool, List, codes, count_by, length, Option, Some, None, option_map, unwrap_or}
 use Rattle.std.specs.Str.{bytes_eq}
 use Rattle.book_core.specs.Book.{Contents, input_count}
 use Rattle.flag_resolve.specs.Resolved.{Resolved}
@@ -7,6 +7,7 @@ use Rattle.flag_resolve.specs.Words.{code_word, reason_word}
 use Rattle.flagops_drive.specs.Lines.{drive_text}
 use Rattle.flagops_drive.specs.declared.command.DriveOutput.{DriveOutput}
 use Rattle.flagops_drive.specs.declared.tally.Endings.{Endings}
+use Rattle.flagops_drive.specs.declared.tally.Tally.{Tally}
 
 -- what went wrong with an ask, and else the reason of its value, in OpenFeature's words
 abbrev pub ending_word : Resolved → List ℕ
@@ -34,8 +35,12 @@ abbrev pub inputs_before : Option Contents → ℕ
 inputs_before None = 0
 inputs_before (Some book) = input_count book
 
--- The tally is of the resolutions that are printed, and has the counts that are printed below them: the inputs of the book that is written, and those that the asks reached.
-unfoldable pub IsTallied : Option Contents → Bool → DriveOutput → Type 0
-IsTallied before json d =
-    (answers : List Resolved) × (calls full long : ℕ) × (d.text.items ≡ drive_text json answers d.tally.inputs calls d.tally.reached full long) × IsEndings answers d.tally.endings
-    × (d.tally.had ≡ inputs_before before)
+-- The tally is of the resolutions that are printed, and has the counts that are printed below them: the inputs of the book that is written, and those that the asks reached. It has the inputs of the book that was there before.
+unfoldable pub IsTallyOf : Option Contents → Bool → List ℕ → Tally → Type 0
+IsTallyOf before json text tally =
+    (answers : List Resolved) × (calls full long : ℕ) × (text ≡ drive_text json answers tally.inputs calls tally.reached full long) × (tally.asks ≡ length answers) × IsEndings answers tally.endings
+    × (tally.had ≡ inputs_before before)
+
+-- the same of what is printed and told together
+abbrev pub IsTallied : Option Contents → Bool → DriveOutput → Type 0
+IsTallied before json d = IsTallyOf before json d.text.items d.tally

@@ -129,7 +129,7 @@ fn fault_of(workers: usize) -> Option<DriveFault>
 }
 
 /// What is printed and what is written of what was driven.
-#[tactic(auto, unfolding(crate::specs::Tally::IsTallied))]
+#[tactic(auto, unfolding(crate::specs::Tally::IsTallyOf))]
 fn output_of(
     alloc: Global,
     driven: Driven,
@@ -159,6 +159,7 @@ fn output_of(
     };
     let text = lines(alloc, answers.as_slice(), &counts, json)?.into_bytes();
     let tally = Tally {
+        asks: answers.len(),
         endings: Endings::of(answers.as_slice()),
         had,
         reached: news,

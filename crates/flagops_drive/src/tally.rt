@@ -47,6 +47,8 @@ impl Endings {
 /// What became of the asks, and of the book.
 #[derive(Clone, Copy, Debug)]
 pub struct Tally {
+    /// The asks.
+    pub asks: usize,
     pub endings: Endings,
     /// The inputs of the book that was there before.
     pub had: u128,

@@ -6,7 +6,9 @@ use Rattle.flag_defs.specs.Document.{Definitions}
 use Rattle.book_core.specs.Book.{Contents, IsBook, is_among}
 use Rattle.book_core.specs.Calls.{stands}
 use Rattle.book_core.specs.Page.{PageName}
+use Rattle.book_lock.specs.Sealed.{IsSealed}
 use Rattle.book_lock.specs.Told.{IsTold, all_told}
+use Rattle.book_lock.specs.declared.sealing.SealRefused.{SealRefused}
 use Rattle.book_lock.specs.declared.call.Sight.{Sight}
 use Rattle.book_share.specs.Asked.{Mention, is_mention}
 use Rattle.book_share.specs.Driven.{AreNoted}
@@ -18,6 +20,8 @@ use Rattle.rollout.specs.Planned.{IsPlanned}
 use Rattle.rollout_checks.specs.Refined.{problem_refined}
 use Rattle.rollout_checks.specs.Verified.{Shows}
 use Rattle.rollout_checks.specs.declared.fault.RolloutFault.{RolloutFault}
+use Rattle.sealed_plans.specs.declared.planning.PlanRefused.{PlanRefused}
+use Rattle.sealed_plans.specs.declared.planning.PlanRefused.TheVariants.{Seal, Plan}
 
 -- which inputs were recorded on a page
 abbrev pub Record : Type 0
@@ -48,6 +52,18 @@ pub record HoldsOf (recorded : Record) (m : ℕ) (flags : Definitions) (request 
   pub some : List (List ℕ)
   pub are : AreKeys (recorded page) some
   pub shows : (keys : List (List ℕ)) → AreKeys (recorded page) keys → Shows (of_keys problem keys) answer
+
+-- What is planned on the book that these seats leave is what a plan of the request on it is.
+pub record IsPlannedOn (n : ℕ) (seats : List Sight) (flags : Definitions) (request : List ℕ) (planned : Planned) : Type 0 where
+  pub book : Contents
+  pub sealed : IsSealed n seats book
+  pub told : IsTold seats book
+  pub plan : IsPlanned (problem_refined 1 flags request book) (Ok planned)
+
+-- what holds of a refusal, by whether the book was not sealed or the sealed book was not planned on
+abbrev pub IsRefusedBy : {L : Type 0} → (SealRefused L → Type 0) → (RolloutFault → Contents → Type 0) → PlanRefused L → Type 0
+IsRefusedBy unsealed unplanned (Seal refused) = unsealed refused
+IsRefusedBy unsealed unplanned (Plan fault book) = unplanned fault book
 
 -- what the seats of a book were told
 abbrev pub told_to : List Sight → Record

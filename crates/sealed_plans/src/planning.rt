@@ -1,14 +1,20 @@
 //! The end of a shared book, and a plan on what was recorded.
-ghost use Rattle.std.specs.Prelude.{IfOk};
+ghost use Rattle.std.specs.Prelude.{◌≡◌, ◌≢◌, ◌<◌, ◌≤◌, ⊤, false, length, vec_len, Err, IfErr, IfOk, IsErrAnd, MatchResult};
+ghost use Rattle.std.specs.Str.{is_utf8};
 ghost use Rattle.book_core.specs.Book.{IsBook};
+ghost use Rattle.book_lock.specs.Sealed.{IsSealed};
+ghost use Rattle.book_lock.specs.Told.{IsTold};
 ghost use Rattle.flag_defs.specs.Flags.{flags_view};
-ghost use Rattle.plan_text.specs.Answer.{planned_view};
-ghost use Rattle.rollout.specs.Planned.{IsPlanned};
+ghost use Rattle.plan_text.specs.Answer.{IsOrdered, planned_view};
+ghost use Rattle.plan_text.specs.PlanFile.{IsWhole};
+ghost use Rattle.price_core.specs.Request.{max_request};
+ghost use Rattle.price_core.specs.declared.fault.PriceFault.TheVariants.{BadRequest};
+ghost use Rattle.rollout.specs.Planned.{IsPlanned, PrintsOrRefuses};
 ghost use Rattle.rollout_checks.specs.Refined.{problem_refined};
-ghost use Rattle.sealed_plans.specs.Recorded.{HoldsOf, told_to};
+ghost use Rattle.sealed_plans.specs.Recorded.{HoldsOf, IsPlannedOn, IsRefusedBy, told_to};
 
 use book_core::Book;
-use book_lock::{BookName, SealRefused, Seat, SharedBook, seal};
+use book_lock::{BookName, SealFault, SealRefused, Seat, SharedBook, seal};
 use flag_defs::Flags;
 use plan_text::Planned;
 use rollout::{RolloutFault, plan};
@@ -24,8 +30,11 @@ pub enum PlanRefused<L: BookName> {
     Plan(RolloutFault, Book),
 }
 
-/// Ends a shared book with all its seats, and plans on it: the answer of `rollout::plan` over what the seats were told. It is
-/// refused as `book_lock::seal`, and then as `rollout::plan`.
+/// Ends a shared book with all its seats, and plans on it: the answer of `rollout::plan` over what the seats were told.
+///
+/// It is refused as `book_lock::seal`, where a seat is missing: then the book and the seats are handed back as they were, and
+/// else the book is sealed. Then it is refused as `rollout::plan` on the sealed book, which is handed back: it is just what the
+/// seats were told, as `seal` gives it. A request above its limit or that is not UTF-8 is refused before memory is taken.
 pub fn plan_sealed<L: BookName, R: Threads + Sync>(
     rt: &R,
     alloc: Global,
@@ -34,7 +43,16 @@ pub fn plan_sealed<L: BookName, R: Threads + Sync>(
     book: SharedBook<L>,
     seats: Vec<Seat<L>>,
 ) -> Result<Planned, PlanRefused<L>>
-    ensures { IfOk result (λ planned. HoldsOf (told_to seats.items) 1 (flags_view flags.now) request.now (planned_view planned)) }
+    ensures holds { IfOk result (λ planned. HoldsOf (told_to seats.items) 1 (flags_view flags.now) request.now (planned_view planned)) }
+    ensures exact { IfOk result (IsPlannedOn L.seats seats.items (flags_view flags.now) request.now) }
+    ensures ordered { IfOk result (λ planned. IsOrdered (planned_view planned)) }
+    ensures whole { IfOk result (λ planned. IsWhole (planned_view planned)) }
+    ensures missing { MatchResult result (λ _. vec_len seats ≡ L.seats)
+        (IsRefusedBy (λ refused. (refused.fault ≡ SealFault.SeatMissing) × (vec_len seats ≢ L.seats)) (λ _ _. vec_len seats ≡ L.seats)) }
+    ensures back { IfErr result (IsRefusedBy (λ refused. (refused.book ≡ book) × (refused.seats ≡ seats)) (λ _ sealed. IsSealed L.seats seats.items sealed × IsTold seats.items sealed)) }
+    ensures refused { IfErr result (IsRefusedBy (λ _. ⊤) (λ fault sealed. IsPlanned (problem_refined 1 (flags_view flags.now) request.now sealed) (Err fault))) }
+    ensures large { vec_len seats ≡ L.seats → max_request < length request.now → IsErrAnd result (IsRefusedBy (λ _. ⊥) (λ fault _. fault ≡ RolloutFault.Request BadRequest)) }
+    ensures no_text { vec_len seats ≡ L.seats → length request.now ≤ max_request → is_utf8 request.now ≡ false → IsErrAnd result (IsRefusedBy (λ _. ⊥) (λ fault _. fault ≡ RolloutFault.Request BadRequest)) }
 {
     let book = match seal(book, seats) {
         Ok(book) => book,
@@ -54,6 +72,7 @@ fn plan_over(
     book: &Book,
 ) -> Result<Planned, RolloutFault>
     ensures exact { IsPlanned (problem_refined 1 (flags_view flags.now) request.now book.now) result }
+    ensures answer { PrintsOrRefuses request.now result }
     ensures lawful { IsBook book.now }
 {
     // Called for what its contract says: what a book holds is lawful.
