@@ -17,7 +17,7 @@ use Rattle.flagops_commands.specs.Subjects.{notes_of, numbers_of, remark_of, sub
 
 -- of a report its note and its numbers, and of a refusal the name of what is refused
 pub remarks : (files : Option Holding) (a : Asked) (r : Result Outcome Refused) → TellsOfOne (subjects_of a) r → IfOk r (λ o. IfSome o.remark (Says (notes_of a)))
-    → IfSome files (λ at. IfOk r (λ o. IfSome o.remark (Says (numbers_of a at (outcome_view o))))) → IfSome files (λ at. Remarks is_want (remark_of a at) r)
+    → IfOk r (λ o. IfSome files (λ at. IfSome o.remark (Says (numbers_of a at (outcome_view o))))) → IfSome files (λ at. Remarks is_want (remark_of a at) r)
 remarks None a r names notes numbers = tt
 remarks (Some at) a (Ok o) names notes numbers = λ remark is.
     (subst (λ (m : Option Remark). IfSome m (Says (notes_of a))) is notes, subst (λ (m : Option Remark). IfSome m (Says (numbers_of a at (outcome_view o)))) is numbers)

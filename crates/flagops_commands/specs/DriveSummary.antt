@@ -15,10 +15,6 @@ use Rattle.flagops_commands.specs.Drive.{before_at}
 abbrev pub plural : ℕ → List ℕ
 plural n = if n == 1 then [] else codes "s"
 
--- a number of things
-abbrev pub counted : ℕ → List ℕ → List ℕ
-counted n thing = decimal n ++ (codes " " ++ (thing ++ plural n))
-
 -- how many asks ended in what, by OpenFeature's words, in the order in which it is told
 abbrev pub endings_told : Endings → List (List ℕ × ℕ)
 endings_told e =
@@ -35,7 +31,7 @@ ending_texts (e ∷ es) = ending_text e ++ ending_texts es
 
 -- how many asks there are, and how many of them ended in what
 unfoldable pub asks_text : Tally → List ℕ
-asks_text t = codes ": " ++ (counted t.asks (codes "ask") ++ ending_texts (endings_told t.endings))
+asks_text t = codes ": " ++ (decimal t.asks ++ (codes " ask" ++ (plural t.asks ++ ending_texts (endings_told t.endings))))
 
 -- why asks reached nothing
 unfoldable pub nothing_text : List ℕ
@@ -51,7 +47,8 @@ sharing_text matched reached =
 -- how many inputs the asks reached, how many of these were new to the book, and how many it has
 unfoldable pub book_text : Tally → List ℕ
 book_text t =
-    codes "\n  they reached " ++ (counted t.reached (codes "input") ++ (codes ", " ++ (decimal (t.inputs - t.had) ++ (codes " of them new; the book has " ++ (decimal t.inputs ++ codes "\n")))))
+    codes "\n  they reached "
+    ++ (decimal t.reached ++ (codes " input" ++ (plural t.reached ++ (codes ", " ++ (decimal (t.inputs - t.had) ++ (codes " of them new; the book has " ++ (decimal t.inputs ++ codes "\n")))))))
 
 -- what the asks of the file at a path came to
 unfoldable pub summary_text : List ℕ → Tally → List ℕ

@@ -38,7 +38,7 @@ pub fn outcome<R: Threads + Wait + Sync, F: FileSet>(
     ensures kept { KeepsUnlessDone (F.holding files.old) (F.holding files.new) result }
     ensures names { TellsOfOne (subjects_of (asked_view asked.now)) result }
     ensures notes { IfOk result (λ o. IfSome o.remark (Says (notes_of (asked_view asked.now)))) }
-    ensures numbers { IfSome (F.holding files.old) (λ at. IfOk result (λ o. IfSome o.remark (Says (numbers_of (asked_view asked.now) at (outcome_view o))))) }
+    ensures numbers { IfOk result (λ o. IfSome (F.holding files.old) (λ at. IfSome o.remark (Says (numbers_of (asked_view asked.now) at (outcome_view o))))) }
 {
     match asked {
         Asked::Drive {

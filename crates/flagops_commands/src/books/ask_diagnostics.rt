@@ -99,7 +99,7 @@ pub fn of_workers(alloc: Global, workers: usize, fault: &str) -> Result<String, 
 }
 
 /// Says what the asks of the file at `path` came to.
-#[tactic(auto, unfolding(crate::specs::DriveSummary::summary_text))]
+#[tactic(auto, unfolding(crate::specs::DriveSummary::summary_text), using(crate::proofs::Summary::note_names))]
 pub fn of_driven(alloc: Global, path: &str, tally: &Tally) -> Result<String, AllocError>
     ensures names { IfOk result (λ s. Names path.now (string_bytes s)) }
     ensures text { IfOk result (λ s. string_bytes s ≡ summary_text path.now tally.now) }
@@ -112,7 +112,7 @@ pub fn of_driven(alloc: Global, path: &str, tally: &Tally) -> Result<String, All
 }
 
 /// Explains why a book is left as it was: the asks reached no input.
-#[tactic(auto, unfolding(crate::specs::DriveSummary::unrecorded_text))]
+#[tactic(auto, unfolding(crate::specs::DriveSummary::unrecorded_text, crate::specs::DriveSummary::nothing_text), using(crate::proofs::Summary::note_names))]
 pub fn of_unrecorded_asks(alloc: Global, path: &str, tally: &Tally) -> Result<String, AllocError>
     ensures names { IfOk result (λ s. Names path.now (string_bytes s)) }
     ensures text { IfOk result (λ s. string_bytes s ≡ unrecorded_text path.now tally.now) }
@@ -183,6 +183,7 @@ fn book_text(alloc: Global, tally: &Tally) -> Result<String, AllocError>
 }
 
 /// What to look at where the asks reached nothing, or few inputs.
+#[tactic(auto, unfolding(crate::specs::DriveSummary::nothing_text))]
 fn advice(alloc: Global, tally: &Tally) -> Result<String, AllocError>
     ensures { IfOk result (λ s. string_bytes s ≡ (if tally.now.reached == 0 then nothing_text else sharing_text tally.now.endings.targeting_match tally.now.reached)) }
 {

@@ -53,7 +53,7 @@ pub fn drive<R: Threads + Wait + Sync, F: FileSet>(
     ensures unread { IfSome (F.holding files.old) (λ at. strict ≡ true → HasUnreadAsk at asks.now → IsRefusedByName result) }
     ensures names { TellsOfOne (drive_subjects document.now asks.now book.now) result }
     ensures notes { IfOk result (λ o. IfSome o.remark (Says (Names asks.now))) }
-    ensures numbers { IfSome (F.holding files.old) (λ at. IfOk result (λ o. IfSome o.remark (Says (TellsPrinted at asks.now book.now add json o.text.items)))) }
+    ensures numbers { IfOk result (λ o. IfSome (F.holding files.old) (λ at. IfSome o.remark (Says (TellsPrinted at asks.now book.now add json o.text.items)))) }
 {
     let flags = load_flags(alloc, files, document)?;
     let mut bytes = Vec::new(alloc);
@@ -116,7 +116,7 @@ fn written<F: FileSet>(
     ensures others { KeepsOthers (F.holding files.old) (F.holding files.new) book.now }
     ensures kept { KeepsUnlessDone (F.holding files.old) (F.holding files.new) result }
     ensures names { TellsOfOne ((file book.now, by stores_file) ∷ []) result }
-    ensures remark { IfOk result (λ o. (o.remark ≡ Some remark) × (o.text ≡ drive_output.text)) }
+    ensures remark { IfOk result (λ o. (o.remark ≡ Some remark) × (o.text.items ≡ drive_output.text.items)) }
 {
     store(alloc, files, book, drive_output.book.as_slice())?;
     let DriveOutput { text, rest, .. } = drive_output;

@@ -164,7 +164,7 @@ pub fn remark_on(alloc: Global, path: &str, asks: &AsksFile<'_>, tally: &Tally) 
     Remark::of(lines_on(alloc, path, asks, tally))
 }
 
-#[tactic(auto, using(flagops_rollouts::proofs::Doubting::named_still))]
+#[tactic(auto, using(flagops_rollouts::proofs::Doubting::named_still, crate::proofs::Summary::alone, crate::proofs::Summary::behind))]
 fn lines_on(
     alloc: Global,
     path: &str,
@@ -174,11 +174,12 @@ fn lines_on(
     ensures names { IfOk result (λ s. Names path.now (string_bytes s)) }
     ensures numbers { IfOk result (λ s. TellsDriven path.now (file_view asks.now) tally.now (string_bytes s)) }
 {
-    let driven = of_driven(alloc, path, tally)?;
-    if !has_unread_ask(asks) {
-        return Ok(driven);
+    let summary = of_driven(alloc, path, tally)?;
+    if has_unread_ask(asks) {
+        let mut lines = of_unread(alloc, path, asks)?;
+        lines.push_str(summary.as_str())?;
+        Ok(lines)
+    } else {
+        Ok(summary)
     }
-    let mut lines = of_unread(alloc, path, asks)?;
-    lines.push_str(driven.as_str())?;
-    Ok(lines)
 }
