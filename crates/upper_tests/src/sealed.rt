@@ -7,7 +7,7 @@ use crate::posed::{Problem, instance, posed_on};
 use crate::seats::{THREADS, told};
 use book_core::{Book, print_book};
 use book_lock::{Blanks, BookName, SealFault, SealRefused, Seat, SharedBook};
-use book_share::{Ask, OpenGate, drive};
+use book_share::{Ask, Driven, OpenGate, drive};
 use flag_defs::{Flags, read_flags};
 use flagops_commands::Listed;
 use flagops_drive::{asks_of, read_asks};
@@ -207,12 +207,12 @@ fn printed<R: AllocGlobal + Threads + Wait + Sync>(
     rt: &R,
     files: &mut MemoryFiles,
     words: &[&str],
-) -> Vec<u8> {
+) -> Option<Vec<u8>> {
     let out = MemoryOutlet::new(rt.alloc(), usize::MAX);
     let err = MemoryOutlet::new(rt.alloc(), usize::MAX);
     let mut console = Console::new(out, err);
     let _status = run::<_, _, _, Listed<'_>, _, _>(rt, words, files, &mut console);
-    console.out.bytes
+    Vec::from_slice(rt.alloc(), console.out.bytes.as_slice()).ok()
 }
 
 /// The plan file of `plan` on the book of `drive`, where that is the one of the seven inputs.
@@ -225,12 +225,12 @@ fn file_by_commands<R: AllocGlobal + Threads + Wait + Sync>(
     files.write(alloc, "flags", FLAGS).ok()?;
     files.write(alloc, "asks", ASKS).ok()?;
     files.write(alloc, "request", request).ok()?;
-    let _resolutions = printed(rt, &mut files, &["drive", "flags", "asks", "8", "book"]);
+    let _resolutions = printed(rt, &mut files, &["drive", "flags", "asks", "8", "book"])?;
     let book = files.read(alloc, "book", 10_000).ok()?;
     if book.as_slice() != BOOK {
         return None;
     }
-    Some(printed(rt, &mut files, &["plan", "flags", "request", "book"]))
+    printed(rt, &mut files, &["plan", "flags", "request", "book"])
 }
 
 // ---- all of them
@@ -250,7 +250,7 @@ fn file_of_all<R: AllocGlobal + Threads + Wait + Sync>(
     let file = file_by_seats::<Brand, R>(rt, alloc, blanks, flags, asks, request, cost)?;
     let blanks = Blanks::new(alloc, THREADS).ok()?;
     let sealed = book_by_seats::<Brand, R>(rt, alloc, blanks, flags, asks)?;
-    let driven = drive(rt, alloc, flags, asks, THREADS, &OpenGate).ok()?.book;
+    let Driven { book: driven, .. } = drive(rt, alloc, flags, asks, THREADS, &OpenGate).ok()?;
     let books = is_book(alloc, &sealed) && is_book(alloc, &driven);
     let on_sealed = file_on(rt, alloc, flags, request, &sealed)?;
     let on_driven = file_on(rt, alloc, flags, request, &driven)?;
