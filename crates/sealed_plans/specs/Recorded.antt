@@ -8,6 +8,7 @@ use Rattle.book_core.specs.Calls.{stands}
 use Rattle.book_core.specs.Page.{PageName}
 use Rattle.book_lock.specs.Sealed.{IsSealed}
 use Rattle.book_lock.specs.Told.{IsTold, all_told}
+use Rattle.book_lock.specs.declared.name.BookName as BookName
 use Rattle.book_lock.specs.declared.sealing.SealRefused.{SealRefused}
 use Rattle.book_lock.specs.declared.call.Sight.{Sight}
 use Rattle.book_share.specs.Asked.{Mention, is_mention}
@@ -61,7 +62,7 @@ pub record IsPlannedOn (n : ℕ) (seats : List Sight) (flags : Definitions) (req
   pub plan : IsPlanned (problem_refined 1 flags request book) (Ok planned)
 
 -- what holds of a refusal, by whether the book was not sealed or the sealed book was not planned on
-abbrev pub IsRefusedBy : {L : Type 0} → (SealRefused L → Type 0) → (RolloutFault → Contents → Type 0) → PlanRefused L → Type 0
+abbrev pub IsRefusedBy : {L : Type 0} {g : BookName.Ghosts L} → (SealRefused L g → Type 0) → (RolloutFault → Contents → Type 0) → PlanRefused L g → Type 0
 IsRefusedBy unsealed unplanned (Seal refused) = unsealed refused
 IsRefusedBy unsealed unplanned (Plan fault book) = unplanned fault book
 
