@@ -22,11 +22,11 @@ some_joined true b parts e = cc
 some_joined false b [] e = cc
 some_joined false b (part ∷ parts) e = cc
 
-some_part : (bytes : List ℕ) → slice_split is_feed bytes ≢ []
+pub some_part : (bytes : List ℕ) → slice_split is_feed bytes ≢ []
 some_part [] e = cc
 some_part (b ∷ bs) e = some_joined (is_feed b) b (slice_split is_feed bs) e
 
-read_cons : (n : ℕ) (line : List ℕ) (parts : List (List ℕ)) → parts ≢ [] → read_parts n (line ∷ parts) ≡ and_more n (step_of n line) (read_parts (suc n) parts)
+pub read_cons : (n : ℕ) (line : List ℕ) (parts : List (List ℕ)) → parts ≢ [] → read_parts n (line ∷ parts) ≡ and_more n (step_of n line) (read_parts (suc n) parts)
 read_cons n line [] some = absurd (some refl)
 read_cons n line (part ∷ parts) some = refl
 

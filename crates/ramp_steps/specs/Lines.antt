@@ -1,5 +1,5 @@
 -- The file of a ramp: the answers to its steps, a line for each.
-use Rattle.std.specs.Prelude.{ℕ, suc, ℤ, pos, ◌==◌, nat_lt, Bool, true, false, List, [], ◌∷◌, ◌++◌, length, if◌then◌else◌, Option, Some, None, option_map, option_and_then, Result, Ok, Err, codes, decimal}
+use Rattle.std.specs.Prelude.{◌≡◌, ℕ, suc, ℤ, pos, ◌==◌, nat_lt, Bool, true, false, List, [], ◌∷◌, ◌++◌, length, if◌then◌else◌, Option, Some, None, option_map, option_and_then, Result, Ok, Err, codes, decimal}
 use Rattle.std.specs.List.{slice_split}
 use Rattle.std.specs.Result.{result_ok}
 use Rattle.book_core.specs.Reading.{is_feed}
@@ -27,6 +27,10 @@ lines_from n (answer ∷ answers) = step_line n answer ++ lines_from (suc n) ans
 -- the text of the answers, unless it is too large for a file
 abbrev pub ramp_file : List Answer → Result (List ℕ) PlanFileFault
 ramp_file answers = if_small (lines_from 1 answers)
+
+-- the plan file of an answer reads as the answer
+abbrev pub ReadsAgain : Answer → Type 0
+ReadsAgain answer = answer_of (text_of (planned_written answer)) ≡ Ok answer
 
 -- ---- reading
 

@@ -15,7 +15,8 @@
 //! ```
 //!
 //! Proved, over the definitions of `specs/`: [`read_steps`] gives the requests that the bytes stand for, or the first refusal
-//! (`Steps`); [`print_ramp`] writes the lines of the answers, and [`read_ramp`] reads exactly the files that `Lines` says.
+//! (`Steps`); [`print_ramp`] writes the lines of the answers, which read as these where each is in order, and [`read_ramp`] reads
+//! exactly the files that `Lines` says.
 #![tactic(auto)]
 
 mod fault;

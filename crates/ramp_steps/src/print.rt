@@ -1,22 +1,23 @@
 //! From answers to the lines that they stand in.
-ghost use Rattle.std.specs.Prelude.{◌≡◌, ◌≢◌, ◌<◌, length, map, IfOk, IfErr};
+ghost use Rattle.std.specs.Prelude.{◌≡◌, ◌≢◌, ◌<◌, length, map, IfOk, IfErr, Ok};
 ghost use Rattle.std.specs.List.{All};
 ghost use Rattle.flag_text.specs.Outcome.{GivesUnless};
 ghost use Rattle.flag_text.specs.Printing.{text_of};
-ghost use Rattle.plan_text.specs.Answer.{planned_view};
+ghost use Rattle.plan_text.specs.Answer.{IsOrdered, planned_view};
 ghost use Rattle.plan_text.specs.PlanFile.{IsWhole, max_plan, planned_written};
-ghost use Rattle.ramp_steps.specs.Lines.{ramp_file, step_line};
+ghost use Rattle.ramp_steps.specs.Lines.{ReadsAgain, ramp_file, ramp_of, step_line};
 ghost use Rattle.plan_text.specs.declared.fault.PlanFileFault.TheVariants.{TooLarge, WantOfMemory};
 
 use limits::FILE_BYTES;
 use plan_text::{PlanFileFault, Planned, print_planned};
 use std::alloc::Global;
 
-/// The file of the answers to steps: a line `{"plan":PLAN,"step":N}` for each, N from 1. It refuses more than 67108864 bytes
-/// with `TooLarge`. The condition is that the numbers of each answer are whole.
+/// The file of the answers to steps: a line `{"plan":PLAN,"step":N}` for each, N from 1, which reads as the answers where each
+/// is in order. It refuses more than 67108864 bytes with `TooLarge`. The condition is that the numbers of each answer are whole.
 pub fn print_ramp(alloc: Global, answers: &[Planned]) -> Result<Vec<u8>, PlanFileFault>
     requires whole { All (λ p. IsWhole (planned_view p)) answers.now }
     ensures exact { GivesUnless PlanFileFault.WantOfMemory (λ v. v.items) result (ramp_file (map planned_view answers.now)) }
+    ensures reads_back { IfOk result (λ v. All (λ p. IsOrdered (planned_view p)) answers.now → ramp_of v.items ≡ Ok (map planned_view answers.now)) }
 {
     let mut text = Vec::new(alloc);
     for i in 0..answers.len() {
@@ -33,6 +34,7 @@ pub fn print_ramp(alloc: Global, answers: &[Planned]) -> Result<Vec<u8>, PlanFil
 fn step_line(alloc: Global, step: u64, planned: &Planned) -> Result<Vec<u8>, PlanFileFault>
     requires { IsWhole (planned_view planned.now) }
     ensures line { IfOk result (λ v. v.items ≡ step_line step (planned_view planned.now)) }
+    ensures reads_back { IfOk result (λ _. IsOrdered (planned_view planned.now) → ReadsAgain (planned_view planned.now)) }
     ensures large { IfErr result (λ e. e ≢ WantOfMemory → (e ≡ TooLarge) × (max_plan < length (text_of (planned_written (planned_view planned.now))))) }
 {
     let plan = print_planned(alloc, planned)?;
