@@ -2,4 +2,5 @@ mod Kept
 mod Sites
 mod Steps
 mod Told
+mod Valid
 mod Walked

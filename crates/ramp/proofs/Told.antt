@@ -1,5 +1,5 @@
 -- What is told of answers, by the walk over those before.
-use Rattle.std.proofs.Common.{◌≡◌, ℕ, zero, suc, ◌+◌, ◌<◌, ◌≤◌, ◌==◌, Bool, true, false, cond, List, [], ◌∷◌, ◌++◌, length, map, take, drop, get_or, Option, Some, Result, Ok, Err, append-nil, length-drop, eq-eqb, refl, sym, ap, ◌∙◌, subst, arith}
+use Rattle.std.proofs.Common.{◌≡◌, ℕ, zero, suc, ◌+◌, ◌<◌, ◌≤◌, ◌==◌, Bool, true, false, cond, List, [], ◌∷◌, ◌++◌, length, map, take, drop, get_or, Option, Some, Result, Ok, Err, Vec, Global, append-nil, length-drop, eq-eqb, refl, sym, ap, ◌∙◌, subst, arith}
 use Rattle.std.proofs.lemmas.Bool.{eqb-true}
 use Rattle.std.proofs.lemmas.List.{length-map, map-append, take_all, take_more, take-append-drop}
 use Rattle.book_core.specs.Book.{Contents}
@@ -7,8 +7,8 @@ use Rattle.plan_text.specs.Answer.{Answer, planned_view}
 use Rattle.plan_text.specs.declared.planned.Planned.{Planned as Made}
 use Rattle.rollout_checks.specs.Verified.{IsOutcome}
 use Rattle.rollout_checks.specs.declared.verify_fault.VerifyFault.{VerifyFault}
-use Rattle.ramp.specs.Ramp.{Standing, left_by, still}
-use Rattle.ramp.specs.Right.{AreMiscounted, AreRight, IsRight, IsTold, IsWrongAfter, checked_on}
+use Rattle.ramp.specs.Ramp.{Standing, left_by, requests_view, still}
+use Rattle.ramp.specs.Right.{AreMiscounted, AreRight, IsOfAnswered, IsRight, IsTold, IsWrongAfter, checked_on}
 use Rattle.ramp.specs.declared.fault.RampFault.{RampFault}
 use Rattle.ramp.specs.declared.fault.RampFault.TheVariants.{Lines}
 use Rattle.ramp.proofs.Walked.{Right, Walks, all_right, front, miscounted, walk_more, wrong_after}
@@ -73,3 +73,14 @@ module _ (book : Contents) (s : Standing) (f : Option ℕ) (rs : List (List ℕ)
           let all : map planned_view (take n answers) ++ map planned_view (b ∷ bs) ≡ map planned_view answers =
           ap (λ (xs : List Made). map planned_view (take n answers) ++ map planned_view xs) (sym e) ∙ sym (map-append planned_view (take n answers) (drop n answers)) ∙ ap (map planned_view) (take-append-drop n answers) in
           subst (λ xs. AreMiscounted s f rs book xs) all (miscounted book s f rs (map planned_view (take n answers)) s' f' [] (map planned_view (b ∷ bs)) walk tt)
+
+-- there is no answer, and a step at least
+pub none_told : (book : Contents) (s : Standing) (f : Option ℕ) (steps : List (Vec ℕ Global)) (answers : List Made) → length answers ≡ 0 → 0 < length steps → AreMiscounted s f (requests_view steps) book (map planned_view answers)
+none_told book s f [] answers none some = absurd (omega (arith, some))
+none_told book s f (x ∷ xs) [] none some = tt
+none_told book s f (x ∷ xs) (a ∷ answers) none some = absurd (omega (arith, none))
+
+-- where only the count is judged, no step is told
+pub ended_answered : (b : Bool) (n : ℕ) (r : Result (Unit {0}) RampFault) → r ≡ cond b (Ok tt) (Err Lines) → IsOfAnswered n r
+ended_answered true n r is = subst (IsOfAnswered n) (sym is) tt
+ended_answered false n r is = subst (IsOfAnswered n) (sym is) tt

@@ -1,5 +1,5 @@
 -- Whether the answers to a rollout in steps are right, whoever made them.
-use Rattle.std.specs.Prelude.{◌≡◌, ◌≢◌, ℕ, zero, suc, ◌+◌, List, [], ◌∷◌, Option, Some, Result, Ok, Err}
+use Rattle.std.specs.Prelude.{◌≡◌, ◌≢◌, ◌<◌, ◌≤◌, ℕ, zero, suc, ◌+◌, List, [], ◌∷◌, Option, Some, Result, Ok, Err}
 use Rattle.book_core.specs.Book.{Contents}
 use Rattle.plan_text.specs.Answer.{Answer}
 use Rattle.rollout_checks.specs.Lawful.{Problem, and_then}
@@ -56,3 +56,9 @@ IsTold standing refine requests book answers (Ok u) = AreRight standing refine r
 IsTold standing refine requests book answers (Err Lines) = AreMiscounted standing refine requests book answers
 IsTold standing refine requests book answers (Err (Step n e)) =
     verify.number_of e ≢ 0 → (before : ℕ) × (n ≡ before + 1) × IsWrongAfter standing refine requests book answers before e
+
+-- A step that is told is one of those that have an answer: where the next one is lacking, nothing is told in its place.
+abbrev pub IsOfAnswered : ℕ → Result (Unit {0}) RampFault → Type 0
+IsOfAnswered count (Ok u) = Unit {0}
+IsOfAnswered count (Err Lines) = Unit {0}
+IsOfAnswered count (Err (Step n e)) = (0 < n) × (n ≤ count)

@@ -12,7 +12,8 @@
 //! - [`plan_steps`] answers each step as `rollout::plan` answers its request on the flags in which `rollout::apply` put the rule
 //!   of the step before, and stops at the first step for which no rule fits; else it gives the first refusal and its step
 //!   (`Ramp`).
-//! - [`verify_steps`] accepts the answers exactly where each is right so, and tells the first that is not (`Right`).
+//! - [`verify_steps`] accepts the answers exactly where each is right so, and tells the first that is not (`Right`). What
+//!   [`plan_steps`] answers it accepts ([`ramps_are_valid`]).
 //! - [`left_by`] gives the flags that the next step stands on.
 //! - Where the steps ask for one site and forbid to leave a name, whoever is given the name is given it by each later rule, and
 //!   all rules are of one total ([`nobody_falls_back`]).
@@ -25,7 +26,7 @@ mod standing;
 mod verifying;
 
 pub use fault::{RampFault, StepFault};
-pub use laws::nobody_falls_back;
+pub use laws::{nobody_falls_back, ramps_are_valid};
 pub use planning::plan_steps;
 pub use standing::left_by;
 pub use verifying::verify_steps;

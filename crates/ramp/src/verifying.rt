@@ -4,7 +4,7 @@ ghost use Rattle.flag_text.specs.Outcome.{GivesUnless};
 ghost use Rattle.flag_defs.specs.Flags.{flags_view};
 ghost use Rattle.plan_text.specs.Answer.{planned_view};
 ghost use Rattle.ramp.specs.Ramp.{Standing, requests_view};
-ghost use Rattle.ramp.specs.Right.{IsTold, TellsStep};
+ghost use Rattle.ramp.specs.Right.{IsOfAnswered, IsTold, TellsStep};
 
 use crate::fault::RampFault;
 use crate::standing::{behind, first, goes_on};
@@ -20,7 +20,9 @@ use std::thread::Threads;
 /// `rollout::verify_refined`, and each other on the flags with the rule of the one before, by the factor 1.
 ///
 /// The first step whose answer is not right is told, and then whether there are fewer answers than steps, or more; a step for
-/// which no rule fits is the last. The conditions are a factor from 1, and fewer than 2^32 - 1 steps.
+/// which no rule fits is the last. No step is told that has no answer, and where there is none at all no memory is taken. The
+/// conditions are a factor from 1, and fewer than 2^32 - 1 steps.
+#[tactic(auto, using(crate::proofs::Told::none_told))]
 pub fn verify_steps<R: Threads + Sync, B: Recorded>(
     rt: &R,
     alloc: Global,
@@ -32,8 +34,13 @@ pub fn verify_steps<R: Threads + Sync, B: Recorded>(
 ) -> Result<(), RampFault>
     requires factor { IfSome refine (λ m. 0 < m) }
     requires few { length steps.now < 2 ^ 32 - 1 }
-    ensures { IsTold (Ok (flags_view flags.now)) refine (requests_view steps.now) (B.contents book.now) (map planned_view answers.now) result }
+    ensures told { IsTold (Ok (flags_view flags.now)) refine (requests_view steps.now) (B.contents book.now) (map planned_view answers.now) result }
+    ensures answered { IsOfAnswered (length answers.now) result }
+    ensures none { length answers.now ≡ 0 → 0 < length steps.now → result ≡ Err RampFault.Lines }
 {
+    if answers.is_empty() && !steps.is_empty() {
+        return Err(RampFault::Lines);
+    }
     let mut standing = first(alloc, flags);
     let mut factor = refine;
     for i in 0..steps.len() {

@@ -8,7 +8,7 @@ use Rattle.plan_text.specs.declared.planned.Planned.{Planned as Made}
 use Rattle.ramp.specs.Ramp.{Standing, left_by, requests_view, still}
 use Rattle.ramp.specs.Right.{AreMiscounted, IsTold}
 use Rattle.ramp.specs.declared.fault.RampFault.TheVariants.{Lines}
-use Rattle.ramp.proofs.Told.{Walked, ended_told, few_told, more_right, wrong_told}
+use Rattle.ramp.proofs.Told.{Walked, ended_answered, ended_told, few_told, more_right, wrong_told}
 use Rattle.ramp.proofs.Walked.{front}
 use Rattle.ramp.proofs.verifying.verify_steps.Goals as goal
 
@@ -26,13 +26,13 @@ left book s f steps answers i s' f' [] is inside none walk = absurd (omega (arit
 left book s f steps answers i s' f' (x ∷ xs) is inside none walk =
     few_told book s f (requests_view steps) answers i s' f' x.items (requests_view xs) none (subst (λ ys. Walked book s f (requests_view steps) answers i s' f' ys) (ap requests_view is) walk)
 
-pub returns-then-i-answers : goal.returns-then-i-answers
-returns-then-i-answers g c =
+pub returns-then-i-answers-clause-told : goal.returns-then-i-answers-clause-told
+returns-then-i-answers-clause-told g c =
     left (g.B.Recorded.contents c.args.book.now) (Ok (flags_view c.args.flags.now)) c.args.refine c.args.steps.now c.args.answers.now c.loop-i.i c.loop-i.invariant.walk.0 c.loop-i.factor
     (drop c.loop-i.i c.args.steps.now) refl (omega arith) (omega arith) c.loop-i.invariant.walk.1
 
-pub returns-in-Err : goal.returns-in-Err
-returns-in-Err g c = λ other.
+pub returns-in-Err-clause-told : goal.returns-in-Err-clause-told
+returns-in-Err-clause-told g c = λ other.
     let book = g.B.Recorded.contents c.args.book.now in
     let s : Standing = Ok (flags_view c.args.flags.now) in
     let steps = c.args.steps.now in
@@ -46,8 +46,8 @@ returns-in-Err g c = λ other.
           (c.in-Err.ensures walk.0 (walk.2 (omega arith)) other),
     )
 
-pub returns-then-not-goes_on : goal.returns-then-not-goes_on
-returns-then-not-goes_on g c =
+pub returns-then-not-goes_on-clause-told : goal.returns-then-not-goes_on-clause-told
+returns-then-not-goes_on-clause-told g c =
     let book = g.B.Recorded.contents c.args.book.now in
     let s : Standing = Ok (flags_view c.args.flags.now) in
     let steps = c.args.steps.now in
@@ -90,8 +90,8 @@ loop-i-preserved g c =
       some = omega arith;
     }
 
-pub returns : goal.returns
-returns g c =
+pub returns-clause-told : goal.returns-clause-told
+returns-clause-told g c =
     let book = g.B.Recorded.contents c.args.book.now in
     let s : Standing = Ok (flags_view c.args.flags.now) in
     let steps = c.args.steps.now in
@@ -103,3 +103,23 @@ returns g c =
     let told = ended_told book s c.args.refine (requests_view steps) answers i walk.0 c.loop-i.factor (omega (arith, c.loop-i.invariant.there))
     (subst (λ ys. Walked book s c.args.refine (requests_view steps) answers i walk.0 c.loop-i.factor ys) none walk.1) (length answers == i) refl in
     subst (IsTold s c.args.refine (requests_view steps) book (map planned_view answers)) (sym (c.ended-2.ensures ∙ ap (λ k. cond (length answers == k) (Ok tt) (Err Lines)) (sym n))) told
+
+-- ---- where answers are lacking
+
+pub returns-in-Err-clause-answered : goal.returns-in-Err-clause-answered
+returns-in-Err-clause-answered g c = (omega arith, omega arith)
+
+pub returns-then-not-goes_on-clause-answered : goal.returns-then-not-goes_on-clause-answered
+returns-then-not-goes_on-clause-answered g c = ended_answered (length c.args.answers.now == c.loop-i.i + 1) (length c.args.answers.now) c.ended.result c.ended.ensures
+
+pub returns-clause-answered : goal.returns-clause-answered
+returns-clause-answered g c = ended_answered (length c.args.answers.now == length c.args.steps.now) (length c.args.answers.now) c.ended-2.result c.ended-2.ensures
+
+pub returns-in-Err-clause-none : goal.returns-in-Err-clause-none
+returns-in-Err-clause-none g c = λ none some. absurd (omega (arith, none))
+
+pub returns-then-not-goes_on-clause-none : goal.returns-then-not-goes_on-clause-none
+returns-then-not-goes_on-clause-none g c = λ none some. absurd (omega (arith, none))
+
+pub returns-clause-none : goal.returns-clause-none
+returns-clause-none g c = λ none some. absurd (omega (arith, none, some, c.loop-i.invariant.there))
