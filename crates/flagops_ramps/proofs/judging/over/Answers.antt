@@ -12,12 +12,12 @@ pub returns-in-Ok-verify_steps-clause-exact : goal.returns-in-Ok-verify_steps-cl
 returns-in-Ok-verify_steps-clause-exact g c =
     let a = c.args.asked.now.rollout in
     found_right (option_map (λ m. m.number) a.refine) (book_question_view c.args.question) c.count.new.question (requests_view c.args.steps.items) (map planned_view c.args.answers.items) c.count.ensures.kept
-    (rw (c.as_slice-2.ensures.value, c.as_slice-3.ensures.value, c.factor_number.ensures.value) at c.in-Ok-verify_steps.ensures)
+    (rw (c.as_slice-2.ensures.value, c.as_slice-3.ensures.value, c.factor_number.ensures.value) at c.in-Ok-verify_steps.ensures.told)
 
 pub returns-in-Ok-verify_steps-clause-right : goal.returns-in-Ok-verify_steps-clause-right
 returns-in-Ok-verify_steps-clause-right g c = record {
   few = c.requires;
-  right = rw (c.as_slice-2.ensures.value, c.as_slice-3.ensures.value, c.factor_number.ensures.value) at c.in-Ok-verify_steps.ensures;
+  right = rw (c.as_slice-2.ensures.value, c.as_slice-3.ensures.value, c.factor_number.ensures.value) at c.in-Ok-verify_steps.ensures.told;
 }
 
 pub returns-in-Err-clause-exact : goal.returns-in-Err-clause-exact
@@ -28,7 +28,7 @@ returns-in-Err-clause-exact g c =
     let requests = requests_view c.args.steps.items in
     let answers = map planned_view c.args.answers.items in
     let fault = c.in-Err.fault in
-    let one = subst (λ (f : Option ℕ). IsTold (Ok flags) f (requests_view c.as_slice-2.result.now) made.book (map planned_view c.as_slice-3.result.now) (Err fault)) c.factor_number.ensures.value c.in-Err.ensures in
+    let one = subst (λ (f : Option ℕ). IsTold (Ok flags) f (requests_view c.as_slice-2.result.now) made.book (map planned_view c.as_slice-3.result.now) (Err fault)) c.factor_number.ensures.value c.in-Err.ensures.told in
     let two = subst (λ (s : List (Vec ℕ Global)). IsTold (Ok flags) refine (requests_view s) made.book (map planned_view c.as_slice-3.result.now) (Err fault)) c.as_slice-2.ensures.value one in
     let told = subst (λ (s : List Planned). IsTold (Ok flags) refine requests made.book (map planned_view s) (Err fault)) c.as_slice-3.ensures.value two in
     found_wrong refine (book_question_view c.args.question) made requests answers fault c.wrong.result c.count.ensures.kept told c.wrong.ensures.refusal
