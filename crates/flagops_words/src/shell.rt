@@ -55,7 +55,7 @@ _flagops() {
         record:-*) COMPREPLY=($(compgen -W "--moment --workers --help" -- "$word")) ;;
         apply:-*) COMPREPLY=($(compgen -W "--keep --write --refine --strict --step --help" -- "$word")) ;;
         book:-*) COMPREPLY=($(compgen -W "--torn --help" -- "$word")) ;;
-        ofrep:-*) COMPREPLY=($(compgen -W "--listen --log --stream --workers --poll --help" -- "$word")) ;;
+        ofrep:-*) COMPREPLY=($(compgen -W "--listen --log --remember --without-record --stream --workers --poll --broken --help" -- "$word")) ;;
         drive:-*) COMPREPLY=($(compgen -W "--add --strict --json --help" -- "$word")) ;;
         serve:-* | follow:-*) COMPREPLY=($(compgen -W "--wait --help" -- "$word")) ;;
         *:-*) COMPREPLY=($(compgen -W "--help" -- "$word")) ;;
@@ -110,8 +110,11 @@ complete -c flagops -n '__fish_seen_subcommand_from book' -l torn -d 'Pass over 
 complete -c flagops -n '__fish_seen_subcommand_from ofrep' -l stream -x -d 'The port of the stream of snapshots'
 complete -c flagops -n '__fish_seen_subcommand_from ofrep' -l listen -x -d 'The address and port of the service'
 complete -c flagops -n '__fish_seen_subcommand_from ofrep' -l log -r -d 'The folder of the logs'
+complete -c flagops -n '__fish_seen_subcommand_from ofrep' -l remember -x -d 'The lines of the logs that are remembered'
+complete -c flagops -n '__fish_seen_subcommand_from ofrep' -l without-record -x -a 'answer refuse' -d 'What becomes of answers that cannot be recorded'
 complete -c flagops -n '__fish_seen_subcommand_from ofrep' -l workers -x -d 'The threads that answer'
 complete -c flagops -n '__fish_seen_subcommand_from ofrep' -l poll -x -d 'The seconds between two readings of the documents'
+complete -c flagops -n '__fish_seen_subcommand_from ofrep' -l broken -x -a 'refuse serve' -d 'What becomes of documents with broken flags'
 complete -c flagops -n '__fish_seen_subcommand_from apply' -l keep -d 'Verify the plan and keep the rest of the text'
 complete -c flagops -n '__fish_seen_subcommand_from apply' -l write -d 'With --keep: write over the document'
 complete -c flagops -n '__fish_seen_subcommand_from apply' -l refine -x -d 'With --keep: the factor of the plan'
@@ -181,8 +184,11 @@ _flagops() {
         book) _arguments '--torn[pass over lines that are no notes]' '--help[print help]' '*:file:_files' ;;
         ofrep)
             _arguments '--listen[the address and port of the service]:ADDRESS\:PORT:' '--log[the folder of the logs]:folder:_files -/' \
+                '--remember[the lines of the logs that are remembered]:N:' \
+                '--without-record[what becomes of answers that cannot be recorded]:what:(answer refuse)' \
                 '--stream[the port of the stream of snapshots]:PORT:' \
                 '--workers[the threads that answer]:N:' '--poll[the seconds between two readings of the documents]:SECONDS:' \
+                '--broken[what becomes of documents with broken flags]:what:(refuse serve)' \
                 '--help[print help]' '*:file:_files'
             ;;
         drive)
