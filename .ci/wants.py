@@ -48,6 +48,8 @@ TAKEN = {
     ("crates/flagops_ramps/src/judging.rt", "remark: Remark::Short,"): (1, "the same"),
     ("crates/flagops_filters/src/joining.rt", "refusal: FilterRefusal::Load(Refusal::ReadTally(TallyFileFault::WantOfMemory)),"): (1, "`out_of_memory` tells of an `AllocError`; its calls are looked for"),
     ("crates/flagops_filters/src/joining.rt", "remark: Remark::Short,"): (1, "the same"),
+    ("crates/flagops_compare/src/command.rt", "refusal: CompareRefusal::WantOfMemory,"): (1, "`out_of_memory` tells of an `AllocError`; its calls are looked for"),
+    ("crates/flagops_compare/src/command.rt", "remark: Remark::Short,"): (1, "the same"),
     ("crates/library_seat/src/held.rt", "Err(AllocFailed { value }) => {"): (1, "a pattern: it takes the flags back that the refused request gives back"),
     ("crates/snap_core/src/names.rt", "Err(_) => return Err(WorldFault::WantOfMemory),"): (1, "of the faults of `add`, whose clause `exact` has Known and TooMany alone, only want of memory is left there"),
 }
