@@ -74,4 +74,4 @@ module _ (old new : Definitions) (only : Option (List ℕ)) (t : PageTally) wher
 
   pub not_asked : (ps : List PageFound) → is_asked only t.page ≡ false → ps ≡ [] → AreTallyFound old new only t (Ok ps)
   unfolding AreTallyFound
-  not_asked ps other none = subst (λ (b : Bool). AreWhereAsked b old new t (Ok ps)) (sym other) (ap Ok none)
+  not_asked ps other empty = subst (λ (b : Bool). AreWhereAsked b old new t (Ok ps)) (sym other) (ap Ok empty)

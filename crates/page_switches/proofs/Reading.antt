@@ -9,11 +9,11 @@ use Rattle.page_switches.specs.declared.counting.Counted as program
 use Rattle.rule_switches.specs.Counting.{Adds, Counted, HasCounted, names_of}
 use Rattle.rule_switches.specs.Switches.{AreSwitches, Rows, rows_view}
 
-module _ (before after : Entries) (bytes : List ℕ) where
+module _ (one other : Entries) (bytes : List ℕ) where
   -- these were counted, and those that stand first among the rest are left
   pub record Taken (rest : List ℕ) (s : Counted) : Type 0 where
-    pub before : s.before ≡ before
-    pub after : s.after ≡ after
+    pub before : s.before ≡ one
+    pub after : s.after ≡ other
     pub span : s.span ≡ 2 ^ 32
     pub taken : Inputs
     pub counted : HasCounted s taken
@@ -21,7 +21,7 @@ module _ (before after : Entries) (bytes : List ℕ) where
     pub pages : pages_in (lines_of rest) ≡ pages_in (lines_of bytes)
     pub room : s.inputs + length rest ≤ length bytes
 
-  pub none_taken : (s : Counted) → (s.before ≡ before) × (s.after ≡ after) → s.span ≡ 2 ^ 32 → HasCounted s [] → Taken bytes s
+  pub none_taken : (s : Counted) → (s.before ≡ one) × (s.after ≡ other) → s.span ≡ 2 ^ 32 → HasCounted s [] → Taken bytes s
   none_taken s rules span none = record {
     before = rules.0;
     after = rules.1;
@@ -51,7 +51,7 @@ module _ (before after : Entries) (bytes : List ℕ) where
         }
 
     -- none is left
-    all_taken : leading (lines_of rest) ≡ [] → Reads before after bytes rest s
+    all_taken : leading (lines_of rest) ≡ [] → Reads one other bytes rest s
     all_taken none =
         let all : leading (lines_of bytes) ≡ had.taken = had.lines ∙ ap (λ (xs : Inputs). had.taken ++ xs) none ∙ append-nil had.taken in
         record {
@@ -62,17 +62,17 @@ module _ (before after : Entries) (bytes : List ℕ) where
           room = had.room;
         }
 
-    pub ends_file : lines_of rest ≡ [] → Reads before after bytes rest s
+    pub ends_file : lines_of rest ≡ [] → Reads one other bytes rest s
     ends_file none = all_taken (ap leading none)
 
-    pub ends_page : (behind : List ℕ) (line : FileLine) → lines_of rest ≡ line ∷ lines_of behind → ((after : List FileLine) → leading (line ∷ after) ≡ []) → Reads before after bytes rest s
+    pub ends_page : (behind : List ℕ) (line : FileLine) → lines_of rest ≡ line ∷ lines_of behind → ((after : List FileLine) → leading (line ∷ after) ≡ []) → Reads one other bytes rest s
     ends_page behind line begins none = all_taken (ap leading begins ∙ none (lines_of behind))
 
-  module _ (rest : List ℕ) (s : Counted) (reads : Reads before after bytes rest s) where
+  module _ (rest : List ℕ) (s : Counted) (reads : Reads one other bytes rest s) where
     -- what the inputs change
-    pub switches_so : (rows : Rows) → ((inputs : Inputs) → HasCounted s inputs → AreSwitches s.before s.after inputs rows) → AreSwitches before after (leading (lines_of bytes)) rows
+    pub switches_so : (rows : Rows) → ((inputs : Inputs) → HasCounted s inputs → AreSwitches s.before s.after inputs rows) → AreSwitches one other (leading (lines_of bytes)) rows
     switches_so rows each =
-        subst (λ (r : Entries). AreSwitches before r (leading (lines_of bytes)) rows) reads.after
+        subst (λ (r : Entries). AreSwitches one r (leading (lines_of bytes)) rows) reads.after
         (subst (λ (r : Entries). AreSwitches r s.after (leading (lines_of bytes)) rows) reads.before (each (leading (lines_of bytes)) reads.counted))
 
     pub counted_so : (c : program.Counted) → c.inputs ≡ s.inputs → c.users ≡ users_in (rows_view c.rows.items) → users_in (rows_view c.rows.items) ≤ s.inputs → c.rest.now ≡ rest → IsCounted bytes c

@@ -1,5 +1,5 @@
 -- What was read of the bytes of a book file, in private contracts alone.
-use Rattle.std.specs.Prelude.{◌≡◌, ◌+◌, ◌≤◌, ◌^◌, ℕ, List, length}
+use Rattle.std.specs.Prelude.{◌≡◌, ◌+◌, ◌≤◌, ℕ, List, length}
 use Rattle.book_core.specs.Reading.{leading, lines_of, pages_in}
 use Rattle.bucket_core.specs.Rule.{Entries}
 use Rattle.page_switches.specs.Found.{users_in}
@@ -8,9 +8,9 @@ use Rattle.rule_switches.specs.Counting.{Counted, HasCounted}
 use Rattle.rule_switches.specs.Switches.{rows_view}
 
 -- the inputs that stand first were counted, and the bytes behind them have the pages
-pub record Reads (before after : Entries) (bytes rest : List ℕ) (s : Counted) : Type 0 where
-  pub before : s.before ≡ before
-  pub after : s.after ≡ after
+pub record Reads (one other : Entries) (bytes rest : List ℕ) (s : Counted) : Type 0 where
+  pub before : s.before ≡ one
+  pub after : s.after ≡ other
   pub counted : HasCounted s (leading (lines_of bytes))
   pub pages : pages_in (lines_of rest) ≡ pages_in (lines_of bytes)
   pub room : s.inputs + length rest ≤ length bytes

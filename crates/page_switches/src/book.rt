@@ -14,8 +14,8 @@ use book_lines::next_page;
 use page_tally::BookFile;
 use std::alloc::{AllocError, Global};
 
-/// What an edit does on each page of a book, or on those of one flag, in their order. Want of memory is its one fault. Cost: two
-/// passes over the lines of the file, and each input of a page that is compared is hashed once.
+/// What an edit does on each page of a book, or on those of one flag, in their order. Want of memory is its one fault. Cost: a
+/// pass over the lines of the file, and each input of a page that is compared is hashed once.
 #[tactic(auto, using(crate::proofs::Going::book_compared, crate::proofs::Going::unended_compared))]
 pub fn compare_book(
     alloc: Global,

@@ -1,5 +1,5 @@
 //! What an edit does on pages, with the sums of all.
-ghost use Rattle.std.specs.Prelude.{◌≡◌, ◌+◌, ◌<◌, ◌^◌, ◌++◌, [], ◌∷◌, OnOk, if◌then◌else◌};
+ghost use Rattle.std.specs.Prelude.{◌≡◌, ◌+◌, ◌<◌, ◌≤◌, ◌^◌, ◌++◌, [], ◌∷◌, OnOk, if◌then◌else◌};
 ghost use Rattle.page_switches.specs.Found.{AreSums, found_view, inputs_in, is_left, pages_view, switches_in};
 
 use crate::edit::Side;
@@ -63,14 +63,41 @@ impl Comparison {
         ensures left { OnOk result (self.new.left ≡ self.old.left + (if is_left (found_view found) then 1 else 0)) }
         ensures sums { OnOk result (AreSums self.old → AreSums self.new) }
     {
-        match &found {
-            Found::Counted(inputs, switched, _) => {
-                self.inputs += *inputs;
-                self.switched += *switched;
-            }
-            Found::Left(_, _) => self.left += 1,
-        }
+        self.inputs += inputs_in(&found);
+        self.switched += switches_in(&found);
+        self.left += left_in(&found);
         self.pages.push(PageFound { page, found })?;
         Ok(())
+    }
+}
+
+/// How many inputs were compared.
+fn inputs_in(found: &Found) -> u64
+    ensures { result ≡ inputs_in (found_view found.now) }
+{
+    match found {
+        Found::Counted(inputs, _, _) => *inputs,
+        Found::Left(_, _) => 0,
+    }
+}
+
+/// How many of them switch.
+fn switches_in(found: &Found) -> u64
+    ensures { result ≡ switches_in (found_view found.now) }
+{
+    match found {
+        Found::Counted(_, users, _) => *users,
+        Found::Left(_, _) => 0,
+    }
+}
+
+/// How many pages were not compared: this one, or none.
+fn left_in(found: &Found) -> u64
+    ensures left { result ≡ (if is_left (found_view found.now) then 1 else 0) }
+    ensures one { result ≤ 1 }
+{
+    match found {
+        Found::Counted(_, _, _) => 0,
+        Found::Left(_, _) => 1,
     }
 }

@@ -1,5 +1,5 @@
 //! The rules that two documents have at the site of a page.
-ghost use Rattle.std.specs.Prelude.{◌≡◌, IfOk};
+ghost use Rattle.std.specs.Prelude.{◌≡◌, ◌≢◌, IfOk};
 ghost use Rattle.bucket_core.specs.Reading.{rule_of_entries};
 ghost use Rattle.bucket_core.specs.Rule.{entries_view};
 ghost use Rattle.flag_text.specs.Outcome.{GivesUnless};
@@ -25,6 +25,7 @@ pub enum Rules {
 }
 
 /// The rules of both documents at the site of a page. Want of memory is its one fault.
+#[tactic(auto, using(crate::proofs::Placed::lacks_old, crate::proofs::Placed::lacks_new))]
 pub fn rules_on(alloc: Global, edit: Edit<'_>, page: &Page) -> Result<Rules, AllocError>
     ensures { IfOk result (λ r. rules_view r ≡ rules_on (flags_view edit.entry.old.now) (flags_view edit.entry.new.now) page.now) }
 {
@@ -40,7 +41,8 @@ pub fn rules_on(alloc: Global, edit: Edit<'_>, page: &Page) -> Result<Rules, All
 
 /// A document without a rule, where that is known.
 fn no_rule(side: Side, reason: NoRule) -> Result<Rules, AllocError>
-    ensures { IfOk result (λ r. rules_view r ≡ none side reason) }
+    ensures rules { IfOk result (λ r. rules_view r ≡ none side reason) }
+    ensures known { IfOk result (λ r. reason ≢ NoRule.WantOfMemory) }
 {
     match reason {
         NoRule::WantOfMemory => Err(AllocError),
@@ -63,7 +65,6 @@ fn rule_on(alloc: Global, flags: &Flags, page: &Page) -> Result<Rule, NoRule>
 }
 
 /// The rule of a targeting at the site of a page.
-#[tactic(auto, using(crate::proofs::Placed::in_turn))]
 fn rule_in(alloc: Global, targeting: &Expr, page: &Page) -> Result<Rule, NoRule>
     ensures { GivesUnless NoRule.WantOfMemory (λ r. r) result (rule_in page.now (view targeting.now)) }
 {
@@ -76,7 +77,6 @@ fn rule_in(alloc: Global, targeting: &Expr, page: &Page) -> Result<Rule, NoRule>
 }
 
 /// The rule of literal entries, where their weights make one.
-#[tactic(auto, using(crate::proofs::Placed::weighed))]
 fn rule_of(alloc: Global, entries: Vec<(String, u64)>) -> Result<Rule, NoRule>
     ensures { GivesUnless NoRule.WantOfMemory (λ r. r) result (by_weight (rule_of_entries (entries_view entries.items))) }
 {
