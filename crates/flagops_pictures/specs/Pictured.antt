@@ -69,9 +69,15 @@ pub record MayBeTold (refine : Option ℕ) (q : BookQuestion) (answer : Answer) 
   pub told : IsOutcome (asked_over refine answer q) answer verdict
   pub shown : OnOk verdict (IsShown (asked_over refine answer q) answer)
 
--- the picture, or the refusal of the check
+-- an answer that is right, with what that shows of it, and its picture
+pub record IsDrawnRight (asked : Result Problem RolloutFault) (answer : Answer) (bytes : List ℕ) : Type 0 where
+  pub right : IsOutcome asked answer (Ok tt)
+  pub shown : IsShown asked answer
+  pub drawn : IsDrawn asked answer bytes
+
+-- the picture of an answer that is right, or the refusal of the check
 abbrev pub IsDrawnOrDenied : Result Problem RolloutFault → Answer → Result (List ℕ) VerifyFault → Type 0
-IsDrawnOrDenied asked answer (Ok bytes) = IsDrawn asked answer bytes
+IsDrawnOrDenied asked answer (Ok bytes) = IsDrawnRight asked answer bytes
 IsDrawnOrDenied asked answer (Err e) = IsOutcome asked answer (Err e)
 
 -- a picture without where its text lies in memory
