@@ -1,5 +1,5 @@
 -- What a picture tells: its texts with their places, the points that each bar and each band stands for, and the rows of its tables.
-use Rattle.std.specs.Prelude.{ℕ, ◌+◌, ◌-◌, ◌*◌, ◌/◌, min, max, ℤ, List, [], ◌∷◌, ◌++◌, map, length, nat_lt, ◌||◌, Option, Some, None, if◌then◌else◌}
+use Rattle.std.specs.Prelude.{Bool, ℕ, ◌+◌, ◌-◌, ◌*◌, ◌/◌, ◌^◌, min, max, ℤ, List, [], ◌∷◌, ◌++◌, map, length, nat_lt, ◌||◌, Option, Some, None, if◌then◌else◌}
 use Rattle.std.specs.List.{flat_map, range_with_len}
 use Rattle.std.specs.Map.{keys_of, lookup}
 use Rattle.std.specs.Str.{bytes_eq}
@@ -48,6 +48,12 @@ told es = flat_map told_element es
 -- a number that ends at a place
 abbrev pub number_element : ℕ → ℕ → ℕ → Element
 number_element x y n = element.Text style.Value (record { x = x; y = y }) (content.Number n)
+
+-- ---- heights
+
+-- so far below a height, and no further than numbers go
+abbrev pub below : ℕ → ℕ → ℕ
+below y n = min (y + n) (2 ^ 64 - 1)
 
 -- ---- captions and headings
 
@@ -143,10 +149,14 @@ second_name a b = if nat_lt 17 (max (length a) (length b)) then 100 else 410
 abbrev pub names_told : List ℕ → List ℕ → List Item
 names_told a b = name 100 a ∷ name (second_name a b) b ∷ []
 
--- a switch that has points or is not allowed, with its names, its points, its users and its price
+-- whether a switch is in the table: it has points or is not allowed
+abbrev pub is_listed : Pricing → List ℕ → List ℕ → Switch → Bool
+is_listed pricing a b s = nat_lt 0 s.points || is_forbidden pricing a b
+
+-- such a switch with its names, its points, its users and its price
 abbrev pub switch_told : Pricing → List ℕ → List ℕ → Switch → List Item
 switch_told pricing a b s =
-    if nat_lt 0 s.points || is_forbidden pricing a b then names_told a b ++ (number 820 s.points ∷ number 970 s.users ∷ cell 1160 (content.Price (price_told pricing a b)) ∷ []) else []
+    if is_listed pricing a b s then names_told a b ++ (number 820 s.points ∷ number 970 s.users ∷ cell 1160 (content.Price (price_told pricing a b)) ∷ []) else []
 
 -- the switches from one variant to each
 abbrev pub row_told : Pricing → List (List ℕ) → ℕ × List Switch → ℕ → List Item
@@ -185,9 +195,13 @@ limit_told old l = name 100 l.0 ∷ number 820 (total_of old l.0) ∷ number 990
 abbrev pub limits_told : Entries → Limits → List Item
 limits_told old limits = limit_headings ++ flat_map (limit_told old) limits
 
--- the kind and the names of the set, the rule below them as a bar at a height, and the variants
-unfoldable pub none_told : ℕ → Entries → Limits → CutKind → List (List ℕ) → List Item
-none_told y old limits k names = none_head_told k (total_weight old) ++ (set_told names ++ (bar_told y old ++ limits_told old limits))
+-- how far below the top of its page a set ends, with a row for each name
+abbrev pub set_height : List (List ℕ) → ℕ
+set_height names = below 170 (length names * 46)
+
+-- the kind and the names of the set, the rule below them as a bar, and the variants
+unfoldable pub none_told : Entries → Limits → CutKind → List (List ℕ) → List Item
+none_told old limits k names = none_head_told k (total_weight old) ++ (set_told names ++ (bar_told (set_height names) old ++ limits_told old limits))
 
 -- ---- the number of a step
 
