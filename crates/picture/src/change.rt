@@ -7,7 +7,7 @@ ghost use Rattle.switch_table.specs.Runs.{run_view, runs_view};
 ghost use Rattle.transport_instance.specs.Certificate.{certificate_view};
 ghost use Rattle.picture.specs.Heights.{change_height};
 ghost use Rattle.picture.specs.Spelling.{Adds};
-ghost use Rattle.picture.specs.Told.{bars_told, behind, below, change_told, extent_of, head_told, place_of, runs_told, told};
+ghost use Rattle.picture.specs.Told.{bars_told, behind, below, change_told, extent_of, head_told, look_of, place_of, runs_told, told};
 
 use crate::bars::{BAR, LEFT, add_bar, edge, extent, look_of};
 use crate::element::{Band, Content, Element, Extent, Place, add};
@@ -106,7 +106,7 @@ fn add_bars<'a>(
     change: &Change<'a>,
     limits: &[Limit],
 ) -> Result<(), AllocError>
-    ensures { OnOk result (told elements.new.items ≡ told elements.old.items ++ bars_told change.now.old.now change.now.new.now (runs_view change.now.runs.now)) }
+    ensures { OnOk result (told elements.new.items ≡ told elements.old.items ++ bars_told (limits_view limits.entry.now) change.now.old.now change.now.new.now (runs_view change.now.runs.now)) }
 {
     add_bar(elements, change.old, limits, BEFORE)?;
     add_bands(elements, change.runs, limits, u64::from(change.old.total()))?;
@@ -121,7 +121,7 @@ fn add_bands<'a>(
     total: u64,
 ) -> Result<(), AllocError>
     requires { IsRuleTotal total }
-    ensures { OnOk result (told elements.new.items ≡ told elements.old.items ++ runs_told total 0 (runs_view runs.now)) }
+    ensures { OnOk result (told elements.new.items ≡ told elements.old.items ++ runs_told (limits_view limits.entry.now) total 0 (runs_view runs.now)) }
 {
     let mut begin = 0u64;
     for (i, run) in runs.iter().enumerate() {
@@ -215,6 +215,7 @@ fn band<'a>(
     ensures to { result.to.now ≡ run.now.to.now }
     ensures points { result.points ≡ run.now.points }
     ensures users { result.users ≡ run.now.users }
+    ensures look { result.look ≡ look_of (limits_view limits.now) run.now.to.now }
     ensures place { result.place ≡ place_of 264 total begin }
     ensures extent { result.extent ≡ extent_of total begin end }
 {

@@ -1,11 +1,11 @@
 //! The picture of a set of variants which shows that no rule fits.
-ghost use Rattle.std.specs.Prelude.{◌≡◌, ◌++◌, ◌∷◌, ◌*◌, [], IfOk, OnErr, OnOk, length, string_bytes, sum_by};
+ghost use Rattle.std.specs.Prelude.{◌≡◌, ◌++◌, ◌*◌, [], IfOk, OnErr, OnOk, length, string_bytes, sum_by};
 ghost use Rattle.std.specs.List.{flat_map};
 ghost use Rattle.bucket_core.specs.Rule.{names_view, total_weight};
 ghost use Rattle.price_core.specs.Limits.{limit_view, limits_view};
 ghost use Rattle.picture.specs.Heights.{limits_height, named_height, none_height};
 ghost use Rattle.picture.specs.Spelling.{Adds};
-ghost use Rattle.picture.specs.Told.{bar_told, below, limit_told, limits_told, name, none_head_told, none_told, set_told, told};
+ghost use Rattle.picture.specs.Told.{bar_told, below, limit_told, limits_told, named_told, none_head_told, none_told, set_told, told};
 
 use crate::bars::{BAR, LEFT, add_bar};
 use crate::element::{Content, Element, Place, add};
@@ -81,7 +81,7 @@ fn add_set<'a>(
     limits: &[Limit],
     y: u64,
 ) -> Result<u64, AllocError>
-    ensures told { OnOk result (told elements.new.items ≡ told elements.old.items ++ set_told (names_view names.entry.now)) }
+    ensures told { OnOk result (told elements.new.items ≡ told elements.old.items ++ set_told (limits_view limits.entry.now) (names_view names.entry.now)) }
     ensures below { IfOk result (λ end. end ≡ below y (length (names_view names.entry.now) * 46)) }
 {
     let mut row = y;
@@ -99,7 +99,7 @@ fn add_named<'a>(
     limits: &[Limit],
     y: u64,
 ) -> Result<(), AllocError>
-    ensures { OnOk result (told elements.new.items ≡ told elements.old.items ++ (name 100 variant.now ∷ [])) }
+    ensures { OnOk result (told elements.new.items ≡ told elements.old.items ++ named_told (limits_view limits.entry.now) variant.now) }
 {
     add(
         elements,
@@ -117,7 +117,7 @@ fn add_rule<'a>(
     limits: &[Limit],
     y: u64,
 ) -> Result<u64, AllocError>
-    ensures told { OnOk result (told elements.new.items ≡ told elements.old.items ++ bar_told y rule.now) }
+    ensures told { OnOk result (told elements.new.items ≡ told elements.old.items ++ bar_told (limits_view limits.entry.now) y rule.now) }
     ensures below { IfOk result (λ end. end ≡ below y 126) }
 {
     add_bar(elements, rule, limits, y)?;
@@ -151,7 +151,7 @@ fn add_rows<'a>(
     limits: &'a [Limit],
     y: u64,
 ) -> Result<u64, AllocError>
-    ensures told { OnOk result (told elements.new.items ≡ told elements.old.items ++ flat_map (limit_told old.now) (limits_view limits.entry.now)) }
+    ensures told { OnOk result (told elements.new.items ≡ told elements.old.items ++ flat_map (limit_told (limits_view limits.entry.now) old.now) (limits_view limits.entry.now)) }
     ensures below { IfOk result (λ end. end ≡ below y (sum_by (λ l. named_height 34 l.0) (limits_view limits.entry.now))) }
 {
     let mut row = y;
@@ -168,7 +168,7 @@ fn add_limit<'a>(
     limit: &'a Limit,
     y: u64,
 ) -> Result<u64, AllocError>
-    ensures told { OnOk result (told elements.new.items ≡ told elements.old.items ++ limit_told old.now (limit_view limit.entry.now)) }
+    ensures told { OnOk result (told elements.new.items ≡ told elements.old.items ++ limit_told (limits_view limits.entry.now) old.now (limit_view limit.entry.now)) }
     ensures below { IfOk result (λ end. end ≡ below y (named_height 34 (string_bytes limit.entry.now.name))) }
 {
     let name = limit.name.as_str();

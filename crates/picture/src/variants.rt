@@ -49,7 +49,7 @@ fn add_rows<'a>(
     y: u64,
 ) -> Result<u64, AllocError>
     ensures told { OnOk result (told elements.new.items ≡ told elements.old.items
-        ++ flat_map (variant_told change.now.old.now change.now.new.now (beta_view change.now.certificate.now.beta.items)) (limits_view limits.entry.now)) }
+        ++ flat_map (variant_told (limits_view limits.entry.now) change.now.old.now change.now.new.now (beta_view change.now.certificate.now.beta.items)) (limits_view limits.entry.now)) }
     ensures below { IfOk result (λ end. end ≡ below y (sum_by (λ l. named_height 26 l.0) (limits_view limits.entry.now))) }
 {
     let mut row = y;
@@ -68,7 +68,7 @@ fn add_variant<'a>(
     y: u64,
 ) -> Result<u64, AllocError>
     ensures told { OnOk result (told elements.new.items ≡ told elements.old.items
-        ++ variant_told change.now.old.now change.now.new.now (beta_view change.now.certificate.now.beta.items) (limit_view limit.entry.now)) }
+        ++ variant_told (limits_view limits.entry.now) change.now.old.now change.now.new.now (beta_view change.now.certificate.now.beta.items) (limit_view limit.entry.now)) }
     ensures below { IfOk result (λ end. end ≡ below y (named_height 26 (string_bytes limit.entry.now.name))) }
 {
     let name = limit.name.as_str();
@@ -92,7 +92,7 @@ fn add_totals<'a>(
     y: u64,
     below: u64,
 ) -> Result<(), AllocError>
-    ensures { OnOk result (told elements.new.items ≡ told elements.old.items ++ totals_told change.now.old.now change.now.new.now (limit_view limit.entry.now)) }
+    ensures { OnOk result (told elements.new.items ≡ told elements.old.items ++ totals_told (limits_view limits.entry.now) change.now.old.now change.now.new.now (limit_view limit.entry.now)) }
 {
     let name = limit.name.as_str();
     let width = if y < below { 1060 } else { 440 };

@@ -10,7 +10,7 @@ use Rattle.picture.proofs.none.add_rows.Goals as goal
 pub loop-limit-preserved : goal.loop-limit-preserved
 loop-limit-preserved c =
     let l = c.loop-limit in
-    let row = limit_told c.args.old.now in
+    let row = limit_told (limits_view c.args.limits.now) c.args.old.now in
     let limits = c.args.limits.now in
     let item = c.limit-item.result in
     let first = rest_of row limit_view limits l.limit-index item c.loop-limit-test.true c.limit-item.is in

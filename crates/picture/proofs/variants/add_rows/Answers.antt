@@ -12,7 +12,7 @@ pub loop-limit-preserved : goal.loop-limit-preserved
 loop-limit-preserved c =
     let l = c.loop-limit in
     let change = c.args.change.now in
-    let row = variant_told change.old.now change.new.now (beta_view change.certificate.now.beta.items) in
+    let row = variant_told (limits_view c.args.limits.now) change.old.now change.new.now (beta_view change.certificate.now.beta.items) in
     let limits = c.args.limits.now in
     let item = c.limit-item.result in
     let first = rest_of row limit_view limits l.limit-index item c.loop-limit-test.true c.limit-item.is in

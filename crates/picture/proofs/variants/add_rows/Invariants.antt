@@ -9,5 +9,5 @@ use Rattle.picture.proofs.variants.add_rows.Given as goal
 -- how far below the rest ends; what is told so far, and what the rest tells
 abbrev pub invariant-loop-limit : goal.invariant-loop-limit
 invariant-loop-limit l =
-    let row = variant_told l.change.old.now l.change.new.now (beta_view l.change.certificate.now.beta.items) in
+    let row = variant_told (limits_view l.limits) l.change.old.now l.change.new.now (beta_view l.change.certificate.now.beta.items) in
     (l.row < 2 ^ 64) × (below l.row (sum_by (λ k. named_height 26 k.0) (limits_view (drop l.limit-index l.limits))) ≡ below l.y (sum_by (λ k. named_height 26 k.0) (limits_view l.limits))) × (told l.elements.items ++ flat_map row (limits_view (drop l.limit-index l.limits)) ≡ told l.fn.elements.items ++ flat_map row (limits_view l.limits))
