@@ -183,7 +183,7 @@ func (c *Client) Keys() (map[string]bool, error) {
 // Its error is a Refused, NotRecorded or ErrClosed.
 func (c *Client) Resolve(key string, kind Kind, context []byte, moment uint64) (Resolution, error) {
 	if int(kind) >= len(fallbacks) {
-		return Resolution{}, Refused(5)
+		return Resolution{}, noKind
 	}
 	p, err := c.place()
 	if err != nil {

@@ -10,7 +10,7 @@ import (
 	"syscall"
 )
 
-// remembered is how many lines a log remembers at least, and half as many as at most.
+// remembered is how many of the last lines a log remembers at least; at most it remembers twice as many.
 const remembered = 65_536
 
 // NotRecorded says that note lines could not be written, so that nothing is answered.

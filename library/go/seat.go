@@ -29,6 +29,7 @@ const (
 	memory   = Refused(C.FLAGOPS_MEMORY)
 	room     = Refused(C.FLAGOPS_ROOM)
 	full     = Refused(C.FLAGOPS_FULL)
+	noKind   = Refused(C.FLAGOPS_KIND)
 	contexts = Refused(C.FLAGOPS_CONTEXT)
 )
 
