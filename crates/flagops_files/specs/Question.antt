@@ -25,7 +25,7 @@ pub record Question : Type 0 where
 
 -- the same, without where it lies in memory
 abbrev pub question_view : program.Question → Question
-question_view q = record { flags = flags_view q.flags; request = q.request.items; evidence = q.evidence }
+question_view q = record { flags = flags_view q.flags; request = q.request; evidence = q.evidence }
 
 -- the same over a book
 pub record BookQuestion : Type 0 where
@@ -34,7 +34,7 @@ pub record BookQuestion : Type 0 where
   pub book : Contents
 
 abbrev pub book_question_view : program_book.BookQuestion → BookQuestion
-book_question_view q = record { flags = flags_view q.flags; request = q.request.items; book = q.book }
+book_question_view q = record { flags = flags_view q.flags; request = q.request; book = q.book }
 
 -- the largest book file, in bytes
 abbrev pub max_book : ℕ

@@ -8,23 +8,23 @@ ghost use Rattle.flagops_files.specs.Told.{TellsOf, TellsOfOne, file};
 
 use crate::books::load_book_bytes;
 use crate::documents::{Document, load_document};
-use crate::loading::{TEXT_LIMIT, load};
 use crate::refusal::{Refusal, Refused};
+use crate::requests::load_request;
 use file_diagnostics::{Ends, of_book};
 use flag_defs::Flags;
 use flagops_shell::{FileSet, Remark};
 use page_tally::BookFile;
-use rollout_checks::{Refining, read_book_for};
+use rollout_checks::{Refining, RequestFile, read_book_asked};
 use std::alloc::Global;
 use std::thread::Threads;
 
-/// The bytes of a document and its flags, the bytes of a request, which are read only by the call that takes them, and the
+/// The bytes of a document and its flags, the file of a request, whose refusal is left to the call that takes it, and the
 /// book.
 #[derive(Drop)]
 pub struct BookQuestion {
     pub document: Vec<u8>,
     pub flags: Flags,
-    pub request: Vec<u8>,
+    pub request: RequestFile,
     pub book: BookFile,
 }
 
@@ -50,8 +50,8 @@ pub fn load_book_question<R: Threads, F: FileSet>(
     ensures names { TellsOfOne (book_question_subjects document.now request.now book.now) result }
 {
     let Document { bytes, flags } = load_document(alloc, files, document)?;
-    let request = load(alloc, files, request, u64::from(TEXT_LIMIT))?;
-    let book = load_book_for(rt, alloc, files, &flags, request.as_slice(), factor, book)?;
+    let request = load_request(alloc, files, request)?;
+    let book = load_book_for(rt, alloc, files, &flags, &request, factor, book)?;
     Ok(BookQuestion {
         document: bytes,
         flags,
@@ -67,7 +67,7 @@ fn load_book_for<R: Threads, F: FileSet>(
     alloc: Global,
     files: &mut F,
     flags: &Flags,
-    request: &[u8],
+    request: &RequestFile,
     factor: u32,
     path: &str,
 ) -> Result<BookFile, Refused>
@@ -80,7 +80,8 @@ fn load_book_for<R: Threads, F: FileSet>(
 {
     let bytes = load_book_bytes(alloc, files, path)?;
     let ends = Ends::of(bytes.as_slice());
-    match read_book_for(rt, alloc, Refining::Times(factor), flags, request, bytes) {
+    let refining = Refining::Times(factor);
+    match read_book_asked(rt, alloc, refining, flags, request.asked().ok(), bytes) {
         Ok(book) => Ok(book),
         Err(fault) => Err(Refused {
             refusal: Refusal::ReadBook(fault),

@@ -8,20 +8,21 @@ ghost use Rattle.flagops_files.specs.Told.{TellsOfOne};
 
 use crate::documents::{Document, load_document};
 use crate::evidence::{Evidence, load_evidence};
-use crate::loading::{TEXT_LIMIT, load};
 use crate::refusal::Refused;
+use crate::requests::load_request;
 use flag_defs::Flags;
 use flagops_shell::FileSet;
+use rollout_checks::RequestFile;
 use std::alloc::Global;
 use std::thread::Threads;
 
-/// The bytes of a document and its flags, the bytes of a request, which are read only by the call that takes them, and the
-/// book or the tally of what was recorded.
+/// The bytes of a document and its flags, the file of a request, whose refusal is left to the call that takes it, and the book
+/// or the tally of what was recorded.
 #[derive(Drop)]
 pub struct Question {
     pub document: Vec<u8>,
     pub flags: Flags,
-    pub request: Vec<u8>,
+    pub request: RequestFile,
     pub evidence: Evidence,
 }
 
@@ -47,16 +48,8 @@ pub fn load_question<R: Threads, F: FileSet>(
     ensures names { TellsOfOne (question_subjects document.now request.now evidence.now) result }
 {
     let Document { bytes, flags } = load_document(alloc, files, document)?;
-    let request = load(alloc, files, request, u64::from(TEXT_LIMIT))?;
-    let evidence = load_evidence(
-        rt,
-        alloc,
-        files,
-        &flags,
-        request.as_slice(),
-        factor,
-        evidence,
-    )?;
+    let request = load_request(alloc, files, request)?;
+    let evidence = load_evidence(rt, alloc, files, &flags, &request, factor, evidence)?;
     Ok(Question {
         document: bytes,
         flags,

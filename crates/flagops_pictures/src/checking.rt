@@ -8,7 +8,7 @@ use crate::drawing::{Asked, drawn};
 use flagops_files::BookQuestion;
 use flagops_words::Factor;
 use plan_text::Planned;
-use rollout_checks::{RolloutFault, VerifyFault, verify, verify_refined};
+use rollout_checks::{RolloutFault, VerifyFault, verify_file};
 use std::alloc::{AllocError, Global};
 use std::thread::Threads;
 
@@ -42,29 +42,33 @@ fn verified(
     ensures { MayBeTold (option_map (λ m. m.number) refine) (book_question_view question.now) (planned_view planned.now) result }
 {
     let flags = &question.flags;
-    let request = question.request.as_slice();
-    let book = &question.book;
-    match refine {
-        None => verify(rt, alloc, flags, request, book, planned),
-        Some(m) => verify_refined(rt, alloc, flags, request, book, planned, m.number),
-    }
+    let (request, book) = (&question.request, &question.book);
+    verify_file(rt, alloc, flags, request, book, planned, factor_in(refine))
 }
 
 /// What a question asks, refined by a factor where one is given.
 pub(crate) fn asked_of(question: &BookQuestion, refine: Option<Factor>) -> Asked<'_>
     ensures flags { result.flags.now ≡ question.now.flags }
-    ensures request { result.request.now ≡ question.now.request.items }
+    ensures request { result.request.now ≡ question.now.request }
     ensures book { result.book.now ≡ question.now.book }
     ensures refine { result.refine ≡ option_map (λ m. m.number) refine }
     ensures factor { IfSome result.refine (λ m. 0 < m) }
 {
     Asked {
         flags: &question.flags,
-        request: question.request.as_slice(),
+        request: question.request.bytes(),
         book: &question.book,
-        refine: match refine {
-            Some(m) => Some(m.number),
-            None => None,
-        },
+        refine: factor_in(refine),
+    }
+}
+
+/// The number of a factor, where one is given.
+fn factor_in(refine: Option<Factor>) -> Option<u32>
+    ensures number { result ≡ option_map (λ m. m.number) refine }
+    ensures factor { IfSome result (λ m. 0 < m) }
+{
+    match refine {
+        Some(m) => Some(m.number),
+        None => None,
     }
 }

@@ -148,16 +148,16 @@ fn lines_on(
 ) -> Result<String, AllocError>
     ensures { IfOk result (λ s. NamesVerified asked.now.request.now asked.now.plan.now fault.now (string_bytes s)) }
 {
-    let (flags, bytes) = (&question.flags, question.request.as_slice());
+    let (flags, request) = (&question.flags, &question.request);
     match fault {
         VerifyFault::Request(fault) => of_rollout(
             alloc,
             asked.request,
             flags,
-            bytes,
+            request,
             factor_of(asked.refine),
             *fault,
         ),
-        VerifyFault::Check(fault) => of_check(alloc, asked.plan, flags, bytes, planned, fault),
+        VerifyFault::Check(fault) => of_check(alloc, asked.plan, flags, request, planned, fault),
     }
 }

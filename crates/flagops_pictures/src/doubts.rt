@@ -8,7 +8,7 @@ ghost use Rattle.flagops_pictures.specs.Pictured.{as_question};
 use crate::asked::Picturing;
 use flagops_files::BookQuestion;
 use flagops_ramps::first_of;
-use flagops_rollouts::{doubt_in_book, remark_in, unread};
+use flagops_rollouts::{doubt_in_book, remark_in, unread_in_file};
 use flagops_shell::Remark;
 use std::alloc::{AllocError, Global};
 use std::thread::Threads;
@@ -24,9 +24,9 @@ pub(crate) fn noted<R: Threads>(
     ensures told { IfOk result (λ r. is_some r ≡ is_some (doubt_of (as_question (book_question_view question.now)))) }
     ensures notes { IfOk result (λ r. IfSome r (Says (NamesDoubted asked.now.request.now asked.now.book.now))) }
 {
-    let request = question.request.as_slice();
-    let unread = unread(alloc, asked.request, request)?;
+    let unread = unread_in_file(alloc, asked.request, &question.request);
     let (flags, book) = (&question.flags, &question.book);
+    let request = question.request.bytes();
     let recorded = doubt_in_book(rt, alloc, asked.book, flags, request, book)?;
     Ok(remark_in(first_of(unread, recorded)))
 }

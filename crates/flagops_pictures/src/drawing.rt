@@ -5,6 +5,7 @@ ghost use Rattle.bucket_core.specs.Rule.{total_weight};
 ghost use Rattle.flag_defs.specs.Flags.{flags_view};
 ghost use Rattle.flagops_pictures.specs.Pictured.{AddsChange, AddsTold, HasWeight, IsDrawn};
 ghost use Rattle.plan_text.specs.Answer.{planned_view};
+ghost use Rattle.price_core.specs.Request.{asked_of};
 ghost use Rattle.rollout_checks.specs.Lawful.{IsCounted, IsPosed, IsRefining, problem_of, problem_view};
 ghost use Rattle.rollout_checks.specs.Refined.{problem_checked};
 ghost use Rattle.rollout_checks.specs.Verified.{IsShown};
@@ -15,7 +16,8 @@ use flag_defs::Flags;
 use page_tally::BookFile;
 use picture::{Change, Deficit, draw_change, draw_none, page};
 use plan_text::Planned;
-use rollout_checks::{Problem, Refining, RolloutFault, problem_of};
+use price_core::{PriceFault, Request};
+use rollout_checks::{Problem, Refining, RolloutFault, problem_asked};
 use std::alloc::{AllocError, Global};
 use std::thread::Threads;
 use switch_table::{runs, switch_table};
@@ -61,24 +63,49 @@ pub(crate) fn add_picture(
     requires shown { IsShown (problem_checked asked.refine (planned_view planned.now) (flags_view asked.flags.now) asked.request.now asked.book.now) (planned_view planned.now) }
     ensures { OnOk result (AddsTold (problem_checked asked.entry.refine (planned_view planned.now) (flags_view asked.entry.flags.now) asked.entry.request.now asked.entry.book.now) (planned_view planned.now) (string_bytes pictures.old) (string_bytes pictures.new)) }
 {
-    let problem = posed(rt, alloc, asked, planned)?;
+    match Request::read(alloc, asked.request) {
+        Ok(request) => add_asked(rt, alloc, pictures, y, asked, &request, planned),
+        Err(PriceFault::WantOfMemory) => Err(AllocError),
+        // The request was found lawful before.
+        Err(_) => unreachable!(),
+    }
+}
+
+/// The same, of the request that was read.
+fn add_asked(
+    rt: &(impl Threads + Sync),
+    alloc: Global,
+    pictures: &mut String,
+    y: u64,
+    asked: Asked<'_>,
+    request: &Request,
+    planned: &Planned,
+) -> Result<u64, AllocError>
+    requires factor { IfSome asked.refine (λ m. 0 < m) }
+    requires request { asked_of asked.request.now ≡ Ok request.now }
+    requires shown { IsShown (problem_checked asked.refine (planned_view planned.now) (flags_view asked.flags.now) asked.request.now asked.book.now) (planned_view planned.now) }
+    ensures { OnOk result (AddsTold (problem_checked asked.entry.refine (planned_view planned.now) (flags_view asked.entry.flags.now) asked.entry.request.now asked.entry.book.now) (planned_view planned.now) (string_bytes pictures.old) (string_bytes pictures.new)) }
+{
+    let problem = posed(rt, alloc, asked, request, planned)?;
     let below = draw(alloc, pictures, y, &problem, planned)?;
     Ok(below)
 }
 
 /// What a request asks that was found lawful.
-fn posed(
+fn posed<'a>(
     rt: &(impl Threads + Sync),
     alloc: Global,
     asked: Asked<'_>,
+    request: &'a Request,
     planned: &Planned,
-) -> Result<Problem, AllocError>
+) -> Result<Problem<'a>, AllocError>
     requires factor { IfSome asked.refine (λ m. 0 < m) }
+    requires request { asked_of asked.request.now ≡ Ok request.now }
     requires shown { IsShown (problem_checked asked.refine (planned_view planned.now) (flags_view asked.flags.now) asked.request.now asked.book.now) (planned_view planned.now) }
     ensures { IfOk result (λ p. IsPosed p (problem_checked asked.entry.refine (planned_view planned.now) (flags_view asked.entry.flags.now) asked.entry.request.now asked.entry.book.now)) }
 {
     let refining = refining_for(planned, asked.refine);
-    match problem_of(rt, alloc, refining, asked.flags, asked.request, asked.book) {
+    match problem_asked(rt, alloc, refining, asked.flags, request, asked.book) {
         Ok(problem) => Ok(problem),
         Err(RolloutFault::WantOfMemory) => Err(AllocError),
         // The request was found lawful before.
@@ -106,7 +133,7 @@ fn draw(
     alloc: Global,
     pictures: &mut String,
     y: u64,
-    problem: &Problem,
+    problem: &Problem<'_>,
     planned: &Planned,
 ) -> Result<u64, AllocError>
     requires points { length problem.now.counts.items ≡ total_weight problem.now.old }
@@ -136,7 +163,7 @@ fn draw_rule(
     alloc: Global,
     pictures: &mut String,
     y: u64,
-    problem: &Problem,
+    problem: &Problem<'_>,
     rule: &Rule,
     certificate: &Certificate,
 ) -> Result<u64, AllocError>

@@ -195,7 +195,7 @@ fn on_book<R: Threads + Sync>(
     };
     let asked = Asked {
         flags: &question.flags,
-        request: question.request.as_slice(),
+        request: question.request.bytes(),
         book,
         refine: Some(factor_of(asked.refine)),
     };

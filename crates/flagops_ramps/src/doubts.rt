@@ -81,7 +81,7 @@ pub fn doubted<R: Threads>(
     ensures doubt { IfOk result (λ o. option_map (λ d. d.doubt) o ≡ doubt_of_steps (book_question_view question.now) (requests_view steps.now)) }
     ensures notes { IfOk result (λ o. IfSome o (λ d. Says (NamesDoubt asked.now.steps.now asked.now.book.now d.doubt) d.remark)) }
 {
-    let unread = unread(alloc, asked.steps, question.request.as_slice())?;
+    let unread = unread(alloc, asked.steps, question.request.bytes())?;
     let (flags, request) = (&question.flags, first_request(steps));
     let recorded = doubt_in_book(rt, alloc, asked.book, flags, request, &question.book)?;
     Ok(first_of(unread, recorded))

@@ -82,7 +82,7 @@ fn against<R: Threads + Sync, F: FileSet>(
     ensures kept { F.holding files.new ≡ F.holding files.old }
 {
     let answers = load_ramp(alloc, files, asked.ramp)?;
-    match read_steps(alloc, question.request.as_slice()) {
+    match read_steps(alloc, question.request.bytes()) {
         Ok(steps) => over(rt, alloc, asked, question, steps, answers),
         Err(fault) => {
             let fault = of_steps(fault);

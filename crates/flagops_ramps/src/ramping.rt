@@ -110,7 +110,7 @@ fn answer<R: Threads + Sync>(
     ensures names { Diagnoses (IsOfRamp (ramping_view asked.now)) result }
     ensures notes { IfOk result (λ o. IfSome o.remark (Says (NamesDoubted asked.now.steps.now asked.now.book.now))) }
 {
-    let steps = match read_steps(alloc, question.request.as_slice()) {
+    let steps = match read_steps(alloc, question.request.bytes()) {
         Ok(steps) => steps,
         Err(fault) => return Err(refused(alloc, asked.steps, &question, of_steps(fault))),
     };

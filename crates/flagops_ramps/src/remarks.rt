@@ -3,7 +3,6 @@ ghost use Rattle.std.specs.Prelude.{IfOk, string_bytes};
 ghost use Rattle.flagops_ramps.specs.Diagnostics.{NamesPath, NamesStep};
 
 use file_diagnostics::of_text;
-use flag_text::read_tree;
 use flagops_files::{BookQuestion, TEXT_LIMIT, file_line, quoted};
 use ramp::StepFault;
 use std::alloc::{AllocError, Global};
@@ -23,11 +22,11 @@ pub(crate) fn of_steps_in(
 ) -> Result<String, AllocError>
     ensures { IfOk result (λ s. NamesPath path.now (string_bytes s)) }
 {
-    let (bytes, limit) = (question.request.as_slice(), TEXT_LIMIT as usize);
-    match read_tree(alloc, bytes, limit) {
+    let file = &question.request;
+    match file.tree() {
         Ok(_) if fault.step == 0 => file_line(alloc, path, LOOK),
         Ok(_) => of_step(alloc, path, fault),
-        Err(fault) => of_text(alloc, path, bytes, limit, fault),
+        Err(fault) => of_text(alloc, path, file.bytes(), TEXT_LIMIT as usize, fault),
     }
 }
 

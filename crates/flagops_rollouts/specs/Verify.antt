@@ -2,7 +2,7 @@
 use Rattle.std.specs.Prelude.{◌≡◌, ℕ, Bool, List, ◌++◌, codes, decimal, if◌then◌else◌, OnOk, Option, Some, None, Result, Ok, Err}
 use Rattle.flag_defs.specs.Document.{Definitions}
 use Rattle.plan_text.specs.Answer.{Answer, emit, none_exists}
-use Rattle.rollout_checks.specs.Refined.{problem_checked}
+use Rattle.rollout_checks.specs.Refined.{problem_checked, refining_checked}
 use Rattle.rollout_checks.specs.Tallied.{IsTallyOutcome, IsTallyShown, TallyProblem, tally_problem_of}
 use Rattle.rollout_checks.specs.Verified.{IsOutcome, IsShown, refining_for}
 use Rattle.rollout_checks.specs.declared.fault.RolloutFault.{RolloutFault}
@@ -42,8 +42,7 @@ told json settled answer verdict = refused_by Verify verdict >>= λ _. settled >
 
 -- what an answer is checked against on a tally: the rule refined as on a book
 abbrev pub tally_problem_checked : Option ℕ → Answer → Definitions → List ℕ → PageTally → Result TallyProblem RolloutFault
-tally_problem_checked None answer = tally_problem_of (refining_for answer)
-tally_problem_checked (Some m) answer = tally_problem_of (Times m)
+tally_problem_checked refine answer = tally_problem_of (refining_checked refine answer)
 
 -- what is told of an answer, over the inputs of a book, or over all inputs of which so many fall on each point as a tally says
 abbrev pub IsToldOn : Option ℕ → Answer → Definitions → List ℕ → Evidence → Result (Unit {0}) VerifyFault → Type 0

@@ -12,7 +12,6 @@ use flagops_shell::Remark;
 use flagops_words::{Factor, factor_of};
 use page_tally::{BookFile, Recorded};
 use plan_text::Planned;
-use price_core::{PriceFault, Request};
 use rollout_diagnostics::of_planned;
 use std::alloc::{AllocError, Global};
 use std::thread::Threads;
@@ -92,12 +91,12 @@ fn words(
 ) -> Result<String, AllocError>
     ensures { IfOk result (λ s. Names path.now (string_bytes s)) }
 {
-    let (flags, bytes) = (&question.flags, question.request.as_slice());
+    let (flags, request) = (&question.flags, &question.request);
     of_planned(
         alloc,
         path,
         flags,
-        bytes,
+        request,
         factor_of(refine),
         counts,
         planned,
@@ -114,12 +113,11 @@ fn counts(
 ) -> Result<Vec<u32>, AllocError>
     requires { IsRuleTotal total }
 {
-    match Request::read(alloc, question.request.as_slice()) {
-        Ok(request) => match page_asked(alloc, &question.flags, &request)? {
-            Some(page) => book.tally(rt, alloc, &page, total),
-            None => Ok(Vec::new(alloc)),
-        },
-        Err(PriceFault::WantOfMemory) => Err(AllocError),
-        Err(_) => Ok(Vec::new(alloc)),
+    let Ok(request) = question.request.asked() else {
+        return Ok(Vec::new(alloc));
+    };
+    match page_asked(alloc, &question.flags, request)? {
+        Some(page) => book.tally(rt, alloc, &page, total),
+        None => Ok(Vec::new(alloc)),
     }
 }

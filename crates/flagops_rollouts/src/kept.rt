@@ -15,12 +15,11 @@ ghost use Rattle.flagops_files.specs.Told.{TellsOf, TellsOfOne, file};
 use crate::verifying::{Paths, lines_on, verified};
 use bucket_core::Rule;
 use flag_defs::Flags;
-use flagops_files::{Call, KeepRefusal, Question, Refusal, Refused, out_of_memory};
+use flagops_files::{KeepRefusal, Question, Refusal, Refused};
 use flagops_shell::Remark;
 use flagops_words::Factor;
 use kept_document::{KeepFault, keep};
 use plan_text::Planned;
-use price_core::{PriceFault, Request};
 use rollout_diagnostics::{of_applied, of_kept};
 use std::alloc::Global;
 use std::str;
@@ -68,13 +67,13 @@ fn kept_for(
     question: &Question,
     rule: &Rule,
 ) -> Result<Vec<u8>, Refused>
-    requires { is_ok (asked_of question.now.request.items) ≡ true }
+    requires { is_ok (asked_of question.now.request) ≡ true }
     ensures exact { GivesOne some_view result (IsKeptFor question.now.document.items (question_view question.now) rule.now) }
     ensures calls { ComesFrom apply_itself result }
     ensures read { is_file_fault result ≡ false }
     ensures names { TellsOfOne ((file plan.now, is_of_kept_answer) ∷ (file document.now, is_of_kept_document) ∷ []) result }
 {
-    match Request::read(alloc, question.request.as_slice()) {
+    match question.request.asked() {
         Ok(request) => {
             let (flags, bytes) = (&question.flags, question.document.as_slice());
             kept_at(
@@ -88,8 +87,7 @@ fn kept_for(
                 rule,
             )
         }
-        Err(PriceFault::WantOfMemory) => Err(out_of_memory(Call::Apply)),
-        // A request that was verified is read.
+        // A request that was verified asks something.
         Err(_) => unreachable!(),
     }
 }

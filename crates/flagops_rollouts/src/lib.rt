@@ -29,7 +29,7 @@ mod recorded;
 mod verifying;
 
 pub use applying::apply;
-pub use doubts::{NotedDoubt, joined, remark_in, unread};
+pub use doubts::{NotedDoubt, joined, remark_in, unread, unread_in_file};
 pub use keeping::keep;
 pub use laws::{printed_plans_are_valid, tallies_answer_as_books, unread_members_are_passed_over};
 pub use planning::{answer as plan_answer, plan};

@@ -22,7 +22,7 @@ use flagops_files::{Call, Evidence, Question, Refusal, Refused, load_question};
 use flagops_shell::{FileSet, Outcome, Remark, Status};
 use flagops_words::{Factor, factor_of};
 use plan_text::{Planned, print_planned_line};
-use rollout::{RolloutFault, plan_refined, plan_tally};
+use rollout::{RequestFile, RolloutFault, plan_file, plan_file_on_tally};
 use rollout_diagnostics::{of_large_plan, of_other_tally, of_rollout};
 use std::alloc::{AllocError, Global};
 use std::mem;
@@ -104,8 +104,7 @@ fn planned(
 ) -> Result<Planned, RolloutFault>
     ensures { MayBePlanned (option_map (λ m. m.number) refine) (question_view question.now) result }
 {
-    let flags = &question.flags;
-    let request = question.request.as_slice();
+    let (flags, request) = (&question.flags, &question.request);
     planned_on(
         rt,
         alloc,
@@ -121,7 +120,7 @@ fn planned_on(
     rt: &(impl Threads + Sync),
     alloc: Global,
     flags: &Flags,
-    request: &[u8],
+    request: &RequestFile,
     evidence: &Evidence,
     factor: u32,
 ) -> Result<Planned, RolloutFault>
@@ -131,8 +130,8 @@ fn planned_on(
     ensures whole { IfOk result (λ p. IsWhole (planned_view p)) }
 {
     match evidence {
-        Evidence::Book(book) => plan_refined(rt, alloc, flags, request, book, factor),
-        Evidence::Tally(tally) => plan_tally(alloc, flags, request, tally, factor),
+        Evidence::Book(book) => plan_file(rt, alloc, flags, request, book, factor),
+        Evidence::Tally(tally) => plan_file_on_tally(alloc, flags, request, tally, factor),
     }
 }
 
@@ -147,12 +146,12 @@ pub(crate) fn lines_on_request(
 ) -> Result<String, AllocError>
     ensures { IfOk result (λ s. Names path.now (string_bytes s)) }
 {
-    let (flags, bytes) = (&question.flags, question.request.as_slice());
+    let (flags, asked) = (&question.flags, &question.request);
     match &question.evidence {
         Evidence::Tally(tally) if fault == RolloutFault::OtherTally => {
-            of_other_tally(alloc, path, flags, bytes, recorded, tally)
+            of_other_tally(alloc, path, flags, asked, recorded, tally)
         }
-        _ => of_rollout(alloc, path, flags, bytes, factor_of(refine), fault),
+        _ => of_rollout(alloc, path, flags, asked, factor_of(refine), fault),
     }
 }
 

@@ -39,13 +39,12 @@ pub fn doubt_of_recorded<R: Threads>(
     ensures doubt { IfOk result (λ o. option_map (λ d. d.doubt) o ≡ recorded_doubt (is_unrecorded (question_view question.now)) (is_foreign (question_view question.now))) }
     ensures notes { IfOk result (λ o. IfSome o (λ d. (request : List ℕ) → Says (NamesDoubt request path.now d.doubt) d.remark)) }
 {
-    match Request::read(alloc, question.request.as_slice()) {
-        Ok(request) => match page_asked(alloc, &question.flags, &request)? {
-            Some(page) => noted(rt, alloc, path, &question.evidence, &page),
-            None => Ok(None),
-        },
-        Err(PriceFault::WantOfMemory) => Err(AllocError),
-        Err(_) => Ok(None),
+    let Ok(request) = question.request.asked() else {
+        return Ok(None);
+    };
+    match page_asked(alloc, &question.flags, request)? {
+        Some(page) => noted(rt, alloc, path, &question.evidence, &page),
+        None => Ok(None),
     }
 }
 

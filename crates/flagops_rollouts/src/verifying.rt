@@ -1,5 +1,5 @@
 //! The command `verify`: whether the answer of a plan file is right.
-ghost use Rattle.std.specs.Prelude.{◌≡◌, ◌||◌, [], ◌∷◌, false, is_some, Ok, IfOk, IfSome, OnOk, option_map, string_bytes};
+ghost use Rattle.std.specs.Prelude.{◌≡◌, ◌<◌, ◌||◌, [], ◌∷◌, false, is_some, Ok, IfOk, IfSome, OnOk, option_map, string_bytes};
 ghost use Rattle.flag_defs.specs.Flags.{flags_view};
 ghost use Rattle.plan_text.specs.Answer.{planned_view};
 ghost use Rattle.flagops_files.specs.Question.{question_view};
@@ -8,7 +8,6 @@ ghost use Rattle.flagops_files.specs.Refusal.{ComesFrom, GivesOne, GivesUnlessWa
 ghost use Rattle.flagops_files.specs.Report.{beside, done};
 ghost use Rattle.flagops_shell.specs.Report.{outcome_view};
 ghost use Rattle.flagops_rollouts.specs.Verify.{IsShownOn, IsToldOn, IsVerdict, IsVerifyReport, MayBeTold, valid_as, valid_json, valid_text};
-ghost use Rattle.flagops_files.specs.declared.evidence.Evidence.TheVariants.{Book, Tally};
 ghost use Rattle.flagops_files.specs.Told.{TellsOfOne, file};
 ghost use Rattle.flagops_shell.specs.Diagnostic.{Says};
 ghost use Rattle.flagops_rollouts.specs.Subjects.{NamesVerified, is_of_answer, is_of_request, verify_subjects};
@@ -23,9 +22,8 @@ use flagops_files::{
 };
 use flagops_shell::{FileSet, Outcome, Remark, Status};
 use flagops_words::{Factor, factor_of};
-use page_tally::BookFile;
 use plan_text::Planned;
-use rollout::{PageTally, VerifyFault, verify_refined, verify_tally, verify_tally_refined};
+use rollout::{RequestFile, VerifyFault, verify_file, verify_file_on_tally};
 use rollout_diagnostics::of_check;
 use std::alloc::{AllocError, Global};
 use std::mem;
@@ -141,8 +139,8 @@ pub fn lines_on(
             lines_on_request(alloc, paths.request, paths.book, question, refine, *fault)
         }
         VerifyFault::Check(fault) => {
-            let (flags, bytes) = (&question.flags, question.request.as_slice());
-            of_check(alloc, paths.plan, flags, bytes, planned, fault)
+            let (flags, request) = (&question.flags, &question.request);
+            of_check(alloc, paths.plan, flags, request, planned, fault)
         }
     }
 }
@@ -157,72 +155,31 @@ pub fn verified(
 ) -> Result<(), VerifyFault>
     ensures { MayBeTold (option_map (λ m. m.number) refine) (question_view question.now) (planned_view planned.now) result }
 {
-    let flags = &question.flags;
-    let request = question.request.as_slice();
-    verified_on(
-        rt,
-        alloc,
-        flags,
-        request,
-        &question.evidence,
-        planned,
-        refine,
-    )
+    let (flags, request) = (&question.flags, &question.request);
+    let m = match refine {
+        Some(m) => Some(m.number),
+        None => None,
+    };
+    verified_on(rt, alloc, flags, request, &question.evidence, planned, m)
 }
 
-/// The same over what was recorded.
+/// The same over what was recorded. The condition is a factor from 1.
 fn verified_on(
     rt: &(impl Threads + Sync),
     alloc: Global,
     flags: &Flags,
-    request: &[u8],
+    request: &RequestFile,
     evidence: &Evidence,
     planned: &Planned,
-    refine: Option<Factor>,
+    m: Option<u32>,
 ) -> Result<(), VerifyFault>
-    ensures told { IsToldOn (option_map (λ m. m.number) refine) (planned_view planned.now) (flags_view flags.now) request.now evidence.now result }
-    ensures shown { OnOk result (IsShownOn (option_map (λ m. m.number) refine) (planned_view planned.now) (flags_view flags.now) request.now evidence.now) }
+    requires { IfSome m (λ m. 0 < m) }
+    ensures told { IsToldOn m (planned_view planned.now) (flags_view flags.now) request.now evidence.now result }
+    ensures shown { OnOk result (IsShownOn m (planned_view planned.now) (flags_view flags.now) request.now evidence.now) }
 {
     match evidence {
-        Evidence::Book(book) => by_book(rt, alloc, flags, request, book, planned, refine),
-        Evidence::Tally(tally) => by_tally(alloc, flags, request, tally, planned, refine),
-    }
-}
-
-/// The same over the inputs of a book.
-fn by_book(
-    rt: &(impl Threads + Sync),
-    alloc: Global,
-    flags: &Flags,
-    request: &[u8],
-    book: &BookFile,
-    planned: &Planned,
-    refine: Option<Factor>,
-) -> Result<(), VerifyFault>
-    ensures told { IsToldOn (option_map (λ m. m.number) refine) (planned_view planned.now) (flags_view flags.now) request.now (Book book.now) result }
-    ensures shown { OnOk result (IsShownOn (option_map (λ m. m.number) refine) (planned_view planned.now) (flags_view flags.now) request.now (Book book.now)) }
-{
-    match refine {
-        None => rollout::verify(rt, alloc, flags, request, book, planned),
-        Some(m) => verify_refined(rt, alloc, flags, request, book, planned, m.number),
-    }
-}
-
-/// The same over all inputs of which so many fall on each point as a tally says.
-fn by_tally(
-    alloc: Global,
-    flags: &Flags,
-    request: &[u8],
-    tally: &PageTally,
-    planned: &Planned,
-    refine: Option<Factor>,
-) -> Result<(), VerifyFault>
-    ensures told { IsToldOn (option_map (λ m. m.number) refine) (planned_view planned.now) (flags_view flags.now) request.now (Tally tally.now) result }
-    ensures shown { OnOk result (IsShownOn (option_map (λ m. m.number) refine) (planned_view planned.now) (flags_view flags.now) request.now (Tally tally.now)) }
-{
-    match refine {
-        None => verify_tally(alloc, flags, request, tally, planned),
-        Some(m) => verify_tally_refined(alloc, flags, request, tally, planned, m.number),
+        Evidence::Book(book) => verify_file(rt, alloc, flags, request, book, planned, m),
+        Evidence::Tally(tally) => verify_file_on_tally(alloc, flags, request, tally, planned, m),
     }
 }
 

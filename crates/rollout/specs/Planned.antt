@@ -61,4 +61,4 @@ pub record IsInstanceOf (p : program_problem.Problem) (t : TransportProblem) : T
   pub loads : AreSizesBy p.old (slice_index p.counts.items) t.groups
   pub groups : (inputs : Inputs) → IsCounted p inputs → AreSizes p.old inputs t.groups
   pub limits : t.limits ≡ p.totals
-  pub pricing : t.pricing ≡ p.request.prices
+  pub pricing : t.pricing ≡ p.request.now.prices

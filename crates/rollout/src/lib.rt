@@ -31,6 +31,7 @@
 //!   the request is not lawful, they refuse as [`verify`] does.
 //! - [`plan_tally`] answers so on a tally, for all inputs of which so many fall on each point (`Tallied`). It has the answers to
 //!   give that [`plan_refined`] has on a book with these inputs ([`tallies_plan_as_books`]).
+//! - [`plan_file`] and [`plan_file_on_tally`] answer as these, of a request that was read ([`RequestFile`]).
 #![tactic(auto)]
 
 mod application;
@@ -41,9 +42,10 @@ mod tallied;
 pub use application::apply;
 pub use laws::{applied_is_local, plans_are_valid, tallies_plan_as_books};
 pub use plan_text::{PlanFileFault, Planned, print_planned, print_planned_line, read_planned};
-pub use planner::{plan, plan_counted, plan_refined};
+pub use planner::{plan, plan_counted, plan_file, plan_refined};
 pub use rollout_checks::{
-    RolloutFault, VerifyFault, verify, verify_refined, verify_tally, verify_tally_refined,
+    RequestFile, RolloutFault, VerifyFault, verify, verify_file, verify_file_on_tally,
+    verify_refined, verify_tally, verify_tally_refined,
 };
-pub use tallied::plan_tally;
+pub use tallied::{plan_file_on_tally, plan_tally};
 pub use tally_core::PageTally;

@@ -6,7 +6,7 @@ ghost use Rattle.flag_defs.specs.Flags.{flags_view};
 ghost use Rattle.transport_instance.specs.Tally.{IsTally};
 ghost use Rattle.plan_text.specs.Answer.{IsOrdered, planned_view};
 ghost use Rattle.plan_text.specs.PlanFile.{IsWhole};
-ghost use Rattle.rollout_checks.specs.Lawful.{IsCounted, problem_of, problem_view};
+ghost use Rattle.rollout_checks.specs.Lawful.{IsCounted, problem_asked, problem_of, problem_view};
 ghost use Rattle.rollout.specs.Effort.{Spends, SpendsOn};
 ghost use Rattle.rollout.specs.Planned.{IsInstanceOf, IsPlan, IsPlannable, IsPlanned, PrintsOrRefuses};
 ghost use Rattle.transport_plan.specs.Solved.{IsSolution};
@@ -16,7 +16,8 @@ ghost use Rattle.rollout_checks.specs.declared.refining.Refining.TheVariants.{Ti
 use flag_defs::Flags;
 use page_tally::Recorded;
 use plan_text::Planned;
-use rollout_checks::{Problem, Refining, RolloutFault, problem_of};
+use price_core::Request;
+use rollout_checks::{Problem, Refining, RequestFile, RolloutFault, problem_asked};
 use shortest_path::Effort;
 use std::alloc::{AllocError, Global};
 use std::marker::Brand;
@@ -59,7 +60,25 @@ pub fn plan_refined<R: Threads + Sync, B: Recorded>(
     ensures exact { IsPlanned (problem_of (Times m) (flags_view flags.now) request.now (B.contents book.now)) result }
     ensures answer { PrintsOrRefuses request.now result }
 {
-    plan_uncounted::<Brand, R, B>(rt, alloc, flags, request, book, m, Blank::new(2))
+    let request = Request::read(alloc, request)?;
+    plan_asked::<Brand, R, B>(rt, alloc, flags, &request, book, m, Blank::new(2))
+}
+
+/// As [`plan_refined`], of the file of a request, which was read. The condition is m from 1.
+pub fn plan_file<R: Threads + Sync, B: Recorded>(
+    rt: &R,
+    alloc: Global,
+    flags: &Flags,
+    request: &RequestFile,
+    book: &B,
+    m: u32,
+) -> Result<Planned, RolloutFault>
+    requires { 0 < m }
+    ensures exact { IsPlanned (problem_of (Times m) (flags_view flags.now) request.now (B.contents book.now)) result }
+    ensures answer { PrintsOrRefuses request.now result }
+{
+    let request = request.asked()?;
+    plan_asked::<Brand, R, B>(rt, alloc, flags, request, book, m, Blank::new(2))
 }
 
 /// As [`plan_refined`], with m 1 as [`plan`], for a caller that counts: what the search takes is counted as by [`solve`], at W
@@ -79,18 +98,16 @@ pub fn plan_counted<L: Ledger, R: Threads + Sync, B: Recorded>(
     ensures answer { PrintsOrRefuses request.now result }
     ensures spent { Spends (problem_of (Times m) (flags_view flags.now) request.now (B.contents book.now)) effort.old effort.new }
 {
-    // Called for what its contract says: flags have at most 64 variants.
-    let _count = flags.len();
-    let problem = problem_of(rt, alloc, Refining::Times(m), flags, request, book)?;
-    plan_on(alloc, &problem, effort)
+    let request = Request::read(alloc, request)?;
+    plan_asked_counted(rt, alloc, flags, &request, book, m, effort)
 }
 
-/// As [`plan_counted`], over a counter of its own.
-fn plan_uncounted<L: Ledger, R: Threads + Sync, B: Recorded>(
+/// The answer to a request that was read, over a counter of its own.
+fn plan_asked<L: Ledger, R: Threads + Sync, B: Recorded>(
     rt: &R,
     alloc: Global,
     flags: &Flags,
-    request: &[u8],
+    request: &Request,
     book: &B,
     m: u32,
     blank: Blank,
@@ -99,17 +116,40 @@ fn plan_uncounted<L: Ledger, R: Threads + Sync, B: Recorded>(
     requires name { blank.name ≡ L.name }
     requires parts { blank.parts ≡ L.parts }
     requires two { blank.parts ≡ 2 }
-    ensures exact { IsPlanned (problem_of (Times m) (flags_view flags.now) request.now (B.contents book.now)) result }
-    ensures answer { PrintsOrRefuses request.now result }
+    ensures exact { IsPlanned (problem_asked (Times m) (flags_view flags.now) request.now (B.contents book.now)) result }
+    ensures ordered { IfOk result (λ a. IsOrdered (planned_view a)) }
+    ensures whole { IfOk result (λ a. IsWhole (planned_view a)) }
 {
     let mut effort = Effort::<L>::none(blank);
-    plan_counted(rt, alloc, flags, request, book, m, &mut effort)
+    plan_asked_counted(rt, alloc, flags, request, book, m, &mut effort)
+}
+
+/// The answer to a request that was read, counted as by [`plan_counted`].
+fn plan_asked_counted<L: Ledger, R: Threads + Sync, B: Recorded>(
+    rt: &R,
+    alloc: Global,
+    flags: &Flags,
+    request: &Request,
+    book: &B,
+    m: u32,
+    effort: &mut Effort<L>,
+) -> Result<Planned, RolloutFault>
+    requires { 0 < m }
+    ensures exact { IsPlanned (problem_asked (Times m) (flags_view flags.now) request.now (B.contents book.now)) result }
+    ensures ordered { IfOk result (λ a. IsOrdered (planned_view a)) }
+    ensures whole { IfOk result (λ a. IsWhole (planned_view a)) }
+    ensures spent { Spends (problem_asked (Times m) (flags_view flags.now) request.now (B.contents book.now)) effort.old effort.new }
+{
+    // Called for what its contract says: flags have at most 64 variants.
+    let _count = flags.len();
+    let problem = problem_asked(rt, alloc, Refining::Times(m), flags, request, book)?;
+    plan_on(alloc, &problem, effort)
 }
 
 /// The answer to what a lawful request asks.
 pub(crate) fn plan_on<L: Ledger>(
     alloc: Global,
-    problem: &Problem,
+    problem: &Problem<'_>,
     effort: &mut Effort<L>,
 ) -> Result<Planned, RolloutFault>
     requires plannable { IsPlannable problem.now.old problem.now.totals }
@@ -136,7 +176,7 @@ pub(crate) fn plan_on<L: Ledger>(
 /// What is solved, as an answer: the rule that has the assignment, or the set of names.
 fn answer(
     alloc: Global,
-    problem: &Problem,
+    problem: &Problem<'_>,
     instance: &Instance<'_>,
     solved: Solved,
 ) -> Result<Planned, AllocError>

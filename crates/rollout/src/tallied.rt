@@ -1,8 +1,9 @@
 //! The answer of the planner to a request on a tally.
-ghost use Rattle.std.specs.Prelude.{◌≡◌, ◌<◌};
+ghost use Rattle.std.specs.Prelude.{◌≡◌, ◌<◌, IfOk};
 ghost use Rattle.flag_defs.specs.Flags.{flags_view};
-ghost use Rattle.rollout_checks.specs.Lawful.{IsRefining};
-ghost use Rattle.rollout_checks.specs.Tallied.{tally_problem_of};
+ghost use Rattle.plan_text.specs.Answer.{IsOrdered, planned_view};
+ghost use Rattle.plan_text.specs.PlanFile.{IsWhole};
+ghost use Rattle.rollout_checks.specs.Tallied.{tally_problem_asked, tally_problem_of};
 ghost use Rattle.rollout.specs.Planned.{PrintsOrRefuses};
 ghost use Rattle.rollout.specs.Tallied.{IsTallyPlanned};
 ghost use Rattle.rollout_checks.specs.declared.refining.Refining.TheVariants.{Times};
@@ -10,7 +11,8 @@ ghost use Rattle.rollout_checks.specs.declared.refining.Refining.TheVariants.{Ti
 use crate::planner::plan_on;
 use flag_defs::Flags;
 use plan_text::Planned;
-use rollout_checks::{Refining, RolloutFault, problem_of_tally};
+use price_core::Request;
+use rollout_checks::{Refining, RequestFile, RolloutFault, tally_problem_asked};
 use shortest_path::Effort;
 use std::alloc::Global;
 use std::marker::Brand;
@@ -33,35 +35,46 @@ pub fn plan_tally(
     ensures exact { IsTallyPlanned (tally_problem_of (Times m) (flags_view flags.now) request.now tally.now) result }
     ensures answer { PrintsOrRefuses request.now result }
 {
-    plan_tally_over::<Brand>(
-        alloc,
-        Refining::Times(m),
-        flags,
-        request,
-        tally,
-        Blank::new(2),
-    )
+    let request = Request::read(alloc, request)?;
+    plan_asked::<Brand>(alloc, flags, &request, tally, m, Blank::new(2))
 }
 
-/// The same over a counter of its own.
-fn plan_tally_over<L: Ledger>(
+/// As [`plan_tally`], of the file of a request, which was read. The condition is m from 1.
+pub fn plan_file_on_tally(
     alloc: Global,
-    refining: Refining,
     flags: &Flags,
-    request: &[u8],
+    request: &RequestFile,
     tally: &PageTally,
+    m: u32,
+) -> Result<Planned, RolloutFault>
+    requires { 0 < m }
+    ensures exact { IsTallyPlanned (tally_problem_of (Times m) (flags_view flags.now) request.now tally.now) result }
+    ensures answer { PrintsOrRefuses request.now result }
+{
+    let request = request.asked()?;
+    plan_asked::<Brand>(alloc, flags, request, tally, m, Blank::new(2))
+}
+
+/// The answer to a request that was read, over a counter of its own.
+fn plan_asked<L: Ledger>(
+    alloc: Global,
+    flags: &Flags,
+    request: &Request,
+    tally: &PageTally,
+    m: u32,
     blank: Blank,
 ) -> Result<Planned, RolloutFault>
-    requires lawful { IsRefining refining }
+    requires some { 0 < m }
     requires name { blank.name ≡ L.name }
     requires parts { blank.parts ≡ L.parts }
     requires two { blank.parts ≡ 2 }
-    ensures exact { IsTallyPlanned (tally_problem_of refining (flags_view flags.now) request.now tally.now) result }
-    ensures answer { PrintsOrRefuses request.now result }
+    ensures exact { IsTallyPlanned (tally_problem_asked (Times m) (flags_view flags.now) request.now tally.now) result }
+    ensures ordered { IfOk result (λ a. IsOrdered (planned_view a)) }
+    ensures whole { IfOk result (λ a. IsWhole (planned_view a)) }
 {
     let mut effort = Effort::<L>::none(blank);
     // Called for what its contract says: flags have at most 64 variants.
     let _count = flags.len();
-    let problem = problem_of_tally(alloc, refining, flags, request, tally)?;
+    let problem = tally_problem_asked(alloc, Refining::Times(m), flags, request, tally)?;
     plan_on(alloc, &problem, &mut effort)
 }

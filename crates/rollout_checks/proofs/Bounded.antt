@@ -20,13 +20,13 @@ use Rattle.flag_defs.specs.Flags.{AreFlags}
 use Rattle.book_core.specs.Book.{Contents, Inputs, inputs_on}
 use Rattle.book_core.specs.Site.{page_at}
 use Rattle.price_core.specs.Limits.{Limits, limits_of}
-use Rattle.price_core.specs.Request.{Asked, asked_of, limits_on, all_known}
+use Rattle.price_core.specs.Request.{Asked, limits_on, all_known}
 use Rattle.price_core.specs.declared.fault.PriceFault.TheVariants as price
 use Rattle.tally_core.specs.Tally.{PageTally}
 use Rattle.transport_instance.specs.Instance.{AreListed, MissTotal, max_planned_total, max_names}
 use Rattle.rollout_checks.proofs.Variants.{names_limited}
-use Rattle.rollout_checks.specs.Lawful.{Problem, Place, and_then, by_price, by_logic, or_refuse, place_in, place_of, names_are_variants, limits_for, is_unmet, max_planned, factor, sized, weighed, problem_at, problem_of, problem_on}
-use Rattle.rollout_checks.specs.Tallied.{TallyProblem, of_place, tally_problem_at, tally_problem_of, with_counts, with_inputs}
+use Rattle.rollout_checks.specs.Lawful.{Problem, Place, and_then, by_price, by_logic, or_refuse, place_in, place_of, names_are_variants, limits_for, is_unmet, max_planned, factor, sized, weighed, problem_asked, problem_at, problem_on}
+use Rattle.rollout_checks.specs.Tallied.{TallyProblem, of_place, tally_problem_asked, tally_problem_at, with_counts, with_inputs}
 use Rattle.rollout_checks.specs.declared.fault.RolloutFault.{RolloutFault}
 use Rattle.rollout_checks.specs.declared.fault.RolloutFault.TheVariants.{UnknownFlag, NoSite, UnknownVariant, TotalsSum, TotalTooLarge}
 use Rattle.rollout_checks.specs.declared.refining.Refining.{Refining}
@@ -189,28 +189,26 @@ small_on refining flags inputs asked place p lawful was h =
       few = omega (arith, made, length-limits_on asked.totals (variant_names place.flag), names);
     }
 
-pub lawful_small : (refining : Refining) (flags : Definitions) (bytes : List ℕ) (book : Contents) (p : Problem) → AreFlags flags → problem_of refining flags bytes book ≡ Ok p → IsSmall p
-lawful_small refining flags bytes book p lawful h =
-    let asked = came (by_price (asked_of bytes)) (λ asked. and_then (place_of flags asked.flag asked.site) (λ place. problem_at refining book asked place)) p h in
-    let place = came (place_of flags asked.from.flag asked.from.site) (λ place. problem_at refining book asked.from place) p asked.gives in
-    let weight = came (weighed place.from.entries) (λ _. problem_on refining (inputs_on book place.from.page) asked.from place.from) p place.gives in
-    small_on refining flags (inputs_on book place.from.page) asked.from place.from p lawful place.was weight.gives
+pub lawful_small : (refining : Refining) (flags : Definitions) (asked : Asked) (book : Contents) (p : Problem) → AreFlags flags → problem_asked refining flags asked book ≡ Ok p → IsSmall p
+lawful_small refining flags asked book p lawful h =
+    let place = came (place_of flags asked.flag asked.site) (λ place. problem_at refining book asked place) p h in
+    let weight = came (weighed place.from.entries) (λ _. problem_on refining (inputs_on book place.from.page) asked place.from) p place.gives in
+    small_on refining flags (inputs_on book place.from.page) asked place.from p lawful place.was weight.gives
 
 tally_in : TallyProblem → Result TallyProblem RolloutFault → TallyProblem
 tally_in d (Ok p) = p
 tally_in d (Err e) = d
 
 -- the same of what a request asks of a tally
-pub tally_small : (refining : Refining) (flags : Definitions) (bytes : List ℕ) (t : PageTally) (p : TallyProblem) → AreFlags flags → tally_problem_of refining flags bytes t ≡ Ok p → IsSmall (with_inputs p [])
+pub tally_small : (refining : Refining) (flags : Definitions) (asked : Asked) (t : PageTally) (p : TallyProblem) → AreFlags flags → tally_problem_asked refining flags asked t ≡ Ok p → IsSmall (with_inputs p [])
 unfolding tally_in
-tally_small refining flags bytes t p lawful h =
-    let asked = came (by_price (asked_of bytes)) (λ asked. and_then (place_of flags asked.flag asked.site) (λ place. tally_problem_at refining t asked place)) p h in
-    let place = came (place_of flags asked.from.flag asked.from.site) (λ place. tally_problem_at refining t asked.from place) p asked.gives in
-    let weight = came (weighed place.from.entries) (λ _. and_then (of_place refining t place.from) (λ _. and_then (problem_on refining [] asked.from place.from) (λ q. Ok (with_counts q t.counts)))) p place.gives in
-    let page = came (of_place refining t place.from) (λ _. and_then (problem_on refining [] asked.from place.from) (λ q. Ok (with_counts q t.counts))) p weight.gives in
-    let problem = came (problem_on refining [] asked.from place.from) (λ q. Ok (with_counts q t.counts)) p page.gives in
+tally_small refining flags asked t p lawful h =
+    let place = came (place_of flags asked.flag asked.site) (λ place. tally_problem_at refining t asked place) p h in
+    let weight = came (weighed place.from.entries) (λ _. and_then (of_place refining t place.from) (λ _. and_then (problem_on refining [] asked place.from) (λ q. Ok (with_counts q t.counts)))) p place.gives in
+    let page = came (of_place refining t place.from) (λ _. and_then (problem_on refining [] asked place.from) (λ q. Ok (with_counts q t.counts))) p weight.gives in
+    let problem = came (problem_on refining [] asked place.from) (λ q. Ok (with_counts q t.counts)) p page.gives in
     let is : with_counts problem.from t.counts ≡ p = ap (tally_in p) problem.gives in
-    let small = small_on refining flags [] asked.from place.from problem.from lawful place.was problem.was in
+    let small = small_on refining flags [] asked place.from problem.from lawful place.was problem.was in
     let old : problem.from.old ≡ p.old = ap (λ (q : TallyProblem). q.old) is in
     let limits : problem.from.limits ≡ p.limits = ap (λ (q : TallyProblem). q.limits) is in
     record {

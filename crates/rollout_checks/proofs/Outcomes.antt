@@ -1,13 +1,18 @@
 -- What is told of an answer, by what its parts told.
-use Rattle.std.proofs.Common.{◌≡◌, ◌≢◌, Result, Ok, Err, refl}
+use Rattle.std.proofs.Common.{◌≡◌, ◌≢◌, ℕ, List, Result, Ok, Err, refl, ap}
 use Rattle.transport_instance.specs.declared.fault.CheckFault.{CheckFault}
 use Rattle.plan_text.specs.Answer.{Answer}
 use Rattle.book_core.specs.Book.{Inputs}
-use Rattle.rollout_checks.specs.Lawful.{Problem, IsLawful}
+use Rattle.price_core.specs.Request.{Asked, asked_of}
+use Rattle.price_core.specs.declared.fault.PriceFault.{PriceFault}
+use Rattle.price_core.specs.declared.fault.PriceFault.TheVariants as price
+use Rattle.rollout_checks.specs.Fault.{of_price}
+use Rattle.rollout_checks.specs.Lawful.{Problem, IsLawful, and_then, by_price}
 use Rattle.rollout_checks.specs.Tallied.{AreTallied, IsTallyOutcome, IsTallyShown, TallyProblem, with_inputs}
 use Rattle.rollout_checks.specs.Verified.{Proves, Shows, Denies, IsOutcome, IsShown}
 use Rattle.rollout_checks.specs.declared.fault.RolloutFault.{RolloutFault}
 use Rattle.rollout_checks.specs.declared.fault.RolloutFault.TheVariants as fault
+use Rattle.rollout_checks.specs.declared.verify_fault.VerifyFault.{VerifyFault}
 use Rattle.rollout_checks.specs.declared.verify_fault.VerifyFault.TheVariants.{Request, Check}
 
 pub only_want : (e : RolloutFault) → (e ≢ fault.WantOfMemory → ⊥) → e ≡ fault.WantOfMemory
@@ -52,3 +57,23 @@ tally_right r p a is h = rw is h
 
 pub tally_shown : (r : Result TallyProblem RolloutFault) (p : TallyProblem) (a : Answer) → r ≡ Ok p → ((inputs : Inputs) → AreTallied p inputs → IsLawful (with_inputs p inputs) × Shows (with_inputs p inputs) a) → IsTallyShown r a
 tally_shown r p a is h = rw is h
+
+-- ---- of bytes, by what is told of the request that they are
+
+pub refused_by_bytes : (bytes : List ℕ) (f : PriceFault) (g : Asked → Result Problem RolloutFault) (a : Answer) → (f ≢ price.WantOfMemory → asked_of bytes ≡ Err f) → IsOutcome (and_then (by_price (asked_of bytes)) g) a (Err (Request (of_price f)))
+refused_by_bytes bytes f g a told = outcome_request (and_then (by_price (asked_of bytes)) g) a (of_price f) (λ other. rw (told (λ want. other (ap of_price want))) refl)
+
+pub outcome_of_bytes : (bytes : List ℕ) (asked : Asked) (g : Asked → Result Problem RolloutFault) (a : Answer) (r : Result (Unit {0}) VerifyFault) → asked_of bytes ≡ Ok asked → IsOutcome (g asked) a r → IsOutcome (and_then (by_price (asked_of bytes)) g) a r
+outcome_of_bytes bytes asked g a r is h = rw is h
+
+pub shown_of_bytes : (bytes : List ℕ) (asked : Asked) (g : Asked → Result Problem RolloutFault) (a : Answer) → asked_of bytes ≡ Ok asked → IsShown (g asked) a → IsShown (and_then (by_price (asked_of bytes)) g) a
+shown_of_bytes bytes asked g a is h = rw is h
+
+pub tally_refused_by_bytes : (bytes : List ℕ) (f : PriceFault) (g : Asked → Result TallyProblem RolloutFault) (a : Answer) → (f ≢ price.WantOfMemory → asked_of bytes ≡ Err f) → IsTallyOutcome (and_then (by_price (asked_of bytes)) g) a (Err (Request (of_price f)))
+tally_refused_by_bytes bytes f g a told = tally_request (and_then (by_price (asked_of bytes)) g) a (of_price f) (λ other. rw (told (λ want. other (ap of_price want))) refl)
+
+pub tally_outcome_of_bytes : (bytes : List ℕ) (asked : Asked) (g : Asked → Result TallyProblem RolloutFault) (a : Answer) (r : Result (Unit {0}) VerifyFault) → asked_of bytes ≡ Ok asked → IsTallyOutcome (g asked) a r → IsTallyOutcome (and_then (by_price (asked_of bytes)) g) a r
+tally_outcome_of_bytes bytes asked g a r is h = rw is h
+
+pub tally_shown_of_bytes : (bytes : List ℕ) (asked : Asked) (g : Asked → Result TallyProblem RolloutFault) (a : Answer) → asked_of bytes ≡ Ok asked → IsTallyShown (g asked) a → IsTallyShown (and_then (by_price (asked_of bytes)) g) a
+tally_shown_of_bytes bytes asked g a is h = rw is h

@@ -114,11 +114,13 @@ problem_on refining inputs asked place =
 abbrev pub problem_at : Refining → Contents → Asked → Place → Result Problem RolloutFault
 problem_at refining book asked place = and_then (weighed place.entries) (λ _. problem_on refining (inputs_on book place.page) asked place)
 
--- What the bytes of a request ask, or its first refusal: the request itself, the flag, the site, its buckets, its weight, the names, the sums, the total.
+-- what is asked by a request that was read, or its first refusal: the flag, the site, its buckets, its weight, the names, the sums, the total
+abbrev pub problem_asked : Refining → Definitions → Asked → Contents → Result Problem RolloutFault
+problem_asked refining flags asked book = and_then (place_of flags asked.flag asked.site) (λ place. problem_at refining book asked place)
+
+-- What the bytes of a request ask, or its first refusal: the request itself, and then as of one that was read.
 abbrev pub problem_of : Refining → Definitions → List ℕ → Contents → Result Problem RolloutFault
-problem_of refining flags bytes book =
-    and_then (by_price (asked_of bytes)) (λ asked.
-    and_then (place_of flags asked.flag asked.site) (λ place. problem_at refining book asked place))
+problem_of refining flags bytes book = and_then (by_price (asked_of bytes)) (λ asked. problem_asked refining flags asked book)
 
 -- What the laws of weak duality and of deficient sets ask of a problem: a total above 0, and limits in order.
 pub record IsLawful (p : Problem) : Type 0 where
@@ -137,7 +139,7 @@ place_view p = record { flag = flag_view p.flag.now; entries = entries_view p.en
 
 -- what is asked, with these inputs
 abbrev pub problem_view : program_problem.Problem → Inputs → Problem
-problem_view p inputs = record { old = p.old; limits = p.totals; pricing = p.request.prices; inputs = inputs }
+problem_view p inputs = record { old = p.old; limits = p.totals; pricing = p.request.now.prices; inputs = inputs }
 
 -- so many of these inputs fall on each point of the rule that is planned on
 abbrev pub IsCounted : program_problem.Problem → Inputs → Type 0

@@ -6,13 +6,18 @@ use Rattle.plan_text.specs.Answer.{Answer}
 use Rattle.rollout_checks.specs.Lawful.{Problem, problem_of}
 use Rattle.rollout_checks.specs.Verified.{refining_for}
 use Rattle.rollout_checks.specs.declared.fault.RolloutFault.{RolloutFault}
+use Rattle.rollout_checks.specs.declared.refining.Refining.{Refining}
 use Rattle.rollout_checks.specs.declared.refining.Refining.TheVariants.{Times}
 
 -- on the site's rule refined by a factor
 abbrev pub problem_refined : ℕ → Definitions → List ℕ → Contents → Result Problem RolloutFault
 problem_refined m = problem_of (Times m)
 
+-- how the rule is refined that an answer is checked against: by the factor that is given, or else as the answer tells
+abbrev pub refining_checked : Option ℕ → Answer → Refining
+refining_checked None answer = refining_for answer
+refining_checked (Some m) answer = Times m
+
 -- what an answer is checked against: the rule refined by the factor that is given, or else as the answer tells
 abbrev pub problem_checked : Option ℕ → Answer → Definitions → List ℕ → Contents → Result Problem RolloutFault
-problem_checked None answer = problem_of (refining_for answer)
-problem_checked (Some m) answer = problem_refined m
+problem_checked refine answer = problem_of (refining_checked refine answer)

@@ -49,15 +49,17 @@ tally_problem_at refining t asked place =
     and_then (of_place refining t place) (λ _.
     and_then (problem_on refining [] asked place) (λ p. Ok (with_counts p t.counts))))
 
--- What the bytes of a request ask of a tally, or its first refusal: those of a request on a book, and after that of the weight another tally.
+-- what is asked of a tally by a request that was read, or its first refusal: those of a request on a book, and after that of the weight another tally
+abbrev pub tally_problem_asked : Refining → Definitions → Asked → PageTally → Result TallyProblem RolloutFault
+tally_problem_asked refining flags asked t = and_then (place_of flags asked.flag asked.site) (λ place. tally_problem_at refining t asked place)
+
+-- What the bytes of a request ask of a tally, or its first refusal: the request itself, and then as of one that was read.
 abbrev pub tally_problem_of : Refining → Definitions → List ℕ → PageTally → Result TallyProblem RolloutFault
-tally_problem_of refining flags bytes t =
-    and_then (by_price (asked_of bytes)) (λ asked.
-    and_then (place_of flags asked.flag asked.site) (λ place. tally_problem_at refining t asked place))
+tally_problem_of refining flags bytes t = and_then (by_price (asked_of bytes)) (λ asked. tally_problem_asked refining flags asked t)
 
 -- of the program
 abbrev pub tally_view : program.Problem → TallyProblem
-tally_view p = record { old = p.old; limits = p.totals; pricing = p.request.prices; counts = p.counts.items }
+tally_view p = record { old = p.old; limits = p.totals; pricing = p.request.now.prices; counts = p.counts.items }
 
 -- What is told of an answer: the refusal of the request where it is not lawful; else that the answer is right for all inputs of
 -- which so many fall on each point, or the check's refusal for all of them. Want of memory may come of either.

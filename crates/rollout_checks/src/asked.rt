@@ -17,9 +17,7 @@ use price_core::Request;
 use std::alloc::Global;
 use std::thread::Threads;
 
-/// The book of a file, with its first line at fault as by `book_core::read_book`. It is read for a request: how many inputs
-/// of its page fall on each point is counted in the same pass, so that what is planned or verified on the book reads the file
-/// no second time, as long as the rule is refined alike. The condition is a factor from 1.
+/// As [`read_book_asked`], for the bytes of a request.
 pub fn read_book_for<R: Threads>(
     rt: &R,
     alloc: Global,
@@ -31,6 +29,29 @@ pub fn read_book_for<R: Threads>(
     requires { IsRefining refining }
     ensures { GivesUnless BookFileFault.WantOfMemory (λ f. f) result (book_of bytes.items) }
 {
+    match Request::read(alloc, request) {
+        Ok(request) => read_book_asked(rt, alloc, refining, flags, Some(&request), bytes),
+        Err(_) => read_book_asked(rt, alloc, refining, flags, None, bytes),
+    }
+}
+
+/// The book of a file, with its first line at fault as by `book_core::read_book`. It is read for a request, where that was
+/// not refused: how many inputs of its page fall on each point is counted in the same pass, so that what is planned or
+/// verified on the book reads the file no second time, as long as the rule is refined alike. The condition is a factor from 1.
+pub fn read_book_asked<R: Threads>(
+    rt: &R,
+    alloc: Global,
+    refining: Refining,
+    flags: &Flags,
+    request: Option<&Request>,
+    bytes: Vec<u8>,
+) -> Result<BookFile, BookFileFault>
+    requires { IsRefining refining }
+    ensures { GivesUnless BookFileFault.WantOfMemory (λ f. f) result (book_of bytes.items) }
+{
+    let Some(request) = request else {
+        return BookFile::read(rt, alloc, bytes, no_page(alloc), 1);
+    };
     match asked(alloc, refining, flags, request) {
         Ok((page, total)) => BookFile::read(rt, alloc, bytes, page, total),
         Err(_) => BookFile::read(rt, alloc, bytes, no_page(alloc), 1),
@@ -42,12 +63,11 @@ fn asked(
     alloc: Global,
     refining: Refining,
     flags: &Flags,
-    request: &[u8],
+    request: &Request,
 ) -> Result<(Page, u32), RolloutFault>
     requires { IsRefining refining }
     ensures { IfOk result (λ r. IsRuleTotal r.1) }
 {
-    let request = Request::read(alloc, request)?;
     let place = place_of(alloc, flags, request.flag(), request.site())?;
     let Place { entries, page, .. } = place;
     let total = total_weight(entries.as_slice());

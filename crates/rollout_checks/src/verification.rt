@@ -1,5 +1,5 @@
 //! Whether an answer is right, whoever made it.
-ghost use Rattle.std.specs.Prelude.{◌≡◌, ◌<◌, ◌≤◌, false, length, OnOk, IsErrOf, MatchResult};
+ghost use Rattle.std.specs.Prelude.{◌≡◌, ◌<◌, ◌≤◌, false, length, IfSome, OnOk, IsErrOf, MatchResult};
 ghost use Rattle.std.specs.Str.{is_utf8};
 ghost use Rattle.book_core.specs.Book.{Inputs};
 ghost use Rattle.bucket_core.specs.Rule.{total_weight};
@@ -8,18 +8,21 @@ ghost use Rattle.price_core.specs.Request.{max_request};
 ghost use Rattle.price_core.specs.declared.fault.PriceFault.TheVariants.{BadRequest};
 ghost use Rattle.plan_text.specs.Answer.{planned_view};
 ghost use Rattle.transport_instance.specs.Tally.{IsTally};
-ghost use Rattle.rollout_checks.specs.Lawful.{IsCounted, IsLawful, IsRefining, problem_of, problem_view};
-ghost use Rattle.rollout_checks.specs.Tallied.{IsTallyOutcome, IsTallyShown, tally_problem_of};
+ghost use Rattle.rollout_checks.specs.Lawful.{IsCounted, IsLawful, IsRefining, problem_asked, problem_of, problem_view};
+ghost use Rattle.rollout_checks.specs.Refined.{refining_checked};
+ghost use Rattle.rollout_checks.specs.Tallied.{IsTallyOutcome, IsTallyShown, tally_problem_asked, tally_problem_of};
 ghost use Rattle.rollout_checks.specs.Verified.{IsOutcome, Proves, Shows, Denies, IsShown, refining_for};
 ghost use Rattle.rollout_checks.specs.declared.fault.RolloutFault.{RolloutFault};
 ghost use Rattle.rollout_checks.specs.declared.refining.Refining.TheVariants.{Times};
 
-use crate::problem::{Problem, problem_of, problem_of_tally};
+use crate::problem::{Problem, problem_asked, tally_problem_asked};
 use crate::refining::Refining;
+use crate::request_file::RequestFile;
 use crate::verify_fault::VerifyFault;
 use flag_defs::Flags;
 use page_tally::Recorded;
 use plan_text::Planned;
+use price_core::Request;
 use std::alloc::Global;
 use std::thread::Threads;
 use tally_core::PageTally;
@@ -43,15 +46,8 @@ pub fn verify<R: Threads + Sync, B: Recorded>(
     ensures large { max_request < length request.now → IsErrOf result (VerifyFault.Request (RolloutFault.Request BadRequest)) }
     ensures no_text { length request.now ≤ max_request → is_utf8 request.now ≡ false → IsErrOf result (VerifyFault.Request (RolloutFault.Request BadRequest)) }
 {
-    verify_by(
-        rt,
-        alloc,
-        refining_for(planned),
-        flags,
-        request,
-        book,
-        planned,
-    )
+    let refining = refining_for(planned);
+    verify_by(rt, alloc, refining, flags, request, book, planned)
 }
 
 /// As [`verify`], with the site's rule refined by m for both kinds of answer. The condition is m from 1.
@@ -108,6 +104,60 @@ pub fn verify_tally_refined(
     verify_tally_by(alloc, Refining::Times(m), flags, request, tally, planned)
 }
 
+/// As [`verify`], of the file of a request, and as [`verify_refined`] where m is given. The condition is m from 1.
+pub fn verify_file<R: Threads + Sync, B: Recorded>(
+    rt: &R,
+    alloc: Global,
+    flags: &Flags,
+    request: &RequestFile,
+    book: &B,
+    planned: &Planned,
+    m: Option<u32>,
+) -> Result<(), VerifyFault>
+    requires { IfSome m (λ m. 0 < m) }
+    ensures exact { IsOutcome (problem_of (refining_checked m (planned_view planned.now)) (flags_view flags.now) request.now (B.contents book.now)) (planned_view planned.now) result }
+    ensures shown { OnOk result (IsShown (problem_of (refining_checked m (planned_view planned.now)) (flags_view flags.now) request.now (B.contents book.now)) (planned_view planned.now)) }
+    ensures large { max_request < length request.now → IsErrOf result (VerifyFault.Request (RolloutFault.Request BadRequest)) }
+    ensures no_text { length request.now ≤ max_request → is_utf8 request.now ≡ false → IsErrOf result (VerifyFault.Request (RolloutFault.Request BadRequest)) }
+{
+    let refining = refining_checked(planned, m);
+    let request = request.asked()?;
+    verify_asked(rt, alloc, refining, flags, request, book, planned)
+}
+
+/// As [`verify_file`], on a tally of the request's page: the answer is right for all inputs of which so many fall on each
+/// point.
+pub fn verify_file_on_tally(
+    alloc: Global,
+    flags: &Flags,
+    request: &RequestFile,
+    tally: &PageTally,
+    planned: &Planned,
+    m: Option<u32>,
+) -> Result<(), VerifyFault>
+    requires { IfSome m (λ m. 0 < m) }
+    ensures exact { IsTallyOutcome (tally_problem_of (refining_checked m (planned_view planned.now)) (flags_view flags.now) request.now tally.now) (planned_view planned.now) result }
+    ensures shown { OnOk result (IsTallyShown (tally_problem_of (refining_checked m (planned_view planned.now)) (flags_view flags.now) request.now tally.now) (planned_view planned.now)) }
+    ensures large { max_request < length request.now → IsErrOf result (VerifyFault.Request (RolloutFault.Request BadRequest)) }
+    ensures no_text { length request.now ≤ max_request → is_utf8 request.now ≡ false → IsErrOf result (VerifyFault.Request (RolloutFault.Request BadRequest)) }
+{
+    let refining = refining_checked(planned, m);
+    let request = request.asked()?;
+    verify_tally_asked(alloc, refining, flags, request, tally, planned)
+}
+
+/// What an answer is checked against: the site's rule refined by m where that is given, or else as the answer tells.
+fn refining_checked(planned: &Planned, m: Option<u32>) -> Refining
+    requires { IfSome m (λ m. 0 < m) }
+    ensures value { result ≡ refining_checked m (planned_view planned.now) }
+    ensures lawful { IsRefining result }
+{
+    match m {
+        Some(m) => Refining::Times(m),
+        None => refining_for(planned),
+    }
+}
+
 fn refining_for(planned: &Planned) -> Refining
     ensures value { result ≡ refining_for (planned_view planned.now) }
     ensures lawful { IsRefining result }
@@ -133,9 +183,8 @@ fn verify_by<R: Threads + Sync, B: Recorded>(
     ensures large { max_request < length request.now → IsErrOf result (VerifyFault.Request (RolloutFault.Request BadRequest)) }
     ensures no_text { length request.now ≤ max_request → is_utf8 request.now ≡ false → IsErrOf result (VerifyFault.Request (RolloutFault.Request BadRequest)) }
 {
-    let problem = problem_of(rt, alloc, refining, flags, request, book)?;
-    check(alloc, &problem, planned)?;
-    Ok(())
+    let request = Request::read(alloc, request)?;
+    verify_asked(rt, alloc, refining, flags, &request, book, planned)
 }
 
 fn verify_tally_by(
@@ -152,12 +201,48 @@ fn verify_tally_by(
     ensures large { max_request < length request.now → IsErrOf result (VerifyFault.Request (RolloutFault.Request BadRequest)) }
     ensures no_text { length request.now ≤ max_request → is_utf8 request.now ≡ false → IsErrOf result (VerifyFault.Request (RolloutFault.Request BadRequest)) }
 {
-    let problem = problem_of_tally(alloc, refining, flags, request, tally)?;
+    let request = Request::read(alloc, request)?;
+    verify_tally_asked(alloc, refining, flags, &request, tally, planned)
+}
+
+/// The same of a request that was read.
+fn verify_asked<R: Threads + Sync, B: Recorded>(
+    rt: &R,
+    alloc: Global,
+    refining: Refining,
+    flags: &Flags,
+    request: &Request,
+    book: &B,
+    planned: &Planned,
+) -> Result<(), VerifyFault>
+    requires { IsRefining refining }
+    ensures exact { IsOutcome (problem_asked refining (flags_view flags.now) request.now (B.contents book.now)) (planned_view planned.now) result }
+    ensures shown { OnOk result (IsShown (problem_asked refining (flags_view flags.now) request.now (B.contents book.now)) (planned_view planned.now)) }
+{
+    let problem = problem_asked(rt, alloc, refining, flags, request, book)?;
     check(alloc, &problem, planned)?;
     Ok(())
 }
 
-fn check(alloc: Global, problem: &Problem, planned: &Planned) -> Result<(), CheckFault>
+/// The same on a tally.
+fn verify_tally_asked(
+    alloc: Global,
+    refining: Refining,
+    flags: &Flags,
+    request: &Request,
+    tally: &PageTally,
+    planned: &Planned,
+) -> Result<(), VerifyFault>
+    requires { IsRefining refining }
+    ensures exact { IsTallyOutcome (tally_problem_asked refining (flags_view flags.now) request.now tally.now) (planned_view planned.now) result }
+    ensures shown { OnOk result (IsTallyShown (tally_problem_asked refining (flags_view flags.now) request.now tally.now) (planned_view planned.now)) }
+{
+    let problem = tally_problem_asked(alloc, refining, flags, request, tally)?;
+    check(alloc, &problem, planned)?;
+    Ok(())
+}
+
+fn check(alloc: Global, problem: &Problem<'_>, planned: &Planned) -> Result<(), CheckFault>
     requires { IsTally (total_weight problem.now.old) problem.now.counts.items }
     ensures exact { (inputs : Inputs) → IsCounted problem.now inputs → MatchResult result (λ _. Proves (problem_view problem.now inputs) (planned_view planned.now)) (Denies (problem_view problem.now inputs) (planned_view planned.now)) }
     ensures shown { OnOk result ((inputs : Inputs) → IsCounted problem.now inputs → Shows (problem_view problem.now inputs) (planned_view planned.now)) }

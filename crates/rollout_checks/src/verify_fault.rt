@@ -1,8 +1,10 @@
 ghost use Rattle.std.specs.Prelude.{◌≡◌};
+ghost use Rattle.rollout_checks.specs.Fault.{of_price};
 ghost use Rattle.rollout_checks.specs.VerifyFault.{number_of, name_of};
 ghost use Rattle.rollout_checks.specs.declared.verify_fault.VerifyFault.TheVariants.{Request, Check};
 
 use crate::fault::RolloutFault;
+use price_core::PriceFault;
 use thiserror::Error;
 use transport_core::CheckFault;
 
@@ -44,6 +46,14 @@ impl From<RolloutFault> for VerifyFault {
 
     fn from(fault: RolloutFault) -> VerifyFault {
         VerifyFault::Request(fault)
+    }
+}
+
+impl From<PriceFault> for VerifyFault {
+    ghost from_gives = { λ f e. e ≡ Request (of_price f) };
+
+    fn from(fault: PriceFault) -> VerifyFault {
+        VerifyFault::Request(RolloutFault::from(fault))
     }
 }
 

@@ -8,6 +8,7 @@ use file_diagnostics::{Lines, Opening};
 use flag_defs::Flags;
 use plan_text::Planned;
 use price_core::{Limit, PriceFault, Request};
+use rollout_checks::RequestFile;
 use std::alloc::{AllocError, Global};
 use transport_instance::{Certificate, CheckFault};
 
@@ -16,7 +17,7 @@ pub fn of_check(
     alloc: Global,
     path: &str,
     flags: &Flags,
-    request: &[u8],
+    request: &RequestFile,
     planned: &Planned,
     fault: &CheckFault,
 ) -> Result<String, AllocError>
@@ -25,10 +26,10 @@ pub fn of_check(
     let mut lines = Lines::new(alloc);
     write!(lines, " does not answer this request:\n  ");
     match planned {
-        Planned::Emit(rule, certificate) => match Request::read(alloc, request) {
+        Planned::Emit(rule, certificate) => match request.asked() {
             Ok(asked) => {
-                let place = Place::of(alloc, flags, &asked);
-                put_rule_fault(&mut lines, place, &asked, rule, certificate, fault)?;
+                let place = Place::of(alloc, flags, asked);
+                put_rule_fault(&mut lines, place, asked, rule, certificate, fault)?;
             }
             Err(_) => put_numbers_fault(&mut lines, certificate.cost, fault),
         },

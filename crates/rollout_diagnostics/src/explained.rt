@@ -9,6 +9,7 @@ use file_diagnostics::{Lines, Opening};
 use flag_defs::Flags;
 use plan_text::Planned;
 use price_core::{Limit, PriceFault, Prices, Request};
+use rollout_checks::RequestFile;
 use std::alloc::{AllocError, Global};
 use transport_instance::{Cut, CutKind};
 
@@ -21,7 +22,7 @@ pub fn of_planned(
     alloc: Global,
     path: &str,
     flags: &Flags,
-    request: &[u8],
+    request: &RequestFile,
     factor: u32,
     counts: &[u32],
     planned: &Planned,
@@ -30,11 +31,11 @@ pub fn of_planned(
 {
     let mut lines = Lines::new(alloc);
     write!(lines, ": ");
-    match Request::read(alloc, request) {
+    match request.asked() {
         Ok(asked) => {
-            let place = Place::of(alloc, flags, &asked);
+            let place = Place::of(alloc, flags, asked);
             match place.rule(factor) {
-                Ok(old) => put_planned(&mut lines, place, &asked, &old, counts, planned)?,
+                Ok(old) => put_planned(&mut lines, place, asked, &old, counts, planned)?,
                 Err(RuleFault::WantOfMemory) => return Err(AllocError),
                 Err(fault) => write!(lines, "{fault}"),
             }

@@ -6,6 +6,7 @@ use file_diagnostics::{Lines, Opening, of_text};
 use flag_text::{Tree, read_tree};
 use limits::TEXT_BYTES;
 use price_core::{Misfit, PriceFault, RequestError, change_in, limit_of};
+use rollout_checks::RequestFile;
 use std::alloc::{AllocError, Global};
 
 /// What a request looks like.
@@ -20,16 +21,37 @@ pub fn of_request(
 ) -> Result<String, AllocError>
     ensures names { IfOk result (λ s. Names path.now (string_bytes s)) }
 {
-    let tree = match read_tree(alloc, bytes, TEXT_BYTES) {
-        Ok(tree) => tree,
-        Err(fault) => return of_text(alloc, path, bytes, TEXT_BYTES, fault),
-    };
+    match read_tree(alloc, bytes, TEXT_BYTES) {
+        Ok(tree) => of_tree(alloc, path, &tree, fault),
+        Err(fault) => of_text(alloc, path, bytes, TEXT_BYTES, fault),
+    }
+}
+
+/// As [`of_request`], of a file that was read.
+pub(crate) fn of_request_file(
+    alloc: Global,
+    path: &str,
+    request: &RequestFile,
+    fault: PriceFault,
+) -> Result<String, AllocError>
+    ensures names { IfOk result (λ s. Names path.now (string_bytes s)) }
+{
+    match request.tree() {
+        Ok(tree) => of_tree(alloc, path, tree, fault),
+        Err(fault) => of_text(alloc, path, request.bytes(), TEXT_BYTES, fault),
+    }
+}
+
+/// The same of the tree of a file.
+fn of_tree(alloc: Global, path: &str, tree: &Tree, fault: PriceFault) -> Result<String, AllocError>
+    ensures names { IfOk result (λ s. Names path.now (string_bytes s)) }
+{
     let mut lines = Lines::new(alloc);
     write!(lines, ": ");
     match fault {
-        PriceFault::BadRequest => put_misshaped(&mut lines, &tree)?,
+        PriceFault::BadRequest => put_misshaped(&mut lines, tree)?,
         PriceFault::SelfPair | PriceFault::PriceRange | PriceFault::EmptyRange => {
-            put_refused(&mut lines, &tree, fault)
+            put_refused(&mut lines, tree, fault)
         }
         PriceFault::UnknownVariant | PriceFault::WantOfMemory => write!(lines, "{fault}"),
     }

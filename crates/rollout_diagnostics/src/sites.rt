@@ -4,15 +4,14 @@ ghost use Rattle.file_diagnostics.specs.Named.{Names};
 
 use crate::computed::put_computed;
 use crate::place::Place;
-use crate::requests::{of_request, pairs, totals};
+use crate::requests::{of_request_file, pairs, totals};
 use bucket_core::Rule;
-use file_diagnostics::{Lines, Opening, tree_or_none};
+use file_diagnostics::{Lines, Opening};
 use flag_defs::Flags;
-use flag_text::{Tree, read_tree};
-use limits::TEXT_BYTES;
+use flag_text::Tree;
 use logic_ast::sites;
 use price_core::{PriceFault, Request};
-use rollout_checks::RolloutFault;
+use rollout_checks::{RequestFile, RolloutFault};
 use std::alloc::{AllocError, Global};
 
 /// Explains why a request is refused over the flags of a document, where the rule of its site is refined by a factor.
@@ -20,23 +19,23 @@ pub fn of_rollout(
     alloc: Global,
     path: &str,
     flags: &Flags,
-    request: &[u8],
+    request: &RequestFile,
     factor: u32,
     fault: RolloutFault,
 ) -> Result<String, AllocError>
     ensures names { IfOk result (λ s. Names path.now (string_bytes s)) }
 {
     if let RolloutFault::Request(fault) = fault {
-        return of_request(alloc, path, request, fault);
+        return of_request_file(alloc, path, request, fault);
     }
     let mut lines = Lines::new(alloc);
     write!(lines, ": ");
-    match Request::read(alloc, request) {
+    match request.asked() {
         Ok(asked) => {
-            let place = Place::of(alloc, flags, &asked);
+            let place = Place::of(alloc, flags, asked);
             match fault {
                 RolloutFault::UnknownVariant => put_unknown_asked(&mut lines, place, request)?,
-                RolloutFault::TotalsSum => put_sums(&mut lines, place, &asked, factor)?,
+                RolloutFault::TotalsSum => put_sums(&mut lines, place, asked, factor)?,
                 _ => put_place(&mut lines, place, fault),
             }
         }
@@ -128,15 +127,15 @@ fn put_no_site(lines: &mut Lines, place: Place<'_>) {
 fn put_unknown_asked(
     lines: &mut Lines,
     place: Place<'_>,
-    request: &[u8],
+    request: &RequestFile,
 ) -> Result<(), AllocError> {
     if place.flags.get(place.key).is_none() {
         write!(lines, "there is no such flag");
         return Ok(());
     }
-    match tree_or_none(read_tree(lines.alloc, request, TEXT_BYTES))? {
-        Some(tree) => put_unknown(lines, place, &tree, place.entries()?.as_slice())?,
-        None => write!(lines, "a name is none of the variants"),
+    match request.tree() {
+        Ok(tree) => put_unknown(lines, place, tree, place.entries()?.as_slice())?,
+        Err(_) => write!(lines, "a name is none of the variants"),
     }
     Ok(())
 }

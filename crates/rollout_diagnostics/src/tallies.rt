@@ -8,7 +8,7 @@ use book_core::Page;
 use file_diagnostics::{Lines, Opening};
 use flag_defs::Flags;
 use logic_ast::LogicFault;
-use price_core::{PriceFault, Request};
+use rollout_checks::RequestFile;
 use std::alloc::{AllocError, Global};
 use tally_core::PageTally;
 
@@ -30,7 +30,7 @@ pub fn of_other_tally(
     alloc: Global,
     path: &str,
     flags: &Flags,
-    request: &[u8],
+    request: &RequestFile,
     tally_path: &str,
     tally: &PageTally,
 ) -> Result<String, AllocError>
@@ -42,10 +42,8 @@ pub fn of_other_tally(
         " is for another page or total than the tally {}:\n",
         lines.name(tally_path),
     );
-    match Request::read(alloc, request) {
-        Ok(asked) => put_asked(&mut lines, Place::of(alloc, flags, &asked))?,
-        Err(PriceFault::WantOfMemory) => return Err(AllocError),
-        Err(_) => {}
+    if let Ok(asked) = request.asked() {
+        put_asked(&mut lines, Place::of(alloc, flags, asked))?;
     }
     write!(
         lines,

@@ -21,7 +21,7 @@ switch_table-requires-clause-few c = omega (arith, ap sum c.as_slice-counts.ensu
 pub returns : goal.returns
 returns c = λ inputs counted.
     let p = c.args.problem.now in
-    let items = change_told p.old c.args.rule.now p.totals p.request.prices (runs_view c.in_ok-runs.runs.items) c.in_ok-table.table (certificate_view c.args.certificate.now) in
+    let items = change_told p.old c.args.rule.now p.totals p.request.now.prices (runs_view c.in_ok-runs.runs.items) c.in_ok-table.table (certificate_view c.args.certificate.now) in
     let told : IsChangeTold (problem_view p inputs) c.args.rule.now (certificate_view c.args.certificate.now) items = record {
       runs = runs_view c.in_ok-runs.runs.items;
       table = c.in_ok-table.table;

@@ -16,7 +16,7 @@ drawn-requires-clause-shown g c =
     let refine = option_map (λ m. m.number) c.args.asked.now.refine in
     let answer = planned_view c.in-Ok.planned in
     let right = read_right c.args.asked.now.strict c.args.asked.now.explain refine q c.args.book.now c.requires.book (outcome_view c.args.outcome.now) answer c.requires.plan (ap answer_of (sym c.as_slice.ensures.value) ∙ c.in-Ok.ensures.exact) in
-    λ κs within. rw (c.as_slice-2.ensures.value) (subst (λ (m : ℕ). IsShown (problem_refined m q.flags q.request c.args.book.now) answer) (sym c.factor_of.ensures.value) right)
+    λ κs within. rw (c.bytes.ensures) (subst (λ (m : ℕ). IsShown (problem_refined m q.flags q.request c.args.book.now) answer) (sym c.factor_of.ensures.value) right)
 
 pub returns : goal.returns
 returns g c =
@@ -24,7 +24,7 @@ returns g c =
     let refine = option_map (λ m. m.number) c.args.asked.now.refine in
     let answer = planned_view c.in-Ok.planned in
     drawn_on c.args.asked.now.strict c.args.asked.now.explain refine q c.args.book.now c.requires.book c.args.outcome.now.text.items (string_bytes c.in_ok-text.text) answer (ap answer_of (sym c.as_slice.ensures.value) ∙ c.in-Ok.ensures.exact)
-    (subst (λ (m : ℕ). IsDrawn (problem_refined m q.flags q.request c.args.book.now) answer (string_bytes c.in_ok-text.text)) c.factor_of.ensures.value (rw c.as_slice-2.ensures.value at c.in_ok-text.ensures))
+    (subst (λ (m : ℕ). IsDrawn (problem_refined m q.flags q.request c.args.book.now) answer (string_bytes c.in_ok-text.text)) c.factor_of.ensures.value (rw c.bytes.ensures at c.in_ok-text.ensures))
 
 -- what is reported of a plan reads as one
 pub unreachable-requires : goal.unreachable-requires

@@ -14,7 +14,7 @@ returns-in-Ok-clause-exact g c =
     let refine = option_map (λ m. m.number) a.rollout.refine in
     let answers = map planned_view c.in_ok-answers.answers.items in
     read_so (g.F.FileSet.holding c.args.files.now) a.ramp.now refine c.args.question answers c.over.result c.in_ok-answers.ensures.exact
-    (steps_found refine (book_question_view c.args.question) (requests_view c.in-Ok.steps.items) answers c.over.result (ap steps_of (sym c.as_slice.ensures.value) ∙ c.in-Ok.ensures.exact) c.over.ensures.exact)
+    (steps_found refine (book_question_view c.args.question) (requests_view c.in-Ok.steps.items) answers c.over.result (ap steps_of (sym c.bytes.ensures) ∙ c.in-Ok.ensures.exact) c.over.ensures.exact)
 
 pub returns-in-Err-clause-exact : goal.returns-in-Err-clause-exact
 returns-in-Err-clause-exact g c =
@@ -23,7 +23,7 @@ returns-in-Err-clause-exact g c =
     let answers = map planned_view c.in_ok-answers.answers.items in
     read_unfound (g.F.FileSet.holding c.args.files.now) a.ramp.now refine c.args.question answers (Verify (Request c.of_steps-fault.result.fault)) c.in_ok-answers.ensures.exact
     (steps_unfound refine (book_question_view c.args.question) answers c.in-Err.fault c.of_steps-fault.result.fault c.of_steps-fault.ensures
-    (λ other. ap steps_of (sym c.as_slice.ensures.value) ∙ c.in-Err.ensures.exact other))
+    (λ other. ap steps_of (sym c.bytes.ensures) ∙ c.in-Err.ensures.exact other))
 
 pub returns-in_err-answers-clause-exact : goal.returns-in_err-answers-clause-exact
 returns-in_err-answers-clause-exact g c =

@@ -20,7 +20,7 @@ returns-in-Ok-plan_steps-clause-exact g c =
     let plans = rw (c.as_slice-requests.ensures.value, c.factor_of-factor.ensures.value) at c.in-Ok-plan_steps.ensures.exact in
     let gives = rw (c.as_slice-requests.ensures.value, c.as_slice-in-Ok-plan_steps.ensures.value) at c.told.ensures.exact in
     let over = planned_report strict refine made requests answers c.told.result plans gives in
-    steps_report strict refine (book_question_view c.args.question) requests c.told.result (ap steps_of (sym c.as_slice.ensures.value) ∙ c.in-Ok.ensures.exact)
+    steps_report strict refine (book_question_view c.args.question) requests c.told.result (ap steps_of (sym c.bytes.ensures) ∙ c.in-Ok.ensures.exact)
     (subst (λ (q : BookQuestion). GivesOne outcome_view c.told.result (IsRampOver strict refine q (Ok requests))) c.count.ensures.kept over)
 
 pub returns-clause-exact : goal.returns-clause-exact
@@ -32,10 +32,10 @@ returns-clause-exact g c =
     let told : Result Outcome Told = Err c.refused-in-Err-plan_steps.result in
     let over = refused_report strict refine made requests c.in-Err-plan_steps.fault c.refused-in-Err-plan_steps.result c.refused-in-Err-plan_steps.ensures.refusal (λ other.
     rw (c.as_slice-requests.ensures.value, c.factor_of-factor.ensures.value) at (c.in-Err-plan_steps.ensures.exact other)) in
-    steps_report strict refine (book_question_view c.args.question) requests told (ap steps_of (sym c.as_slice.ensures.value) ∙ c.in-Ok.ensures.exact)
+    steps_report strict refine (book_question_view c.args.question) requests told (ap steps_of (sym c.bytes.ensures) ∙ c.in-Ok.ensures.exact)
     (subst (λ (q : BookQuestion). GivesOne outcome_view told (IsRampOver strict refine q (Ok requests))) c.count.ensures.kept over)
 
 pub returns-in-Err-clause-exact : goal.returns-in-Err-clause-exact
 returns-in-Err-clause-exact g c =
     steps_refused c.args.asked.now.strict (option_map (λ m. m.number) c.args.asked.now.refine) (book_question_view c.args.question) c.in-Err.fault c.refused.result (c.refused.ensures.refusal ∙ ap Ramp c.of_steps.ensures)
-    (λ other. ap steps_of (sym c.as_slice.ensures.value) ∙ c.in-Err.ensures.exact other)
+    (λ other. ap steps_of (sym c.bytes.ensures) ∙ c.in-Err.ensures.exact other)

@@ -7,7 +7,7 @@ use Rattle.plan_text.specs.Answer.{planned_view}
 use Rattle.rollout_checks.specs.Lawful.{Problem, problem_view}
 use Rattle.rollout_checks.specs.Refined.{problem_checked}
 use Rattle.rollout_checks.specs.declared.fault.RolloutFault.{RolloutFault}
-use Rattle.flagops_pictures.proofs.drawing.add_picture.Goals as goal
+use Rattle.flagops_pictures.proofs.drawing.add_asked.Goals as goal
 
 pub draw-requires-clause-points : goal.draw-requires-clause-points
 draw-requires-clause-points g c =

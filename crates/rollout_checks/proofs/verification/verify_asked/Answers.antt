@@ -2,9 +2,9 @@
 use Rattle.std.proofs.Common.{arith}
 use Rattle.bucket_core.specs.Rule.{total_weight}
 use Rattle.transport_instance.proofs.Costs.{tally_of}
-use Rattle.rollout_checks.proofs.verification.verify_by.Goals as goal
+use Rattle.rollout_checks.proofs.verification.verify_asked.Goals as goal
 
 pub check-requires : goal.check-requires
 check-requires g c =
-    let posed = c.in_ok-problem.ensures.exact in
+    let posed = c.in_ok-problem.ensures in
     tally_of posed.inputs (total_weight c.in_ok-problem.problem.old) c.in_ok-problem.problem.counts.items posed.counted (omega (arith, posed.few))
