@@ -1,4 +1,4 @@
-ghost use Rattle.std.specs.Prelude.{◌≡◌, ◌≢◌, [], Ok, IfOk, OnOk, OnErr};
+ghost use Rattle.std.specs.Prelude.{◌≡◌, ◌≢◌, [], Ok, IfOk, IsOk, OnOk, OnErr};
 ghost use Rattle.flag_text.specs.Outcome.{GivesUnless};
 ghost use Rattle.book_core.specs.Book.{IsBook, contents_view, inputs_on, input_count, is_among, reply_to, with_input};
 ghost use Rattle.book_core.specs.Union.{Unites};
@@ -54,10 +54,11 @@ impl Book {
         note_in(alloc, &mut self.pages, page, input)
     }
 
-    /// A copy of the inputs on a page, none where the book does not have the page. Want of memory is its one fault.
-    /// Cost: O(inputs of the page).
+    /// A copy of the inputs on a page, none where the book does not have the page. Want of memory is its one fault, and none where
+    /// there is no input. Cost: O(inputs of the page).
     pub fn exposure(&self, alloc: Global, page: &Page) -> Result<Exposure, AllocError>
-        ensures { IfOk result (λ inputs. inputs ≡ inputs_on self.now page.now) }
+        ensures inputs { IfOk result (λ inputs. inputs ≡ inputs_on self.now page.now) }
+        ensures none { inputs_on self.now page.now ≡ [] → IsOk result }
     {
         inputs_of(alloc, &self.pages, page)
     }

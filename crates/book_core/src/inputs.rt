@@ -1,5 +1,5 @@
 //! The inputs that a page of a book holds.
-ghost use Rattle.std.specs.Prelude.{◌≡◌, ◌∷◌, [], length, map, string_bytes, IfOk, OnOk, OnErr};
+ghost use Rattle.std.specs.Prelude.{◌≡◌, ◌∷◌, [], length, map, string_bytes, IfOk, IsOk, OnOk, OnErr};
 ghost use Rattle.std.specs.BTreeSet.{insert_key};
 ghost use Rattle.std.specs.List.Sorted.{IsStrictlySortedBy};
 ghost use Rattle.book_core.specs.Book.{IsExposure, inputs_view, is_among};
@@ -77,8 +77,12 @@ impl PageInputs {
     /// A copy of them.
     pub(crate) fn exposure(&self, alloc: Global) -> Result<Exposure, AllocError>
         requires { IsExposure (inputs_view self.now) }
-        ensures { IfOk result (λ copies. copies ≡ inputs_view self.now) }
+        ensures copies { IfOk result (λ copies. copies ≡ inputs_view self.now) }
+        ensures none { inputs_view self.now ≡ [] → IsOk result }
     {
+        if self.len() == 0 {
+            return Ok(Exposure::of_rising(Vec::new(alloc)));
+        }
         match self {
             PageInputs::Listed(list) => list_copied(alloc, list.as_slice()),
             PageInputs::Gathered(set) => set_copied(alloc, set),

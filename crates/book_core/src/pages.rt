@@ -1,5 +1,5 @@
 //! The map from pages to inputs that a book keeps.
-ghost use Rattle.std.specs.Prelude.{◌≡◌, ◌≢◌, Ok, IfOk, OnOk, OnErr, None};
+ghost use Rattle.std.specs.Prelude.{◌≡◌, ◌≢◌, [], Ok, IfOk, IsOk, OnOk, OnErr, None};
 ghost use Rattle.std.specs.BTreeMap.{get};
 ghost use Rattle.std.specs.BTreeSet.{insert_key};
 ghost use Rattle.std.specs.List.Sorted.{IsStrictlySortedBy};
@@ -100,7 +100,8 @@ pub(crate) fn inputs_of(
     page: &Page,
 ) -> Result<Exposure, AllocError>
     requires { IsBook (contents_view pages.now.entries) }
-    ensures { IfOk result (λ inputs. inputs ≡ inputs_on (contents_view pages.now.entries) page.now) }
+    ensures inputs { IfOk result (λ inputs. inputs ≡ inputs_on (contents_view pages.now.entries) page.now) }
+    ensures none { inputs_on (contents_view pages.now.entries) page.now ≡ [] → IsOk result }
 {
     match pages.get(page) {
         None => Ok(Exposure::of_rising(Vec::new(alloc))),

@@ -11,14 +11,18 @@ of_rising-requires c = subst (λ xs. IsExposure (map string_bytes xs)) (sym c.ne
 pub exposure-requires : goal.exposure-requires
 exposure-requires c = held_lawful c.args.pages.now.entries c.args.page.now c.in-Some.inputs.now c.requires (sym c.in-Some.ensures.value)
 
-pub returns-in-None : goal.returns-in-None
-returns-in-None c =
+pub returns-in-None-clause-inputs : goal.returns-in-None-clause-inputs
+returns-in-None-clause-inputs c =
     c.of_rising.ensures ∙ ap (map string_bytes) c.new.ensures.items ∙ sym (inputs_on-none c.args.pages.now.entries c.args.page.now (sym c.in-None.ensures.value))
 
-pub returns-in-Some : goal.returns-in-Some
-returns-in-Some c =
+pub returns-in-Some-clause-none : goal.returns-in-Some-clause-none
+returns-in-Some-clause-none c = λ empty.
+    c.exposure.ensures.none (sym (inputs_on-found c.args.pages.now.entries c.args.page.now c.in-Some.inputs.now (sym c.in-Some.ensures.value)) ∙ empty)
+
+pub returns-in-Some-clause-inputs : goal.returns-in-Some-clause-inputs
+returns-in-Some-clause-inputs c =
     let es = c.args.pages.now.entries in
     let same = inputs_on-found es c.args.page.now c.in-Some.inputs.now (sym c.in-Some.ensures.value) in
     let seen : Inputs → Type 0 = λ xs. xs ≡ inputs_view c.in-Some.inputs.now in
     let wanted : Inputs → Type 0 = λ xs. xs ≡ inputs_on (contents_view es) c.args.page.now in
-    IfOk-weaker c.exposure.result seen wanted (λ xs e. e ∙ sym same) c.exposure.ensures
+    IfOk-weaker c.exposure.result seen wanted (λ xs e. e ∙ sym same) c.exposure.ensures.copies
