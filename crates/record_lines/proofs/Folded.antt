@@ -1,7 +1,8 @@
 -- What is recorded of lines is that of the first ones and then of the others.
 use denote.Ref.{Bor}
-use Rattle.std.proofs.Common.{◌≡◌, ◌<◌, ◌≤◌, ◌+◌, ℕ, get_or, drop-cons, add-one, Result, Ok, Err, IfOk, Bool, true, false, Option, Some, None, nat_lt, if◌then◌else◌, drop, List, [], ◌∷◌, ◌++◌, length, append-nil, append_assoc, refl, sym, ap, ap₂, ◌∙◌, arith}
+use Rattle.std.proofs.Common.{◌≡◌, ◌<◌, ◌≤◌, ◌+◌, ℕ, get_or, drop-cons, add-one, Result, Ok, Err, IfOk, Bool, true, false, ◌||◌, Option, Some, None, nat_lt, if◌then◌else◌, drop, List, [], ◌∷◌, ◌++◌, length, append-nil, append_assoc, refl, sym, ap, ap₂, ◌∙◌, arith}
 use Rattle.std.proofs.lemmas.List.{map-append, length-map, drop_all}
+use Rattle.std.proofs.Math.Bool.{or-false, or_assoc}
 use Rattle.flag_text.specs.Shape.{Shape}
 use Rattle.record_lines.specs.Lines.{lines_view}
 use Rattle.record_lines.specs.Record.{Scene, Recorded, nothing, joined, refused, most_line, is_blank, context_of, of_context, of_line, record_of}
@@ -10,22 +11,24 @@ pub joined-first : (r : Recorded) → joined nothing r ≡ r
 unfolding joined
 joined-first r =
     let same : 0 + r.lines ≡ r.lines = omega arith in
-    λ i. record { text = r.text; lines = same i; refused = r.refused }
+    λ i. record { text = r.text; lines = same i; refused = r.refused; long = r.long }
 
-assoc : (t : List ℕ) (n : ℕ) (b : Bool) (two three : Recorded) → joined (joined (record { text = t; lines = n; refused = b }) two) three ≡ joined (record { text = t; lines = n; refused = b }) (joined two three)
+assoc : (t : List ℕ) (n : ℕ) (b l : Bool) (two three : Recorded) → joined (joined (record { text = t; lines = n; refused = b; long = l }) two) three ≡ joined (record { text = t; lines = n; refused = b; long = l }) (joined two three)
 unfolding joined
-assoc t n true two three = refl
-assoc t n false two three = later two.text two.lines two.refused three
+assoc t n true l two three = refl
+assoc t n false l two three = later two.text two.lines two.refused two.long three
   where
-    later : (u : List ℕ) (m : ℕ) (c : Bool) (r : Recorded) → joined (record { text = t ++ u; lines = n + m; refused = c }) r ≡ joined (record { text = t; lines = n; refused = false }) (joined (record { text = u; lines = m; refused = c }) r)
-    later u m true r = refl
-    later u m false r =
+    later : (u : List ℕ) (m : ℕ) (c k : Bool) (r : Recorded)
+        → joined (record { text = t ++ u; lines = n + m; refused = c; long = l || k }) r ≡ joined (record { text = t; lines = n; refused = false; long = l }) (joined (record { text = u; lines = m; refused = c; long = k }) r)
+    later u m true k r = refl
+    later u m false k r =
         let texts = append_assoc t u r.text in
         let sums : n + m + r.lines ≡ n + (m + r.lines) = omega arith in
-        λ i. record { text = texts i; lines = sums i; refused = r.refused }
+        let longs : ((l || k) || r.long) ≡ (l || (k || r.long)) = or_assoc l k r.long in
+        λ i. record { text = texts i; lines = sums i; refused = r.refused; long = longs i }
 
 pub joined-assoc : (one two three : Recorded) → joined (joined one two) three ≡ joined one (joined two three)
-joined-assoc one two three = assoc one.text one.lines one.refused two three
+joined-assoc one two three = assoc one.text one.lines one.refused one.long two three
 
 pub record-append : (s : Scene) (xs ys : List (List ℕ)) → record_of s (xs ++ ys) ≡ joined (record_of s xs) (record_of s ys)
 record-append s [] ys = sym (joined-first (record_of s ys))
@@ -38,19 +41,20 @@ joined-refused one other e = rw e refl
 
 pub joined-last : (r : Recorded) → joined r nothing ≡ r
 unfolding joined
-joined-last r = last r.text r.lines r.refused
+joined-last r = last r.text r.lines r.refused r.long
   where
-    last : (t : List ℕ) (n : ℕ) (b : Bool) → joined (record { text = t; lines = n; refused = b }) nothing ≡ record { text = t; lines = n; refused = b }
-    last t n true = refl
-    last t n false =
+    last : (t : List ℕ) (n : ℕ) (b l : Bool) → joined (record { text = t; lines = n; refused = b; long = l }) nothing ≡ record { text = t; lines = n; refused = b; long = l }
+    last t n true l = refl
+    last t n false l =
         let texts = append-nil t in
         let sums : n + 0 ≡ n = omega arith in
-        λ i. record { text = texts i; lines = sums i; refused = false }
+        let longs = or-false l in
+        λ i. record { text = texts i; lines = sums i; refused = false; long = longs i }
 
-line_count : (t : List ℕ) (n : ℕ) (b : Bool) (r : Recorded) → (joined (record { text = t; lines = n; refused = b }) r).lines ≤ n + r.lines
+line_count : (t : List ℕ) (n : ℕ) (b l : Bool) (r : Recorded) → (joined (record { text = t; lines = n; refused = b; long = l }) r).lines ≤ n + r.lines
 unfolding joined
-line_count t n true r = omega arith
-line_count t n false r = omega arith
+line_count t n true l r = omega arith
+line_count t n false l r = omega arith
 
 -- the next line is recorded
 pub next_line : (s : Scene) (lines : List (Bor (List ℕ))) (i : ℕ) (line : List ℕ) (out new all : Recorded) → lines_view (drop i lines) ≡ line ∷ lines_view (drop (i + 1) lines) → joined out (record_of s (lines_view (drop i lines))) ≡ all → new ≡ joined out (of_line s line)
@@ -76,7 +80,7 @@ in_parts s lines front back one other r whole first second is =
     ∙ ap (record_of s) (sym (map-append (λ (line : Bor (List ℕ)). line.now) front back) ∙ ap lines_view whole)
 
 line_counts : (one two : Recorded) → (joined one two).lines ≤ one.lines + two.lines
-line_counts one two = line_count one.text one.lines one.refused two
+line_counts one two = line_count one.text one.lines one.refused one.long two
 
 of_line-one : (s : Scene) (line : List ℕ) → (of_line s line).lines ≡ 1
 unfolding of_line
@@ -86,7 +90,7 @@ of_line-one s line = long (nat_lt most_line (length line)) (is_blank line) (cont
     context None = refl
     context (Some t) = refl
 
-    long : (b d : Bool) (o : Option Shape) → (if b then refused else (if d then record { text = []; lines = 1; refused = false } else of_context s o)).lines ≡ 1
+    long : (b d : Bool) (o : Option Shape) → (if b then refused else (if d then record { text = []; lines = 1; refused = false; long = false } else of_context s o)).lines ≡ 1
     long true d o = refl
     long false true o = refl
     long false false o = context o

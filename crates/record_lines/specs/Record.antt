@@ -1,6 +1,6 @@
 -- What is recorded of contexts, one JSON object a line (JSON Lines, https://jsonlines.org): what the evaluation of a flag reaches in each.
 use Rattle.std.specs.Prelude.{◌≡◌, ℕ, ◌+◌, List, [], ◌∷◌, ◌++◌, length, slice_get, flat_map, nat_lt, Bool, true, false, not, ◌||◌, ◌==◌, if◌then◌else◌, Option, Some, None, Result, Ok, Err}
-use Rattle.std.specs.List.{list_all}
+use Rattle.std.specs.List.{list_all, list_any}
 use Rattle.std.specs.Map.{lookup}
 use Rattle.std.specs.Str.{bytes_eq}
 use Rattle.limits.specs.Limits.{text_bytes}
@@ -53,35 +53,40 @@ reached_in s context = (resolved_by (Some s.flags) kind.Text null context s.key 
 
 -- ---- what is recorded
 
--- note lines, how many lines they were recorded of, and whether the last of those is no context
+-- note lines, how many lines they were recorded of, whether the last of those is no context, and whether an input was too long to be noted
 pub record Recorded : Type 0 where
   pub text : List ℕ
   pub lines : ℕ
   pub refused : Bool
+  pub long : Bool
 
 abbrev pub nothing : Recorded
-nothing = record { text = []; lines = 0; refused = false }
+nothing = record { text = []; lines = 0; refused = false; long = false }
 
 -- a line that is no context
 abbrev pub refused : Recorded
-refused = record { text = []; lines = 1; refused = true }
+refused = record { text = []; lines = 1; refused = true; long = false }
 
 -- what is recorded of some lines and then of others, which are not looked at where one of the first is no context
 unfoldable pub joined : Recorded → Recorded → Recorded
-joined one other = if one.refused then one else record { text = one.text ++ other.text; lines = one.lines + other.lines; refused = other.refused }
+joined one other = if one.refused then one else record { text = one.text ++ other.text; lines = one.lines + other.lines; refused = other.refused; long = one.long || other.long }
 
 -- the line of an input on a page
 abbrev pub page_line : Option PageName → List ℕ → List ℕ
 page_line None input = []
 page_line (Some page) input = note_line (record { page = page; input = input })
 
+-- an input that is too long to be noted
+abbrev pub is_long : Reach → Bool
+is_long r = nat_lt most_noted (length r.input)
+
 -- the line of a reached site, unless its input is too long
 abbrev pub note_of : Scene → Reach → List ℕ
-note_of s r = if nat_lt most_noted (length r.input) then [] else page_line (slice_get s.pages r.site) r.input
+note_of s r = if is_long r then [] else page_line (slice_get s.pages r.site) r.input
 
 -- of one context
 abbrev pub of_reached : Scene → List Reach → Recorded
-of_reached s reached = record { text = flat_map (note_of s) reached; lines = 1; refused = false }
+of_reached s reached = record { text = flat_map (note_of s) reached; lines = 1; refused = false; long = list_any is_long reached }
 
 -- an object is a context; a number of it whose value is whole is that whole number however it is spelled, and any other is in nobody's way until
 -- it is read
@@ -113,7 +118,7 @@ most_line = text_bytes
 
 -- of one line, which is no context where it is too long; a blank one is passed over
 unfoldable pub of_line : Scene → List ℕ → Recorded
-of_line s line = if nat_lt most_line (length line) then refused else (if is_blank line then record { text = []; lines = 1; refused = false } else of_context s (context_of line))
+of_line s line = if nat_lt most_line (length line) then refused else (if is_blank line then record { text = []; lines = 1; refused = false; long = false } else of_context s (context_of line))
 
 -- the fold over the lines
 abbrev pub record_of : Scene → List (List ℕ) → Recorded

@@ -14,6 +14,6 @@ mod recorder;
 mod scene;
 
 pub use lines::record_lines;
-pub use recorded::Recorded;
+pub use recorded::{Recorded, counted_both};
 pub use recorder::RecordFault;
 pub use scene::Recorder;

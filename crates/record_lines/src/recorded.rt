@@ -1,5 +1,5 @@
 //! What is recorded of some lines.
-ghost use Rattle.std.specs.Prelude.{◌≡◌, ◌+◌, ◌<◌, ◌^◌, IfOk, OnOk};
+ghost use Rattle.std.specs.Prelude.{◌≡◌, ◌+◌, ◌<◌, ◌^◌, ◌||◌, IfOk, OnOk, nat_lt};
 ghost use Rattle.record_lines.specs.Record.{nothing, joined};
 ghost use Rattle.record_lines.specs.View.{recorded_view};
 
@@ -43,9 +43,16 @@ impl Recorded {
         self.text.extend_from_slice(next.text.as_slice())?;
         Ok(Recorded {
             text: self.text,
-            long: self.long.saturating_add(next.long),
+            long: counted_both(self.long, next.long),
             lines: self.lines + next.lines,
             refused: next.refused,
         })
     }
+}
+
+/// The sum of two counts, or the greatest count.
+pub fn counted_both(one: u64, other: u64) -> u64
+    ensures { nat_lt 0 result ≡ (nat_lt 0 one || nat_lt 0 other) }
+{
+    one.saturating_add(other)
 }

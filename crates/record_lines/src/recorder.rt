@@ -1,5 +1,6 @@
 //! What is recorded of one context.
-ghost use Rattle.std.specs.Prelude.{◌≡◌, ◌≤◌, ◌<◌, ◌^◌, ◌+◌, ◌++◌, ◌||◌, ◌↔◌, true, false, map, flat_map, length, slice_get, string_bytes, IfOk, IfSome, OnOk, IfErr, Some, None, Err, Ok, ◌≢◌};
+ghost use Rattle.std.specs.Prelude.{nat_lt, ◌≡◌, ◌≤◌, ◌<◌, ◌^◌, ◌+◌, ◌++◌, ◌||◌, ◌↔◌, true, false, map, flat_map, length, slice_get, string_bytes, IfOk, IfSome, OnOk, IfErr, Some, None, Err, Ok, ◌≢◌};
+ghost use Rattle.std.specs.List.{list_any};
 ghost use Rattle.std.specs.Map.{lookup};
 ghost use Rattle.std.specs.Str.{bytes_eq};
 ghost use Rattle.flag_text.specs.Shape.{is_tidy};
@@ -8,11 +9,11 @@ ghost use Rattle.flag_defs.specs.Flag.{flag_view, is_broken, targeting_in};
 ghost use Rattle.flag_defs.specs.Flags.{flags_view};
 ghost use Rattle.logic_eval.specs.Views.{reach_view};
 ghost use Rattle.record_lines.specs.Scene.{scene_of};
-ghost use Rattle.record_lines.specs.Record.{IsSceneOf, PagesIn, reached_in, note_of};
+ghost use Rattle.record_lines.specs.Record.{IsSceneOf, PagesIn, reached_in, is_long, note_of};
 ghost use Rattle.record_lines.specs.Refusal.{refusal_for};
 ghost use Rattle.record_lines.specs.declared.recorder.RecordFault.TheVariants.{WantOfMemory};
 
-use crate::recorded::Recorded;
+use crate::recorded::{Recorded, counted_both};
 use crate::scene::Recorder;
 use book_core::Page;
 use flag_defs::{Flag, Flags};
@@ -118,6 +119,7 @@ impl<'a> Recorder<'a> {
     ) -> Result<(), AllocError>
         requires { is_tidy (view context.now) ≡ true }
         ensures text { OnOk result (out.new.text.items ≡ out.old.text.items ++ flat_map (note_of (scene_of self.now)) (reached_in (scene_of self.now) (view context.now))) }
+        ensures long { OnOk result (nat_lt 0 out.new.long ≡ (nat_lt 0 out.old.long || list_any is_long (reached_in (scene_of self.now) (view context.now)))) }
         ensures lines { out.new.lines ≡ out.old.lines }
         ensures refused { out.new.refused ≡ out.old.refused }
     {
@@ -141,6 +143,7 @@ impl<'a> Recorder<'a> {
         out: &mut Recorded,
     ) -> Result<(), AllocError>
         ensures text { OnOk result (out.new.text.items ≡ out.old.text.items ++ flat_map (note_of (scene_of self.now)) (map reach_view reached.now)) }
+        ensures long { OnOk result (nat_lt 0 out.new.long ≡ (nat_lt 0 out.old.long || list_any is_long (map reach_view reached.now))) }
         ensures lines { out.new.lines ≡ out.old.lines }
         ensures refused { out.new.refused ≡ out.old.refused }
     {
@@ -153,12 +156,13 @@ impl<'a> Recorder<'a> {
     /// Adds the line of an input, unless it has too many bytes.
     fn note(&self, alloc: Global, reach: &Reached, out: &mut Recorded) -> Result<(), AllocError>
         ensures text { OnOk result (out.new.text.items ≡ out.old.text.items ++ note_of (scene_of self.now) (reach_view reach.now)) }
+        ensures long { OnOk result (nat_lt 0 out.new.long ≡ (nat_lt 0 out.old.long || is_long (reach_view reach.now))) }
         ensures lines { out.new.lines ≡ out.old.lines }
         ensures refused { out.new.refused ≡ out.old.refused }
     {
         let input = reach.input.as_str();
         if input.len() > INPUT_BYTES {
-            out.long = out.long.saturating_add(1);
+            out.long = counted_both(out.long, 1);
             return Ok(());
         }
         let Some(page) = self.pages.get(reach.site as usize) else {

@@ -1,12 +1,14 @@
-use Rattle.std.proofs.Common.{◌≡◌, ◌++◌, drop, map, flat_map}
+use Rattle.std.proofs.Common.{◌≡◌, ◌++◌, ◌||◌, drop, map, flat_map, nat_lt}
+use Rattle.std.specs.List.{list_any}
 use Rattle.logic_eval.specs.Views.{reach_view}
-use Rattle.record_lines.specs.Record.{note_of}
+use Rattle.record_lines.specs.Record.{is_long, note_of}
 use Rattle.record_lines.specs.Scene.{scene_of}
 use Rattle.record_lines.proofs.scene.Recorder.note_all.Given as goal
 
 abbrev pub invariant-loop-reach : goal.invariant-loop-reach
 invariant-loop-reach l = record {
   text : l.out.text.items ++ flat_map (note_of (scene_of l.self)) (map reach_view (drop l.reach-index l.reached)) ≡ l.fn.out.text.items ++ flat_map (note_of (scene_of l.self)) (map reach_view l.reached);
+  long : (nat_lt 0 l.out.long || list_any is_long (map reach_view (drop l.reach-index l.reached))) ≡ (nat_lt 0 l.fn.out.long || list_any is_long (map reach_view l.reached));
   lines : l.out.lines ≡ l.fn.out.lines;
   refused : l.out.refused ≡ l.fn.out.refused;
 }
