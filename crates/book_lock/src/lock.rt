@@ -1,5 +1,5 @@
 //! The word and the slot, and the steps of one seat on them.
-ghost use Rattle.std.specs.Prelude.{◌≡◌, ◌<◌, ◌+◌, ◌^◌, [], ◌∷◌, ◌++◌, None, IfSome, IfNone, IfOk, OnErr, length, false};
+ghost use Rattle.std.specs.Prelude.{◌≡◌, ◌<◌, ◌+◌, ◌^◌, [], ◌∷◌, ◌++◌, None, IfSome, IfNone, IfOk, IsOk, OnErr, length, false};
 ghost use Rattle.book_core.specs.Book.{inputs_on};
 ghost use Rattle.book_lock.specs.Notes.{Answers, Looks, accepted};
 ghost use Rattle.book_core.specs.Calls.{book_of_calls};
@@ -175,6 +175,7 @@ impl BookLock {
         ensures idle { place.new.me ≡ (idle number (seen_in place.new.me.0.seats), []) }
         ensures looks { IfSome result (λ r. Looks (sight number (seen_in place.old.me.0.seats)) (sight number (seen_in place.new.me.0.seats))) }
         ensures inputs { IfSome result (λ r. IfOk r (λ inputs. inputs ≡ inputs_on (book_of_calls [] (seen_in place.new.me.0.seats)) page.now)) }
+        ensures empty { IfSome result (λ r. inputs_on (book_of_calls [] (seen_in place.new.me.0.seats)) page.now ≡ [] → IsOk r) }
         ensures none { IfNone result (place.new.me ≡ place.old.me) }
     {
         let book = self.try_take(place, number)?;
@@ -199,6 +200,7 @@ impl BookLock {
         ensures idle { place.new.me ≡ (idle number (seen_in place.new.me.0.seats), []) }
         ensures looks { Looks (sight number (seen_in place.old.me.0.seats)) (sight number (seen_in place.new.me.0.seats)) }
         ensures inputs { IfOk result (λ inputs. inputs ≡ inputs_on (book_of_calls [] (seen_in place.new.me.0.seats)) page.now) }
+        ensures empty { inputs_on (book_of_calls [] (seen_in place.new.me.0.seats)) page.now ≡ [] → IsOk result }
     {
         for _ in rt.forever() {
             if let Some(exposure) = self.try_exposure(alloc, place, number, page) {

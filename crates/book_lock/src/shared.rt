@@ -1,5 +1,5 @@
 //! A book that threads share.
-ghost use Rattle.std.specs.Prelude.{◌≡◌, ◌≢◌, ◌↔◌, ◌⊎◌, ◌<◌, ◌≤◌, ◌-◌, ◌^◌, [], length, Ok, Err, IfOk, IfErr, OnErr};
+ghost use Rattle.std.specs.Prelude.{◌≡◌, ◌≢◌, ◌↔◌, ◌⊎◌, ◌<◌, ◌≤◌, ◌-◌, ◌^◌, [], length, Ok, Err, IfOk, IsOk, IfErr, OnErr};
 ghost use Rattle.book_core.specs.Book.{most_bytes, inputs_on};
 ghost use Rattle.book_core.specs.Calls.{book_of_calls, reply_after};
 ghost use Rattle.book_lock.specs.Counts.{own};
@@ -94,6 +94,7 @@ impl<L: BookName> SharedBook<L> {
     ) -> Result<Exposure, SealFault>
         ensures looks { Looks seat.old seat.new }
         ensures inputs { IfOk result (λ inputs. inputs ≡ inputs_on (book_of_calls [] seat.new.seen) page.now) }
+        ensures empty { inputs_on (book_of_calls [] seat.new.seen) page.now ≡ [] → IsOk result }
         ensures holds { IfOk result (λ inputs. HoldsTold page.now inputs (own seat.new)) }
         ensures wanted { IfErr result (λ e. e ≡ SealFault.WantOfMemory) }
     {
@@ -110,6 +111,7 @@ impl<L: BookName> SharedBook<L> {
     ) -> Result<Exposure, AllocError>
         ensures looks { Looks seat.old seat.new }
         ensures inputs { IfOk result (λ inputs. inputs ≡ inputs_on (book_of_calls [] seat.new.seen) page.now) }
+        ensures empty { inputs_on (book_of_calls [] seat.new.seen) page.now ≡ [] → IsOk result }
         ensures holds { IfOk result (λ inputs. HoldsTold page.now inputs (own seat.new)) }
     {
         self.lock

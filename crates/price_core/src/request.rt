@@ -56,7 +56,17 @@ impl Request {
         ensures no_text { length bytes.now ≤ max_request → is_utf8 bytes.now ≡ false → IsErrOf result PriceFault.BadRequest }
     {
         let tree = read_tree(alloc, bytes, TEXT_BYTES)?;
-        requested(alloc, &tree)
+        Request::of_tree(alloc, &tree)
+    }
+
+    /// The request that a tree stands for, with the refusals of [`Request::read`] behind its reading of the text. The condition is
+    /// [`Tree::is_whole`], which each tree that was read meets.
+    pub fn of_tree(alloc: Global, tree: &Tree) -> Result<Request, PriceFault>
+        requires { is_whole (view tree.now) ≡ true }
+        ensures { GivesUnless PriceFault.WantOfMemory (λ r. r) result (request_of (view tree.now)) }
+    {
+        let draft = written(alloc, tree)?;
+        judge(alloc, draft)
     }
 
     /// The flag whose rule is to change.
@@ -94,15 +104,6 @@ impl Request {
         let limits = limits_on(alloc, self.totals.as_slice(), names)?;
         Ok(Totals { limits })
     }
-}
-
-/// The request that a tree stands for.
-fn requested(alloc: Global, tree: &Tree) -> Result<Request, PriceFault>
-    requires { is_whole (view tree.now) ≡ true }
-    ensures { GivesUnless PriceFault.WantOfMemory (λ r. r) result (request_of (view tree.now)) }
-{
-    let draft = written(alloc, tree)?;
-    judge(alloc, draft)
 }
 
 /// Whether each name that is asked for is one of these.

@@ -1,6 +1,6 @@
 use Rattle.std.proofs.lemmas.Result.{err_from_is_err_and}
 use Rattle.price_core.proofs.Lawful.{judged_err}
-use Rattle.price_core.proofs.request.requested.Goals as goal
+use Rattle.price_core.proofs.request.Request.of_tree.Goals as goal
 
 pub returns-in_err-draft : goal.returns-in_err-draft
 returns-in_err-draft c =
