@@ -21,10 +21,10 @@ pub no_output_fault : (fault : FillFault) → is_output_fault {X = Counted} (Err
 no_output_fault fill.WantOfMemory = refl
 no_output_fault fill.Read = refl
 
--- both are so
-when_both : {X : Type 0} (P Q : X → Type 0) (o : Option X) → IfSome o P → IfSome o Q → IfSome o (λ x. P x × Q x)
-when_both P Q None p q = tt
-when_both P Q (Some x) p q = (p, q)
+-- all three are so
+when_all : {X : Type 0} (P Q R : X → Type 0) (o : Option X) → IfSome o P → IfSome o (λ x. Q x × R x) → IfSome o (λ x. P x × Q x × R x)
+when_all P Q R None p both = tt
+when_all P Q R (Some x) p (q, r) = (p, q, r)
 
 module _ (s : Scene) (is_cut : Bool) where
   -- what a stream comes to, where its bytes are known
@@ -82,7 +82,7 @@ module _ (s : Scene) (is_cut : Bool) where
     pub told : (rest : List ℕ) (lines taken : ℕ) (now new : Option (List ℕ)) (c : Counted) → HasNoFeed rest → IsAtEnd now → c.torn ≡ nat_lt 0 (length rest) → c.empty ≡ nat_eq taken 0 → IfSome start (λ bytes. nat_lt 0 c.long ≡ (recorded_of s bytes).long) → Known s rest lines taken start now old new
         → IfSome start (λ bytes. TellsOf (recorded_of s bytes) bytes c)
     told rest lines taken now new c none end torn empty long known =
-        when_both (λ bytes. nat_lt 0 c.long ≡ (recorded_of s bytes).long) (λ bytes. (c.torn ≡ is_torn bytes) × (c.empty ≡ is_empty bytes)) start long
+        when_all (λ bytes. nat_lt 0 c.long ≡ (recorded_of s bytes).long) (λ bytes. c.torn ≡ is_torn bytes) (λ bytes. c.empty ≡ is_empty bytes) start long
         (when_known s (λ bytes. (c.torn ≡ is_torn bytes) × (c.empty ≡ is_empty bytes)) rest lines taken start now old new known
         (λ bytes stands. (let behind = rest_at s bytes rest lines taken now old new none end stands in (torn ∙ behind.0, empty ∙ behind.1))))
 

@@ -46,7 +46,7 @@ loop-run-preserved g c =
     let under = at_run old mid c.loop-run.lines runs i c.run-item.result (omega arith) c.run-item.is c.loop-run.invariant.under in
     record {
       whole = search rules;
-      long = next_long runs i c.run-item.result (omega arith) c.run-item.is c.loop-run.long c.counted_both.result (runs_view runs).long c.counted_both.ensures c.loop-run.invariant.long c.if-run.false;
+      long = next_long runs i c.run-item.result (omega arith) c.run-item.is c.loop-run.long c.counted_both-long.result (runs_view runs).long c.counted_both-long.ensures c.loop-run.invariant.long c.if-run.false;
       under = next old mid (g.O.Outlet.bytes c.write_whole.new.out) c.loop-run.lines (recorded_view c.run-item.result) (runs_view (drop (i + 1) runs)) (runs_view runs) under c.if-run.false (search rules);
     }
 
@@ -59,7 +59,7 @@ returns-clause-exact g c =
 pub returns-then-run-clause-long : goal.returns-then-run-clause-long
 returns-then-run-clause-long g c =
     let runs = c.args.runs.now in
-    stop_long runs c.loop-run.run-index c.run-item.result (omega arith) c.run-item.is c.loop-run.long c.counted_both.result (runs_view runs).long c.counted_both.ensures c.loop-run.invariant.long c.if-run.true
+    stop_long runs c.loop-run.run-index c.run-item.result (omega arith) c.run-item.is c.loop-run.long c.counted_both-long.result (runs_view runs).long c.counted_both-long.ensures c.loop-run.invariant.long c.if-run.true
 
 pub returns-clause-long : goal.returns-clause-long
 returns-clause-long g c =
