@@ -38,10 +38,10 @@ pub record IsChangeTold (p : Problem) (rule : Entries) (duals : DualPrices) (ite
   pub switched : IsSwitchTable p.old rule (keys_of p.limits) (counts_of p.inputs (total_weight p.old)) table
   pub told : items ≡ change_told p.old rule p.limits p.pricing runs table duals
 
--- What is told of what a problem is answered with. The bar of a rule stands at some height below the names of a set.
+-- what is told of what a problem is answered with
 abbrev pub IsAnswerTold : Result Problem RolloutFault → Answer → List Item → Type 0
 IsAnswerTold (Ok p) (emit rule duals) items = IsChangeTold p rule duals items
-IsAnswerTold (Ok p) (none_exists kind names) items = (bar : ℕ) × (items ≡ none_told bar p.old p.limits kind names)
+IsAnswerTold (Ok p) (none_exists kind names) items = items ≡ none_told p.old p.limits kind names
 IsAnswerTold (Err f) answer items = ⊥
 
 -- its picture

@@ -8,7 +8,7 @@ use Rattle.picture.specs.declared.element.Element.{Element}
 pub told-append : (xs ys : List Element) → told (xs ++ ys) ≡ told xs ++ told ys
 told-append xs ys = flat_map-append _ xs ys
 
-range-append : (a n m : ℕ) → range_with_len a (n + m) ≡ range_with_len a n ++ range_with_len (a + n) m
+pub range-append : (a n m : ℕ) → range_with_len a (n + m) ≡ range_with_len a n ++ range_with_len (a + n) m
 range-append a zero m =
     let none : 0 + m ≡ m = omega arith in
     let same : a ≡ a + 0 = omega arith in

@@ -1,3 +1,4 @@
+pub mod Heights
 pub mod Spelling
 pub mod Told
 pub mod Words

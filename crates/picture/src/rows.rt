@@ -1,6 +1,7 @@
 //! What the lists and the tables of a picture share: their headings, and rows with names and numbers.
 ghost use Rattle.std.specs.Prelude.{◌≡◌, ◌++◌, OnOk};
-ghost use Rattle.picture.specs.Told.{headings_told, number_element, told};
+ghost use Rattle.price_core.specs.Limits.{limits_view};
+ghost use Rattle.picture.specs.Told.{headings_told, look_of, number_element, told};
 
 use crate::bars::{LEFT, look_of};
 use crate::element::{Content, Element, Extent, Piece, Place};
@@ -38,7 +39,11 @@ pub(crate) fn add_headings(
 }
 
 /// The look of a variant, to the left of its name in the row at a height.
-pub(crate) fn swatch<'a>(limits: &[Limit], name: &'a str, y: u64) -> Piece<'a> {
+pub(crate) fn swatch<'a>(limits: &[Limit], name: &'a str, y: u64) -> Piece<'a>
+    ensures name { result.name.now ≡ name.now }
+    ensures look { result.look ≡ look_of (limits_view limits.now) name.now }
+    ensures left { result.place.x ≡ 40 }
+{
     Piece {
         name,
         look: look_of(limits, name),

@@ -1,7 +1,8 @@
 //! The number of a step above its picture.
-ghost use Rattle.std.specs.Prelude.{◌≡◌, ◌++◌, ◌∷◌, [], OnErr, OnOk, string_bytes};
+ghost use Rattle.std.specs.Prelude.{◌≡◌, ◌++◌, ◌∷◌, [], IfOk, OnErr, OnOk, string_bytes};
+ghost use Rattle.picture.specs.Heights.{step_height};
 ghost use Rattle.picture.specs.Spelling.{Adds};
-ghost use Rattle.picture.specs.Told.{step_told, told};
+ghost use Rattle.picture.specs.Told.{below, step_told, told};
 
 use crate::bars::LEFT;
 use crate::element::{Content, Element, Extent, Place, add};
@@ -17,6 +18,7 @@ const STEP: u64 = 100;
 #[tactic(auto, unfolding(crate::specs::Spelling::Adds))]
 pub fn draw_step(alloc: Global, pictures: &mut String, y: u64, step: u64) -> Result<u64, AllocError>
     ensures adds { OnOk result (Adds (step_told step ∷ []) (string_bytes pictures.old) (string_bytes pictures.new)) }
+    ensures below { IfOk result (λ end. end ≡ below y step_height) }
     ensures kept { OnErr result (string_bytes pictures.new ≡ string_bytes pictures.old) }
 {
     let mut elements = Vec::new(alloc);

@@ -1,12 +1,13 @@
 //! The list of the variants.
-ghost use Rattle.std.specs.Prelude.{◌≡◌, ◌++◌, [], OnOk};
+ghost use Rattle.std.specs.Prelude.{◌≡◌, ◌++◌, [], IfOk, OnOk, string_bytes, sum_by};
 ghost use Rattle.std.specs.List.{flat_map};
 ghost use Rattle.std.specs.Map.{lookup};
 ghost use Rattle.std.specs.Str.{bytes_eq};
 ghost use Rattle.bucket_core.specs.Rule.{total_of};
 ghost use Rattle.price_core.specs.Limits.{limit_view, limits_view};
 ghost use Rattle.transport_instance.specs.Certificate.{beta_view};
-ghost use Rattle.picture.specs.Told.{dual_told, told, totals_told, variant_told, variants_told};
+ghost use Rattle.picture.specs.Heights.{named_height, variants_height};
+ghost use Rattle.picture.specs.Told.{below, dual_told, told, totals_told, variant_told, variants_told};
 
 use crate::change::Change;
 use crate::element::{Content, Element, Place, add};
@@ -31,8 +32,9 @@ pub(crate) fn add_variants<'a>(
     limits: &'a [Limit],
     y: u64,
 ) -> Result<u64, AllocError>
-    ensures { OnOk result (told elements.new.items ≡ told elements.old.items
+    ensures told { OnOk result (told elements.new.items ≡ told elements.old.items
         ++ variants_told change.now.old.now change.now.new.now (limits_view limits.entry.now) (beta_view change.now.certificate.now.beta.items)) }
+    ensures below { IfOk result (λ end. end ≡ below y (variants_height (limits_view limits.entry.now))) }
 {
     add_headings(elements, HEADINGS, y)?;
     let below = add_rows(elements, change, limits, y.saturating_add(ROW))?;
@@ -46,8 +48,9 @@ fn add_rows<'a>(
     limits: &'a [Limit],
     y: u64,
 ) -> Result<u64, AllocError>
-    ensures { OnOk result (told elements.new.items ≡ told elements.old.items
-        ++ flat_map (variant_told change.now.old.now change.now.new.now (beta_view change.now.certificate.now.beta.items)) (limits_view limits.entry.now)) }
+    ensures told { OnOk result (told elements.new.items ≡ told elements.old.items
+        ++ flat_map (variant_told (limits_view limits.entry.now) change.now.old.now change.now.new.now (beta_view change.now.certificate.now.beta.items)) (limits_view limits.entry.now)) }
+    ensures below { IfOk result (λ end. end ≡ below y (sum_by (λ l. named_height 26 l.0) (limits_view limits.entry.now))) }
 {
     let mut row = y;
     for limit in limits {
@@ -64,8 +67,9 @@ fn add_variant<'a>(
     limit: &'a Limit,
     y: u64,
 ) -> Result<u64, AllocError>
-    ensures { OnOk result (told elements.new.items ≡ told elements.old.items
-        ++ variant_told change.now.old.now change.now.new.now (beta_view change.now.certificate.now.beta.items) (limit_view limit.entry.now)) }
+    ensures told { OnOk result (told elements.new.items ≡ told elements.old.items
+        ++ variant_told (limits_view limits.entry.now) change.now.old.now change.now.new.now (beta_view change.now.certificate.now.beta.items) (limit_view limit.entry.now)) }
+    ensures below { IfOk result (λ end. end ≡ below y (named_height 26 (string_bytes limit.entry.now.name))) }
 {
     let name = limit.name.as_str();
     let below = if name.len() > 26 {
@@ -88,7 +92,7 @@ fn add_totals<'a>(
     y: u64,
     below: u64,
 ) -> Result<(), AllocError>
-    ensures { OnOk result (told elements.new.items ≡ told elements.old.items ++ totals_told change.now.old.now change.now.new.now (limit_view limit.entry.now)) }
+    ensures { OnOk result (told elements.new.items ≡ told elements.old.items ++ totals_told (limits_view limits.entry.now) change.now.old.now change.now.new.now (limit_view limit.entry.now)) }
 {
     let name = limit.name.as_str();
     let width = if y < below { 1060 } else { 440 };

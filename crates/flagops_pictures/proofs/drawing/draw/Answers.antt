@@ -15,4 +15,4 @@ returns-in-NoneExists c =
     let p = c.args.problem.now in
     let cut = c.in-NoneExists.cut in
     subst (λ (it : Planned). OnOk c.draw_none.result ((inputs : Inputs) → IsCounted p inputs → AddsTold (Ok (problem_view p inputs)) (planned_view it) (string_bytes c.args.pictures.now) (string_bytes c.draw_none.new.pictures))) (sym c.in-NoneExists.is)
-    (if_on c.draw_none.result c.draw_none.ensures.adds (λ adds inputs counted. (none_told adds.0 p.old p.totals cut.kind (names_view cut.names.items), (adds.0, refl), adds.1)))
+    (if_on c.draw_none.result c.draw_none.ensures.adds (λ adds inputs counted. (none_told p.old p.totals cut.kind (names_view cut.names.items), refl, adds)))
