@@ -1,4 +1,4 @@
 pub mod Bodies
-pub mod Ends
 mod Looks
-pub mod Telling
+mod Remaining
+mod Telling

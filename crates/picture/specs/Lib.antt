@@ -1,4 +1,5 @@
-pub mod Heights
+pub mod Changes
+pub mod Deficits
 pub mod Spelling
 pub mod Told
 pub mod Words

@@ -1,5 +1,6 @@
 //! Rules as bars over the points.
-ghost use Rattle.std.specs.Prelude.{◌≡◌, ◌≤◌, ◌++◌, OnOk};
+ghost use Rattle.std.specs.Prelude.{◌≡◌, ◌≤◌, ◌++◌, OnOk, position, string_bytes};
+ghost use Rattle.std.specs.Str.{bytes_eq};
 ghost use Rattle.bucket_core.specs.Rule.{IsRuleTotal};
 ghost use Rattle.price_core.specs.Limits.{limits_view};
 ghost use Rattle.picture.specs.Told.{bar_told, edge, extent_of, look_of, place_of, told};
@@ -46,18 +47,21 @@ pub(crate) fn extent(begin: u64, end: u64, total: u64) -> Extent
 }
 
 /// The look of the variant of a name: no two of 64 have one colour and one pattern.
-#[tactic(auto, using(crate::proofs::Looks::place_in_limits))]
 pub(crate) fn look_of(limits: &[Limit], name: &str) -> Look
     ensures { result ≡ look_of (limits_view limits.now) name.now }
 {
-    let place = limits
-        .iter()
-        .position(|limit| limit.name.as_str() == name)
-        .unwrap_or(0) as u64;
+    let place = place_among(limits, name).unwrap_or(0) as u64;
     Look {
         colour: place % 8,
         pattern: (place + place / 8) % 8,
     }
+}
+
+/// Which of the limits are those of a name.
+fn place_among(limits: &[Limit], name: &str) -> Option<usize>
+    ensures { result ≡ position (λ l. bytes_eq (string_bytes l.name) name.now) limits.now }
+{
+    limits.iter().position(|limit| limit.name.as_str() == name)
 }
 
 /// Adds the bar of a rule, at a height.

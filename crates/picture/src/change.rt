@@ -5,9 +5,9 @@ ghost use Rattle.bucket_core.specs.Rule.{IsRuleTotal, total_weight};
 ghost use Rattle.price_core.specs.Limits.{limits_view};
 ghost use Rattle.switch_table.specs.Runs.{run_view, runs_view};
 ghost use Rattle.transport_instance.specs.Certificate.{certificate_view};
-ghost use Rattle.picture.specs.Heights.{change_height};
+ghost use Rattle.picture.specs.Changes.{bars_told, change_height, change_told, head_told};
 ghost use Rattle.picture.specs.Spelling.{Adds};
-ghost use Rattle.picture.specs.Told.{bars_told, behind, below, change_told, extent_of, head_told, look_of, place_of, runs_told, told};
+ghost use Rattle.picture.specs.Told.{behind, down, extent_of, look_of, place_of, runs_told, told};
 
 use crate::bars::{BAR, LEFT, add_bar, edge, extent, look_of};
 use crate::element::{Band, Content, Element, Extent, Place, add};
@@ -39,7 +39,7 @@ pub struct Change<'a> {
 
 /// Adds the picture of a change to those of a page, so far below its top, and gives how far below it the picture ends. Where
 /// memory runs out the pictures are as they were. The condition is that the table has a place for each variant that has limits.
-#[tactic(auto, unfolding(crate::specs::Spelling::Adds, crate::specs::Told::change_told, crate::specs::Heights::change_height))]
+#[tactic(auto, unfolding(crate::specs::Spelling::Adds, crate::specs::Changes::change_told, crate::specs::Changes::change_height))]
 pub fn draw_change(
     alloc: Global,
     pictures: &mut String,
@@ -47,10 +47,10 @@ pub fn draw_change(
     change: &Change<'_>,
 ) -> Result<u64, AllocError>
     requires { change.now.table.now.0 ≡ length (keys_of change.now.totals.now) }
-    ensures adds { OnOk result (Adds
+    ensures adds { OnOk result (Adds y
         (change_told change.now.old.now change.now.new.now change.now.totals.now change.now.prices.now (runs_view change.now.runs.now) change.now.table.now (certificate_view change.now.certificate.now))
         (string_bytes pictures.old) (string_bytes pictures.new)) }
-    ensures below { IfOk result (λ end. end ≡ below y (change_height change.now.totals.now change.now.prices.now change.now.table.now)) }
+    ensures below { IfOk result (λ end. end ≡ down y (change_height change.now.totals.now change.now.prices.now change.now.table.now)) }
     ensures kept { OnErr result (string_bytes pictures.new ≡ string_bytes pictures.old) }
 {
     let limits = change.totals.entries();
@@ -79,19 +79,19 @@ fn add_head<'a>(elements: &mut Vec<Element<'a>>, change: &Change<'a>) -> Result<
     add(
         elements,
         &[
-            Element::Caption(Style::Title, Place { x: LEFT, y: 66 }, cost),
-            Element::Caption(
+            Element::Text(Style::Title, Place { x: LEFT, y: 66 }, cost),
+            Element::Text(
                 Style::Row,
                 Place { x: LEFT, y: 110 },
                 Content::Word(Word::Least),
             ),
-            Element::Caption(
+            Element::Text(
                 Style::Heading,
                 Place { x: LEFT, y: 170 },
                 Content::Word(Word::Before),
             ),
-            Element::Caption(Style::Value, Place { x: 1160, y: 170 }, points),
-            Element::Caption(
+            Element::Text(Style::Value, Place { x: 1160, y: 170 }, points),
+            Element::Text(
                 Style::Heading,
                 Place { x: LEFT, y: 466 },
                 Content::Word(Word::After),
