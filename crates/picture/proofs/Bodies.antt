@@ -32,9 +32,11 @@ pub one_more : (ps : Pictures) (p : ℕ × List Item) (before after : List ℕ) 
 unfolding IsBody Adds
 one_more ps (high, items) before after (ds, bytes, tells) (es, added, new) =
     let d : ℕ × List Element = (high, es) in
-    let top : depth ps ≡ depth ds = ap depth (sym tells) ∙ foot_told 0 ds in
-    (ds ++ (d ∷ []), added ∙ (ap (λ xs. xs ++ placed (depth ps) es) bytes ∙ (ap (λ y. stacked 0 ds ++ placed y es) top ∙ sym (stacked_more 0 ds d))),
-    map-append (λ (e : ℕ × List Element). (e.0, told e.1)) ds (d ∷ []) ∙ (ap (λ xs. xs ++ ((high, told es) ∷ [])) tells ∙ ap (λ (xs : List Item). ps ++ ((high, xs) ∷ [])) new))
+    let top : depth ps ≡ depth ds = ap depth (sym tells) ∙ foot_told 0 ds in (
+      ds ++ (d ∷ []),
+      added ∙ (ap (λ xs. xs ++ placed (depth ps) es) bytes ∙ (ap (λ y. stacked 0 ds ++ placed y es) top ∙ sym (stacked_more 0 ds d))),
+      map-append (λ (e : ℕ × List Element). (e.0, told e.1)) ds (d ∷ []) ∙ (ap (λ xs. xs ++ ((high, told es) ∷ [])) tells ∙ ap (λ (xs : List Item). ps ++ ((high, xs) ∷ [])) new),
+    )
 
 -- a picture alone
 pub alone : (p : ℕ × List Item) (before after : List ℕ) → before ≡ [] → Adds 0 p.1 before after → IsBody (p ∷ []) after

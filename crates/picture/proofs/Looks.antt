@@ -1,5 +1,5 @@
 -- Which of the names with limits a name is.
-use Rattle.std.proofs.Common.{◌≡◌, ℕ, ◌+◌, Bool, not, List, [], ◌∷◌, length, map, nat_lt, Some, None, Option, if◌then◌else◌, refl, ap, ap₂, sym, string_bytes}
+use Rattle.std.proofs.Common.{◌≡◌, ℕ, ◌+◌, Bool, not, List, [], ◌∷◌, map, nat_lt, Some, None, if◌then◌else◌, refl, ap, ap₂, sym, string_bytes}
 use Rattle.std.specs.List.{position, position_or_len}
 use Rattle.std.specs.Str.{bytes_eq}
 use Rattle.std.proofs.lemmas.List.{length-map}

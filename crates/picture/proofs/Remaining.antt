@@ -14,9 +14,10 @@ module _ {A : Type 0} (tell : ℕ → A → List Item) (end : ℕ → A → ℕ)
       → Stands tell end row left so_far whole last → Stands tell end next rest more whole last
   first_row a rest more next is added ends (tells, stops) =
       let all : so_far ++ (tell row a ++ rows_told tell end (end row a) rest) ≡ whole = subst (λ (xs : List A). so_far ++ rows_told tell end row xs ≡ whole) is tells in
-      let stop : foot end (end row a) rest ≡ last = subst (λ (xs : List A). foot end row xs ≡ last) is stops in
-      (ap (λ y. more ++ rows_told tell end y rest) ends ∙ (ap (λ xs. xs ++ rows_told tell end (end row a) rest) added ∙ (append_assoc so_far (tell row a) (rows_told tell end (end row a) rest) ∙ all)),
-      ap (λ y. foot end y rest) ends ∙ stop)
+      let stop : foot end (end row a) rest ≡ last = subst (λ (xs : List A). foot end row xs ≡ last) is stops in (
+        ap (λ y. more ++ rows_told tell end y rest) ends ∙ (ap (λ xs. xs ++ rows_told tell end (end row a) rest) added ∙ (append_assoc so_far (tell row a) (rows_told tell end (end row a) rest) ∙ all)),
+        ap (λ y. foot end y rest) ends ∙ stop,
+      )
 
   -- none is left
   pub all_told : left ≡ [] → Stands tell end row left so_far whole last → so_far ≡ whole
