@@ -24,10 +24,13 @@ mod asked;
 mod command;
 mod laws;
 mod lines;
+mod loading;
+mod refusal;
 mod storing;
 mod uniting;
 mod usage;
 mod words;
 
 pub use asked::Uniting;
+pub use refusal::{BookCall, BookRefusal, Refused};
 pub use laws::a_book_is_the_union_of_its_files;
