@@ -7,7 +7,7 @@ use Rattle.flagops_shell.specs.Outcomes.{Lifts, refused_by}
 use Rattle.flagops_files.specs.Documents as documents
 use Rattle.flagops_files.specs.PlanFile as plans
 use Rattle.flagops_files.specs.Question as questions
-use Rattle.flagops_files.specs.Question.{Question}
+use Rattle.flagops_files.specs.Question.{BookQuestion, Question}
 use Rattle.flagops_files.specs.Refusal as files
 use Rattle.flagops_files.specs.Told.{file}
 use Rattle.flagops_rollouts.specs.Refusal.{Subjects, by, loads, loads_flags}
@@ -26,6 +26,14 @@ plan_at at path = refused_by Load (plans.plan_at at path)
 unfoldable pub IsQuestionAt : Holding → List ℕ → List ℕ → List ℕ → Result Question RolloutRefusal → Type 0
 IsQuestionAt at path request evidence r = Lifts Load (questions.IsQuestionAt at path request evidence) r
 
+-- the same over a book
+unfoldable pub IsBookQuestionAt : Holding → List ℕ → List ℕ → List ℕ → Result BookQuestion RolloutRefusal → Type 0
+IsBookQuestionAt at path request book r = Lifts Load (questions.IsBookQuestionAt at path request book) r
+
 -- the files of a question, each with the refusals that are of it
 abbrev pub question_subjects : List ℕ → List ℕ → List ℕ → Subjects
 question_subjects document request evidence = (file document, by loads_flags) ∷ (file request, by (loads files.loads_file)) ∷ (file evidence, by (loads files.loads_evidence)) ∷ []
+
+-- the same over a book
+abbrev pub book_question_subjects : List ℕ → List ℕ → List ℕ → Subjects
+book_question_subjects document request book = (file document, by loads_flags) ∷ (file request, by (loads files.loads_file)) ∷ (file book, by (loads files.loads_book)) ∷ []

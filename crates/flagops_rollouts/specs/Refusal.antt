@@ -167,6 +167,10 @@ loads_plan c = loads files.loads_plan c
 abbrev pub loads_question : RolloutCall → Bool
 loads_question c = loads files.loads_question c
 
+-- and that over a book
+abbrev pub loads_book_question : RolloutCall → Bool
+loads_book_question c = loads files.loads_book_question c
+
 -- the call that writing a file makes
 abbrev pub stores_file : RolloutCall → Bool
 stores_file c = loads files.stores_file c

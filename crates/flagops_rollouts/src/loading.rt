@@ -3,15 +3,15 @@ ghost use Rattle.std.specs.Prelude.{◌≡◌, ◌<◌, ◌||◌, IfErr, IfOk, I
 ghost use Rattle.flag_defs.specs.Flags.{flags_view};
 ghost use Rattle.plan_text.specs.Answer.{planned_view};
 ghost use Rattle.flagops_files.specs.Loading.{max_text};
-ghost use Rattle.flagops_files.specs.Question.{question_view};
+ghost use Rattle.flagops_files.specs.Question.{book_question_view, question_view};
 ghost use Rattle.flagops_files.specs.Told.{file};
 ghost use Rattle.flagops_shell.specs.Files.{KeepsOthers, Stores, load_of};
-ghost use Rattle.flagops_rollouts.specs.Loaded.{IsDocumentAt, IsQuestionAt, plan_at, question_subjects};
-ghost use Rattle.flagops_rollouts.specs.Refusal.{ComesFrom, GivesOne, GivesUnlessWant, TellsOf, TellsOfOne, is_file_fault, is_want, loads_flags, loads_plan, loads_question, stores_file, unwritable};
+ghost use Rattle.flagops_rollouts.specs.Loaded.{IsBookQuestionAt, IsDocumentAt, IsQuestionAt, book_question_subjects, plan_at, question_subjects};
+ghost use Rattle.flagops_rollouts.specs.Refusal.{ComesFrom, GivesOne, GivesUnlessWant, TellsOf, TellsOfOne, is_file_fault, is_want, loads_book_question, loads_flags, loads_plan, loads_question, stores_file, unwritable};
 
 use crate::refusal::Refused;
 use flag_defs::Flags;
-use flagops_files::Question;
+use flagops_files::{BookQuestion, Question};
 use flagops_shell::FileSet;
 use plan_text::Planned;
 use std::alloc::Global;
@@ -19,7 +19,7 @@ use std::thread::Threads;
 
 /// The flags of the document at a path.
 #[tactic(auto, using(crate::proofs::Loaded::told))]
-pub(crate) fn load_flags<F: FileSet>(
+pub fn load_flags<F: FileSet>(
     alloc: Global,
     files: &mut F,
     path: &str,
@@ -38,7 +38,7 @@ pub(crate) fn load_flags<F: FileSet>(
 
 /// The answer of the plan file at a path.
 #[tactic(auto, using(crate::proofs::Loaded::told))]
-pub(crate) fn load_planned<F: FileSet>(
+pub fn load_planned<F: FileSet>(
     alloc: Global,
     files: &mut F,
     path: &str,
@@ -57,7 +57,7 @@ pub(crate) fn load_planned<F: FileSet>(
 
 /// The question of the files at these paths. The condition is a factor from 1.
 #[tactic(auto, using(crate::proofs::Loaded::told_question))]
-pub(crate) fn load_question<R: Threads, F: FileSet>(
+pub fn load_question<R: Threads, F: FileSet>(
     rt: &R,
     alloc: Global,
     files: &mut F,
@@ -80,9 +80,34 @@ pub(crate) fn load_question<R: Threads, F: FileSet>(
     }
 }
 
+/// The question over a book of the files at these paths. The condition is a factor from 1.
+#[tactic(auto, using(crate::proofs::Loaded::told_book_question))]
+pub fn load_book_question<R: Threads, F: FileSet>(
+    rt: &R,
+    alloc: Global,
+    files: &mut F,
+    document: &str,
+    request: &str,
+    book: &str,
+    factor: u32,
+) -> Result<BookQuestion, Refused>
+    requires { 0 < factor }
+    ensures exact { IfSome (F.holding files.old) (λ at. GivesOne book_question_view result (IsBookQuestionAt at document.now request.now book.now)) }
+    ensures bytes { IfSome (F.holding files.old) (λ at. IfOk result (λ q. load_of at document.now max_text ≡ Ok q.document.items)) }
+    ensures calls { ComesFrom loads_book_question result }
+    ensures failed { F.has_failed files.new ≡ (F.has_failed files.old || is_file_fault result) }
+    ensures kept { F.holding files.new ≡ F.holding files.old }
+    ensures names { TellsOfOne (book_question_subjects document.now request.now book.now) result }
+{
+    match flagops_files::load_book_question(rt, alloc, files, document, request, book, factor) {
+        Ok(question) => Ok(question),
+        Err(refused) => Err(Refused::of(refused)),
+    }
+}
+
 /// Writes `bytes` to the file at `path`. After a refusal the files are as they were.
 #[tactic(auto, using(crate::proofs::Loaded::told, crate::proofs::Loaded::unwritten))]
-pub(crate) fn store<F: FileSet>(
+pub fn store<F: FileSet>(
     alloc: Global,
     files: &mut F,
     path: &str,

@@ -184,7 +184,7 @@ impl CommandRefusal for RolloutRefusal {
 }
 
 /// Whether memory ran out while an answer was verified.
-fn is_want_of_verify(fault: &VerifyFault) -> bool
+pub fn is_want_of_verify(fault: &VerifyFault) -> bool
     ensures { result ≡ is_want_of_verify fault.now }
 {
     match fault {
