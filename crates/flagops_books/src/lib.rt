@@ -32,5 +32,5 @@ mod usage;
 mod words;
 
 pub use asked::Uniting;
-pub use refusal::{BookCall, BookRefusal, Refused};
 pub use laws::a_book_is_the_union_of_its_files;
+pub use refusal::{BookCall, BookRefusal, Refused};

@@ -40,7 +40,9 @@ pub(crate) fn plan<R: Threads + Sync, F: FileSet>(
     ensures names { TellsOfOne (rolled (plan_subjects document.now request.now book.now)) result }
     ensures notes { IfOk result (λ o. IfSome o.remark (Says (NamesDoubted request.now book.now))) }
 {
-    match flagops_rollouts::plan(rt, alloc, files, document, request, book, refine, strict, explain) {
+    match flagops_rollouts::plan(
+        rt, alloc, files, document, request, book, refine, strict, explain,
+    ) {
         Ok(outcome) => Ok(outcome),
         Err(refused) => Err(Refused::of(refused)),
     }
@@ -67,7 +69,9 @@ pub(crate) fn verify<R: Threads + Sync, F: FileSet>(
     ensures names { TellsOfOne (rolled (verify_subjects document.now request.now book.now plan.now)) result }
     ensures notes { IfOk result (λ o. IfSome o.remark (Says (NamesDoubted request.now book.now))) }
 {
-    match flagops_rollouts::verify(rt, alloc, files, document, request, book, plan, refine, strict, json) {
+    match flagops_rollouts::verify(
+        rt, alloc, files, document, request, book, plan, refine, strict, json,
+    ) {
         Ok(outcome) => Ok(outcome),
         Err(refused) => Err(Refused::of(refused)),
     }
@@ -117,7 +121,9 @@ pub(crate) fn keep<R: Threads + Sync, F: FileSet>(
     ensures names { TellsOfOne (rolled (keep_subjects document.now plan.now request.now book.now)) result }
     ensures notes { IfOk result (λ o. IfSome o.remark (Says (NamesDoubted request.now book.now))) }
 {
-    match flagops_rollouts::keep(rt, alloc, files, document, plan, request, book, write, refine, strict) {
+    match flagops_rollouts::keep(
+        rt, alloc, files, document, plan, request, book, write, refine, strict,
+    ) {
         Ok(outcome) => Ok(outcome),
         Err(refused) => Err(Refused::of(refused)),
     }

@@ -9,6 +9,10 @@ use Rattle.tally_text.specs.declared.fault.TallyFileFault.TheVariants as tally
 abbrev pub number_item : ℕ → List ℕ
 number_item n = codes " " ++ decimal n
 
+-- the number and the name of a fault, each behind a blank
+abbrev pub fault_items : ℕ → List ℕ → List ℕ
+fault_items n name = codes " " ++ (decimal n ++ (codes " " ++ name))
+
 -- the line of a book at fault
 abbrev pub file_items : BookFileFault → List ℕ
 file_items (book.Line n) = number_item n

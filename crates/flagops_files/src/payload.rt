@@ -1,6 +1,6 @@
 //! What the line of a refusal says beyond the name of its fault.
 ghost use Rattle.std.specs.Prelude.{◌≡◌, IfOk, string_bytes};
-ghost use Rattle.flagops_files.specs.Payload.{file_items, number_item, tally_items};
+ghost use Rattle.flagops_files.specs.Payload.{fault_items, file_items, number_item, tally_items};
 ghost use Rattle.flagops_files.specs.Refusal.{payload_of};
 
 use crate::refusal::Refusal;
@@ -47,4 +47,11 @@ pub fn number_item(alloc: Global, n: u64) -> Result<String, AllocError>
     ensures { IfOk result (λ s. string_bytes s ≡ number_item n) }
 {
     format!(in alloc; " {n}")
+}
+
+/// The number and the name of a fault, each behind a blank.
+pub fn fault_items(alloc: Global, number: u32, name: &str) -> Result<String, AllocError>
+    ensures { IfOk result (λ s. string_bytes s ≡ fault_items number name.now) }
+{
+    format!(in alloc; " {number} {name}")
 }

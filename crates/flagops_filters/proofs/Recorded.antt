@@ -10,7 +10,6 @@ use Rattle.flag_defs.specs.Flags.{flags_view}
 use Rattle.flagops_files.specs.Documents.{IsDocumentAt}
 use Rattle.flagops_files.specs.Refusal as files
 use Rattle.flagops_files.specs.Refusal.{Refused}
-use Rattle.flagops_files.specs.declared.refusal.Refusal.TheVariants.{Plan}
 use Rattle.file_diagnostics.specs.Named.{Names}
 use Rattle.flagops_shell.specs.Console.{Shown}
 use Rattle.flagops_shell.specs.Diagnostic.{Says}
@@ -32,7 +31,7 @@ use Rattle.flagops_filters.specs.Stopping.{GivesUp, is_broken_off}
 use Rattle.flagops_filters.specs.Words.{Recording}
 use Rattle.flagops_filters.specs.Writing.{Refuses, RefusesOrWants, with_output}
 use Rattle.flagops_filters.specs.declared.refusal.FilterRefusal.{FilterRefusal}
-use Rattle.flagops_filters.specs.declared.refusal.FilterRefusal.TheVariants.{Load, Record}
+use Rattle.flagops_filters.specs.declared.refusal.FilterRefusal.TheVariants.{Load, Record, Plan}
 use Rattle.flagops_filters.proofs.Ending.{not_both, refused_so}
 use Rattle.flagops_filters.proofs.Naming.{loaded_named}
 
@@ -106,17 +105,17 @@ module _ (old new : Shown) (status : ℕ) where
     over_scene s (Some bytes) scene came = inl (s, scene, came)
 
     not_recorded : (bytes : List ℕ) (fault : RecordFault) → (fault ≢ recording.WantOfMemory → refusal_for (lookup (bytes_eq key) flags) ≡ Some fault)
-        → RefusesOrWants old new status record_call (NamesPath path) (Load (Plan (of_record fault))) → RecordOver old new status path flags key moment bytes is_cut
+        → RefusesOrWants old new status record_call (NamesPath path) (Plan (of_record fault)) → RecordOver old new status path flags key moment bytes is_cut
     not_recorded bytes fault refused (inl ends) =
-        let other : fault ≢ recording.WantOfMemory = λ want. not_both (is_want (Load (Plan (of_record fault)))) (ap (λ (f : RecordFault). is_want (Load (Plan (of_record f)))) want) ends.0 in
+        let other : fault ≢ recording.WantOfMemory = λ want. not_both (is_want (Plan (of_record fault))) (ap (λ (f : RecordFault). is_want (Plan (of_record f))) want) ends.0 in
         inr (inl (fault, refused other, ends.1))
     not_recorded bytes fault refused (inr ends) = inr (inr ends)
 
-    pub unrecorded : (given : Option (List ℕ)) (fault : RecordFault) (t : Told) → (fault ≢ recording.WantOfMemory → refusal_for (lookup (bytes_eq key) flags) ≡ Some fault) → t.refusal ≡ Load (Plan (of_record fault)) → Says (NamesPath path) t.remark
+    pub unrecorded : (given : Option (List ℕ)) (fault : RecordFault) (t : Told) → (fault ≢ recording.WantOfMemory → refusal_for (lookup (bytes_eq key) flags) ≡ Some fault) → t.refusal ≡ Plan (of_record fault) → Says (NamesPath path) t.remark
         → ShowsRefusal old new status is_want line_of record_call t.refusal t.remark → IfSome given (λ bytes. RecordOver old new status path flags key moment bytes is_cut)
     unrecorded None fault t refused is says shows = tt
     unrecorded (Some bytes) fault t refused is says shows =
-        not_recorded bytes fault refused (refused_so old new status record_call (NamesPath path) t.refusal (Load (Plan (of_record fault))) t.remark shows is (λ no_want. says))
+        not_recorded bytes fault refused (refused_so old new status record_call (NamesPath path) t.refusal (Plan (of_record fault)) t.remark shows is (λ no_want. says))
 
   -- ---- a document
 

@@ -4,7 +4,6 @@ use Rattle.std.specs.Prelude.{IfSome}
 use Rattle.flag_defs.specs.Document.{Definitions}
 use Rattle.flagops_shell.specs.Report.{Report}
 use Rattle.flagops_shell.specs.declared.outcome.Outcome.{Outcome}
-use Rattle.flagops_files.specs.declared.refusal.Refusal.TheVariants.{Plan}
 use Rattle.line_tally.specs.Lines.{untallied}
 use Rattle.note_streams.specs.Tallied.{TalliesStream}
 use Rattle.note_streams.specs.declared.stop.TallyStop.{TallyStop}
@@ -21,7 +20,7 @@ use Rattle.flagops_filters.specs.Refusal.{is_want}
 use Rattle.flagops_filters.specs.Report.{GivesOne, Told}
 use Rattle.flagops_filters.specs.Tally.{IsTallyAt, IsTallyIn, IsTallyOver, Target, target_of}
 use Rattle.flagops_filters.specs.Words.{Tallying}
-use Rattle.flagops_filters.specs.declared.refusal.FilterRefusal.TheVariants.{Load, Tally}
+use Rattle.flagops_filters.specs.declared.refusal.FilterRefusal.TheVariants.{Load, Tally, Plan}
 use Rattle.flagops_filters.proofs.Ending.{not_both}
 
 -- ---- a stream
@@ -62,12 +61,12 @@ module _ (flags : Definitions) (a : Tallying) (is_cut : Bool) (m : ℕ) (factor 
   at_target target given r is over =
       subst (λ (x : Result Target RolloutFault). IfSome given (λ bytes. GivesOne r (IsTallyAt x bytes is_cut))) (sym (by_factor (Ok target) is)) over
 
-  refused_at : (bytes : List ℕ) (fault : RolloutFault) (told : Told) → (fault ≢ rollout.WantOfMemory → target_of flags a.key a.site m ≡ Err fault) → told.refusal ≡ Load (Plan fault) → GivesOne (Err told) (IsTallyIn (Ok flags) a bytes is_cut)
+  refused_at : (bytes : List ℕ) (fault : RolloutFault) (told : Told) → (fault ≢ rollout.WantOfMemory → target_of flags a.key a.site m ≡ Err fault) → told.refusal ≡ Plan fault → GivesOne (Err told) (IsTallyIn (Ok flags) a bytes is_cut)
   refused_at bytes fault told wanted is = λ no_want.
-      let other : fault ≢ rollout.WantOfMemory = λ want. not_both (is_want told.refusal) (ap is_want is ∙ ap (λ (f : RolloutFault). is_want (Load (Plan f))) want) no_want in
+      let other : fault ≢ rollout.WantOfMemory = λ want. not_both (is_want told.refusal) (ap is_want is ∙ ap (λ (f : RolloutFault). is_want (Plan f)) want) no_want in
       subst (λ (x : Result Target RolloutFault). IsTallyAt x bytes is_cut (Err told.refusal)) (sym (by_factor (Err fault) (wanted other))) (ap Err is)
 
-  pub no_target : (given : Option (List ℕ)) (fault : RolloutFault) (told : Told) → (fault ≢ rollout.WantOfMemory → target_of flags a.key a.site m ≡ Err fault) → told.refusal ≡ Load (Plan fault)
+  pub no_target : (given : Option (List ℕ)) (fault : RolloutFault) (told : Told) → (fault ≢ rollout.WantOfMemory → target_of flags a.key a.site m ≡ Err fault) → told.refusal ≡ Plan fault
       → IfSome given (λ bytes. GivesOne (Err told) (IsTallyIn (Ok flags) a bytes is_cut))
   no_target None fault told wanted is = tt
   no_target (Some bytes) fault told wanted is = refused_at bytes fault told wanted is

@@ -9,7 +9,6 @@ use Rattle.flagops_files.specs.Documents.{IsDocumentAt}
 use Rattle.flagops_shell.specs.Console.{Shown}
 use Rattle.flagops_shell.specs.Files.{Holding}
 use Rattle.flagops_files.specs.declared.refusal.Refusal.{Refusal}
-use Rattle.flagops_files.specs.declared.refusal.Refusal.TheVariants.{Plan}
 use Rattle.note_streams.specs.Recorded.{most_bytes, recorded_of}
 use Rattle.note_streams.specs.declared.stop.RecordStop.TheVariants.{Line, Unreadable, TooLong}
 use Rattle.record_lines.specs.Record.{IsSceneOf, Recorded, Scene}
@@ -22,7 +21,7 @@ use Rattle.flagops_filters.specs.Refusal.{is_unread}
 use Rattle.flagops_filters.specs.Remarks.{NamesInput, NamesPath, PutsNote, record_opening}
 use Rattle.flagops_filters.specs.Words.{Recording}
 use Rattle.flagops_filters.specs.Writing.{After, AfterPart, Refuses, Wants}
-use Rattle.flagops_filters.specs.declared.refusal.FilterRefusal.TheVariants.{Load, Record}
+use Rattle.flagops_filters.specs.declared.refusal.FilterRefusal.TheVariants.{Load, Record, Plan}
 
 -- a flag that is not recorded is refused as `plan` refuses it: unknown, or without sites as it is broken
 abbrev pub of_record : RecordFault → RolloutFault
@@ -57,7 +56,7 @@ module _ (old new : Shown) (status : ℕ) where
   abbrev pub RecordOver : List ℕ → Definitions → List ℕ → ℕ → List ℕ → Bool → Type 0
   RecordOver path flags key moment bytes is_cut =
       ((s : Scene) × IsSceneOf flags key moment s × RecordEnds (recorded_of s bytes) (length bytes) is_cut)
-      ⊎ ((fault : RecordFault) × (refusal_for (lookup (bytes_eq key) flags) ≡ Some fault) × Refuses old new status (NamesPath path) (Load (Plan (of_record fault))))
+      ⊎ ((fault : RecordFault) × (refusal_for (lookup (bytes_eq key) flags) ≡ Some fault) × Refuses old new status (NamesPath path) (Plan (of_record fault)))
       ⊎ Wants old new status record_call
 
   -- of what was read as a document; it cannot be read only where a call has failed

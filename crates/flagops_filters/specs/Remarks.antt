@@ -8,7 +8,7 @@ use Rattle.note_streams.specs.declared.recording.Counted.{Counted}
 use Rattle.flagops_filters.specs.Refusal.{is_want}
 use Rattle.flagops_filters.specs.Report.{Came, Told}
 use Rattle.flagops_filters.specs.declared.refusal.FilterRefusal.{FilterRefusal}
-use Rattle.flagops_filters.specs.declared.refusal.FilterRefusal.TheVariants.{Load, Record, Tally, Join}
+use Rattle.flagops_filters.specs.declared.refusal.FilterRefusal.TheVariants.{Load, Plan, Record, Tally, Join}
 
 -- ---- of a refusal the name of what is refused
 
@@ -28,6 +28,7 @@ NamesInput lines = NamesWord (codes "the standard input") lines
 -- the document at a path is refused by its path, as is a flag of it, and a line of the standard input by its words
 abbrev pub NamesRefused : List ℕ → FilterRefusal → List ℕ → Type 0
 NamesRefused document (Load e) lines = NamesPath document lines
+NamesRefused document (Plan e) lines = NamesPath document lines
 NamesRefused document (Record e) lines = NamesInput lines
 NamesRefused document (Tally e) lines = NamesInput lines
 NamesRefused document (Join e) lines = ⊥

@@ -6,7 +6,6 @@ use Rattle.flag_defs.specs.Document.{Definitions}
 use Rattle.flagops_files.specs.Documents.{IsDocumentAt}
 use Rattle.flagops_shell.specs.Files.{Holding}
 use Rattle.flagops_files.specs.declared.refusal.Refusal.{Refusal}
-use Rattle.flagops_files.specs.declared.refusal.Refusal.TheVariants.{Plan}
 use Rattle.line_batches.specs.Lines.{parts_of}
 use Rattle.line_tally.specs.Lines.{Tallied, finished, untallied}
 use Rattle.note_streams.specs.Recorded.{most_bytes}
@@ -20,7 +19,7 @@ use Rattle.tally_filters.specs.declared.fault.FilterFault.TheVariants.{WantOfMem
 use Rattle.tally_text.specs.File.{tally_text}
 use Rattle.flagops_filters.specs.Report.{Came}
 use Rattle.flagops_filters.specs.Words.{Tallying}
-use Rattle.flagops_filters.specs.declared.refusal.FilterRefusal.TheVariants.{Load, Tally}
+use Rattle.flagops_filters.specs.declared.refusal.FilterRefusal.TheVariants.{Load, Tally, Plan}
 
 abbrev pub tally_call : List ℕ
 tally_call = codes "tally"
@@ -55,7 +54,7 @@ IsTallyOver target bytes is_cut r =
     ⊎ ((most_bytes < length bytes) × (r ≡ Err (Tally TooLong)))
 
 abbrev pub IsTallyAt : Result Target RolloutFault → List ℕ → Bool → Came → Type 0
-IsTallyAt (Err e) bytes is_cut r = r ≡ Err (Load (Plan e))
+IsTallyAt (Err e) bytes is_cut r = r ≡ Err (Plan e)
 IsTallyAt (Ok target) bytes is_cut r = IsTallyOver target bytes is_cut r
 
 abbrev pub IsTallyIn : Result Definitions Refusal → Tallying → List ℕ → Bool → Came → Type 0

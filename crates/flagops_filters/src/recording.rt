@@ -8,9 +8,8 @@ ghost use Rattle.flagops_filters.specs.Ended.{AnswersRecord, TellsRecord, Unread
 ghost use Rattle.flagops_filters.specs.Record.{RecordAnswers, RecordEnds, RecordOver, of_record, record_call};
 ghost use Rattle.flagops_filters.specs.Remarks.{NamesInput, NamesPath, PutsNote, is_noted, record_opening};
 ghost use Rattle.flagops_filters.specs.Stopping.{GivesUp, is_broken_off};
-ghost use Rattle.flagops_filters.specs.declared.refusal.FilterRefusal.TheVariants.{Load, Record};
+ghost use Rattle.flagops_filters.specs.declared.refusal.FilterRefusal.TheVariants.{Load, Record, Plan};
 ghost use Rattle.flagops_filters.specs.Words.{recording_view};
-ghost use Rattle.flagops_files.specs.declared.refusal.Refusal.TheVariants.{Plan};
 ghost use Rattle.note_streams.specs.Recorded.{recorded_of};
 ghost use Rattle.record_lines.specs.Scene.{scene_of};
 
@@ -22,7 +21,7 @@ use crate::words::read_record;
 use file_diagnostics::Ends as FileEnds;
 use flag_defs::Flags;
 use flag_text::Outlet;
-use flagops_files::{Refusal, load_flags};
+use flagops_files::load_flags;
 use flagops_shell::{Console, FileSet, Refused, Remark, refuse, report_usage, tell};
 use flagops_words::Moment;
 use line_batches::Inlet;
@@ -177,7 +176,7 @@ fn moment_of(moment: Option<Moment>) -> u64
 /// A flag that is not recorded, which is refused as `plan` refuses it.
 #[tactic(auto, using(flagops_files::proofs::Told::says))]
 fn unrecorded(alloc: Global, asked: &Recording<'_>, fault: RecordFault) -> Refused<FilterRefusal>
-    ensures refusal { result.refusal ≡ Load (Plan (of_record fault)) }
+    ensures refusal { result.refusal ≡ Plan (of_record fault) }
     ensures names { Says (NamesPath asked.now.document.now) result.remark }
 {
     let reason = match fault {
@@ -186,7 +185,7 @@ fn unrecorded(alloc: Global, asked: &Recording<'_>, fault: RecordFault) -> Refus
         RecordFault::Broken => "it is broken",
     };
     Refused {
-        refusal: FilterRefusal::Load(Refusal::Plan(fault_of(fault))),
+        refusal: FilterRefusal::Plan(fault_of(fault)),
         remark: Remark::of(unrecorded_line(alloc, asked, reason)),
     }
 }

@@ -3,12 +3,13 @@ ghost use Rattle.std.specs.Prelude.{◌≡◌, IfOk, codes, decimal, string_byte
 ghost use Rattle.flagops_files.specs.Refusal.{line_with};
 ghost use Rattle.tally_filters.specs.Fault as filters;
 ghost use Rattle.flagops_filters.specs.FileLines.{file_line};
-ghost use Rattle.flagops_filters.specs.Refusal.{filter_items, filter_name, is_unread, is_want, join_name, join_number, line_of, number_of, record_name};
-ghost use Rattle.flagops_filters.specs.declared.refusal.FilterRefusal.TheVariants.{Load, Record, Tally};
+ghost use Rattle.flagops_filters.specs.Refusal.{filter_items, filter_name, is_unread, is_want, join_name, join_number, line_of, record_name};
+ghost use Rattle.flagops_filters.specs.declared.refusal.FilterRefusal.TheVariants.{Load, Plan, Record, Tally};
 
-use flagops_files::{Refusal, fault_line, number_item};
+use flagops_files::{Refusal, fault_items, fault_line, number_item};
 use flagops_shell::CommandRefusal;
 use note_streams::{RecordStop, TallyStop};
+use rollout_checks::RolloutFault;
 use std::alloc::{AllocError, Global};
 use tally_core::JoinFault;
 use tally_filters::FilterFault;
@@ -16,28 +17,16 @@ use tally_filters::FilterFault;
 /// Why a filter refuses.
 #[derive(Debug, Drop)]
 pub enum FilterRefusal {
-    /// A file or a flag is refused as every other command refuses it.
+    /// A file is refused as every other command refuses it.
     Load(Refusal),
+    /// A flag is refused as `plan` refuses it.
+    Plan(RolloutFault),
     /// A line of the standard input is no context, or the input is not read to its end.
     Record(RecordStop),
     /// A line of the standard input is not tallied, or the input is not read to its end.
     Tally(TallyStop),
     /// Tallies are not joined.
     Join(JoinFault),
-}
-
-impl FilterRefusal {
-    /// The number of the fault.
-    pub fn number(&self) -> u32
-        ensures { result ≡ number_of self.now }
-    {
-        match self {
-            FilterRefusal::Load(refusal) => refusal.number(),
-            FilterRefusal::Record(stop) => stop.number(),
-            FilterRefusal::Tally(stop) => stop.number(),
-            FilterRefusal::Join(fault) => join_number(fault),
-        }
-    }
 }
 
 impl From<Refusal> for FilterRefusal {
@@ -56,12 +45,19 @@ impl CommandRefusal for FilterRefusal {
     ghost line_of = { line_of };
 
     fn is_want(&self) -> bool {
-        self.number() == 0
+        match self {
+            FilterRefusal::Load(refusal) => refusal.is_want(),
+            FilterRefusal::Plan(RolloutFault::WantOfMemory)
+            | FilterRefusal::Record(RecordStop::WantOfMemory)
+            | FilterRefusal::Tally(TallyStop::Filter(FilterFault::WantOfMemory)) => true,
+            _ => false,
+        }
     }
 
     fn line(&self, alloc: Global) -> Result<String, AllocError> {
         match self {
             FilterRefusal::Load(refusal) => refusal.line(alloc),
+            FilterRefusal::Plan(fault) => plan_line(alloc, fault),
             FilterRefusal::Record(stop) => record_line(alloc, stop),
             FilterRefusal::Tally(stop) => tally_line(alloc, stop),
             FilterRefusal::Join(fault) => {
@@ -71,6 +67,20 @@ impl CommandRefusal for FilterRefusal {
     }
 
     ghost unread_lines = { file_line };
+}
+
+/// The line of a flag that is refused, with the fault of a request where one is at fault.
+fn plan_line(alloc: Global, fault: &RolloutFault) -> Result<String, AllocError>
+    ensures { IfOk result (λ s. string_bytes s ≡ line_of (Plan fault.now)) }
+{
+    let (number, name) = (fault.number(), fault.name());
+    match fault {
+        RolloutFault::Request(inner) => {
+            let items = fault_items(alloc, inner.number(), inner.name())?;
+            fault_line(alloc, "plan", number, name, items.as_str())
+        }
+        _ => fault_line(alloc, "plan", number, name, ""),
+    }
 }
 
 fn record_line(alloc: Global, stop: &RecordStop) -> Result<String, AllocError>

@@ -15,8 +15,7 @@ ghost use Rattle.flagops_filters.specs.Remarks.{BeginsWith, NamesInput, NamesPat
 ghost use Rattle.flagops_filters.specs.Report.{GivesOne, is_file_fault};
 ghost use Rattle.flagops_filters.specs.Stopping.{IsStopped};
 ghost use Rattle.flagops_filters.specs.Tally.{IsTallyIn, IsTallyOver, IsTallyReport, points_of, site_of, tally_call, target_of};
-ghost use Rattle.flagops_filters.specs.declared.refusal.FilterRefusal.TheVariants.{Load, Tally};
-ghost use Rattle.flagops_files.specs.declared.refusal.Refusal.TheVariants.{Plan};
+ghost use Rattle.flagops_filters.specs.declared.refusal.FilterRefusal.TheVariants.{Load, Tally, Plan};
 ghost use Rattle.flagops_filters.specs.Words.{tallying_view};
 
 use crate::asked::Tallying;
@@ -30,7 +29,7 @@ use bucket_core::total_weight;
 use file_diagnostics::Ends as FileEnds;
 use flag_defs::Flags;
 use flag_text::Outlet;
-use flagops_files::{Refusal, load_flags};
+use flagops_files::load_flags;
 use flagops_shell::{
     Console, FileSet, Outcome, Refused, Remark, Status, refuse, report, report_usage,
 };
@@ -233,11 +232,11 @@ fn stop_line(alloc: Global, stop: TallyStop, opening: FileEnds) -> Result<String
 /// A site that is not tallied at.
 #[tactic(auto, using(flagops_files::proofs::Told::says))]
 fn untallied(alloc: Global, asked: &Tallying<'_>, fault: RolloutFault) -> Refused<FilterRefusal>
-    ensures refusal { result.refusal ≡ Load (Plan fault) }
+    ensures refusal { result.refusal ≡ Plan fault }
     ensures names { Says (NamesPath asked.now.document.now) result.remark }
 {
     Refused {
-        refusal: FilterRefusal::Load(Refusal::Plan(fault)),
+        refusal: FilterRefusal::Plan(fault),
         remark: Remark::of(refusal_line(alloc, asked, fault)),
     }
 }

@@ -9,17 +9,13 @@ use Rattle.rollout_checks.specs.declared.verify_fault.VerifyFault.{VerifyFault}
 use Rattle.rollout_checks.specs.declared.verify_fault.VerifyFault.TheVariants.{Request, Check}
 use Rattle.transport_instance.specs.declared.fault.CheckFault.{CheckFault}
 use Rattle.transport_instance.specs.declared.fault.CheckFault.TheVariants as check
-use Rattle.flagops_files.specs.Payload.{number_item}
+use Rattle.flagops_files.specs.Payload.{fault_items, number_item}
 use Rattle.flagops_rollouts.specs.declared.keep_refusal.KeepRefusal.{KeepRefusal}
 use Rattle.flagops_rollouts.specs.declared.keep_refusal.KeepRefusal.TheVariants as keeping
 
 -- a pair of names as JSON texts with a number between them, each behind a blank
 abbrev pub pair_items : List ℕ → ℕ → List ℕ → List ℕ
 pair_items name n other = codes " " ++ (text_of (text name) ++ (codes " " ++ (decimal n ++ (codes " " ++ text_of (text other)))))
-
--- the number and the name of a fault, each behind a blank
-abbrev pub fault_items : ℕ → List ℕ → List ℕ
-fault_items n name = codes " " ++ (decimal n ++ (codes " " ++ name))
 
 -- the fault of the request
 abbrev pub rollout_items : RolloutFault → List ℕ

@@ -7,8 +7,8 @@ ghost use Rattle.flagops_rollouts.specs.Refusal.{GivesUnlessWant, call_of, is_fi
 ghost use Rattle.flagops_shell.specs.Diagnostic.{Says};
 ghost use Rattle.file_diagnostics.specs.Named.{Names};
 
-use crate::refusal::{Doubt, Refused, RolloutCall, RolloutRefusal, out_of_memory};
 use crate::recorded::doubt_of_recorded;
+use crate::refusal::{Doubt, Refused, RolloutCall, RolloutRefusal, out_of_memory};
 use file_diagnostics::of_unread;
 use flag_text::{TextFault, Tree, read_tree};
 use flagops_files::{Question, TEXT_LIMIT};

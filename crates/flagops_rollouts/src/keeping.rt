@@ -17,10 +17,10 @@ ghost use Rattle.flagops_shell.specs.Diagnostic.{Says};
 ghost use Rattle.flagops_rollouts.specs.declared.refusal.RolloutCall.TheVariants.{Apply};
 ghost use Rattle.flagops_rollouts.specs.declared.refusal.RolloutRefusal.TheVariants.{WantOfMemory};
 
-use crate::loading::{load_planned, load_question, store};
-use crate::refusal::{Refused, RolloutCall, out_of_memory};
 use crate::doubts::settled;
 use crate::kept::kept;
+use crate::loading::{load_planned, load_question, store};
+use crate::refusal::{Refused, RolloutCall, out_of_memory};
 use crate::verifying::Paths;
 use flagops_files::Question;
 use flagops_shell::{FileSet, Outcome, Remark, Status};
@@ -87,7 +87,15 @@ fn answer<F: FileSet>(
 {
     let text = kept(rt, alloc, document, paths, question, planned, refine)?;
     let (request, book) = (paths.request, paths.book);
-    let remark = settled(rt, alloc, RolloutCall::Apply, request, book, question, strict)?;
+    let remark = settled(
+        rt,
+        alloc,
+        RolloutCall::Apply,
+        request,
+        book,
+        question,
+        strict,
+    )?;
     put(alloc, files, document, write, text, remark)
 }
 

@@ -43,7 +43,5 @@ pub use loading::{load_book_question, load_planned, store};
 pub use payload::{rollout_items, verify_items};
 pub use planning::{answer as plan_answer, plan};
 pub use recorded::doubt_in_book;
-pub use refusal::{
-    Doubt, Refused, RolloutCall, RolloutRefusal, is_want_of_verify, out_of_memory,
-};
+pub use refusal::{Doubt, Refused, RolloutCall, RolloutRefusal, is_want_of_verify, out_of_memory};
 pub use verifying::verify;

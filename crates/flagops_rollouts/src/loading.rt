@@ -19,11 +19,7 @@ use std::thread::Threads;
 
 /// The flags of the document at a path.
 #[tactic(auto, using(crate::proofs::Loaded::told))]
-pub fn load_flags<F: FileSet>(
-    alloc: Global,
-    files: &mut F,
-    path: &str,
-) -> Result<Flags, Refused>
+pub fn load_flags<F: FileSet>(alloc: Global, files: &mut F, path: &str) -> Result<Flags, Refused>
     ensures exact { IfSome (F.holding files.old) (λ at. GivesOne flags_view result (IsDocumentAt at path.now)) }
     ensures calls { ComesFrom loads_flags result }
     ensures failed { F.has_failed files.new ≡ (F.has_failed files.old || is_file_fault result) }

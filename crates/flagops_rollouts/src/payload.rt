@@ -1,8 +1,8 @@
 //! What the line of a refusal says beyond the name of its fault: numbers in decimal, names as JSON texts.
 ghost use Rattle.std.specs.Prelude.{◌≡◌, IfOk, string_bytes};
-ghost use Rattle.flagops_rollouts.specs.Payload.{check_items, fault_items, pair_items, rollout_items, verify_items};
+ghost use Rattle.flagops_rollouts.specs.Payload.{check_items, pair_items, rollout_items, verify_items};
 
-use flagops_files::{number_item, quoted};
+use flagops_files::{fault_items, number_item, quoted};
 use rollout_checks::{RolloutFault, VerifyFault};
 use std::alloc::{AllocError, Global};
 use transport_instance::CheckFault;
@@ -38,12 +38,6 @@ fn check_items(alloc: Global, fault: &CheckFault) -> Result<String, AllocError>
         }
         _ => Ok(String::new(alloc)),
     }
-}
-
-fn fault_items(alloc: Global, number: u32, name: &str) -> Result<String, AllocError>
-    ensures { IfOk result (λ s. string_bytes s ≡ fault_items number name.now) }
-{
-    format!(in alloc; " {number} {name}")
 }
 
 fn pair_items(alloc: Global, name: &str, count: u32, other: &str) -> Result<String, AllocError>

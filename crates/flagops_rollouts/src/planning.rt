@@ -15,10 +15,10 @@ ghost use Rattle.flagops_rollouts.specs.Subjects.{is_of_request, is_of_size, pla
 ghost use Rattle.flagops_rollouts.specs.Doubts.{NamesDoubted, doubt_subjects};
 ghost use Rattle.file_diagnostics.specs.Named.{Names};
 
-use crate::loading::load_question;
-use crate::refusal::{Refused, RolloutCall, RolloutRefusal};
 use crate::doubts::settled;
 use crate::explained::told;
+use crate::loading::load_question;
+use crate::refusal::{Refused, RolloutCall, RolloutRefusal};
 use flag_defs::Flags;
 use flagops_files::{Evidence, Question};
 use flagops_shell::{FileSet, Outcome, Remark, Status};
@@ -87,7 +87,15 @@ pub fn answer(
             });
         }
     };
-    let noted = settled(rt, alloc, RolloutCall::Plan, request, book, question, strict)?;
+    let noted = settled(
+        rt,
+        alloc,
+        RolloutCall::Plan,
+        request,
+        book,
+        question,
+        strict,
+    )?;
     let remark = told(
         rt, alloc, request, book, question, &planned, refine, explain, noted,
     );

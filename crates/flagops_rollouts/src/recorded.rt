@@ -15,8 +15,8 @@ ghost use Rattle.flagops_files.specs.Question.{question_view};
 ghost use Rattle.flagops_shell.specs.Diagnostic.{Says};
 ghost use Rattle.file_diagnostics.specs.Named.{Names};
 
-use crate::refusal::Doubt;
 use crate::doubts::NotedDoubt;
+use crate::refusal::Doubt;
 use book_core::{Book, BookFileFault, Page, read_book};
 use flag_defs::{Flag, Flags};
 use flagops_files::{Evidence, Question};

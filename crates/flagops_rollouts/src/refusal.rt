@@ -198,7 +198,13 @@ fn verify_line(alloc: Global, fault: &VerifyFault) -> Result<String, AllocError>
     ensures { IfOk result (λ s. string_bytes s ≡ verify_line fault.now) }
 {
     let items = verify_items(alloc, fault)?;
-    fault_line(alloc, "verify", fault.number(), fault.name(), items.as_str())
+    fault_line(
+        alloc,
+        "verify",
+        fault.number(),
+        fault.name(),
+        items.as_str(),
+    )
 }
 
 fn rollout_line(alloc: Global, call: &str, fault: &RolloutFault) -> Result<String, AllocError>
@@ -214,7 +220,13 @@ fn keep_line(alloc: Global, refusal: &KeepRefusal) -> Result<String, AllocError>
     match refusal {
         KeepRefusal::Verify(fault) => {
             let items = verify_items(alloc, fault)?;
-            fault_line(alloc, "apply", refusal.number(), refusal.name(), items.as_str())
+            fault_line(
+                alloc,
+                "apply",
+                refusal.number(),
+                refusal.name(),
+                items.as_str(),
+            )
         }
         KeepRefusal::Document(_) => {
             fault_line(alloc, "apply", refusal.number(), refusal.name(), "")

@@ -14,10 +14,10 @@ ghost use Rattle.flagops_rollouts.specs.Subjects.{NamesVerified, is_of_answer, i
 ghost use Rattle.flagops_rollouts.specs.Doubts.{NamesDoubted, doubt_subjects};
 ghost use Rattle.file_diagnostics.specs.Named.{Names};
 
-use crate::loading::{load_planned, load_question};
-use crate::refusal::{Refused, RolloutCall, RolloutRefusal, out_of_memory};
 use crate::doubts::settled;
+use crate::loading::{load_planned, load_question};
 use crate::planning::lines_on_request;
+use crate::refusal::{Refused, RolloutCall, RolloutRefusal, out_of_memory};
 use flag_defs::Flags;
 use flagops_files::{Evidence, Question};
 use flagops_shell::{FileSet, Outcome, Remark, Status};
@@ -97,7 +97,15 @@ fn verdict(
         });
     }
     let (request, book) = (paths.request, paths.book);
-    let remark = settled(rt, alloc, RolloutCall::Verify, request, book, question, strict)?;
+    let remark = settled(
+        rt,
+        alloc,
+        RolloutCall::Verify,
+        request,
+        book,
+        question,
+        strict,
+    )?;
     valid(alloc, planned, json, remark)
 }
 
