@@ -2,6 +2,9 @@
 use Rattle.std.specs.Prelude.{ℕ, List, [], ◌++◌, codes, decimal}
 use Rattle.book_core.specs.declared.fault.BookFileFault.{BookFileFault}
 use Rattle.book_core.specs.declared.fault.BookFileFault.TheVariants as book
+use Rattle.price_core.specs.Fault as requests
+use Rattle.rollout_checks.specs.declared.fault.RolloutFault.{RolloutFault}
+use Rattle.rollout_checks.specs.declared.fault.RolloutFault.TheVariants as rollout
 use Rattle.tally_text.specs.declared.fault.TallyFileFault.{TallyFileFault}
 use Rattle.tally_text.specs.declared.fault.TallyFileFault.TheVariants as tally
 
@@ -26,3 +29,8 @@ abbrev pub tally_items : TallyFileFault → List ℕ
 tally_items (tally.Line n) = number_item n
 tally_items (tally.Order n) = number_item n
 tally_items e = []
+
+-- the fault of the request
+abbrev pub rollout_items : RolloutFault → List ℕ
+rollout_items (rollout.Request e) = fault_items (requests.number_of e) (requests.name_of e)
+rollout_items e = []

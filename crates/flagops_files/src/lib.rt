@@ -49,7 +49,7 @@ pub use documents::{Document, load_document, load_flags};
 pub use evidence::{Evidence, load_evidence};
 pub use lines::{fault_line, file_line, whole_line};
 pub use loading::{TEXT_LIMIT, load, load_choice, load_rule, load_tree};
-pub use payload::{fault_items, number_item};
+pub use payload::{number_item, rollout_items};
 pub use plan_file::load_planned;
 pub use question::{Question, load_question};
 pub use quoting::quoted;

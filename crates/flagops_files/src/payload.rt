@@ -1,10 +1,11 @@
 //! What the line of a refusal says beyond the name of its fault.
 ghost use Rattle.std.specs.Prelude.{◌≡◌, IfOk, string_bytes};
-ghost use Rattle.flagops_files.specs.Payload.{fault_items, file_items, number_item, tally_items};
+ghost use Rattle.flagops_files.specs.Payload.{fault_items, file_items, number_item, rollout_items, tally_items};
 ghost use Rattle.flagops_files.specs.Refusal.{payload_of};
 
 use crate::refusal::Refusal;
 use book_core::BookFileFault;
+use rollout_checks::RolloutFault;
 use std::alloc::{AllocError, Global};
 use tally_text::TallyFileFault;
 
@@ -49,8 +50,18 @@ pub fn number_item(alloc: Global, n: u64) -> Result<String, AllocError>
     format!(in alloc; " {n}")
 }
 
+/// The fault of a request, behind a blank, where a request is at fault.
+pub fn rollout_items(alloc: Global, fault: &RolloutFault) -> Result<String, AllocError>
+    ensures { IfOk result (λ s. string_bytes s ≡ rollout_items fault.now) }
+{
+    match fault {
+        RolloutFault::Request(inner) => fault_items(alloc, inner.number(), inner.name()),
+        _ => Ok(String::new(alloc)),
+    }
+}
+
 /// The number and the name of a fault, each behind a blank.
-pub fn fault_items(alloc: Global, number: u32, name: &str) -> Result<String, AllocError>
+fn fault_items(alloc: Global, number: u32, name: &str) -> Result<String, AllocError>
     ensures { IfOk result (λ s. string_bytes s ≡ fault_items number name.now) }
 {
     format!(in alloc; " {number} {name}")

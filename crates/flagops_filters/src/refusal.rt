@@ -4,9 +4,9 @@ ghost use Rattle.flagops_files.specs.Refusal.{line_with};
 ghost use Rattle.tally_filters.specs.Fault as filters;
 ghost use Rattle.flagops_filters.specs.FileLines.{file_line};
 ghost use Rattle.flagops_filters.specs.Refusal.{filter_items, filter_name, is_unread, is_want, join_name, join_number, line_of, record_name};
-ghost use Rattle.flagops_filters.specs.declared.refusal.FilterRefusal.TheVariants.{Load, Plan, Record, Tally};
+ghost use Rattle.flagops_filters.specs.declared.refusal.FilterRefusal.TheVariants.{Load, Flag, Record, Tally};
 
-use flagops_files::{Refusal, fault_items, fault_line, number_item};
+use flagops_files::{Refusal, fault_line, number_item, rollout_items};
 use flagops_shell::CommandRefusal;
 use note_streams::{RecordStop, TallyStop};
 use rollout_checks::RolloutFault;
@@ -19,8 +19,8 @@ use tally_filters::FilterFault;
 pub enum FilterRefusal {
     /// A file is refused as every other command refuses it.
     Load(Refusal),
-    /// A flag is refused as `plan` refuses it.
-    Plan(RolloutFault),
+    /// A flag or a site of it is refused, as `plan` refuses it.
+    Flag(RolloutFault),
     /// A line of the standard input is no context, or the input is not read to its end.
     Record(RecordStop),
     /// A line of the standard input is not tallied, or the input is not read to its end.
@@ -47,17 +47,20 @@ impl CommandRefusal for FilterRefusal {
     fn is_want(&self) -> bool {
         match self {
             FilterRefusal::Load(refusal) => refusal.is_want(),
-            FilterRefusal::Plan(RolloutFault::WantOfMemory)
-            | FilterRefusal::Record(RecordStop::WantOfMemory)
-            | FilterRefusal::Tally(TallyStop::Filter(FilterFault::WantOfMemory)) => true,
-            _ => false,
+            FilterRefusal::Flag(fault) => matches!(fault, RolloutFault::WantOfMemory),
+            FilterRefusal::Record(stop) => matches!(stop, RecordStop::WantOfMemory),
+            FilterRefusal::Tally(TallyStop::Filter(fault)) => {
+                matches!(fault, FilterFault::WantOfMemory)
+            }
+            FilterRefusal::Tally(TallyStop::Unreadable | TallyStop::TooLong) => false,
+            FilterRefusal::Join(_) => false,
         }
     }
 
     fn line(&self, alloc: Global) -> Result<String, AllocError> {
         match self {
             FilterRefusal::Load(refusal) => refusal.line(alloc),
-            FilterRefusal::Plan(fault) => plan_line(alloc, fault),
+            FilterRefusal::Flag(fault) => flag_line(alloc, fault),
             FilterRefusal::Record(stop) => record_line(alloc, stop),
             FilterRefusal::Tally(stop) => tally_line(alloc, stop),
             FilterRefusal::Join(fault) => {
@@ -69,18 +72,12 @@ impl CommandRefusal for FilterRefusal {
     ghost unread_lines = { file_line };
 }
 
-/// The line of a flag that is refused, with the fault of a request where one is at fault.
-fn plan_line(alloc: Global, fault: &RolloutFault) -> Result<String, AllocError>
-    ensures { IfOk result (λ s. string_bytes s ≡ line_of (Plan fault.now)) }
+/// The line of a flag or a site that is refused, under the name of `plan`.
+fn flag_line(alloc: Global, fault: &RolloutFault) -> Result<String, AllocError>
+    ensures { IfOk result (λ s. string_bytes s ≡ line_of (Flag fault.now)) }
 {
-    let (number, name) = (fault.number(), fault.name());
-    match fault {
-        RolloutFault::Request(inner) => {
-            let items = fault_items(alloc, inner.number(), inner.name())?;
-            fault_line(alloc, "plan", number, name, items.as_str())
-        }
-        _ => fault_line(alloc, "plan", number, name, ""),
-    }
+    let items = rollout_items(alloc, fault)?;
+    fault_line(alloc, "plan", fault.number(), fault.name(), items.as_str())
 }
 
 fn record_line(alloc: Global, stop: &RecordStop) -> Result<String, AllocError>

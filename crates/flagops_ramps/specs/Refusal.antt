@@ -1,9 +1,9 @@
 -- The line that a refusal of a command on steps is written as.
 use Rattle.std.specs.Prelude.{ℕ, Bool, true, false, List, [], codes, decimal}
-use Rattle.flagops_files.specs.Payload.{number_item}
+use Rattle.flagops_files.specs.Payload.{number_item, rollout_items}
 use Rattle.flagops_files.specs.Refusal as files
 use Rattle.flagops_files.specs.Refusal.{line_with}
-use Rattle.flagops_rollouts.specs.Payload.{rollout_items, verify_items}
+use Rattle.flagops_rollouts.specs.Payload.{verify_items}
 use Rattle.flagops_rollouts.specs.Refusal as rolling
 use Rattle.flagops_rollouts.specs.Refusal.{doubt_name, doubt_number, is_want_of_verify}
 use Rattle.plan_text.specs.Fault as plan_files

@@ -4,8 +4,8 @@ ghost use Rattle.flagops_ramps.specs.FileLines.{file_line};
 ghost use Rattle.flagops_ramps.specs.Refusal.{call_name, is_unread, is_want, line_of};
 ghost use Rattle.flagops_ramps.specs.declared.refusal.RampRefusal.TheVariants.{Load, Ramp, Read, Rollout, Verify};
 
-use flagops_files::{Refusal, fault_line, number_item};
-use flagops_rollouts::{Doubt, RolloutRefusal, is_want_of_verify, rollout_items, verify_items};
+use flagops_files::{Refusal, fault_line, number_item, rollout_items};
+use flagops_rollouts::{Doubt, RolloutRefusal, is_want_of_verify, verify_items};
 use flagops_shell::CommandRefusal;
 use plan_text::PlanFileFault;
 use ramp_steps::RampFileFault;

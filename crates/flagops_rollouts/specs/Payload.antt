@@ -2,25 +2,17 @@
 use Rattle.std.specs.Prelude.{ℕ, List, [], ◌++◌, codes, decimal, string_bytes}
 use Rattle.flag_text.specs.Printing.{text_of}
 use Rattle.flag_text.specs.Shape.{text}
-use Rattle.price_core.specs.Fault as requests
-use Rattle.rollout_checks.specs.declared.fault.RolloutFault.{RolloutFault}
-use Rattle.rollout_checks.specs.declared.fault.RolloutFault.TheVariants as rollout
 use Rattle.rollout_checks.specs.declared.verify_fault.VerifyFault.{VerifyFault}
 use Rattle.rollout_checks.specs.declared.verify_fault.VerifyFault.TheVariants.{Request, Check}
 use Rattle.transport_instance.specs.declared.fault.CheckFault.{CheckFault}
 use Rattle.transport_instance.specs.declared.fault.CheckFault.TheVariants as check
-use Rattle.flagops_files.specs.Payload.{fault_items, number_item}
+use Rattle.flagops_files.specs.Payload.{number_item, rollout_items}
 use Rattle.flagops_rollouts.specs.declared.keep_refusal.KeepRefusal.{KeepRefusal}
 use Rattle.flagops_rollouts.specs.declared.keep_refusal.KeepRefusal.TheVariants as keeping
 
 -- a pair of names as JSON texts with a number between them, each behind a blank
 abbrev pub pair_items : List ℕ → ℕ → List ℕ → List ℕ
 pair_items name n other = codes " " ++ (text_of (text name) ++ (codes " " ++ (decimal n ++ (codes " " ++ text_of (text other)))))
-
--- the fault of the request
-abbrev pub rollout_items : RolloutFault → List ℕ
-rollout_items (rollout.Request e) = fault_items (requests.number_of e) (requests.name_of e)
-rollout_items e = []
 
 -- the point, or the pair of a group and a name
 abbrev pub check_items : CheckFault → List ℕ

@@ -20,7 +20,8 @@ use Rattle.flagops_files.specs.Refusal.{line_with}
 use Rattle.flagops_files.specs.Told as told
 use Rattle.flagops_files.specs.declared.refusal.Call.{Call}
 use Rattle.flagops_rollouts.specs.Keeping as keeping_faults
-use Rattle.flagops_rollouts.specs.Payload.{keep_items, rollout_items, verify_items}
+use Rattle.flagops_files.specs.Payload.{rollout_items}
+use Rattle.flagops_rollouts.specs.Payload.{keep_items, verify_items}
 use Rattle.flagops_rollouts.specs.declared.keep_refusal.KeepRefusal.{KeepRefusal}
 use Rattle.flagops_rollouts.specs.declared.keep_refusal.KeepRefusal.TheVariants as keeping
 use Rattle.flagops_rollouts.specs.declared.refusal.Doubt.{Doubt}

@@ -40,7 +40,7 @@ pub use keep_refusal::KeepRefusal;
 pub use keeping::keep;
 pub use laws::{printed_plans_are_valid, tallies_answer_as_books, unread_members_are_passed_over};
 pub use loading::{load_book_question, load_planned, store};
-pub use payload::{rollout_items, verify_items};
+pub use payload::verify_items;
 pub use planning::{answer as plan_answer, plan};
 pub use recorded::doubt_in_book;
 pub use refusal::{Doubt, Refused, RolloutCall, RolloutRefusal, is_want_of_verify, out_of_memory};

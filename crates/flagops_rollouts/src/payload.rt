@@ -1,21 +1,11 @@
 //! What the line of a refusal says beyond the name of its fault: numbers in decimal, names as JSON texts.
 ghost use Rattle.std.specs.Prelude.{◌≡◌, IfOk, string_bytes};
-ghost use Rattle.flagops_rollouts.specs.Payload.{check_items, pair_items, rollout_items, verify_items};
+ghost use Rattle.flagops_rollouts.specs.Payload.{check_items, pair_items, verify_items};
 
-use flagops_files::{fault_items, number_item, quoted};
-use rollout_checks::{RolloutFault, VerifyFault};
+use flagops_files::{number_item, quoted, rollout_items};
+use rollout_checks::VerifyFault;
 use std::alloc::{AllocError, Global};
 use transport_instance::CheckFault;
-
-/// The fault of a request, behind a blank, where a request is at fault.
-pub fn rollout_items(alloc: Global, fault: &RolloutFault) -> Result<String, AllocError>
-    ensures { IfOk result (λ s. string_bytes s ≡ rollout_items fault.now) }
-{
-    match fault {
-        RolloutFault::Request(inner) => fault_items(alloc, inner.number(), inner.name()),
-        _ => Ok(String::new(alloc)),
-    }
-}
 
 /// What `verify` says of an answer that is not right, each item behind a blank.
 pub fn verify_items(alloc: Global, fault: &VerifyFault) -> Result<String, AllocError>

@@ -6,8 +6,8 @@ ghost use Rattle.flagops_rollouts.specs.Refusal.{call_name, call_of, doubt_name,
 ghost use Rattle.flagops_rollouts.specs.declared.refusal.RolloutRefusal.TheVariants.{Load};
 
 use crate::keep_refusal::KeepRefusal;
-use crate::payload::{rollout_items, verify_items};
-use flagops_files::{Call, Refusal, fault_line};
+use crate::payload::verify_items;
+use flagops_files::{Call, Refusal, fault_line, rollout_items};
 use flagops_shell::{CommandRefusal, Remark};
 use kept_document::KeepFault;
 use plan_text::PlanFileFault;
