@@ -15,7 +15,8 @@ pub(crate) struct Numbers<'a, J: ShareName, R: Wait> {
     told: &'a Cell<Option<Told<J>>>,
     /// The number above which the last one was asked for, 0 at first.
     pub(crate) after: u64,
-    closed: bool,
+    /// There will be no number above it.
+    pub(crate) closed: bool,
 }
 
 impl<'a, J: ShareName, R: Wait> Numbers<'a, J, R> {
@@ -24,7 +25,7 @@ impl<'a, J: ShareName, R: Wait> Numbers<'a, J, R> {
         board: &'a Board<J>,
         told: &'a Cell<Option<Told<J>>>,
     ) -> Numbers<'a, J, R>
-        ensures open { ⟦<Numbers<'a, J, R> as NextNumber>⟧.is_closed result ≡ false }
+        ensures open { result.closed ≡ false }
         ensures first { result.after ≡ 0 }
     {
         Numbers {

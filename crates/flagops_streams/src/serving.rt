@@ -1,5 +1,5 @@
 //! The command `serve`: documents published to subscribers.
-ghost use Rattle.std.specs.Prelude.{◌≡◌, ◌⊎◌, ◌+◌, ◌^◌, ◌<◌, ◌≤◌, ◌∷◌, [], List, Option, Some, Err, false, true, if◌then◌else◌, is_ok, length, map, nat_eq, vec_len, IfOk};
+ghost use Rattle.std.specs.Prelude.{◌≡◌, ◌⊎◌, ◌+◌, ◌^◌, ◌<◌, ◌≤◌, ◌∷◌, [], List, Option, Err, false, true, if◌then◌else◌, is_ok, length, map, nat_eq, vec_len, IfOk, IfSome};
 ghost use denote.Param.Send.{IsSend, IsSync};
 ghost use Rattle.flag_defs.specs.Flags.{flags_view};
 ghost use Rattle.source_merge.specs.View.{sources_view};
@@ -426,18 +426,23 @@ fn tell_next<J: ShareName, R: Wait, E: Outlet>(
     ensures lines { TellsLines (IsGone (nat_eq result 0)) (E.bytes err.old) (E.bytes err.new) (E.is_broken err.new) }
     ensures stays { E.is_broken err.new ≡ false → E.is_broken err.old ≡ false }
 {
-    let Some((place, gone)) = board.next_end(rt) else {
-        return 1;
-    };
-    say_gone(alloc, err, place.saturating_add(1), gone.end, gone.frames);
-    missed_by(gone, published)
+    match board.next_end(rt) {
+        Some((place, gone)) => {
+            say_gone(alloc, err, place.saturating_add(1), gone.end, gone.frames);
+            missed_by(Some(gone), published)
+        }
+        None => missed_by(None, published),
+    }
 }
 
-/// 1 where a stream ended before so many publications were sent.
-fn missed_by(gone: Disconnected, published: u64) -> usize
-    ensures exact { result ≡ (if is_served published (Some gone) then 0 else 1) }
-    ensures closed { nat_eq result 0 ≡ true → is_closed_end gone.end ≡ true }
+/// 1 where a stream ended before so many publications were sent, or no end of it is known.
+fn missed_by(end: Option<Disconnected>, published: u64) -> usize
+    ensures exact { result ≡ (if is_served published end then 0 else 1) }
+    ensures closed { nat_eq result 0 ≡ true → IfSome end (λ gone. is_closed_end gone.end ≡ true) }
 {
+    let Some(gone) = end else {
+        return 1;
+    };
     match gone.end {
         StreamEnd::Closed => usize::from(gone.number < published),
         StreamEnd::Limit

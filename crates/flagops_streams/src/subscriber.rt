@@ -2,6 +2,7 @@
 ghost use Rattle.std.specs.Prelude.{◌≡◌, ℕ, List, Option, false};
 ghost use mathlib.Core.List.{IsPrefix};
 ghost use Rattle.snap_share.specs.Known.{Seat};
+ghost use Rattle.sync_server.specs.End.{is_closed_end};
 ghost use Rattle.flagops_streams.specs.Sent.{WasAttended, WasServed};
 
 use crate::board::Board;
@@ -116,22 +117,25 @@ fn send_over<J: ShareName, R: Wait, W: Write + Drop>(
 {
     let told = Cell::new(None);
     let mut current = Learning { seat, told: &told };
+    let mut numbers = Numbers::new(rt, board, &told);
     let mut out = WriteOutlet::new(PersistentOutput::new(writer));
-    send(rt, board, &mut current, &mut out)
+    send(&mut current, &mut numbers, &mut out)
 }
 
 /// Sends a subscriber its stream, and says how it ended.
 fn send<J: ShareName, R: Wait, O: Outlet>(
-    rt: &R,
-    board: &Board<J>,
     current: &mut Learning<'_, J>,
+    numbers: &mut Numbers<'_, J, R>,
     out: &mut O,
 ) -> Disconnected
-    requires { O.is_broken out.old ≡ false }
-    ensures { WasServed MOST_TURNS current.old.seat current.new.seat (O.bytes out.old) (O.bytes out.new) result.end result.frames result.number }
+    requires open { numbers.old.closed ≡ false }
+    requires first { numbers.old.after ≡ 0 }
+    requires whole { O.is_broken out.old ≡ false }
+    ensures served { WasServed MOST_TURNS current.old.seat current.new.seat (O.bytes out.old) (O.bytes out.new) result.end result.frames result.number }
+    ensures number { result.number ≡ numbers.new.after }
+    ensures closed { numbers.new.closed ≡ is_closed_end result.end }
 {
-    let mut numbers = Numbers::new(rt, board, current.told);
-    let (end, frames) = serve_stream(current, &mut numbers, out, MOST_TURNS);
+    let (end, frames) = serve_stream(current, numbers, out, MOST_TURNS);
     Disconnected {
         end,
         frames,
