@@ -1,5 +1,5 @@
 -- Documents that are published one after the other.
-use Rattle.std.proofs.Common.{◌≡◌, ◌≢◌, ◌↔◌, ◌⊎◌, ◌+◌, ◌-◌, ◌<◌, ◌≤◌, ◌∙◌, ℕ, suc, List, [], ◌∷◌, ◌++◌, Bool, true, false, if◌then◌else◌, is_ok, nat_eq, Option, Result, Ok, Err, inl, inr, refl, add-one, ap, arith, drop, get_or, length, length-append, length-drop, map, subst, sym, take, zero-add}
+use Rattle.std.proofs.Common.{◌≡◌, ◌≢◌, ◌↔◌, ◌⊎◌, ◌+◌, ◌-◌, ◌<◌, ◌∙◌, ℕ, suc, List, [], ◌∷◌, ◌++◌, Bool, true, false, if◌then◌else◌, is_ok, nat_eq, Option, Result, Ok, Err, inl, inr, refl, add-one, ap, arith, drop, get_or, length, length-append, length-drop, map, subst, sym, take, zero-add}
 use Rattle.std.proofs.Math.Seq.{drop-cons}
 use Rattle.std.proofs.lemmas.List.{take_all}
 use Rattle.std.proofs.lemmas.Bool.{true≢false}

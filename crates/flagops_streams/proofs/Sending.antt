@@ -1,5 +1,5 @@
 -- A stream that is served by the numbers of a board, from a seat that learns.
-use Rattle.std.proofs.Common.{◌≡◌, ℕ, List, [], ◌∷◌, Option, Some, ap, inl, inr, refl, subst, sym}
+use Rattle.std.proofs.Common.{◌≡◌, ℕ, List, [], ◌∷◌, Option, ap, inl, inr, refl, subst, sym}
 use Rattle.snap_core.specs.Hub.{Numbered}
 use Rattle.snap_share.specs.Known.{Seat, WasRead}
 use Rattle.sync_server.specs.Served.{Serves, TurnedTo}
@@ -7,7 +7,7 @@ use Rattle.sync_server.specs.Turns.{Turned, raised}
 use Rattle.sync_server.specs.declared.end.StreamEnd.{StreamEnd}
 use Rattle.sync_server.specs.declared.end.StreamEnd.TheVariants.{Closed, Limit, WriteFault, ReadSeatFault, WantOfMemory}
 use Rattle.flagops_streams.specs.Ending.{EndedAs}
-use Rattle.flagops_streams.specs.Sent.{AsksAbove, IsEnd, WasAttended, WasServed}
+use Rattle.flagops_streams.specs.Sent.{AsksAbove, IsEnd, WasAttended}
 
 -- what is asked for is kept as a number, and what is read as a seat
 module _ {X C : Type 0} (number : X → ℕ) (seat : C → Seat) where
@@ -42,8 +42,3 @@ failed limit seat frames number = ∣ (seat, inl refl) ∣₁
 pub parted : (limit : ℕ) (seat : Seat) (before after : StreamEnd) (frames number : ℕ) → EndedAs before after → WasAttended limit seat before frames number → WasAttended limit seat after frames number
 parted limit seat before after frames number (inl same) was = subst (λ (end : StreamEnd). WasAttended limit seat end frames number) (sym same) was
 parted limit seat before after frames number (inr (closed, fault)) was = inl fault
-
--- a stream that was served from a seat
-pub attended_from : (limit : ℕ) (seat : Seat) (before : Option (List ℕ)) (end : StreamEnd) (frames number : ℕ)
-    → (seat' : Seat) × (after : Option (List ℕ)) × WasServed limit seat seat' before after end frames number → WasAttended limit seat end frames number
-attended_from limit seat before end frames number (seat', after, was) = inr (seat', before, after, was)

@@ -14,10 +14,14 @@ AsksAbove before after now = now ≡ after
 abbrev pub WasServed : ℕ → Seat → Seat → Option (List ℕ) → Option (List ℕ) → StreamEnd → ℕ → ℕ → Type 0
 WasServed limit seat seat' before after end frames number = Serves AsksAbove WasRead 0 number seat seat' limit (snapshots_of seat'.known) before after frames end
 
--- The connection failed; or a stream was served over it from this seat, and ended so.
+-- a stream was served from this seat over some outlet, and ended so
+abbrev pub WasSent : ℕ → Seat → StreamEnd → ℕ → ℕ → Type 0
+WasSent limit seat end frames number =
+    (seat' : Seat) × (before : Option (List ℕ)) × (after : Option (List ℕ)) × WasServed limit seat seat' before after end frames number
+
+-- the connection failed, or a stream was sent over it
 abbrev pub WasAttended : ℕ → Seat → StreamEnd → ℕ → ℕ → Type 0
-WasAttended limit seat end frames number =
-    (end ≡ WriteFault) ⊎ ((seat' : Seat) × (before : Option (List ℕ)) × (after : Option (List ℕ)) × WasServed limit seat seat' before after end frames number)
+WasAttended limit seat end frames number = (end ≡ WriteFault) ⊎ WasSent limit seat end frames number
 
 -- the same from some seat
 abbrev pub IsEnd : ℕ → StreamEnd → ℕ → ℕ → Type 0

@@ -1,9 +1,8 @@
 //! One subscriber: its seat, its numbers and its connection.
-ghost use Rattle.std.specs.Prelude.{◌≡◌, ℕ, List, Option, false};
+ghost use Rattle.std.specs.Prelude.{◌≡◌, false};
 ghost use mathlib.Core.List.{IsPrefix};
-ghost use Rattle.snap_share.specs.Known.{Seat};
 ghost use Rattle.sync_server.specs.End.{is_closed_end};
-ghost use Rattle.flagops_streams.specs.Sent.{WasAttended, WasServed};
+ghost use Rattle.flagops_streams.specs.Sent.{WasAttended, WasSent, WasServed};
 
 use crate::board::Board;
 use crate::disconnected::{Disconnected, MOST_TURNS};
@@ -87,7 +86,7 @@ fn attended<J: ShareName, R: Wait + Clock>(
 }
 
 /// Sends a subscriber its stream over its connection, while its time lasts, and says how it ended.
-#[tactic(auto, using(crate::proofs::Sending::attended_from, crate::proofs::Sending::failed))]
+#[tactic(auto, using(crate::proofs::Sending::failed))]
 fn send_in_time<J: ShareName, R: Wait + Clock>(
     rt: &R,
     board: &Board<J>,
@@ -96,14 +95,14 @@ fn send_in_time<J: ShareName, R: Wait + Clock>(
 ) -> Disconnected
     ensures { WasAttended MOST_TURNS seat result.end result.frames result.number }
 {
-    match Timed::new(rt, stream, board.wait()) {
-        Ok(timed) => send_over(rt, board, seat, timed),
-        Err(_) => Disconnected {
+    let Ok(timed) = Timed::new(rt, stream, board.wait()) else {
+        return Disconnected {
             end: StreamEnd::WriteFault,
             frames: 0,
             number: 0,
-        },
-    }
+        };
+    };
+    send_over(rt, board, seat, timed)
 }
 
 /// Sends a subscriber its stream to a writer, and says how it ended.
@@ -113,7 +112,7 @@ fn send_over<J: ShareName, R: Wait, W: Write + Drop>(
     seat: ReadSeat<J>,
     writer: W,
 ) -> Disconnected
-    ensures { (seat' : Seat) × (after : Option (List ℕ)) × WasServed MOST_TURNS seat seat' (W.contents writer) after result.end result.frames result.number }
+    ensures { WasSent MOST_TURNS seat result.end result.frames result.number }
 {
     let told = Cell::new(None);
     let mut current = Learning { seat, told: &told };
@@ -132,6 +131,7 @@ fn send<J: ShareName, R: Wait, O: Outlet>(
     requires first { numbers.old.after ≡ 0 }
     requires whole { O.is_broken out.old ≡ false }
     ensures served { WasServed MOST_TURNS current.old.seat current.new.seat (O.bytes out.old) (O.bytes out.new) result.end result.frames result.number }
+    ensures sent { WasSent MOST_TURNS current.old.seat result.end result.frames result.number }
     ensures number { result.number ≡ numbers.new.after }
     ensures closed { numbers.new.closed ≡ is_closed_end result.end }
 {

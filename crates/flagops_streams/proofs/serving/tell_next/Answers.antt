@@ -8,7 +8,7 @@ pub returns-in-Some-clause-end : goal.returns-in-Some-clause-end
 returns-in-Some-clause-end g c = (Some c.in-Some.gone, c.missed_by.ensures.exact)
 
 pub returns-in-None-clause-end : goal.returns-in-None-clause-end
-returns-in-None-clause-end g c = (None, c.missed_by.ensures.exact)
+returns-in-None-clause-end g c = (None, c.missed_by-in-None.ensures.exact)
 
 -- one that was served was told of as sent the last one
 pub returns-in-Some-clause-lines : goal.returns-in-Some-clause-lines

@@ -1,4 +1,4 @@
-use Rattle.std.proofs.Common.{◌≡◌, ◌∙◌, Some, ap, is_some, sym}
+use Rattle.std.proofs.Common.{◌∙◌, Some, ap, is_some, sym}
 use Rattle.std.proofs.lemmas.Bool.{true≢false}
 use Rattle.flagops_streams.proofs.Ends.{ended, stands}
 use Rattle.flagops_streams.proofs.news.News.take_end.Goals as goal
