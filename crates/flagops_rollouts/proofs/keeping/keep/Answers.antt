@@ -1,5 +1,10 @@
 use Rattle.std.proofs.Common.{◌≡◌, ◌∙◌, Err, ap, inl, option_map, rules}
+use Rattle.std.specs.Prelude.{◌∷◌}
 use Rattle.std.proofs.lemmas.Result.{err_from_is_err_and}
+use Rattle.flagops_files.specs.Told.{file}
+use Rattle.flagops_rollouts.specs.Doubts.{doubt_subjects}
+use Rattle.flagops_rollouts.specs.Refusal.{Subjects}
+use Rattle.flagops_rollouts.specs.Subjects.{is_of_kept_answer, is_of_kept_document, is_of_kept_request}
 use Rattle.flagops_rollouts.specs.Loaded.{question_subjects}
 use Rattle.flagops_rollouts.proofs.Doubting.{tells_right}
 use Rattle.flagops_rollouts.proofs.Verdicts.{failed_second}
@@ -39,7 +44,12 @@ pub returns-clause-calls : goal.returns-clause-calls
 returns-clause-calls g c = comes_so c.answer.result c.answer.ensures.calls
 
 pub returns-clause-names : goal.returns-clause-names
-returns-clause-names g c = tells_right (question_subjects c.args.document.now c.args.request.now c.args.book.now) _ c.answer.result c.answer.ensures.names
+returns-clause-names g c =
+    let document = c.args.document.now in
+    let request = c.args.request.now in
+    let book = c.args.book.now in
+    let behind : Subjects = (file request, is_of_kept_request) ∷ (file c.args.plan.now, is_of_kept_answer) ∷ (file document, is_of_kept_document) ∷ doubt_subjects request book in
+    tells_right (question_subjects document request book) behind c.answer.result c.answer.ensures.names
 
 pub returns-in_err-planned-clause-left : goal.returns-in_err-planned-clause-left
 returns-in_err-planned-clause-left g c = inl (c.load_planned.ensures.kept ∙ c.load_question.ensures.kept)
