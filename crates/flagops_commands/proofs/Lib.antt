@@ -8,3 +8,4 @@ mod Described
 mod Members
 mod Noted
 pub mod Refusing
+mod Summary
