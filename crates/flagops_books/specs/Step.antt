@@ -5,12 +5,11 @@ use Rattle.flagops_books.specs.Told.{NamesFile, passed_text}
 use Rattle.flagops_books.specs.Union.{United, noted, stray}
 use Rattle.flagops_books.specs.declared.uniting.Step.{Step}
 use Rattle.flagops_books.specs.declared.uniting.Step.TheVariants.{Noted, Stopped}
-use Rattle.flagops_files.specs.Refusal.{is_want}
+use Rattle.flagops_books.specs.Refusal.{is_want, Refused}
 use Rattle.flagops_shell.specs.Report.{outcome_view}
-use Rattle.flagops_shell.specs.Diagnostic.{Says}
 use Rattle.flagops_shell.specs.declared.outcome.Outcome.{Outcome}
-use Rattle.flagops_files.specs.declared.refusal.Refusal.{Refusal}
-use Rattle.flagops_files.specs.Refusal.{Refused}
+use Rattle.flagops_shell.specs.Diagnostic.{Says}
+use Rattle.flagops_books.specs.declared.refusal.BookRefusal.{BookRefusal}
 use Rattle.note_books.specs.Notes.{Notes, IsBookOf}
 use Rattle.note_books.specs.declared.taking.NotesTaken.{NotesTaken}
 
@@ -19,7 +18,7 @@ abbrev pub IsStop : List ℕ → ℕ → Outcome → Type 0
 IsStop path n o = (outcome_view o ≡ stray_report path n) × IfSome o.remark (Says (NamesFile path))
 
 -- what was returned is one of these, unless memory ran out
-abbrev pub GivesUnited : Result Step Refused → (Result United Refusal → Type 0) → Type 0
+abbrev pub GivesUnited : Result Step Refused → (Result United BookRefusal → Type 0) → Type 0
 GivesUnited (Ok (Noted g)) Wanted = (all : Notes) × IsBookOf all g.book × Wanted (Ok (noted all (string_bytes g.told)))
 GivesUnited (Ok (Stopped o)) Wanted = (path : List ℕ) × (n : ℕ) × Wanted (Ok (stray path n)) × IsStop path n o
 GivesUnited (Err e) Wanted = is_want e.refusal ≡ false → Wanted (Err e.refusal)

@@ -6,8 +6,8 @@ use Rattle.flagops_shell.specs.Files.{Holding}
 use Rattle.flagops_shell.specs.Report.{Report, outcome_view}
 use Rattle.flagops_shell.specs.declared.outcome.Outcome.{Outcome}
 use Rattle.flagops_commands.specs.Commands.{waits}
+use Rattle.flagops_commands.specs.Refusal.{Refused}
 use Rattle.flagops_commands.specs.Subjects.{numbers_of}
-use Rattle.flagops_files.specs.Refusal.{Refused}
 use Rattle.flagops_words.specs.Asked.{Asked, bucket, price, resolve, verify, apply, keep, plan, drive, completions}
 use Rattle.flagops_shell.specs.declared.refused.Remark.{Remark}
 use Rattle.flagops_shell.specs.declared.refused.Remark.TheVariants.{Short, Lines}

@@ -9,16 +9,15 @@ use Rattle.flagops_drive.specs.Unread.{has_unread_ask}
 use Rattle.flagops_drive.specs.declared.fault.DriveRefusal.{DriveRefusal}
 use Rattle.flagops_drive.specs.declared.fault.DriveRefusal.TheVariants.{BadAsks}
 use Rattle.flagops_shell.specs.Files.{Holding}
-use Rattle.flagops_files.specs.Loading.{max_text, tree_at}
-use Rattle.flagops_files.specs.Refusal.{call_of, is_want}
-use Rattle.flagops_files.specs.declared.refusal.Call.{Call}
-use Rattle.flagops_files.specs.declared.refusal.Call.TheVariants as call
-use Rattle.flagops_files.specs.declared.refusal.Refusal.{Refusal}
-use Rattle.flagops_files.specs.declared.refusal.Doubt.TheVariants as doubt
-use Rattle.flagops_files.specs.declared.refusal.Refusal.TheVariants.{Drive, Doubted}
-use Rattle.flagops_files.specs.Refusal.{Refused}
-use Rattle.flagops_rollouts.specs.Doubts.{settle}
-use Rattle.flagops_commands.specs.Drive.{HasNoAsks, HasUnreadAsk, IsRefusedByName, admitted}
+use Rattle.flagops_files.specs.Loading.{max_text}
+use Rattle.flagops_commands.specs.Loaded.{tree_at}
+use Rattle.flagops_commands.specs.Refusal.{call_of, is_want, Refused}
+use Rattle.flagops_commands.specs.declared.refusal.ListedCall.TheVariants as call
+use Rattle.flagops_commands.specs.declared.refusal.ListedCall.{ListedCall}
+use Rattle.flagops_rollouts.specs.declared.refusal.Doubt.TheVariants as doubt
+use Rattle.flagops_commands.specs.declared.refusal.ListedRefusal.{ListedRefusal}
+use Rattle.flagops_commands.specs.declared.refusal.ListedRefusal.TheVariants.{Drive, Doubted}
+use Rattle.flagops_commands.specs.Drive.{HasNoAsks, HasUnreadAsk, IsRefusedByName, admitted, settle}
 use Rattle.flagops_shell.specs.Ending.{KeepsUnlessDone}
 use Rattle.flagops_shell.specs.declared.outcome.Outcome.{Outcome}
 
@@ -26,20 +25,20 @@ differs : {X : Type 0} → true ≡ false → X
 differs h = cc
 
 -- a refusal by a call that is not `drive` itself
-pub by_another : (calls : Call → Bool) (r : Refusal) → calls call.Drive ≡ false → calls (call_of r) ≡ true → call_of r ≡ call.Drive → is_want r ≡ false
+pub by_another : (calls : ListedCall → Bool) (r : ListedRefusal) → calls call.Drive ≡ false → calls (call_of r) ≡ true → call_of r ≡ call.Drive → is_want r ≡ false
 by_another calls r apart made is = differs (sym made ∙ (ap calls is ∙ apart))
 
 -- ---- what is refused before an ask is answered
 
 -- asks are refused so, and not for want of memory
 abbrev pub AreRefused : Bool → Shape → ℕ → Type 0
-AreRefused strict t workers = (x : Refusal) × (admitted strict (refusal_of (asks_of t) workers) t ≡ Err x) × (is_want x ≡ false)
+AreRefused strict t workers = (x : ListedRefusal) × (admitted strict (refusal_of (asks_of t) workers) t ≡ Err x) × (is_want x ≡ false)
 
 -- and then so is what was returned
-pub by_name : (strict : Bool) (t : Shape) (workers : ℕ) (r : Refusal) → AreRefused strict t workers → ((x : Refusal) → admitted strict (refusal_of (asks_of t) workers) t ≡ Err x → r ≡ x) → is_want r ≡ false
+pub by_name : (strict : Bool) (t : Shape) (workers : ℕ) (r : ListedRefusal) → AreRefused strict t workers → ((x : ListedRefusal) → admitted strict (refusal_of (asks_of t) workers) t ≡ Err x → r ≡ x) → is_want r ≡ false
 by_name strict t workers r are refused = ap is_want (refused are.0 are.1) ∙ are.2
 
-pub none_driven : (strict : Bool) (t : Shape) (workers : ℕ) → AreRefused strict t workers → ((x : Refusal) → admitted strict (refusal_of (asks_of t) workers) t ≡ Err x → ⊥) → ⊥
+pub none_driven : (strict : Bool) (t : Shape) (workers : ℕ) → AreRefused strict t workers → ((x : ListedRefusal) → admitted strict (refusal_of (asks_of t) workers) t ≡ Err x → ⊥) → ⊥
 none_driven strict t workers are refused = refused are.0 are.1
 
 -- what `drive` itself refuses
@@ -60,7 +59,7 @@ unread t workers has = go (refusal_of (asks_of t) workers) refl
   where
     go : (o : Option DriveRefusal) → refusal_of (asks_of t) workers ≡ o → AreRefused true t workers
     go (Some e) is = by_drive true t workers e is
-    go None is = (Doubted call.Drive doubt.Unread, ap (λ (o : Option DriveRefusal). admitted true o t) is ∙ ap (λ (b : Bool). settle call.Drive true (if b then Some doubt.Unread else None)) has, refl)
+    go None is = (Doubted doubt.Unread, ap (λ (o : Option DriveRefusal). admitted true o t) is ∙ ap (λ (b : Bool). settle true (if b then Some doubt.Unread else None)) has, refl)
 
 -- ---- the file of the asks
 

@@ -8,14 +8,15 @@ use Rattle.flag_text.specs.Shape.{Shape}
 use Rattle.flagops_drive.specs.Tally.{IsTallyOf}
 use Rattle.flagops_drive.specs.Unread.{has_unread_ask}
 use Rattle.flagops_drive.specs.declared.tally.Tally.{Tally}
-use Rattle.flagops_files.specs.Loading.{max_text, tree_at}
-use Rattle.flagops_files.specs.Refusal.{Refused}
+use Rattle.flagops_files.specs.Loading.{max_text}
 use Rattle.flagops_shell.specs.Diagnostic.{Says}
 use Rattle.flagops_shell.specs.Files.{Holding}
 use Rattle.flagops_shell.specs.declared.outcome.Outcome.{Outcome}
 use Rattle.flagops_shell.specs.declared.refused.Remark.{Remark}
 use Rattle.flagops_shell.specs.declared.refused.Remark.TheVariants.{Short, Lines}
 use Rattle.flagops_commands.specs.Drive.{before_at}
+use Rattle.flagops_commands.specs.Loaded.{tree_at}
+use Rattle.flagops_commands.specs.Refusal.{Refused}
 use Rattle.flagops_commands.specs.DriveSummary.{TellsDriven, TellsPrinted, TellsUnread, summary_text}
 
 -- lines that begin with a note are about the name behind it

@@ -7,9 +7,10 @@ use Rattle.flagops_drive.specs.Tally.{IsTallyOf}
 use Rattle.flagops_drive.specs.Unread.{has_unread_ask}
 use Rattle.flagops_drive.specs.declared.tally.Endings.{Endings}
 use Rattle.flagops_drive.specs.declared.tally.Tally.{Tally}
-use Rattle.flagops_files.specs.Loading.{max_text, tree_at}
+use Rattle.flagops_files.specs.Loading.{max_text}
 use Rattle.flagops_shell.specs.Files.{Holding}
 use Rattle.flagops_commands.specs.Drive.{before_at}
+use Rattle.flagops_commands.specs.Loaded.{tree_at}
 
 -- what makes a name that of one thing, or of another number of them
 abbrev pub plural : ℕ → List ℕ

@@ -1,0 +1,28 @@
+-- A document that was loaded, and a refusal to load it, as the command has them.
+use Rattle.std.proofs.Common.{◌≡◌, List, Option, IfSome, false, ℕ, refl}
+use Rattle.std.specs.Prelude.{Result, Ok, Err}
+use Rattle.flag_defs.specs.Document.{Definitions}
+use Rattle.flagops_shell.proofs.Lifted.{given_one, refused_one}
+use Rattle.flagops_shell.specs.Diagnostic.{Says}
+use Rattle.flagops_shell.specs.Files.{Holding}
+use Rattle.flagops_files.proofs.Told.{told_of}
+use Rattle.flagops_files.specs.Documents as documents
+use Rattle.flagops_files.specs.Refusal as files
+use Rattle.flagops_files.specs.Told.{NamesSubject, Subject}
+use Rattle.flagops_checks.specs.Documents.{IsDocumentAt}
+use Rattle.flagops_checks.specs.Refusal.{Refused, is_want}
+use Rattle.flagops_checks.specs.declared.refusal.CheckRefusal.TheVariants.{Load}
+
+module _ (old : Option Holding) (path : List ℕ) where
+  pub flags_there : (flags : Definitions) → IfSome old (λ at. documents.IsDocumentAt at path (Ok flags)) → IfSome old (λ at. IsDocumentAt at path (Ok flags))
+  unfolding IsDocumentAt
+  flags_there flags loaded = given_one files.is_want is_want Load (λ e. refl) (λ at. documents.IsDocumentAt at path) old flags loaded
+
+  pub no_flags : (e : files.Refused) (t : Refused) → t.refusal ≡ Load e.refusal → IfSome old (λ at. files.is_want e.refusal ≡ false → documents.IsDocumentAt at path (Err e.refusal))
+      → IfSome old (λ at. is_want t.refusal ≡ false → IsDocumentAt at path (Err t.refusal))
+  unfolding IsDocumentAt
+  no_flags e t is loaded = refused_one files.is_want is_want Load (λ e. refl) (λ at. documents.IsDocumentAt at path) old e t is loaded
+
+-- a refusal is told as it was
+pub told : (e : files.Refused) (t : Refused) (subject : Subject) → t.refusal ≡ Load e.refusal → t.remark ≡ e.remark → (files.is_want e.refusal ≡ false → Says (NamesSubject subject) e.remark) → is_want t.refusal ≡ false → Says (NamesSubject subject) t.remark
+told e t subject is said named = told_of files.is_want is_want Load (λ e. refl) e t is said subject named
