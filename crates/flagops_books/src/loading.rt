@@ -12,7 +12,7 @@ use flagops_shell::FileSet;
 use std::alloc::Global;
 
 /// The bytes of the file at `path`, a book, a tally or note lines.
-#[tactic(auto, using(crate::proofs::Loaded::told, crate::proofs::Loaded::loads))]
+#[tactic(auto, using(crate::proofs::Loaded::told, crate::proofs::Loaded::comes, crate::proofs::Loaded::failed_load, crate::proofs::Loaded::loads_both))]
 pub(crate) fn load_notes<F: FileSet>(
     alloc: Global,
     files: &mut F,
@@ -32,7 +32,7 @@ pub(crate) fn load_notes<F: FileSet>(
 }
 
 /// Whether a book may be written at a path.
-#[tactic(auto, using(crate::proofs::Loaded::told))]
+#[tactic(auto, using(crate::proofs::Loaded::told, crate::proofs::Loaded::comes, crate::proofs::Loaded::failed_load))]
 pub(crate) fn check_replaceable<F: FileSet>(
     alloc: Global,
     files: &F,
@@ -50,7 +50,7 @@ pub(crate) fn check_replaceable<F: FileSet>(
 }
 
 /// Writes `bytes` to the file at `path`. After a refusal the files are as they were.
-#[tactic(auto, using(crate::proofs::Loaded::told, crate::proofs::Loaded::unwritten))]
+#[tactic(auto, using(crate::proofs::Loaded::told, crate::proofs::Loaded::comes, crate::proofs::Loaded::failed_load, crate::proofs::Loaded::unwritten))]
 pub(crate) fn store<F: FileSet>(
     alloc: Global,
     files: &mut F,

@@ -29,7 +29,7 @@ pub(crate) struct Loaded {
 }
 
 /// The document at a path, with what is found by the names in it.
-#[tactic(auto, using(crate::proofs::Loaded::told))]
+#[tactic(auto, using(crate::proofs::Loaded::told, crate::proofs::Loaded::comes, crate::proofs::Loaded::failed_load))]
 pub(crate) fn load_checked<R: Threads, F: FileSet>(
     rt: &R,
     alloc: Global,

@@ -1,5 +1,5 @@
 -- What was loaded, and a refusal to load it, as a listed command has them.
-use Rattle.std.proofs.Common.{◌≡◌, ◌∙◌, ap, ℕ, List, [], ◌∷◌, Option, Some, None, IfSome, true, false, Bool, refl, inl, inr, subst, sym}
+use Rattle.std.proofs.Common.{◌≡◌, ◌∙◌, ap, ℕ, List, [], ◌∷◌, Option, Some, None, IfSome, true, false, Bool, refl, inl, inr, subst, sym, ◌||◌}
 use Rattle.std.specs.Prelude.{Result, Ok, Err}
 use Rattle.bucket_core.specs.Rule.{Entries}
 use Rattle.book_core.specs.Book.{Contents}
@@ -18,12 +18,14 @@ use Rattle.flagops_files.specs.Loading as loading
 use Rattle.flagops_files.specs.Loading.{max_text}
 use Rattle.flagops_files.specs.Question as questions
 use Rattle.flagops_files.specs.Refusal as files
+use Rattle.flagops_files.specs.declared.refusal.Call.{Call}
 use Rattle.flagops_files.specs.Told.{NamesOne, NamesSubject, Subject}
 use Rattle.flagops_files.specs.declared.refusal.Refusal.TheVariants as file
 use Rattle.flagops_rollouts.specs.Refusal as rollouts
+use Rattle.flagops_rollouts.specs.declared.refusal.RolloutCall.{RolloutCall}
 use Rattle.flagops_rollouts.specs.declared.refusal.RolloutRefusal.{RolloutRefusal}
 use Rattle.flagops_commands.specs.Loaded.{IsDocumentAt, book_at, bytes_at, choice_at, replaceable_at, rule_at, tree_at}
-use Rattle.flagops_commands.specs.Refusal.{Refused, is_want, rolled, unwritable}
+use Rattle.flagops_commands.specs.Refusal.{Refused, call_of, is_unread, is_want, loads, rolled, rolls, unwritable}
 use Rattle.flagops_commands.specs.declared.refusal.ListedRefusal.{ListedRefusal}
 use Rattle.flagops_commands.specs.declared.refusal.ListedRefusal.TheVariants.{Load, Rollout}
 
@@ -117,3 +119,18 @@ module _ (P : Holding → Result Report RolloutRefusal → Type 0) (old : Option
 
   pub not_rolled : (e : rollouts.Refused) (t : Refused) → t.refusal ≡ Rollout e.refusal → IfSome old (λ at. rollouts.is_want e.refusal ≡ false → P at (Err e.refusal)) → IfSome old (λ at. is_want t.refusal ≡ false → Lifts Rollout (P at) (Err t.refusal))
   not_rolled e t is gives = refused_one rollouts.is_want is_want Rollout (λ e. refl) P old e t is gives
+
+-- ---- what refused, and whether a file could not be read, is as it was
+
+pub comes : (calls : Call → Bool) (e : files.Refused) (t : Refused) → t.refusal ≡ Load e.refusal → calls (files.call_of e.refusal) ≡ true → loads calls (call_of t.refusal) ≡ true
+comes calls e t is came = ap (λ r. loads calls (call_of r)) is ∙ came
+
+pub failed_load : (old new : Bool) (e : files.Refused) (t : Refused) → t.refusal ≡ Load e.refusal → new ≡ (old || files.is_unread e.refusal) → new ≡ (old || is_unread t.refusal)
+failed_load old new e t is failed = failed ∙ ap (λ b. old || b) (sym (ap is_unread is))
+
+-- the same of a command on rollouts
+pub rolls_from : (calls : RolloutCall → Bool) (e : rollouts.Refused) (t : Refused) → t.refusal ≡ Rollout e.refusal → calls (rollouts.call_of e.refusal) ≡ true → rolls calls (call_of t.refusal) ≡ true
+rolls_from calls e t is came = ap (λ r. rolls calls (call_of r)) is ∙ came
+
+pub failed_rollout : (old new : Bool) (e : rollouts.Refused) (t : Refused) → t.refusal ≡ Rollout e.refusal → new ≡ (old || rollouts.is_unread e.refusal) → new ≡ (old || is_unread t.refusal)
+failed_rollout old new e t is failed = failed ∙ ap (λ b. old || b) (sym (ap is_unread is))

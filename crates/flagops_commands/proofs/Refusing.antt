@@ -1,13 +1,16 @@
 -- What `drive` refuses: by name where the workers or the asks are wrong or a member is not read, and before any file is stored.
 use Rattle.std.proofs.Common.{◌≡◌, ◌∙◌, ◌||◌, ℕ, List, Option, Some, None, Bool, true, false, IfSome, inl, refl, sym, ap, subst}
-use Rattle.std.specs.Prelude.{if◌then◌else◌, Result, Ok, Err}
+use Rattle.std.specs.Prelude.{if◌then◌else◌, nat_eq, Result, Ok, Err}
 use Rattle.flag_text.specs.Shape.{Shape}
 use Rattle.flagops_drive.proofs.Named.{is_refused, named}
 use Rattle.flagops_drive.specs.Asks.{Ask, asks_of}
 use Rattle.flagops_drive.specs.Driven.{refusal_of, workers_refusal}
 use Rattle.flagops_drive.specs.Unread.{has_unread_ask}
 use Rattle.flagops_drive.specs.declared.fault.DriveRefusal.{DriveRefusal}
+use Rattle.flagops_drive.specs.Fault.{number_of}
+use Rattle.flagops_drive.specs.declared.fault.DriveRefusal.TheVariants as reason
 use Rattle.flagops_drive.specs.declared.fault.DriveRefusal.TheVariants.{BadAsks}
+use Rattle.book_share.specs.declared.drive_fault.DriveFault.TheVariants as sharing
 use Rattle.flagops_shell.specs.Files.{Holding}
 use Rattle.flagops_files.specs.Loading.{max_text}
 use Rattle.flagops_commands.specs.Loaded.{tree_at}
@@ -41,9 +44,18 @@ by_name strict t workers r are refused = ap is_want (refused are.0 are.1) ∙ ar
 pub none_driven : (strict : Bool) (t : Shape) (workers : ℕ) → AreRefused strict t workers → ((x : ListedRefusal) → admitted strict (refusal_of (asks_of t) workers) t ≡ Err x → ⊥) → ⊥
 none_driven strict t workers are refused = refused are.0 are.1
 
+-- a fault of another number than that of want of memory
+by_number : (e : DriveRefusal) → nat_eq (number_of e) 0 ≡ false → is_want (Drive e) ≡ false
+by_number (reason.Drive sharing.WantOfMemory) apart = differs apart
+by_number (reason.Drive sharing.NoWorkers) apart = refl
+by_number (reason.Drive sharing.TooManyWorkers) apart = refl
+by_number (reason.Drive sharing.Stalled) apart = refl
+by_number reason.BadAsks apart = refl
+by_number reason.PageFull apart = refl
+
 -- what `drive` itself refuses
 by_drive : (strict : Bool) (t : Shape) (workers : ℕ) (e : DriveRefusal) → refusal_of (asks_of t) workers ≡ Some e → AreRefused strict t workers
-by_drive strict t workers e is = (Drive e, ap (λ (o : Option DriveRefusal). admitted strict o t) is, named (asks_of t) workers e is)
+by_drive strict t workers e is = (Drive e, ap (λ (o : Option DriveRefusal). admitted strict o t) is, by_number e (named (asks_of t) workers e is))
 
 -- a wrong number of workers
 pub wrong_workers : (strict : Bool) (t : Shape) (workers : ℕ) (e : DriveRefusal) → workers_refusal workers ≡ Some e → AreRefused strict t workers

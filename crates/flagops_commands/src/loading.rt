@@ -20,7 +20,7 @@ use rule_text::Choice;
 use std::alloc::Global;
 
 /// The bytes of the request or the key file at a path.
-#[tactic(auto, using(crate::proofs::Loaded::told))]
+#[tactic(auto, using(crate::proofs::Loaded::told, crate::proofs::Loaded::comes, crate::proofs::Loaded::failed_load))]
 pub(crate) fn load_bytes<F: FileSet>(
     alloc: Global,
     files: &mut F,
@@ -39,7 +39,7 @@ pub(crate) fn load_bytes<F: FileSet>(
 }
 
 /// The rule of the rule file at a path.
-#[tactic(auto, using(crate::proofs::Loaded::told))]
+#[tactic(auto, using(crate::proofs::Loaded::told, crate::proofs::Loaded::comes, crate::proofs::Loaded::failed_load))]
 pub(crate) fn load_rule<F: FileSet>(
     alloc: Global,
     files: &mut F,
@@ -58,7 +58,7 @@ pub(crate) fn load_rule<F: FileSet>(
 }
 
 /// What the rule of the rule file at a path gives a key.
-#[tactic(auto, using(crate::proofs::Loaded::told))]
+#[tactic(auto, using(crate::proofs::Loaded::told, crate::proofs::Loaded::comes, crate::proofs::Loaded::failed_load))]
 pub(crate) fn load_choice<F: FileSet>(
     alloc: Global,
     files: &mut F,
@@ -78,7 +78,7 @@ pub(crate) fn load_choice<F: FileSet>(
 }
 
 /// The tree of the file at a path, of at most so many bytes.
-#[tactic(auto, using(crate::proofs::Loaded::told))]
+#[tactic(auto, using(crate::proofs::Loaded::told, crate::proofs::Loaded::comes, crate::proofs::Loaded::failed_load))]
 pub(crate) fn load_tree<F: FileSet>(
     alloc: Global,
     files: &mut F,
@@ -99,7 +99,7 @@ pub(crate) fn load_tree<F: FileSet>(
 }
 
 /// The flags of the document at a path.
-#[tactic(auto, using(crate::proofs::Loaded::told))]
+#[tactic(auto, using(crate::proofs::Loaded::told, crate::proofs::Loaded::comes, crate::proofs::Loaded::failed_load))]
 pub(crate) fn load_flags<F: FileSet>(
     alloc: Global,
     files: &mut F,
@@ -118,7 +118,7 @@ pub(crate) fn load_flags<F: FileSet>(
 }
 
 /// The book of the file at a path.
-#[tactic(auto, using(crate::proofs::Loaded::told))]
+#[tactic(auto, using(crate::proofs::Loaded::told, crate::proofs::Loaded::comes, crate::proofs::Loaded::failed_load))]
 pub(crate) fn load_book<F: FileSet>(
     alloc: Global,
     files: &mut F,
@@ -137,7 +137,7 @@ pub(crate) fn load_book<F: FileSet>(
 }
 
 /// Whether a book may be written at a path.
-#[tactic(auto, using(crate::proofs::Loaded::told))]
+#[tactic(auto, using(crate::proofs::Loaded::told, crate::proofs::Loaded::comes, crate::proofs::Loaded::failed_load))]
 pub(crate) fn check_replaceable<F: FileSet>(
     alloc: Global,
     files: &F,
@@ -155,7 +155,7 @@ pub(crate) fn check_replaceable<F: FileSet>(
 }
 
 /// Writes `bytes` to the file at `path`. After a refusal the files are as they were.
-#[tactic(auto, using(crate::proofs::Loaded::told, crate::proofs::Loaded::unwritten))]
+#[tactic(auto, using(crate::proofs::Loaded::told, crate::proofs::Loaded::comes, crate::proofs::Loaded::failed_load, crate::proofs::Loaded::unwritten))]
 pub(crate) fn store<F: FileSet>(
     alloc: Global,
     files: &mut F,

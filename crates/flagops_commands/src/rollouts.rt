@@ -21,7 +21,7 @@ use std::alloc::Global;
 use std::thread::Threads;
 
 /// What `plan` answers.
-#[tactic(auto, using(crate::proofs::Loaded::rolled_told))]
+#[tactic(auto, using(crate::proofs::Loaded::rolled_told, crate::proofs::Loaded::rolls_from, crate::proofs::Loaded::failed_rollout))]
 pub(crate) fn plan<R: Threads + Sync, F: FileSet>(
     rt: &R,
     alloc: Global,
@@ -49,7 +49,7 @@ pub(crate) fn plan<R: Threads + Sync, F: FileSet>(
 }
 
 /// What `verify` answers.
-#[tactic(auto, using(crate::proofs::Loaded::rolled_told))]
+#[tactic(auto, using(crate::proofs::Loaded::rolled_told, crate::proofs::Loaded::rolls_from, crate::proofs::Loaded::failed_rollout))]
 pub(crate) fn verify<R: Threads + Sync, F: FileSet>(
     rt: &R,
     alloc: Global,
@@ -78,7 +78,7 @@ pub(crate) fn verify<R: Threads + Sync, F: FileSet>(
 }
 
 /// What `apply` answers.
-#[tactic(auto, using(crate::proofs::Loaded::rolled_told))]
+#[tactic(auto, using(crate::proofs::Loaded::rolled_told, crate::proofs::Loaded::rolls_from, crate::proofs::Loaded::failed_rollout))]
 pub(crate) fn apply<F: FileSet>(
     alloc: Global,
     files: &mut F,
@@ -100,7 +100,7 @@ pub(crate) fn apply<F: FileSet>(
 }
 
 /// What `apply --keep` answers.
-#[tactic(auto, using(crate::proofs::Loaded::rolled_told))]
+#[tactic(auto, using(crate::proofs::Loaded::rolled_told, crate::proofs::Loaded::rolls_from, crate::proofs::Loaded::failed_rollout))]
 pub(crate) fn keep<R: Threads + Sync, F: FileSet>(
     rt: &R,
     alloc: Global,

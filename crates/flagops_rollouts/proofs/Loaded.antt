@@ -1,5 +1,5 @@
 -- What was loaded, and a refusal to load it, as a command on rollouts has them.
-use Rattle.std.proofs.Common.{◌≡◌, ◌∙◌, ap, ℕ, List, Option, IfSome, false, refl, Global, Vec}
+use Rattle.std.proofs.Common.{◌≡◌, ◌∙◌, ap, ℕ, List, Option, IfSome, false, refl, Global, Vec, ◌||◌, sym, Bool, true}
 use Rattle.std.specs.Prelude.{Result, Ok, Err}
 use Rattle.flag_defs.specs.Document.{Definitions}
 use Rattle.plan_text.specs.Answer.{Answer}
@@ -13,9 +13,10 @@ use Rattle.flagops_files.specs.PlanFile as plans
 use Rattle.flagops_files.specs.Question as questions
 use Rattle.flagops_files.specs.Question.{BookQuestion, Question}
 use Rattle.flagops_files.specs.Refusal as files
+use Rattle.flagops_files.specs.declared.refusal.Call.{Call}
 use Rattle.flagops_files.specs.Told.{NamesOne, NamesSubject, Subject}
 use Rattle.flagops_rollouts.specs.Loaded.{IsBookQuestionAt, IsDocumentAt, IsQuestionAt, book_question_subjects, plan_at, question_subjects}
-use Rattle.flagops_rollouts.specs.Refusal.{Refused, is_want, unwritable}
+use Rattle.flagops_rollouts.specs.Refusal.{Refused, call_of, is_unread, is_want, loads, unwritable}
 use Rattle.flagops_rollouts.specs.declared.refusal.RolloutRefusal.TheVariants.{Load}
 
 module _ (old : Option Holding) (path : List ℕ) where
@@ -75,3 +76,11 @@ module _ (e : files.Refused) (t : Refused) where
   -- a file that is not written is refused as it was
   pub unwritten : t.refusal ≡ Load e.refusal → (files.is_want e.refusal ≡ false → e.refusal ≡ files.unwritable) → is_want t.refusal ≡ false → t.refusal ≡ unwritable
   unwritten is fault no_want = is ∙ ap Load (fault (not_want files.is_want is_want Load (λ e. refl) e t is no_want))
+
+-- ---- what refused, and whether a file could not be read, is as it was
+
+pub comes : (calls : Call → Bool) (e : files.Refused) (t : Refused) → t.refusal ≡ Load e.refusal → calls (files.call_of e.refusal) ≡ true → loads calls (call_of t.refusal) ≡ true
+comes calls e t is came = ap (λ r. loads calls (call_of r)) is ∙ came
+
+pub failed_load : (old new : Bool) (e : files.Refused) (t : Refused) → t.refusal ≡ Load e.refusal → new ≡ (old || files.is_unread e.refusal) → new ≡ (old || is_unread t.refusal)
+failed_load old new e t is failed = failed ∙ ap (λ b. old || b) (sym (ap is_unread is))

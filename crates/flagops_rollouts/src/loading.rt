@@ -18,7 +18,7 @@ use std::alloc::Global;
 use std::thread::Threads;
 
 /// The flags of the document at a path.
-#[tactic(auto, using(crate::proofs::Loaded::told))]
+#[tactic(auto, using(crate::proofs::Loaded::told, crate::proofs::Loaded::comes, crate::proofs::Loaded::failed_load))]
 pub fn load_flags<F: FileSet>(alloc: Global, files: &mut F, path: &str) -> Result<Flags, Refused>
     ensures exact { IfSome (F.holding files.old) (λ at. GivesOne flags_view result (IsDocumentAt at path.now)) }
     ensures calls { ComesFrom loads_flags result }
@@ -33,7 +33,7 @@ pub fn load_flags<F: FileSet>(alloc: Global, files: &mut F, path: &str) -> Resul
 }
 
 /// The answer of the plan file at a path.
-#[tactic(auto, using(crate::proofs::Loaded::told))]
+#[tactic(auto, using(crate::proofs::Loaded::told, crate::proofs::Loaded::comes, crate::proofs::Loaded::failed_load))]
 pub fn load_planned<F: FileSet>(
     alloc: Global,
     files: &mut F,
@@ -52,7 +52,7 @@ pub fn load_planned<F: FileSet>(
 }
 
 /// The question of the files at these paths. The condition is a factor from 1.
-#[tactic(auto, using(crate::proofs::Loaded::told_question))]
+#[tactic(auto, using(crate::proofs::Loaded::told_question, crate::proofs::Loaded::comes, crate::proofs::Loaded::failed_load))]
 pub fn load_question<R: Threads, F: FileSet>(
     rt: &R,
     alloc: Global,
@@ -77,7 +77,7 @@ pub fn load_question<R: Threads, F: FileSet>(
 }
 
 /// The question over a book of the files at these paths. The condition is a factor from 1.
-#[tactic(auto, using(crate::proofs::Loaded::told_book_question))]
+#[tactic(auto, using(crate::proofs::Loaded::told_book_question, crate::proofs::Loaded::comes, crate::proofs::Loaded::failed_load))]
 pub fn load_book_question<R: Threads, F: FileSet>(
     rt: &R,
     alloc: Global,
@@ -102,7 +102,7 @@ pub fn load_book_question<R: Threads, F: FileSet>(
 }
 
 /// Writes `bytes` to the file at `path`. After a refusal the files are as they were.
-#[tactic(auto, using(crate::proofs::Loaded::told, crate::proofs::Loaded::unwritten))]
+#[tactic(auto, using(crate::proofs::Loaded::told, crate::proofs::Loaded::comes, crate::proofs::Loaded::failed_load, crate::proofs::Loaded::unwritten))]
 pub fn store<F: FileSet>(
     alloc: Global,
     files: &mut F,

@@ -22,7 +22,7 @@ use std::alloc::{AllocError, Global};
 
 /// What the file of asks at a path holds. The file's bytes stay where they are put, and so do the texts that escapes were
 /// replaced in.
-#[tactic(auto, using(crate::proofs::Loaded::told))]
+#[tactic(auto, using(crate::proofs::Loaded::told, crate::proofs::Loaded::comes, crate::proofs::Loaded::failed_load))]
 pub fn load_asks<'a, F: FileSet>(
     alloc: Global,
     files: &mut F,
