@@ -73,7 +73,7 @@ const PLANS: &[(&[u8], Option<u64>, &str)] = &[
     (
         br#"{"plan":1,"flag":"color","totals":{"red":3,"blue":7},"price":1,"forbid":[["red","blue"]]}"#,
         None,
-        r#"{"none":["green","red"],"plan":1}
+        r#"{"none":["red"],"plan":1}
 "#,
     ),
 ];
