@@ -13,7 +13,7 @@ returns-in-Ok-clause-exact c = read_so c.args.bytes.now c.in-Ok.tally c.in-Ok.en
 pub returns-in-Err-clause-exact : goal.returns-in-Err-clause-exact
 returns-in-Err-clause-exact c = unread c.args.bytes.now c.in-Err.fault c.unread.result c.in-Err.ensures.exact c.unread.ensures.refusal
 
-is_want_of : Result PageTally TallyFileFault → Bool
+abbrev is_want_of : Result PageTally TallyFileFault → Bool
 is_want_of (Ok t) = false
 is_want_of (Err e) = is_want (Load (ReadTally e))
 
