@@ -36,7 +36,7 @@ counted now (x ∷ xs) = ap suc (counted now xs)
 
 -- what may not become a book
 not_there : (u : Uniting) (at : Holding) (o : Result (Unit {0}) Refusal) (e : BookRefusal) → refused_by Load o ≡ Err e → IsUnitedWhere o at u (Err e)
-not_there u at (Err f) e is = sym is
+not_there u at (Err f) e is = let same : e ≡ Load f = cc in ap Err same
 not_there u at (Ok free) e is = cc
 
 there : (o : Result (Unit {0}) Refusal) (free : Unit {0}) → (let r : Result (Unit {0}) BookRefusal = refused_by Load o in r) ≡ Ok free → o ≡ Ok free
