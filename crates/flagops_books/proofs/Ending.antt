@@ -1,6 +1,6 @@
 -- What the command comes to, and what a person is told of it.
 use Rattle.flagops_files.specs.declared.refusal.Refusal.{Refusal}
-use Rattle.std.proofs.Common.{◌≡◌, ◌∙◌, ℕ, suc, Bool, true, false, List, [], ◌∷◌, Option, Some, None, IfSome, IfOk, IfErr, length, map, inl, inr, refl, ap, sym, subst, string_bytes, String, Global}
+use Rattle.std.proofs.Common.{◌≡◌, ◌∙◌, ℕ, suc, false, List, [], ◌∷◌, Option, Some, None, IfSome, IfOk, IfErr, length, map, inr, refl, ap, sym, subst, string_bytes}
 use Rattle.std.specs.Prelude.{Result, Ok, Err, IsOk}
 use Rattle.book_core.specs.Book.{input_count}
 use Rattle.book_core.specs.Printing.{book_text}
@@ -36,7 +36,7 @@ counted now (x ∷ xs) = ap suc (counted now xs)
 
 -- what may not become a book
 not_there : (u : Uniting) (at : Holding) (o : Result (Unit {0}) Refusal) (e : BookRefusal) → refused_by Load o ≡ Err e → IsUnitedWhere o at u (Err e)
-not_there u at (Err f) e is = sym is
+not_there u at (Err f) e is = let same : e ≡ Load f = cc in ap Err same
 not_there u at (Ok free) e is = cc
 
 there : (o : Result (Unit {0}) Refusal) (free : Unit {0}) → (let r : Result (Unit {0}) BookRefusal = refused_by Load o in r) ≡ Ok free → o ≡ Ok free

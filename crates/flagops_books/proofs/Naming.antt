@@ -1,23 +1,15 @@
 -- Of which file a person is told where it is refused.
-use Rattle.std.proofs.Common.{◌≡◌, ◌+◌, ◌<◌, ◌∙◌, ◌==◌, ◌||◌, ℕ, zero, suc, not, Bool, true, false, List, [], ◌∷◌, ◌++◌, Option, Some, None, IfSome, append_assoc, length-append, arith, refl, ap, sym, subst, get_or, length, map, inl, inr, codes, string_bytes, String, Global, IfErr, IfOk}
-use Rattle.std.proofs.lemmas.Bool.{eqb-true}
+use Rattle.std.proofs.Common.{◌≡◌, ◌<◌, ◌∙◌, ℕ, zero, suc, true, false, List, [], ◌∷◌, arith, refl, ap, sym, get_or, length, map, inl, inr, IfErr}
 use Rattle.std.specs.Prelude.{Result, Ok, Err}
-use Rattle.flag_text.specs.Printing.{text_of}
-use Rattle.flag_text.specs.Shape.{text}
 use Rattle.flagops_books.specs.Calls.{unites_files}
 use Rattle.flagops_books.specs.Told.{united_subjects}
-use Rattle.flagops_books.specs.declared.uniting.Gathered.{Gathered}
 use Rattle.flagops_books.specs.declared.uniting.Step.{Step}
-use Rattle.flagops_books.specs.declared.uniting.Step.TheVariants.{Noted, Stopped}
 use Rattle.flagops_books.specs.Refusal.{ComesFrom, call_of, is_file_fault, is_want, TellsOf, by, Refused}
 use Rattle.flagops_files.specs.Told.{NamesOne, NamesSubject, file}
 use Rattle.flagops_shell.specs.Diagnostic.{Says}
-use Rattle.flagops_shell.specs.declared.outcome.Outcome.{Outcome}
 use Rattle.flagops_books.specs.declared.refusal.BookRefusal.{BookRefusal}
 use Rattle.flagops_books.specs.declared.refusal.BookRefusal.TheVariants.{WantOfMemory}
 use Rattle.flagops_shell.specs.declared.refused.Remark.{Remark}
-use Rattle.flagops_shell.specs.declared.refused.Remark.TheVariants.{Short, Lines}
-use Rattle.note_books.specs.declared.taking.NotesTaken.{NotesTaken}
 
 -- ---- one of several files
 

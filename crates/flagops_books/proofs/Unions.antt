@@ -39,7 +39,7 @@ read_is (Err e) other is = not_both (sym is)
 
 pub unread_book : (all : Notes) (told : List ℕ) (o : Result Contents BookFileFault) (e : BookRefusal) → refused_by read_refusal o ≡ Err e → IsWithBook IsLast all told o (Err e)
 unread_book all told (Ok b) e is = not_both is
-unread_book all told (Err f) e is = sym is
+unread_book all told (Err f) e is = let same : e ≡ read_refusal f = cc in ap Err same
 
 -- the union of a book of some notes with another one is the book of the notes of both
 union_of : (all : Notes) (one other b : Contents) → IsBookOf all one → IsUnion one other b → IsBookOf (both all (notes_in other)) b
@@ -118,7 +118,7 @@ module _ (passing : Bool) (path : List ℕ) (g : Gathered) (h : Option Holding) 
 
   unread : (all : Notes) (o : Result (List ℕ) Refusal) (e : BookRefusal) → refused_by Load o ≡ Err e → IsWithFile IsLast passing all (string_bytes g.told) path o (Err e)
   unread all (Ok bytes) e is = not_both is
-  unread all (Err f) e is = sym is
+  unread all (Err f) e is = let same : e ≡ Load f = cc in ap Err same
 
   loaded_is : (o : Result (List ℕ) Refusal) (bytes : List ℕ) → refused_by Load o ≡ Ok bytes → o ≡ Ok bytes
   loaded_is (Ok b) bytes is = cc

@@ -1,4 +1,4 @@
-use Rattle.std.proofs.Common.{arith, rules, ◌+◌, ◌≡◌, ◌∙◌, [], Err, Ok, ap, drop, false, IfSome, inl, length, map, refl, string_bytes, subst, sym}
+use Rattle.std.proofs.Common.{arith, rules, ◌+◌, ◌≡◌, ◌∙◌, [], Err, Ok, ap, drop, IfSome, map, refl, string_bytes, subst, sym}
 use Rattle.std.proofs.lemmas.List.{drop_all}
 use Rattle.std.proofs.lemmas.Result.{err_from_is_err_and}
 use Rattle.std.specs.Prelude.{Result}
