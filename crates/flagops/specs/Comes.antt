@@ -5,6 +5,8 @@ use Rattle.clap.specs.Walk.{Text}
 use Rattle.flagops_books.specs.Command as books
 use Rattle.flagops_checks.specs.Command as checks
 use Rattle.flagops_commands.specs.Commands as commands
+use Rattle.flagops_compare.specs.Command as compares
+use Rattle.flagops_compare.specs.Refusal as compare_refusals
 use Rattle.flagops_files.specs.Refusal as files
 use Rattle.flagops_files.specs.declared.refusal.Refusal.{Refusal}
 use Rattle.flagops_filters.specs.Ended.{AnswersRecord, AnswersTally, TellsRecord, TellsTally, UnreadRecord, UnreadTally}
@@ -20,7 +22,7 @@ use Rattle.flagops_shell.specs.Files.{Holding}
 use Rattle.flagops_shell.specs.Running.{Description, Runs}
 use Rattle.flagops_streams.specs.Ended.{AnswersServe, FollowsAsked, RefusesUnread, ServesAsked, TellsFollow, TellsServe}
 use Rattle.flagops.specs.declared.family.Family.{Family}
-use Rattle.flagops.specs.declared.family.Family.TheVariants.{Files, Serve, Follow, Ramp, VerifyRamp, Picture, PictureRamp, PlanPicture, ApplyStep, Ofrep, Record, Tally, Join, Book, Check}
+use Rattle.flagops.specs.declared.family.Family.TheVariants.{Files, Serve, Follow, Ramp, VerifyRamp, Picture, PictureRamp, PlanPicture, ApplyStep, Ofrep, Record, Tally, Join, Book, Check, Compare}
 
 module _ (old new : Shown) (held holds : Option Holding) (had_failed has_failed : Bool) (status : ℕ) (given : Option (List ℕ)) (is_cut : Bool) where
   -- of a command that is refused as files are
@@ -82,3 +84,4 @@ module _ (old new : Shown) (held holds : Option Holding) (had_failed has_failed 
   Comes Join words = Runs joins.join_description filters.is_unread filters.line_of old new status held holds had_failed has_failed words
   Comes Book words = Answers books.description words
   Comes Check words = Answers checks.description words
+  Comes Compare words = Runs compares.description compare_refusals.is_unread compare_refusals.line_of old new status held holds had_failed has_failed words
