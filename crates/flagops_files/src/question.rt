@@ -49,7 +49,8 @@ pub fn load_question<R: Threads, F: FileSet>(
 {
     let Document { bytes, flags } = load_document(alloc, files, document)?;
     let request = load_request(alloc, files, request)?;
-    let evidence = load_evidence(rt, alloc, files, &flags, &request, factor, evidence)?;
+    let asked = request.asked().ok();
+    let evidence = load_evidence(rt, alloc, files, &flags, asked, factor, evidence)?;
     Ok(Question {
         document: bytes,
         flags,
