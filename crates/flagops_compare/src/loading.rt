@@ -36,6 +36,6 @@ pub(crate) fn load_both<R: Threads, F: FileSet>(
     let old = load_flags(alloc, files, old)?;
     let new = load_flags(alloc, files, new)?;
     // No request: no page is counted while a book is read.
-    let evidence = load_evidence(rt, alloc, files, &old, b"", 1, book)?;
+    let evidence = load_evidence(rt, alloc, files, &old, None, 1, book)?;
     Ok(Loaded { old, new, evidence })
 }
