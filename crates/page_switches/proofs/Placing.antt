@@ -4,9 +4,9 @@ use Rattle.std.proofs.lemmas.Bool.{eqb-true}
 use Rattle.book_core.specs.Book.{Inputs}
 use Rattle.bucket_core.specs.Rule.{Entries, total_weight}
 use Rattle.flag_defs.specs.Document.{Definitions}
-use Rattle.page_switches.specs.Found.{Found, IsFound, PageFound, counted, found_view, is_asked, left, users_in}
+use Rattle.page_switches.specs.Found.{Found, IsFound, PageFound, counted, is_asked, left, users_in}
 use Rattle.page_switches.specs.Rules.{Rules, both, none, rules_on, rules_view}
-use Rattle.page_switches.specs.Tallied.{AreTallied, AreTallyFound, AreWhereAsked, GivesFound, IsTallyFound, IsWhereFits, fits, on_page}
+use Rattle.page_switches.specs.Tallied.{AreTallied, AreTallyFound, AreWhereAsked, GivesFound, IsTallyFound, IsWhereFits, fits}
 use Rattle.page_switches.specs.declared.comparison.Found as program
 use Rattle.page_switches.specs.declared.edit.Side.{Side}
 use Rattle.page_switches.specs.declared.fault.NoRule.{NoRule}

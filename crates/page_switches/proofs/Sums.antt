@@ -1,7 +1,7 @@
 -- The sums of a comparison with a page more.
-use Rattle.std.proofs.Common.{◌≡◌, ℕ, ◌+◌, Bool, true, false, cond, List, [], ◌∷◌, ◌++◌, sum_by, refl, sym, ap, ◌∙◌, arith}
+use Rattle.std.proofs.Common.{◌≡◌, ℕ, ◌+◌, cond, List, [], ◌∷◌, ◌++◌, sum_by, ap, ◌∙◌, arith}
 use Rattle.std.proofs.lemmas.List.Sums.{sum_by-append, sum_by-cons}
-use Rattle.page_switches.specs.Found.{AreSums, Found, PageFound, all_inputs, all_left, all_switches, inputs_in, is_left, pages_view, switches_in}
+use Rattle.page_switches.specs.Found.{AreSums, PageFound, inputs_in, is_left, pages_view, switches_in}
 use Rattle.page_switches.specs.declared.comparison.Comparison.{Comparison}
 
 -- what a page adds
