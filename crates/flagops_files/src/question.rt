@@ -3,8 +3,7 @@ ghost use Rattle.std.specs.Prelude.{◌≡◌, ◌<◌, ◌||◌, IfOk, IfSome, 
 ghost use Rattle.flagops_shell.specs.Files.{load_of};
 ghost use Rattle.flagops_files.specs.Loading.{max_text};
 ghost use Rattle.flagops_files.specs.Question.{IsQuestionAt, question_subjects, question_view};
-ghost use Rattle.flagops_files.specs.Refusal.{ComesFrom, GivesOne, is_file_fault, loads_question};
-ghost use Rattle.flagops_files.specs.Told.{TellsOfOne};
+ghost use Rattle.flagops_files.specs.Refusal.{ComesFrom, GivesOne, is_file_fault, loads_question, TellsOfOne};
 
 use crate::documents::{Document, load_document};
 use crate::evidence::{Evidence, load_evidence};
