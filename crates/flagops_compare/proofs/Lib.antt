@@ -1,3 +1,4 @@
 pub mod Ending
+pub mod Lacking
 pub mod Matched
 pub mod Reported

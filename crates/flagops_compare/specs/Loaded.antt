@@ -4,13 +4,13 @@ use Rattle.flag_defs.specs.Document.{Definitions}
 use Rattle.flag_defs.specs.Flags.{flags_view}
 use Rattle.flagops_compare.specs.declared.loading.Loaded as program
 use Rattle.flagops_files.specs.Documents.{IsDocumentAt}
-use Rattle.flagops_files.specs.Loading.{◌>>=◌}
 use Rattle.flagops_files.specs.Question.{IsEvidenceAt}
-use Rattle.flagops_files.specs.Refusal.{loads_evidence, loads_flags}
-use Rattle.flagops_files.specs.Told.{Subjects, by, file}
+use Rattle.flagops_files.specs.Refusal.{Subjects, by, loads_evidence, loads_flags}
+use Rattle.flagops_files.specs.Told.{file}
 use Rattle.flagops_files.specs.declared.evidence.Evidence.{Evidence}
 use Rattle.flagops_files.specs.declared.refusal.Refusal.{Refusal}
 use Rattle.flagops_shell.specs.Files.{Holding}
+use Rattle.flagops_shell.specs.Outcomes.{◌>>=◌}
 
 -- the flags before the edit and after it, and the book or the tally
 pub record Loaded : Type 0 where

@@ -1,17 +1,15 @@
 -- The line that a refusal of `compare` is written as.
-use Rattle.std.specs.Prelude.{ℕ, Bool, false, List, [], codes, decimal, nat_eq}
+use Rattle.std.specs.Prelude.{ℕ, Bool, true, false, List, [], codes, decimal}
 use Rattle.flagops_files.specs.Refusal as files
 use Rattle.flagops_files.specs.Refusal.{line_with}
 use Rattle.flagops_compare.specs.declared.refusal.CompareRefusal.{CompareRefusal}
 use Rattle.flagops_compare.specs.declared.refusal.CompareRefusal.TheVariants.{WantOfMemory, Load, OtherTally}
 
-abbrev pub number_of : CompareRefusal → ℕ
-number_of WantOfMemory = 0
-number_of (Load e) = files.number_of e
-number_of OtherTally = 1
-
+-- memory ran out
 abbrev pub is_want : CompareRefusal → Bool
-is_want r = nat_eq (number_of r) 0
+is_want WantOfMemory = true
+is_want (Load e) = files.is_want e
+is_want OtherTally = false
 
 -- a file could not be read
 abbrev pub is_unread : CompareRefusal → Bool

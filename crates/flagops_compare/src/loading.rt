@@ -1,8 +1,7 @@
 //! Both documents, and what was recorded.
 ghost use Rattle.std.specs.Prelude.{◌≡◌, ◌||◌, IfSome};
 ghost use Rattle.flagops_compare.specs.Loaded.{IsLoadedAt, compare_subjects, loaded_view};
-ghost use Rattle.flagops_files.specs.Refusal.{GivesOne, is_file_fault};
-ghost use Rattle.flagops_files.specs.Told.{TellsOfOne};
+ghost use Rattle.flagops_files.specs.Refusal.{GivesOne, TellsOfOne, is_file_fault};
 
 use flag_defs::Flags;
 use flagops_files::{Evidence, Refused, load_evidence, load_flags};

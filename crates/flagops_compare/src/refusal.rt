@@ -1,7 +1,7 @@
 //! Why `compare` refuses.
 ghost use Rattle.std.specs.Prelude.{◌≡◌};
 ghost use Rattle.flagops_compare.specs.FileLines.{file_line};
-ghost use Rattle.flagops_compare.specs.Refusal.{is_unread, is_want, line_of, number_of};
+ghost use Rattle.flagops_compare.specs.Refusal.{is_unread, is_want, line_of};
 ghost use Rattle.flagops_compare.specs.declared.refusal.CompareRefusal.TheVariants.{Load};
 
 use flagops_files::{Refusal, fault_line};
@@ -17,19 +17,6 @@ pub enum CompareRefusal {
     Load(Refusal),
     /// The total of a rule does not divide the number of points of the tally.
     OtherTally,
-}
-
-impl CompareRefusal {
-    /// The number of the fault.
-    pub fn number(&self) -> u32
-        ensures { result ≡ number_of self.now }
-    {
-        match self {
-            CompareRefusal::WantOfMemory => 0,
-            CompareRefusal::Load(refusal) => refusal.number(),
-            CompareRefusal::OtherTally => 1,
-        }
-    }
 }
 
 impl From<Refusal> for CompareRefusal {
@@ -48,7 +35,11 @@ impl CommandRefusal for CompareRefusal {
     ghost line_of = { line_of };
 
     fn is_want(&self) -> bool {
-        self.number() == 0
+        match self {
+            CompareRefusal::WantOfMemory => true,
+            CompareRefusal::Load(refusal) => refusal.is_want(),
+            CompareRefusal::OtherTally => false,
+        }
     }
 
     fn line(&self, alloc: Global) -> Result<String, AllocError> {
