@@ -1,4 +1,3 @@
 pub mod Ending
-pub mod Lacking
 pub mod Matched
 pub mod Reported

@@ -1,5 +1,5 @@
 -- From what was loaded to the report of the command, and what a person is told of it.
-use Rattle.std.proofs.Common.{◌≡◌, ◌∙◌, true, false, nat_eq, Bool, ℕ, List, Option, None, Some, IfSome, IfOk, refl, sym, ap, subst, inl, inr, string_bytes}
+use Rattle.std.proofs.Common.{◌≡◌, ◌∙◌, true, false, Bool, ℕ, List, Option, None, Some, IfSome, IfOk, sym, ap, subst, string_bytes}
 use Rattle.std.specs.Prelude.{Result, Ok, Err}
 use Rattle.flagops_compare.specs.Compared.{IsComparedOn}
 use Rattle.flagops_compare.specs.Loaded.{IsLoadedAt, Loaded, compare_subjects}
@@ -24,7 +24,7 @@ use Rattle.page_switches.specs.declared.fault.TallyFault.TheVariants as tally
 
 -- a refusal that wraps one is want of memory where that is
 not_want : (t : Told) (e : Refused) → t.refusal ≡ Load e.refusal → is_want t.refusal ≡ false → files.is_want e.refusal ≡ false
-not_want t e is no = sym (ap is_want is) ∙ no
+not_want t e is no_want = sym (ap is_want is) ∙ no_want
 
 -- what follows from what a remark says, it says too
 says_so : (P Q : List ℕ → Type 0) (remark : Remark) → ((lines : List ℕ) → P lines → Q lines) → Says P remark → Says Q remark

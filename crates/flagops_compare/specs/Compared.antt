@@ -1,5 +1,5 @@
 -- What an edit does to what was recorded.
-use Rattle.std.specs.Prelude.{◌≡◌, ℕ, List, Option, Result, Ok, Err}
+use Rattle.std.specs.Prelude.{◌≡◌, ℕ, List, Option, Result, Ok}
 use Rattle.flag_defs.specs.Document.{Definitions}
 use Rattle.flagops_compare.specs.Loaded.{Loaded}
 use Rattle.flagops_files.specs.declared.evidence.Evidence.{Evidence}

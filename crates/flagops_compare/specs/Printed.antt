@@ -36,7 +36,7 @@ abbrev pub left_line : ℕ → List ℕ
 left_line n = if n == 0 then [] else codes "left " ++ (decimal n ++ codes "\n")
 
 abbrev pub sum_lines : ℕ → ℕ → ℕ → List ℕ
-sum_lines inputs users left = codes "switch " ++ (decimal users ++ (codes " of " ++ (decimal inputs ++ (codes "\n" ++ left_line left))))
+sum_lines inputs users left_out = codes "switch " ++ (decimal users ++ (codes " of " ++ (decimal inputs ++ (codes "\n" ++ left_line left_out))))
 
 -- ---- as JSON, a text a line
 
@@ -64,7 +64,7 @@ object_on page (counted inputs users rows) = page_opening page inputs users ++ (
 object_on page (left side reason) = left_object page side reason
 
 abbrev pub sum_object : ℕ → ℕ → ℕ → List ℕ
-sum_object inputs users left = codes "{\"inputs\":" ++ (decimal inputs ++ (codes ",\"left\":" ++ (decimal left ++ (codes ",\"switch\":" ++ (decimal users ++ codes "}\n")))))
+sum_object inputs users left_out = codes "{\"inputs\":" ++ (decimal inputs ++ (codes ",\"left\":" ++ (decimal left_out ++ (codes ",\"switch\":" ++ (decimal users ++ codes "}\n")))))
 
 -- ---- the whole
 
@@ -72,7 +72,7 @@ abbrev pub page_text : Bool → PageFound → List ℕ
 page_text json p = if json then object_on p.page p.found else lines_on p.page p.found
 
 abbrev pub sum_text : Bool → ℕ → ℕ → ℕ → List ℕ
-sum_text json inputs users left = if json then sum_object inputs users left else sum_lines inputs users left
+sum_text json inputs users left_out = if json then sum_object inputs users left_out else sum_lines inputs users left_out
 
 -- the pages in their order, and the sums over those that were compared
 unfoldable pub report_text : Bool → List PageFound → List ℕ
