@@ -1,6 +1,7 @@
 -- What the threads may read at once.
 use mathlib.Core.List.{[], ◌∷◌}
-use mir.Syntax.{Sym}
+use mir.Syntax.{Sym, erased}
+use base.Fml.{Lft}
 use denote.Param.{param}
 use denote.Ref.{NamedLft, ShrRef}
 use denote.Struct.Field.{row_field}
@@ -34,8 +35,13 @@ module _ (T : RattleType) (g : BookName.Ghosts T.Denot) (send : IsSend T) (sync 
       captured_sync ν (ShrRef r.mir r.lft R) (ShrRef a.mir a.lft Global.the_row) (ShrRef w.mir w.lft (Round.the_row κ μ T g))
       (shr_sync r.mir r.lft R s) (shr_sync a.mir a.lft Global.the_row Global-sync) (shr_sync w.mir w.lft (Round.the_row κ μ T g) round_sync)
 
--- the closure captures the handle, the allocator and the round
-pub map_vec-requires-sync-F : goal.map_vec-requires-sync-F
-map_vec-requires-sync-F g c = λ κs within.
+abbrev at_life : Lft → NamedLft
+at_life κ = record { mir = erased; lft = κ }
+
+-- the closure captures the handle, the allocator and the round, each at a lifetime of its own
+pub map_vec-noted-requires-sync-F : goal.map_vec-noted-requires-sync-F
+map_vec-noted-requires-sync-F g c = λ κs within.
     let bounds = c.type_bounds in
-    record { shared = (worker_sync (param 0 g.row.L) g.L.BookName bounds.send-L bounds.sync-L _ _ [] _ _ _ (param 1 g.row.R) bounds.sync-R).shared }
+    record {
+      shared = (worker_sync (param 0 g.row.L) g.L.BookName bounds.send-L bounds.sync-L (at_life κs.1.1.1.1.1.1.1.1.1.1.0) (at_life κs.1.1.1.1.1.1.1.1.1.1.1.0) [] (at_life κs.1.1.1.1.1.1.1.0) (at_life κs.1.1.1.1.1.1.1.1.0) (at_life κs.1.1.1.1.1.1.1.1.1.0) (param 1 g.row.R) bounds.sync-R).shared;
+    }
