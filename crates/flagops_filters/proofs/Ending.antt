@@ -5,9 +5,9 @@ use Rattle.clap.specs.declared.error.kind.ErrorKind.{ErrorKind}
 use Rattle.flagops_words.specs.Alone.{IsToldBy}
 use Rattle.flagops_shell.specs.Console.{Shown}
 use Rattle.flagops_shell.specs.Diagnostic.{PutsRemark, Says}
-use Rattle.flagops_shell.specs.Ending.{Ends, KeepsUnlessDone, Remarks, ShowsOne, ShowsRefusal, ShowsUnread}
+use Rattle.flagops_shell.specs.Ending.{Ends, KeepsUnlessDone, Remarks, ShowsRefusal, ShowsUnread}
 use Rattle.flagops_shell.specs.Files.{Holding}
-use Rattle.flagops_shell.specs.Report.{ShowsReport, outcome_view, refusal_report, want_line_of}
+use Rattle.flagops_shell.specs.Report.{ShowsReport, outcome_view}
 use Rattle.flagops_shell.specs.Running.{MayRun}
 use Rattle.flagops_shell.specs.Usage.{ShowsUsage, ShowsWordsWant}
 use Rattle.flagops_shell.specs.declared.outcome.Outcome.{Outcome}
@@ -16,7 +16,7 @@ use Rattle.flagops_filters.specs.Command.{tally_description}
 use Rattle.flagops_filters.specs.Refusal.{is_unread, is_want, line_of}
 use Rattle.flagops_filters.specs.Beside.{Reads, tally_beside}
 use Rattle.flagops_filters.specs.Remarks.{NamesRefused, join_remark, tally_remark}
-use Rattle.flagops_filters.specs.Report.{Came, GivesOne, Told}
+use Rattle.flagops_filters.specs.Report.{Told}
 use Rattle.flagops_filters.specs.Tally.{IsTallyReport, tally_call}
 use Rattle.flagops_filters.specs.Words.{Tallying}
 use Rattle.flagops_filters.specs.Writing.{RefusesOrWants}

@@ -1,5 +1,5 @@
 -- Of which file a person is told.
-use Rattle.std.proofs.Common.{◌≡◌, ◌<◌, ℕ, zero, suc, Bool, true, false, List, [], ◌∷◌, IfErr, Result, Ok, Err, arith, ap, get_or, length, map, inl, inr, refl, string_bytes, subst, sym}
+use Rattle.std.proofs.Common.{◌≡◌, ◌<◌, ℕ, zero, suc, false, List, [], ◌∷◌, IfErr, Result, Ok, Err, arith, ap, get_or, length, map, inl, inr, refl, string_bytes, subst, sym}
 use Rattle.flagops_files.specs.Refusal as files
 use Rattle.flagops_files.specs.Refusal.{Refused}
 use Rattle.file_diagnostics.specs.Named.{Names}

@@ -1,5 +1,5 @@
 -- What `record` came to, as the console shows it.
-use Rattle.std.proofs.Common.{◌≡◌, ◌≢◌, ◌⊎◌, true, false, ℕ, Bool, List, length, Option, None, Some, IfSome, Ok, Err, unwrap_or, refl, ap, ◌∙◌, subst, sym, inl, inr, arith}
+use Rattle.std.proofs.Common.{◌≡◌, ◌≢◌, true, false, ℕ, Bool, List, length, Option, None, Some, IfSome, Ok, Err, unwrap_or, refl, ap, ◌∙◌, subst, sym, inl, inr, arith}
 use Rattle.std.proofs.Math.Seq.{take-length}
 use Rattle.std.specs.Io.KnownBytes.{Appends}
 use Rattle.std.specs.Map.{lookup}
@@ -16,7 +16,7 @@ use Rattle.flagops_shell.specs.Diagnostic.{Says}
 use Rattle.flagops_shell.specs.Ending.{ShowsRefusal}
 use Rattle.flagops_shell.specs.Files.{Holding}
 use Rattle.note_streams.specs.Recorded.{RecordsStream, TellsOf, recorded_of}
-use Rattle.note_streams.specs.Rest.{is_empty, is_torn}
+use Rattle.note_streams.specs.Rest.{is_empty}
 use Rattle.note_streams.specs.declared.recording.Counted.{Counted}
 use Rattle.note_streams.specs.declared.stop.RecordStop.{RecordStop}
 use Rattle.note_streams.specs.declared.stop.RecordStop.TheVariants.{WantOfMemory, Line, Unreadable, TooLong, Broken}

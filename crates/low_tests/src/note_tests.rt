@@ -64,7 +64,7 @@ fn tallied(alloc: Global, lines: &str) -> Option<PageTally> {
     Some(tally.finish())
 }
 
-/// Inputs on the points 1, 4, 4 and 0, after one of another page.
+/// Inputs on the points 4, 6, 4 and 0, after one of another page.
 const FRONT: &str = r#"["",0,"x","!"]
 ["",0,null,"!"]
 ["",0,null,"!C"]
@@ -74,7 +74,7 @@ const FRONT: &str = r#"["",0,"x","!"]
 /// An input on the point 9.
 const MIDDLE: &str = r#"["",0,null,"=a"]"#;
 
-/// Inputs on the points 6, 7 and 7, before one of another page.
+/// Inputs on the points 7, 1 and 7, before one of another page.
 const BACK: &str = r#"["",0,null,"Hello, world!"]
 ["",0,null,"The quick brown fox jumps over the lazy dog"]
 ["",0,null,"test"]

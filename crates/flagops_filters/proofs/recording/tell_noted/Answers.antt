@@ -1,4 +1,4 @@
-use Rattle.std.proofs.Common.{ℕ, List, string_bytes, subst}
+use Rattle.std.proofs.Common.{ℕ, List, subst}
 use Rattle.flagops_shell.specs.Diagnostic.{spoken}
 use Rattle.flagops_shell.specs.Report.{Puts}
 use Rattle.flagops_shell.specs.declared.refused.Remark.TheVariants.{Lines, Short}
