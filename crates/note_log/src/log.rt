@@ -5,7 +5,7 @@ ghost use Rattle.note_log.specs.Sound.{IsCounted, IsSound, earlier_in, handed_in
 
 use crate::batch::{Batch, batch_of};
 use crate::handing::hand_over;
-use crate::memory::{remember, use_again};
+use crate::memory::{remember, table_of, use_again};
 use crate::trouble::Trouble;
 use bytes::BytesMut;
 use http_server::Log;
@@ -50,9 +50,7 @@ impl<F: LogFile + Drop> NoteLog<F> {
         ensures remember { IfOk result (λ log. IfSome remember (λ most. log.remembered.cap ≡ non_zero_usize_get most)) }
         ensures forgets { IfOk result (λ log. log.forgets ≡ is_none remember) }
     {
-        // The memory for lines is taken as they come.
-        let mut remembered = LruCache::unbounded_with_hasher(alloc, keys)?;
-        remembered.resize(remember.unwrap_or(NonZeroUsize::MIN));
+        let remembered = table_of(alloc, keys, remember.unwrap_or(NonZeroUsize::MIN))?;
         Ok(NoteLog {
             journal,
             earlier: Log::new(),

@@ -1,10 +1,27 @@
 //! The lines that are remembered.
-ghost use Rattle.std.specs.Prelude.{◌≡◌, ℕ, List, true};
+ghost use Rattle.std.specs.Prelude.{◌≡◌, ℕ, List, [], IfOk, true};
+ghost use Rattle.std.specs.NonZero.{non_zero_usize_get};
 ghost use Rattle.note_log.specs.Batch.{StandAll};
 ghost use Rattle.note_log.specs.Sound.{Stand};
 
 use lru::LruCache;
+use std::alloc::{AllocError, Global};
 use std::hash::RandomState;
+use std::num::NonZeroUsize;
+
+/// A table of so many lines. Their memory is taken as they come.
+pub(crate) fn table_of(
+    alloc: Global,
+    keys: RandomState,
+    most: NonZeroUsize,
+) -> Result<LruCache<Vec<u8>, (), RandomState>, AllocError>
+    ensures empty { IfOk result (λ table. table.entries ≡ []) }
+    ensures cap { IfOk result (λ table. table.cap ≡ non_zero_usize_get most) }
+{
+    let mut table = LruCache::unbounded_with_hasher(alloc, keys)?;
+    table.resize(most);
+    Ok(table)
+}
 
 /// Remembers lines, of which the least recently used are forgotten where there are too many; none where all are to be forgotten. Where
 /// memory runs out a line is not remembered.
