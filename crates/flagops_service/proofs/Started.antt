@@ -2,7 +2,7 @@
 use Rattle.clap.specs.Walk.{Text}
 use Rattle.flagops_shell.specs.Console.{Shown}
 use Rattle.flagops_shell.specs.Usage.{ShowsWordsWant}
-use Rattle.flagops_service.specs.Ended.{AnswersOfrep, Reports, Serves, ServesOfrep}
+use Rattle.flagops_service.specs.Ended.{AnswersOfrep, Begins, Fails, Reports, Serves, ServesOfrep, ServesOn, stop_line}
 use Rattle.std.proofs.Common.{◌≡◌, ◌⊎◌, ◌∙◌, ℕ, Bool, true, false, List, [], ◌∷◌, ◌++◌, Option, Some, Result, Ok, Err, IfSome, inl, inr, refl, ap, arith, length, map, subst, sym}
 use Rattle.flag_defs.specs.Document.{Definitions}
 use Rattle.flag_defs.specs.declared.flags.Flags.{Flags}
@@ -19,6 +19,7 @@ use Rattle.flagops_service.specs.Starting.{MayNotStart, StartsLoaded, StartsOn, 
 use Rattle.flagops_service.specs.Words.{Answering, ofrep_by, seats_of}
 use Rattle.flagops_service.specs.declared.asked.OnBroken.{OnBroken}
 use Rattle.flagops_service.specs.declared.asked.OnBroken.TheVariants.{Keep, Refuse, Serve}
+use Rattle.flagops_service.specs.declared.stop.Stop.TheVariants.{BrokenFlags}
 
 -- the first document is merged, and those behind it give the rest
 pub first_merged : (sources next last : SourceList) (flags : Definitions) (text : List ℕ) (texts : List (List ℕ)) (r : Result Flags Refusal)
@@ -69,6 +70,14 @@ module _ (mode : OnBroken) (Reported : Bool → Result ℕ Refusal → Type 0) w
       let here = subst (λ (k : ℕ). Reported (stops_on mode flags) (Ok k)) count p in
       (Ok all, inr gives, subst (λ (fs : Definitions). Reported (stops_on mode fs) (Ok (length all))) (sym (last_is front flags)) here)
   begun seats n d front flags same gives (inr fails) = (Err fails.0, inl (fails.0, refl, fails.1), fails.2)
+
+-- it begins so, or not, as the flags stop it or do not
+module _ (out out' : Option (List ℕ)) (broken : Bool) (told told' : Option (List ℕ)) (mute : Bool) (status : ℕ) (a : Answering) (stops : Bool) (n : ℕ) where
+  pub not_begun : stops ≡ true → Fails out out' broken told told' mute status (stop_line BrokenFlags) → Begins out out' broken told told' mute status a stops n
+  not_begun is fails = inl (subst (λ (b : Bool). ServesOn out out' broken told told' mute status a b n) (sym is) fails)
+
+  pub not_stopped : stops ≡ false → Begins out out' broken told told' mute status a false n → Begins out out' broken told told' mute status a stops n
+  not_stopped is begins = subst (λ (b : Bool). Begins out out' broken told told' mute status a b n) (sym is) begins
 
 -- what documents that were loaded come to is what the words and the files come to
 loaded_started : (at : Holding) (a : Answering) (d : Loaded) (answer : Answer) → loaded_at at a.documents ≡ Ok d → StartsOn (seats_of a) d answer → StartsTo at a answer

@@ -13,7 +13,7 @@ use Rattle.source_merge.specs.declared.fault.SourceFault.{SourceFault}
 use Rattle.flagops_service.specs.Merging.{Publishes}
 use Rattle.flagops_service.specs.declared.asked.OnBroken.{OnBroken}
 use Rattle.flagops_service.specs.declared.asked.OnBroken.TheVariants.{Keep, Refuse, Serve}
-use Rattle.flagops_service.specs.declared.rereading.Watched.{Watched}
+use Rattle.flagops_service.specs.declared.watched.Watched.{Watched}
 use Rattle.flagops_service.specs.declared.taking.Taken.{Taken}
 use Rattle.flagops_service.specs.declared.taking.Taken.TheVariants.{Accepted, Refused, Unchanged, Unread}
 use Rattle.flagops_service.specs.declared.taking.Unfit.{Unfit}

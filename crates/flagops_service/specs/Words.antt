@@ -1,5 +1,5 @@
 -- What the words of `ofrep` ask for, by what `clap` reads of them.
-use Rattle.std.specs.Prelude.{ℕ, ◌+◌, ◌/◌, nat_eq, List, codes, map, Option, Some, None, option_copied, option_map, if◌then◌else◌}
+use Rattle.std.specs.Prelude.{ℕ, zero, suc, ◌+◌, ◌/◌, max, List, codes, map, Option, Some, None, option_copied, option_map, if◌then◌else◌}
 use Rattle.std.specs.Str.{bytes_eq}
 use Rattle.clap.specs.Kinds.{Kinds}
 use Rattle.clap.specs.Simple.{App, new_app, new_rule, with_rule}
@@ -51,9 +51,14 @@ subscribers_of (Some port) = max_subscribers
 abbrev pub seats_of : Answering → ℕ
 seats_of a = a.workers + subscribers_of a.stream
 
+-- a number, where it is one at least
+abbrev pub some_of : ℕ → Option ℕ
+some_of zero = None
+some_of (suc n) = Some (suc n)
+
 -- how many notes each of so many workers remembers of these: none, where there are fewer
 abbrev pub share_of : ℕ → ℕ → Option ℕ
-share_of notes workers = if nat_eq (notes / workers) 0 then None else Some (notes / workers)
+share_of notes workers = some_of (notes / max workers 1)
 
 -- ---- what the command takes
 
@@ -98,19 +103,26 @@ port_if (Some word) = option_map Some (number_in 1 max_port word)
 abbrev pub port_in : List Row → Option (Option ℕ)
 port_in rows = port_if (first_of (codes "PORT") rows)
 
--- what becomes of answers that can't be recorded: they are not given, where nothing else is said
+-- what becomes of answers that can't be recorded, by its name
+abbrev pub without_record_named : Text → Option WithoutRecord
+without_record_named word = if bytes_eq word (codes "answer") then Some unrecorded.Answer else (if bytes_eq word (codes "refuse") then Some unrecorded.Refuse else None)
+
+-- they are not given, where nothing is said
 abbrev pub without_record_of : Option Text → Option WithoutRecord
 without_record_of None = Some unrecorded.Refuse
-without_record_of (Some word) =
-    if bytes_eq word (codes "answer") then Some unrecorded.Answer else (if bytes_eq word (codes "refuse") then Some unrecorded.Refuse else None)
+without_record_of (Some word) = without_record_named word
 
 abbrev pub without_record_in : List Row → Option WithoutRecord
 without_record_in rows = without_record_of (first_of (codes "answer|refuse") rows)
 
--- what becomes of flags that are broken
+-- what becomes of flags that are broken, by its name
+abbrev pub broken_named : Text → Option OnBroken
+broken_named word = if bytes_eq word (codes "refuse") then Some Refuse else (if bytes_eq word (codes "serve") then Some Serve else None)
+
+-- a text that harms a flag is refused, where nothing is said
 abbrev pub broken_of : Option Text → Option OnBroken
 broken_of None = Some Keep
-broken_of (Some word) = if bytes_eq word (codes "refuse") then Some Refuse else (if bytes_eq word (codes "serve") then Some Serve else None)
+broken_of (Some word) = broken_named word
 
 abbrev pub broken_in : List Row → Option OnBroken
 broken_in rows = broken_of (first_of (codes "refuse|serve") rows)

@@ -17,12 +17,13 @@ use crate::asked::{Answering, OnBroken};
 use crate::host::Host;
 use crate::merging::merge_all;
 use crate::preparing::{Prepared, Unready, prepare};
+use crate::remembering::share_of;
 use crate::reporting::{
     refuse_and_tell, refuse_document, refuse_start, refuse_unloaded, serving_line,
 };
-use crate::rereading::Watched;
 use crate::stop::Stop;
 use crate::telling::{broken_in, say_broken, say_ended, say_listening, say_published};
+use crate::watched::Watched;
 use crate::watching::watch;
 use crate::words::read_ofrep;
 use flag_defs::Flags;
@@ -35,7 +36,6 @@ use source_merge::Sources;
 use std::alloc::{AllocError, Global};
 use std::convert::AsStr;
 use std::marker::Brand;
-use std::num::NonZeroUsize;
 
 /// Does what the words after the program's name ask of `ofrep`, which is the first of them. It loads the documents, opens the
 /// logs, listens, prints how many documents it answers from, and answers until it is ended from outside; or it prints the line
@@ -329,8 +329,8 @@ fn board_of(answering: &Answering<'_>) -> Board
     ensures without { result.without_record ≡ answering.now.without_record }
     ensures remember { option_map non_zero_usize_get result.remember ≡ share_of answering.now.remember answering.now.workers }
 {
-    let share = answering.remember / answering.workers.max(1);
-    let board = Board::with(answering.without_record, NonZeroUsize::new(share as usize));
+    let share = share_of(answering.remember, answering.workers);
+    let board = Board::with(answering.without_record, share);
     board.watch_documents(answering.documents.len());
     board
 }

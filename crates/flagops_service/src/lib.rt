@@ -27,11 +27,13 @@ mod log_news;
 mod merging;
 mod preparing;
 mod reporting;
+mod remembering;
 mod rereading;
 mod stop;
 mod taking;
 mod telling;
 mod usage;
+mod watched;
 mod watching;
 mod words;
 

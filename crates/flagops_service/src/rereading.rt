@@ -1,36 +1,20 @@
 //! Documents that are read again.
-ghost use Rattle.std.specs.Prelude.{◌≡◌, ◌<◌, ◌+◌, ℕ, IfSome, OnTrue, Some, is_some, length, map, slice_get, true, Vec};
+ghost use Rattle.std.specs.Prelude.{◌≡◌, ◌<◌, ◌+◌, ℕ, IfSome, Some, is_some, length, map, slice_get, true, Vec};
+ghost use Rattle.std.specs.Bool.{OnTrue};
 ghost use Rattle.std.specs.declared.alloc.Global.{Global};
 ghost use Rattle.source_merge.specs.View.{sources_view};
 ghost use Rattle.flagops_service.specs.Rereading.{ReadsFrom, ReadsOne, SetsFit, Takes, kept_of};
 
-use crate::asked::OnBroken;
 use crate::taking::{Taken, Unfit, set_fit};
 use crate::telling::{of_device, say_accepted, say_kept, say_unfit};
+use crate::watched::Watched;
 use file_diagnostics::of_unreadable;
 use flag_text::Outlet;
 use flagops_files::TEXT_LIMIT;
 use flagops_shell::{FileSet, LoadFault};
 use log_file::LogPaths;
 use ofrep_service::Board;
-use source_merge::Sources;
-use std::alloc::{AllocError, Global};
-
-/// Documents by their paths, with what was last read of each.
-#[derive(Drop)]
-pub(crate) struct Watched<'a> {
-    pub(crate) alloc: Global,
-    pub(crate) sources: Sources,
-    pub(crate) paths: &'a [&'a str],
-    pub(crate) broken: OnBroken,
-    /// What was accepted last of each, and what was refused of it since, where something was.
-    pub(crate) accepted: Vec<Vec<u8>>,
-    pub(crate) refused: Vec<Option<Vec<u8>>>,
-    /// A bit for each that could not be read the last time.
-    pub(crate) missing: u32,
-    ghost all_accepted: { length accepted.items ≡ length paths.now },
-    ghost all_refused: { length refused.items ≡ length paths.now },
-}
+use std::alloc::AllocError;
 
 impl Watched<'_> {
     /// Reads each document again, and says whether another is accepted of one of them.

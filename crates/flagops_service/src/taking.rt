@@ -4,6 +4,7 @@ ghost use Rattle.flag_defs.specs.Document.{DocumentMeans};
 ghost use Rattle.flag_defs.specs.Flags.{flags_view};
 ghost use Rattle.flag_defs.specs.declared.fault.DefFault.{DefFault as Fault};
 ghost use Rattle.source_merge.specs.View.{sources_view};
+ghost use Rattle.flagops_service.specs.declared.taking.Unfit.TheVariants.{WantOfMemory};
 ghost use Rattle.flagops_service.specs.Rereading.{Harms, IsUnfit, MayBeRefused, MayFollow, SetsFit, Spares};
 
 use crate::asked::OnBroken;
@@ -36,7 +37,7 @@ pub(crate) enum Unfit {
 }
 
 impl From<AllocError> for Unfit {
-    ghost from_gives = { λ _ e. e ≡ Unfit.WantOfMemory };
+    ghost from_gives = { λ _ e. e ≡ WantOfMemory };
 
     fn from(_fault: AllocError) -> Unfit {
         Unfit::WantOfMemory

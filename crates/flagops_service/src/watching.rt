@@ -5,8 +5,8 @@ ghost use Rattle.flagops_service.specs.Merging.{Publishes};
 ghost use Rattle.flagops_service.specs.Rereading.{State, Watches, state_of};
 
 use crate::log_news::{LogNews, tell_news};
-use crate::rereading::Watched;
 use crate::telling::{broken_in, say_made, say_published};
+use crate::watched::Watched;
 use flag_text::Outlet;
 use flagops_shell::FileSet;
 use flagops_streams::say;

@@ -4,7 +4,7 @@ ghost use Rattle.clap.specs.Walk.{first_of};
 ghost use Rattle.clap.specs.Words.{found_of, kind_of, rows_of};
 ghost use Rattle.flagops_words.specs.Alone.{IsToldBy};
 ghost use Rattle.flagops_words.specs.Numbers.{max_port};
-ghost use Rattle.flagops_service.specs.Words.{answering_in, answering_view, broken_in, ofrep_by, ofrep_faults, port_in, without_record_in};
+ghost use Rattle.flagops_service.specs.Words.{answering_in, answering_view, broken_in, broken_named, ofrep_by, ofrep_faults, port_in, without_record_in, without_record_named};
 
 use crate::asked::{Answering, OnBroken};
 use crate::usage::{LONGEST_POLL, MOST_REMEMBERED, MOST_WORKERS, command};
@@ -94,10 +94,19 @@ fn without_record_in(matches: &ArgMatches<'_>) -> Option<WithoutRecord>
     ensures { result ≡ without_record_in (rows_of (found_of matches.now)) }
 {
     match matches.get_str("answer|refuse") {
+        Some(word) => without_record_named(word),
         None => Some(WithoutRecord::Refuse),
-        Some("answer") => Some(WithoutRecord::Answer),
-        Some("refuse") => Some(WithoutRecord::Refuse),
-        Some(_) => None,
+    }
+}
+
+/// What becomes of answers that can't be recorded, by its name.
+fn without_record_named(word: &str) -> Option<WithoutRecord>
+    ensures { result ≡ without_record_named word.now }
+{
+    match word {
+        "answer" => Some(WithoutRecord::Answer),
+        "refuse" => Some(WithoutRecord::Refuse),
+        _ => None,
     }
 }
 
@@ -107,10 +116,19 @@ fn broken_in(matches: &ArgMatches<'_>) -> Option<OnBroken>
     ensures { result ≡ broken_in (rows_of (found_of matches.now)) }
 {
     match matches.get_str("refuse|serve") {
+        Some(word) => broken_named(word),
         None => Some(OnBroken::Keep),
-        Some("refuse") => Some(OnBroken::Refuse),
-        Some("serve") => Some(OnBroken::Serve),
-        Some(_) => None,
+    }
+}
+
+/// What becomes of flags that are broken, by its name.
+fn broken_named(word: &str) -> Option<OnBroken>
+    ensures { result ≡ broken_named word.now }
+{
+    match word {
+        "refuse" => Some(OnBroken::Refuse),
+        "serve" => Some(OnBroken::Serve),
+        _ => None,
     }
 }
 

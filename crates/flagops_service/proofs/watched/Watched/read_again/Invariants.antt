@@ -1,6 +1,6 @@
 use Rattle.std.proofs.Common.{◌≡◌, drop, map}
 use Rattle.flagops_service.specs.Rereading.{Kept, ReadsFrom, kept_of}
-use Rattle.flagops_service.proofs.rereading.Watched.read_again.Given as goal
+use Rattle.flagops_service.proofs.watched.Watched.read_again.Given as goal
 
 -- what reading the documents that are left leads to, reading all of them does
 abbrev pub invariant-loop-place : goal.invariant-loop-place
