@@ -3,7 +3,8 @@ use Rattle.std.specs.Prelude.{◌≡◌, ℕ, ◌+◌, Bool, false, List, [], �
 use Rattle.source_merge.specs.Sources.{SourceList}
 use Rattle.source_merge.specs.View.{sources_view}
 use Rattle.flagops_shell.specs.Files.{Holding, load_of}
-use Rattle.flagops_files.specs.Loading.{◌>>=◌, max_text}
+use Rattle.flagops_files.specs.Loading.{max_text}
+use Rattle.flagops_shell.specs.Outcomes.{◌>>=◌}
 use Rattle.flagops_shell.specs.declared.files.LoadFault.{LoadFault}
 use Rattle.flagops_shell.specs.declared.files.LoadFault.TheVariants as load
 use Rattle.flagops_streams.specs.Documents.{Answer, ServesTo, source_added, texts_of}
