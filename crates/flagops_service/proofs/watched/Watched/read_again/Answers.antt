@@ -1,4 +1,4 @@
-use Rattle.std.proofs.Common.{◌≡◌, ◌∙◌, ℕ, List, Option, get_or, subst}
+use Rattle.std.proofs.Common.{◌≡◌, ◌∙◌, ℕ, List, Option, get_or, subst, sym}
 use Rattle.std.proofs.lemmas.List.{get_or_default}
 use Rattle.flagops_shell.specs.Files.{Holding}
 use Rattle.flagops_service.specs.Rereading.{ReadsOne, kept_of}
@@ -15,7 +15,7 @@ loop-place-preserved g c =
     let mode = c.args.self.now.broken in
     let read = c.read_one-taken in
     let path = get_or paths l.place no_path in
-    let is = get_or_default paths l.place no_path path c.loop-place-test.true in
+    let is = sym (get_or_default paths l.place no_path path c.loop-place-test.true) in
     let here = subst (λ (m : OnBroken). ReadsOne (g.F.FileSet.holding l.files) m path.now l.place (kept_of l.self) (kept_of read.new.self) read.result) l.invariant.2 read.ensures.reads in
     let reads = subst (λ (h : Option Holding). ReadsOne h mode path.now l.place (kept_of l.self) (kept_of read.new.self) read.result) l.invariant.1 here in (
       λ new rest. l.invariant.0 new (one_read holding mode (λ p. p.now) paths l.place path c.loop-place-test.true is (kept_of l.self) (kept_of read.new.self) new read.result reads rest),
