@@ -5,8 +5,8 @@ use Rattle.flag_defs.specs.Document.{Definitions, DocumentMeans}
 use Rattle.flag_defs.specs.declared.fault.DefFault.{DefFault}
 use Rattle.flag_defs.specs.declared.flags.Flags.{Flags}
 use Rattle.flag_regressions.specs.Regression.{names_in, regression_of}
-use Rattle.flagops_files.specs.Loading.{max_text}
 use Rattle.flagops_shell.specs.Files.{Holding, load_of}
+use Rattle.limits.specs.Limits.{text_bytes}
 use Rattle.source_merge.specs.Sources.{Sets, SourceList}
 use Rattle.source_merge.specs.View.{sources_view}
 use Rattle.source_merge.specs.declared.fault.SourceFault.{SourceFault}
@@ -86,7 +86,7 @@ Takes mode place text old new Unread = new ≡ old
 
 -- the text is what the file at the path holds, where that is known
 abbrev pub IsOf : Option Holding → List ℕ → Vec ℕ Global → Type 0
-IsOf holding path text = IfSome holding (λ at. load_of at path max_text ≡ Ok text.items)
+IsOf holding path text = IfSome holding (λ at. load_of at path text_bytes ≡ Ok text.items)
 
 -- the document at a place is read from its path and taken, or it can't be read
 abbrev pub ReadsOne : Option Holding → OnBroken → List ℕ → ℕ → Kept → Kept → Taken → Type 0

@@ -10,8 +10,8 @@ use crate::telling::{of_device, say_accepted, say_kept, say_unfit};
 use crate::watched::Watched;
 use file_diagnostics::of_unreadable;
 use flag_text::Outlet;
-use flagops_files::TEXT_LIMIT;
 use flagops_shell::{FileSet, LoadFault};
+use limits::TEXT_BYTES;
 use log_file::LogPaths;
 use ofrep_service::Board;
 use std::alloc::AllocError;
@@ -57,7 +57,7 @@ impl Watched<'_> {
             self.miss(place, of_device(self.alloc, path), err);
             return Taken::Unread;
         }
-        match files.read(self.alloc, path, u64::from(TEXT_LIMIT)) {
+        match files.read(self.alloc, path, TEXT_BYTES as u64) {
             Ok(text) => self.take(place, path, text, err),
             Err(LoadFault::Unreadable) => {
                 let why = of_unreadable(self.alloc, path, files.trouble());
