@@ -1,3 +1,4 @@
+pub mod Broken
 pub mod Matched
 pub mod Posts
 pub mod Reread

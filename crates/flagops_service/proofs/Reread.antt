@@ -10,7 +10,7 @@ use Rattle.flagops_service.specs.declared.taking.Taken.{Taken}
 use Rattle.flagops_shell.specs.Files.{Holding}
 
 -- the item at a place is the first of those that are left from there on
-left_at : {X : Type 0} (xs : List X) (i : ℕ) (x : X) → i < length xs → get_or xs i x ≡ x → drop i xs ≡ x ∷ drop (i + 1) xs
+pub left_at : {X : Type 0} (xs : List X) (i : ℕ) (x : X) → i < length xs → get_or xs i x ≡ x → drop i xs ≡ x ∷ drop (i + 1) xs
 left_at xs i x h is = rw (add-one, drop-cons xs i x h) (ap (λ y. y ∷ drop (suc i) xs) is)
 
 -- a path that is none, in the place of an item behind the end
