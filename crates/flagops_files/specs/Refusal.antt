@@ -1,5 +1,5 @@
 -- The line that a refusal is written as.
-use Rattle.std.specs.Prelude.{◌≡◌, ℕ, Bool, true, false, List, [], ◌++◌, codes, decimal, nat_eq, Result, Ok, Err, IfErr}
+use Rattle.std.specs.Prelude.{◌≡◌, ℕ, Bool, true, false, List, [], ◌++◌, codes, decimal, nat_eq, Result, IfErr}
 use Rattle.flag_text.specs.Fault as texts
 use Rattle.bucket_core.specs.Fault as rules
 use Rattle.book_core.specs.Fault as books

@@ -51,13 +51,15 @@ pub fn load_book_question<R: Threads, F: FileSet>(
 {
     let Document { bytes, flags } = load_document(alloc, files, document)?;
     let request = load_request(alloc, files, request)?;
-    let book = load_book_for(rt, alloc, files, &flags, &request, factor, book)?;
-    Ok(BookQuestion {
-        document: bytes,
-        flags,
-        request,
-        book,
-    })
+    match load_book_for(rt, alloc, files, &flags, &request, factor, book) {
+        Ok(book) => Ok(BookQuestion {
+            document: bytes,
+            flags,
+            request,
+            book,
+        }),
+        Err(refused) => Err(refused),
+    }
 }
 
 /// The book of the file at a path, read for a request.

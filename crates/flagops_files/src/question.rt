@@ -50,11 +50,13 @@ pub fn load_question<R: Threads, F: FileSet>(
     let Document { bytes, flags } = load_document(alloc, files, document)?;
     let request = load_request(alloc, files, request)?;
     let asked = request.asked().ok();
-    let evidence = load_evidence(rt, alloc, files, &flags, asked, factor, evidence)?;
-    Ok(Question {
-        document: bytes,
-        flags,
-        request,
-        evidence,
-    })
+    match load_evidence(rt, alloc, files, &flags, asked, factor, evidence) {
+        Ok(evidence) => Ok(Question {
+            document: bytes,
+            flags,
+            request,
+            evidence,
+        }),
+        Err(refused) => Err(refused),
+    }
 }
