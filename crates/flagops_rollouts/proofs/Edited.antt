@@ -32,7 +32,7 @@ use Rattle.flagops_shell.specs.Files.{Holding, load_of}
 use Rattle.flagops_files.specs.Loading.{max_text}
 use Rattle.flagops_files.specs.PlanFile.{plan_at}
 use Rattle.flagops_files.specs.Question.{Question, IsQuestionAt}
-use Rattle.flagops_files.specs.Refusal.{GivesOne, is_want}
+use Rattle.flagops_files.specs.Refusal.{ComesFrom, GivesOne, call_of, is_want}
 use Rattle.flagops_shell.specs.Report.{outcome_view}
 use Rattle.flagops_files.specs.declared.evidence.Evidence.{Evidence}
 use Rattle.flagops_files.specs.declared.evidence.Evidence.TheVariants.{Book, Tally}
@@ -41,7 +41,9 @@ use Rattle.flagops_files.specs.Refusal.{Refused}
 use Rattle.flagops_files.specs.declared.refusal.Refusal.{Refusal}
 use Rattle.flagops_rollouts.specs.Keep.{IsEdited, IsEditedTo, IsKeepReport, IsKeepWith, IsKeptAt, IsKeptFor, IsKeptPut, IsKeptWith, IsPut, Kept, LeavesDocument, MayBeKept, some_view}
 use Rattle.flagops_rollouts.specs.Doubts.{doubt_of, settle}
+use Rattle.flagops_files.specs.declared.refusal.Call.{Call}
 use Rattle.flagops_files.specs.declared.refusal.Call.TheVariants as call
+use Rattle.flagops_rollouts.specs.Calls.{keep_calls, puts_document}
 use Rattle.flagops_rollouts.specs.Verify.{IsToldOn, MayBeTold}
 use Rattle.flagops_shell.proofs.Kept.{others_after}
 
@@ -153,6 +155,10 @@ module _ (path plan request book : List ℕ) (write strict : Bool) (refine : Opt
         go None asked planned same = tt
         go (Some at) asked planned same = λ wanted. (Ok q, asked, rw (planned wanted) (refl, same))
 
+    pub no_plan_so : (old mid after : Option Holding) (e : Refused) (r : Result Outcome Refused) → r ≡ Err e → mid ≡ old → after ≡ mid → IfSome old (λ at. IsQuestionAt at path request book (Ok q))
+        → IfSome mid (λ at. is_want e.refusal ≡ false → plan_at at plan ≡ Err e.refusal) → Is old after r
+    no_plan_so old mid after e r is first second asked planned = subst (Is old after) (sym is) (no_plan old mid after e first second asked planned)
+
     module _ (document : List ℕ) (answer : Answer) where
       pub kept_whole : (old mid last after : Option Holding) (r : Result Outcome Refused) → mid ≡ old → last ≡ mid → IfSome old (λ at. IsQuestionAt at path request book (Ok q)) → IfSome old (λ at. load_of at path max_text ≡ Ok document)
           → IfSome mid (λ at. plan_at at plan ≡ Ok answer) → IfSome last (λ at. GivesOne outcome_view r (IsKeepWith at after path write strict refine document q answer)) → Is old after r
@@ -186,3 +192,33 @@ failed_after start first second last fault a b c = c ∙ ap (λ (x : Bool). x ||
 pub left_after : (old mid last new : Option Holding) (path : List ℕ) (write : Bool) → mid ≡ old → last ≡ mid → LeavesDocument last new path write → LeavesDocument old new path write
 left_after old mid last new path write first second (inl same) = inl (same ∙ second ∙ first)
 left_after old mid last new path write first second (inr changed) = inr (changed.0, others_after old last new path (second ∙ first) changed.1)
+
+-- ---- what is refused
+
+put_by : (c : Call) → puts_document c ≡ true → keep_calls c ≡ true
+put_by call.Flagops is = cc
+put_by call.Load is = cc
+put_by call.ReadTree is = cc
+put_by call.ReadRule is = cc
+put_by call.Bucket is = cc
+put_by call.ReadRequest is = cc
+put_by call.Note is = cc
+put_by call.Price is = cc
+put_by call.ReadFlags is = cc
+put_by call.Check is = cc
+put_by call.Resolve is = cc
+put_by call.ReadBook is = cc
+put_by call.ReadTally is = cc
+put_by call.Book is = cc
+put_by call.ReadPlanned is = cc
+put_by call.Verify is = cc
+put_by call.Apply is = refl
+put_by call.Plan is = cc
+put_by call.PrintPlanned is = cc
+put_by call.Drive is = cc
+put_by call.Store is = refl
+
+-- what is refused where the document is put is refused by the command
+pub comes_so : {X : Type 0} (r : Result X Refused) → ComesFrom puts_document r → ComesFrom keep_calls r
+comes_so (Ok x) comes = tt
+comes_so (Err e) comes = put_by (call_of e.refusal) comes
