@@ -2,8 +2,8 @@
 ghost use Rattle.std.specs.Prelude.{◌≡◌, ◌<◌, ◌||◌, false, true, IfSome};
 ghost use Rattle.flagops_files.specs.Evidence.{IsReadAs, begins_tally};
 ghost use Rattle.flagops_files.specs.Question.{IsEvidenceAt};
-ghost use Rattle.flagops_files.specs.Refusal.{ComesFrom, GivesOne, is_file_fault, loads_evidence};
-ghost use Rattle.flagops_files.specs.Told.{TellsOf, file};
+ghost use Rattle.flagops_files.specs.Refusal.{ComesFrom, GivesOne, is_file_fault, loads_evidence, TellsOf};
+ghost use Rattle.flagops_files.specs.Told.{file};
 
 use crate::books::load_book_bytes;
 use crate::refusal::{Refusal, Refused};

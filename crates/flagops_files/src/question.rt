@@ -3,8 +3,7 @@ ghost use Rattle.std.specs.Prelude.{◌≡◌, ◌<◌, ◌||◌, IfOk, IfSome, 
 ghost use Rattle.flagops_shell.specs.Files.{load_of};
 ghost use Rattle.flagops_files.specs.Loading.{max_text};
 ghost use Rattle.flagops_files.specs.Question.{IsQuestionAt, question_subjects, question_view};
-ghost use Rattle.flagops_files.specs.Refusal.{ComesFrom, GivesOne, is_file_fault, loads_question};
-ghost use Rattle.flagops_files.specs.Told.{TellsOfOne};
+ghost use Rattle.flagops_files.specs.Refusal.{ComesFrom, GivesOne, is_file_fault, loads_question, TellsOfOne};
 
 use crate::documents::{Document, load_document};
 use crate::evidence::{Evidence, load_evidence};
@@ -50,13 +49,11 @@ pub fn load_question<R: Threads, F: FileSet>(
     let Document { bytes, flags } = load_document(alloc, files, document)?;
     let request = load_request(alloc, files, request)?;
     let asked = request.asked().ok();
-    match load_evidence(rt, alloc, files, &flags, asked, factor, evidence) {
-        Ok(evidence) => Ok(Question {
-            document: bytes,
-            flags,
-            request,
-            evidence,
-        }),
-        Err(refused) => Err(refused),
-    }
+    let evidence = load_evidence(rt, alloc, files, &flags, asked, factor, evidence)?;
+    Ok(Question {
+        document: bytes,
+        flags,
+        request,
+        evidence,
+    })
 }

@@ -1,10 +1,11 @@
 -- `verify-ramp` tells of what `ramp` printed that it is valid.
 use Rattle.std.proofs.Common.{◌≡◌, ℕ, ◌+◌, ◌≤◌, Bool, false, true, List, length, nat_lt, cond, Option, Some, unwrap_or, Result, Ok, Err, refl, sym, ap, ◌∙◌, subst, arith}
-use Rattle.std.specs.Prelude.{◌⊎◌, nat_eq}
+use Rattle.std.specs.Prelude.{◌⊎◌}
 use Rattle.std.proofs.Common.{inl, inr}
 use Rattle.std.proofs.lemmas.Bool.{ltb-false}
 use Rattle.std.proofs.lemmas.List.{take_all}
-use Rattle.flagops_files.specs.Loading.{max_rule, refused_by}
+use Rattle.flagops_files.specs.Loading.{max_rule}
+use Rattle.flagops_shell.specs.Outcomes.{refused_by}
 use Rattle.flagops_files.specs.Question.{BookQuestion}
 use Rattle.flagops_files.specs.declared.refusal.Refusal.TheVariants.{Load as Unread}
 use Rattle.flagops_shell.specs.Files.{Holding, front_of}
@@ -22,6 +23,11 @@ use Rattle.ramp_steps.specs.declared.fault.RampFileFault.{RampFileFault}
 use Rattle.ramp_steps.specs.declared.fault.RampFileFault.TheVariants.{TooLarge}
 use Rattle.ramp_steps.specs.declared.fault.StepsFault.{StepsFault}
 use Rattle.rollout_checks.specs.VerifyFault as verdicts
+use Rattle.rollout_checks.specs.declared.fault.RolloutFault.TheVariants as rollout
+use Rattle.rollout_checks.specs.declared.verify_fault.VerifyFault.{VerifyFault}
+use Rattle.rollout_checks.specs.declared.verify_fault.VerifyFault.TheVariants as verdict
+use Rattle.transport_instance.specs.declared.fault.CheckFault.TheVariants as check
+use Rattle.flagops_rollouts.specs.Refusal.{is_want_of_verify}
 use Rattle.flagops_ramps.specs.Doubts.{beside, doubt_of_steps, settle}
 use Rattle.flagops_ramps.specs.Judging.{Answered, Found, IsFoundOf, IsFoundOver, answers_at, found_as, if_loaded}
 use Rattle.flagops_ramps.specs.Ramp.{Holds, IsRampOf, IsRampOver, ReadsBack, report_ramp}
@@ -46,10 +52,33 @@ saved at path text answers is holds =
 
 -- ---- what is told of it
 
+-- the fault of number 0 is want of memory
+zero_wants : (e : VerifyFault) → verdicts.number_of e ≡ 0 → is_want_of_verify e ≡ true
+zero_wants (verdict.Request rollout.WantOfMemory) is = refl
+zero_wants (verdict.Request (rollout.Request f)) is = cc
+zero_wants (verdict.Request rollout.UnknownFlag) is = cc
+zero_wants (verdict.Request rollout.NoSite) is = cc
+zero_wants (verdict.Request rollout.Computed) is = cc
+zero_wants (verdict.Request rollout.UnknownVariant) is = cc
+zero_wants (verdict.Request rollout.TotalsSum) is = cc
+zero_wants (verdict.Request rollout.TotalTooLarge) is = cc
+zero_wants (verdict.Request rollout.NoWeight) is = cc
+zero_wants (verdict.Request rollout.TooLarge) is = cc
+zero_wants (verdict.Request rollout.OtherTally) is = cc
+zero_wants (verdict.Check check.WantOfMemory) is = refl
+zero_wants (verdict.Check check.Weight) is = cc
+zero_wants (verdict.Check check.Totals) is = cc
+zero_wants (verdict.Check (check.Forbidden p)) is = cc
+zero_wants (verdict.Check (check.Slack name count variant)) is = cc
+zero_wants (verdict.Check check.Sum) is = cc
+zero_wants (verdict.Check check.Cost) is = cc
+zero_wants (verdict.Check check.NotDeficient) is = cc
+zero_wants (verdict.Check check.Groups) is = cc
+
 told_valid : (a : Answered) (told : Result (Unit {0}) RampFault) → laws.IsValid told → IsValid a.answers (report_found false (found_as a told))
 told_valid a (Ok u) valid = (refl, refl)
 told_valid a (Err Lines) valid = absurd valid
-told_valid a (Err (Step n e)) valid = ap (λ k. nat_eq k 0) valid
+told_valid a (Err (Step n e)) valid = zero_wants e valid
 
 module _ (law : laws.RampsAreValid) (strict : Bool) (refine : Option ℕ) (q : BookQuestion) (report : Report) where
   found_valid : (requests : List (List ℕ)) (answers : List Answer) (found : Found) → ArePlans (Ok q.flags) (unwrap_or refine 1) requests q.book answers → IsFoundOver refine q answers (Ok requests) found → IsValid answers (report_found false found)

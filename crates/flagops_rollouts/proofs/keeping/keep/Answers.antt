@@ -1,13 +1,15 @@
 use Rattle.std.proofs.Common.{◌≡◌, ◌∙◌, Err, ap, inl, option_map, rules}
 use Rattle.std.specs.Prelude.{◌∷◌}
 use Rattle.std.proofs.lemmas.Result.{err_from_is_err_and}
-use Rattle.plan_text.specs.Answer.{planned_view}
-use Rattle.flagops_files.specs.Question.{question_subjects, question_view}
-use Rattle.flagops_files.specs.Told.{Subjects, file}
+use Rattle.flagops_files.specs.Told.{file}
 use Rattle.flagops_rollouts.specs.Doubts.{doubt_subjects}
+use Rattle.flagops_rollouts.specs.Refusal.{Subjects}
 use Rattle.flagops_rollouts.specs.Subjects.{is_of_kept_answer, is_of_kept_document, is_of_kept_request}
+use Rattle.flagops_rollouts.specs.Loaded.{question_subjects}
 use Rattle.flagops_rollouts.proofs.Doubting.{tells_right}
 use Rattle.flagops_rollouts.proofs.Verdicts.{failed_second}
+use Rattle.plan_text.specs.Answer.{planned_view}
+use Rattle.flagops_files.specs.Question.{question_view}
 use Rattle.flagops_shell.proofs.Kept.{kept_after}
 use Rattle.flagops_rollouts.proofs.Edited.{comes_so, failed_after, kept_whole, left_after, no_plan_so, no_question}
 use Rattle.flagops_rollouts.proofs.keeping.keep.Goals as goal
