@@ -1,5 +1,5 @@
 -- Documents that are read again, one after the other and turn by turn.
-use Rattle.std.proofs.Common.{Bor, ◌≡◌, ◌≢◌, ◌+◌, ◌<◌, ◌⊎◌, ◌∙◌, ℕ, true, suc, List, [], ◌∷◌, ◌++◌, add-one, ap, decimal, drop, drop-cons, get_or, length, map, Option, Some, None, Err, IfSome, Vec, Global, inl, inr, is_some, refl, slice_get, subst, sym}
+use Rattle.std.proofs.Common.{Bor, ◌≡◌, ◌≢◌, ◌+◌, ◌<◌, ◌⊎◌, ℕ, true, suc, List, [], ◌∷◌, ◌++◌, add-one, ap, decimal, drop, drop-cons, get_or, length, map, Option, Some, None, Err, IfSome, Vec, Global, inl, inr, is_some, refl, slice_get, subst, sym}
 use Rattle.source_merge.specs.Sources.{Sets, SourceList}
 use Rattle.source_merge.specs.declared.fault.SourceFault.{SourceFault}
 use Rattle.flagops_service.specs.Rereading.{IsUnfit, Kept, MayBeRefused, ReadsFrom, ReadsOne, State, Turns, Watches}

@@ -1,5 +1,5 @@
 -- What reading documents again does, in private contracts alone.
-use Rattle.std.specs.Prelude.{◌≡◌, ◌⊎◌, ℕ, ◌+◌, List, [], ◌∷◌, Bool, true, false, decimal, is_some, slice_get, slice_set, Option, Some, None, IfSome, Result, Ok, Err, Vec}
+use Rattle.std.specs.Prelude.{◌≡◌, ◌⊎◌, ℕ, ◌+◌, List, [], ◌∷◌, true, decimal, is_some, slice_get, slice_set, Option, Some, None, IfSome, Result, Ok, Err, Vec}
 use Rattle.std.specs.declared.alloc.Global.{Global}
 use Rattle.flag_defs.specs.Document.{Definitions, DocumentMeans}
 use Rattle.flag_defs.specs.declared.fault.DefFault.{DefFault}

@@ -1,4 +1,4 @@
-use Rattle.std.proofs.Common.{◌≡◌, ◌∙◌, ℕ, Bor, List, [], ◌∷◌, ◌++◌, ap, inl, map, subst, sym}
+use Rattle.std.proofs.Common.{◌∙◌, ℕ, Bor, List, [], ◌∷◌, ◌++◌, ap, inl, map, subst, sym}
 use Rattle.flag_defs.specs.declared.flags.Flags.{Flags}
 use Rattle.source_merge.specs.View.{sources_view}
 use Rattle.flagops_service.specs.Merging.{Publishes}

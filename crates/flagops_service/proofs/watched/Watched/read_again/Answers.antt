@@ -1,4 +1,4 @@
-use Rattle.std.proofs.Common.{◌≡◌, ◌∙◌, ℕ, List, Option, get_or, subst, sym}
+use Rattle.std.proofs.Common.{◌∙◌, Option, get_or, subst, sym}
 use Rattle.std.proofs.lemmas.List.{get_or_default}
 use Rattle.flagops_shell.specs.Files.{Holding}
 use Rattle.flagops_service.specs.Rereading.{ReadsOne, kept_of}
