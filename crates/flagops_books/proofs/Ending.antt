@@ -1,4 +1,5 @@
 -- What the command comes to, and what a person is told of it.
+use Rattle.flagops_files.specs.declared.refusal.Refusal.{Refusal}
 use Rattle.std.proofs.Common.{◌≡◌, ◌∙◌, ℕ, suc, Bool, true, false, List, [], ◌∷◌, Option, Some, None, IfSome, IfOk, IfErr, length, map, inl, inr, refl, ap, sym, subst, string_bytes, String, Global}
 use Rattle.std.specs.Prelude.{Result, Ok, Err, IsOk}
 use Rattle.book_core.specs.Book.{input_count}
@@ -13,10 +14,10 @@ use Rattle.flagops_books.specs.declared.uniting.Gathered.{Gathered}
 use Rattle.flagops_books.specs.declared.uniting.Step.{Step}
 use Rattle.flagops_books.specs.declared.uniting.Step.TheVariants.{Noted, Stopped}
 use Rattle.flagops_files.specs.Question.{replaceable_at}
-use Rattle.flagops_files.specs.Refusal.{ComesFrom, GivesOne, Refused, call_name, call_of, is_want}
-use Rattle.flagops_files.specs.Report.{IsCallOf}
-use Rattle.flagops_files.specs.Told.{TellsOfOne}
-use Rattle.flagops_files.specs.declared.refusal.Refusal.{Refusal}
+use Rattle.flagops_books.specs.Refusal.{ComesFrom, GivesOne, Refused, call_name, call_of, is_want, TellsOfOne}
+use Rattle.flagops_shell.specs.Outcomes.{IsCallOf, refused_by}
+use Rattle.flagops_books.specs.declared.refusal.BookRefusal.TheVariants.{Load}
+use Rattle.flagops_books.specs.declared.refusal.BookRefusal.{BookRefusal}
 use Rattle.flagops_shell.specs.Diagnostic.{Says}
 use Rattle.flagops_shell.specs.Ending.{Remarks}
 use Rattle.flagops_shell.specs.Files.{Holding, KeepsOthers}
@@ -34,19 +35,27 @@ counted now [] = refl
 counted now (x ∷ xs) = ap suc (counted now xs)
 
 -- what may not become a book
-pub not_free : (u : Uniting) (h : Option Holding) (e : Refused) → IfSome h (λ at. is_want e.refusal ≡ false → replaceable_at at u.out ≡ Err e.refusal) → IfSome h (λ at. GivesUnited (Err e) (IsUnitedFor u at))
+not_there : (u : Uniting) (at : Holding) (o : Result (Unit {0}) Refusal) (e : BookRefusal) → refused_by Load o ≡ Err e → IsUnitedWhere o at u (Err e)
+not_there u at (Err f) e is = sym is
+not_there u at (Ok free) e is = cc
+
+there : (o : Result (Unit {0}) Refusal) (free : Unit {0}) → (let r : Result (Unit {0}) BookRefusal = refused_by Load o in r) ≡ Ok free → o ≡ Ok free
+there (Ok x) free is = cc
+there (Err e) free is = cc
+
+pub not_free : (u : Uniting) (h : Option Holding) (e : Refused) → IfSome h (λ at. is_want e.refusal ≡ false → refused_by Load (replaceable_at at u.out) ≡ Err e.refusal) → IfSome h (λ at. GivesUnited (Err e) (IsUnitedFor u at))
 unfolding IsUnitedFor
 not_free u None e is = tt
-not_free u (Some at) e is = λ wanted. subst (λ (o : Result (Unit {0}) Refusal). IsUnitedWhere o at u (Err e.refusal)) (sym (is wanted)) refl
+not_free u (Some at) e is = λ wanted. not_there u at (replaceable_at at u.out) e.refusal (is wanted)
 
 -- what may
-pub for_free : (u : Uniting) (h : Option Holding) (free : Unit {0}) (r : Result Step Refused) → IfSome h (λ at. replaceable_at at u.out ≡ Ok free) → IfSome h (λ at. GivesUnited r (IsUnited at u.torn u.files no_notes false))
+pub for_free : (u : Uniting) (h : Option Holding) (free : Unit {0}) (r : Result Step Refused) → IfSome h (λ at. (let r : Result (Unit {0}) BookRefusal = refused_by Load (replaceable_at at u.out) in r) ≡ Ok free) → IfSome h (λ at. GivesUnited r (IsUnited at u.torn u.files no_notes false))
     → IfSome h (λ at. GivesUnited r (IsUnitedFor u at))
 unfolding IsUnitedFor
 for_free u None free r is came = tt
-for_free u (Some at) free r is came = subst (λ (o : Result (Unit {0}) Refusal). GivesUnited r (λ x. IsUnitedWhere o at u x)) (sym is) came
+for_free u (Some at) free r is came = subst (λ (o : Result (Unit {0}) Refusal). GivesUnited r (λ x. IsUnitedWhere o at u x)) (sym (there (replaceable_at at u.out) free is)) came
 
-not_noted : {X : Type 0} (all : Notes) (told : Bool) (e : Refusal) → (let r : Result United Refusal = Ok (noted all told) in r) ≡ Err e → X
+not_noted : {X : Type 0} (all : Notes) (told : Bool) (e : BookRefusal) → (let r : Result United BookRefusal = Ok (noted all told) in r) ≡ Err e → X
 not_noted all told e is = cc
 
 where_free : (u : Uniting) (at : Holding) (all : Notes) (told : Bool) → IsUnitedFor u at (Ok (noted all told)) → IsOk (replaceable_at at u.out) × IsUnited at u.torn u.files no_notes false (Ok (noted all told))
@@ -55,7 +64,7 @@ where_free u at all told came = go (replaceable_at at u.out) came
   where
     go : (o : Result (Unit {0}) Refusal) → IsUnitedWhere o at u (Ok (noted all told)) → IsOk o × IsUnited at u.torn u.files no_notes false (Ok (noted all told))
     go (Ok free) came = (refl, came)
-    go (Err e) came = not_noted all told e came
+    go (Err e) came = not_noted all told (Load e) came
 
 module _ (u : Uniting) where
   pub no_union : (old after : Option Holding) (e : Refused) → after ≡ old → IfSome old (λ at. GivesUnited (Err e) (IsUnitedFor u at)) → IfSome old (λ at. is_want e.refusal ≡ false → IsBookReport at after u (Err e.refusal))
@@ -69,10 +78,10 @@ module _ (u : Uniting) where
   stray_reported (Some at) after o same is = (Ok (stray is.0 is.1), is.2, (ap Ok is.3, same))
 
   module _ (g : Gathered) (n : ℕ) (many : length u.files ≡ n) where
-    abbrev Stores : Option Holding → Result Report Refusal → Holding → Type 0
+    abbrev Stores : Option Holding → Result Report BookRefusal → Holding → Type 0
     Stores after r at = IsStored at after u.out (book_text g.book) (counts_text (input_count g.book) n) (is_told (string_bytes g.told)) r
 
-    reported_at : (at : Holding) (after : Option Holding) (r : Result Report Refusal) → GivesUnited (Ok (Noted g)) (IsUnitedFor u at) → Stores after r at → IsBookReport at after u r
+    reported_at : (at : Holding) (after : Option Holding) (r : Result Report BookRefusal) → GivesUnited (Ok (Noted g)) (IsUnitedFor u at) → Stores after r at → IsBookReport at after u r
     unfolding IsBookReport
     reported_at at after r is stores =
         let told = is_told (string_bytes g.told) in
@@ -121,6 +130,6 @@ remarks (Some at) u (Ok o) names notes = λ remark is. subst (λ (m : Option Rem
 remarks (Some at) u (Err e) names notes = names
 
 -- a call of the command ran out of memory
-pub wants : (r : Result Outcome Refused) → ComesFrom book_calls r → IfErr r (λ e. IsCallOf book_calls (call_name (call_of e.refusal)))
+pub wants : (r : Result Outcome Refused) → ComesFrom book_calls r → IfErr r (λ e. IsCallOf call_name book_calls (call_name (call_of e.refusal)))
 wants (Ok o) comes = tt
 wants (Err e) comes = (call_of e.refusal, comes, refl)

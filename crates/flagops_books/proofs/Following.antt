@@ -1,4 +1,5 @@
 -- Files that are read one after the other.
+use Rattle.flagops_files.specs.declared.refusal.Refusal.{Refusal}
 use Rattle.std.proofs.Common.{◌≡◌, ◌+◌, ◌<◌, ℕ, Bool, true, false, List, [], ◌∷◌, Option, Some, None, IfSome, add-one, refl, ap, sym, subst, drop, get_or, length, map, inl, inr, string_bytes}
 use Rattle.std.proofs.Math.Seq.{drop-cons}
 use Rattle.std.specs.Prelude.{Result, Ok, Err}
@@ -15,8 +16,8 @@ use Rattle.flagops_books.specs.declared.uniting.Step.TheVariants.{Noted, Stopped
 use Rattle.flagops_shell.specs.Files.{Holding}
 use Rattle.flagops_files.specs.Question.{notes_bytes_at}
 use Rattle.flagops_shell.specs.declared.outcome.Outcome.{Outcome}
-use Rattle.flagops_files.specs.declared.refusal.Refusal.{Refusal}
-use Rattle.flagops_files.specs.Refusal.{Refused}
+use Rattle.flagops_books.specs.declared.refusal.BookRefusal.{BookRefusal}
+use Rattle.flagops_books.specs.Refusal.{Refused}
 use Rattle.note_books.specs.Blank.{begins_book}
 use Rattle.note_books.specs.Lines.{Taken}
 use Rattle.note_books.specs.Notes.{IsBookOf, Notes, both, no_notes, notes_in}
@@ -26,22 +27,22 @@ use Rattle.note_books.specs.declared.fault.NotesFault.TheVariants as lines
 not_both : {X E Y : Type 0} {x : X} {e : E} → Ok x ≡ Err e → Y
 not_both h = cc
 
-apart : {Y : Type 0} (n : Notes) (t : Bool) (path : List ℕ) (k : ℕ) → (let r : Result United Refusal = Ok (noted n t) in r) ≡ Ok (stray path k) → Y
+apart : {Y : Type 0} (n : Notes) (t : Bool) (path : List ℕ) (k : ℕ) → (let r : Result United BookRefusal = Ok (noted n t) in r) ≡ Ok (stray path k) → Y
 apart n t path k h = cc
 
-notes_of : Result United Refusal → Notes
+notes_of : Result United BookRefusal → Notes
 notes_of (Ok (noted n t)) = n
 notes_of (Ok (stray path k)) = no_notes
 notes_of (Err e) = no_notes
 
-told_in : Result United Refusal → Bool
+told_in : Result United BookRefusal → Bool
 told_in (Ok (noted n t)) = t
 told_in (Ok (stray path k)) = false
 told_in (Err e) = false
 
 -- ---- one file, and those behind it
 
-module _ (Next : Later) (passing : Bool) (n : Notes) (t : Bool) (r : Result United Refusal) (later : Next n t r) where
+module _ (Next : Later) (passing : Bool) (n : Notes) (t : Bool) (r : Result United BookRefusal) (later : Next n t r) where
   same_noted : (m : Notes) (u : Bool) → IsLast m u (Ok (noted n t)) → Next m u r
   unfolding told_in notes_of
   same_noted m u is = subst (λ (x : Notes). Next x u r) (ap notes_of is) (subst (λ (b : Bool). Next n b r) (ap told_in is) later)
@@ -66,7 +67,7 @@ module _ (Next : Later) (passing : Bool) (n : Notes) (t : Bool) (r : Result Unit
   behind_file all told path (Ok bytes) is = behind_bytes (begins_book bytes) all told path bytes is
 
 -- a file that is refused, or a line of it
-module _ (Next : Later) (passing : Bool) (r : Result United Refusal) (last : (n : Notes) (t : Bool) → r ≡ Ok (noted n t) → ⊥) where
+module _ (Next : Later) (passing : Bool) (r : Result United BookRefusal) (last : (n : Notes) (t : Bool) → r ≡ Ok (noted n t) → ⊥) where
   stop_book : (all : Notes) (told : Bool) (o : Result Contents BookFileFault) → IsWithBook IsLast all told o r → IsWithBook Next all told o r
   stop_book all told (Err e) is = is
   stop_book all told (Ok other) (inl none) = inl none
@@ -96,7 +97,7 @@ no_book = record { lawful = record { rising = tt; filled = tt }; held = λ page 
 -- what the paths that are left come to behind what is noted so far, all come to
 abbrev pub Goes : Holding → Bool → List (List ℕ) → List (List ℕ) → Gathered → Type 0
 Goes at passing paths left g =
-    (now : Notes) × IsBookOf now g.book × ((r : Result United Refusal) → IsUnited at passing left now (is_told (string_bytes g.told)) r → IsUnited at passing paths no_notes false r)
+    (now : Notes) × IsBookOf now g.book × ((r : Result United BookRefusal) → IsUnited at passing left now (is_told (string_bytes g.told)) r → IsUnited at passing paths no_notes false r)
 
 pub starts : (at : Holding) (passing : Bool) (paths : List (List ℕ)) (g : Gathered) → g.book ≡ [] → string_bytes g.told ≡ [] → Goes at passing paths paths g
 starts at passing paths g none quiet = (
@@ -109,7 +110,7 @@ module _ (at : Holding) (passing : Bool) (paths left rest : List (List ℕ)) (pa
   abbrev Behind : Result Step Refused → Type 0
   Behind r = (now : Notes) → IsBookOf now g.book → GivesUnited r (IsWithFile IsLast passing now (is_told (string_bytes g.told)) path (notes_bytes_at at passing path))
 
-  along : (r : Result United Refusal) → IsWithFile (IsUnited at passing rest) passing goes.0 (is_told (string_bytes g.told)) path (notes_bytes_at at passing path) r → IsUnited at passing paths no_notes false r
+  along : (r : Result United BookRefusal) → IsWithFile (IsUnited at passing rest) passing goes.0 (is_told (string_bytes g.told)) path (notes_bytes_at at passing path) r → IsUnited at passing paths no_notes false r
   unfolding IsUnited
   along r came = goes.2 r (subst (λ (ps : List (List ℕ)). IsUnited at passing ps goes.0 (is_told (string_bytes g.told)) r) (sym first) came)
 
@@ -124,7 +125,7 @@ module _ (at : Holding) (passing : Bool) (paths left rest : List (List ℕ)) (pa
   pub goes_stopped : (s : Step) (o : Outcome) → s ≡ Stopped o → Behind (Ok s) → GivesUnited (Ok (Stopped o)) (IsUnited at passing paths no_notes false)
   goes_stopped s o is gives =
       let came : GivesUnited (Ok (Stopped o)) (IsWithFile IsLast passing goes.0 (is_told (string_bytes g.told)) path (notes_bytes_at at passing path)) = subst (λ (x : Step). Behind (Ok x)) is gives goes.0 goes.1 in
-      let r : Result United Refusal = Ok (stray came.0 came.1) in (
+      let r : Result United BookRefusal = Ok (stray came.0 came.1) in (
         came.0,
         came.1,
         along r (stop_file (IsUnited at passing rest) passing r (λ n t is. apart n t came.0 came.1 (sym is)) goes.0 (is_told (string_bytes g.told)) path (notes_bytes_at at passing path) came.2),

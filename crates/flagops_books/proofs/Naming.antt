@@ -10,14 +10,12 @@ use Rattle.flagops_books.specs.Told.{Adds, NamesFile, NamesOneFile, is_told, uni
 use Rattle.flagops_books.specs.declared.uniting.Gathered.{Gathered}
 use Rattle.flagops_books.specs.declared.uniting.Step.{Step}
 use Rattle.flagops_books.specs.declared.uniting.Step.TheVariants.{Noted, Stopped}
-use Rattle.flagops_files.specs.Refusal.{ComesFrom, call_of, is_file_fault, is_want}
-use Rattle.flagops_files.specs.Told.{NamesOne, NamesSubject, TellsOf, by, file}
+use Rattle.flagops_books.specs.Refusal.{ComesFrom, call_of, is_file_fault, is_want, TellsOf, by, Refused}
+use Rattle.flagops_files.specs.Told.{NamesOne, NamesSubject, file}
 use Rattle.flagops_shell.specs.Diagnostic.{Says}
 use Rattle.flagops_shell.specs.declared.outcome.Outcome.{Outcome}
-use Rattle.flagops_files.specs.declared.refusal.Call.TheVariants as call
-use Rattle.flagops_files.specs.declared.refusal.Refusal.{Refusal}
-use Rattle.flagops_files.specs.declared.refusal.Refusal.TheVariants.{WantOfMemory}
-use Rattle.flagops_files.specs.Refusal.{Refused}
+use Rattle.flagops_books.specs.declared.refusal.BookRefusal.{BookRefusal}
+use Rattle.flagops_books.specs.declared.refusal.BookRefusal.TheVariants.{WantOfMemory}
 use Rattle.flagops_shell.specs.declared.refused.Remark.{Remark}
 use Rattle.flagops_shell.specs.declared.refused.Remark.TheVariants.{Short, Lines}
 use Rattle.note_books.specs.declared.taking.NotesTaken.{NotesTaken}
@@ -30,13 +28,13 @@ no_less i less = absurd (omega (arith, less))
 less : (i n : ℕ) → suc i < suc n → i < n
 less i n h = omega (arith, h)
 
-told_at : {X : Type 0} (now : X → List ℕ) (xs : List X) (i : ℕ) (z : X) (e : Refusal) (remark : Remark) → i < length xs → by unites_files e ≡ true
+told_at : {X : Type 0} (now : X → List ℕ) (xs : List X) (i : ℕ) (z : X) (e : BookRefusal) (remark : Remark) → i < length xs → by unites_files e ≡ true
     → Says (NamesSubject (file (now (get_or xs i z)))) remark → NamesOne (united_subjects (map now xs)) e remark
 told_at now [] i z e remark inside of says = no_less i inside
 told_at now (x ∷ xs) zero z e remark inside of says = inl (of, says)
 told_at now (x ∷ xs) (suc i) z e remark inside of says = inr (told_at now xs i z e remark (less i (length xs) inside) of says)
 
-pub told_of_one : {X : Type 0} (now : X → List ℕ) (xs : List X) (i : ℕ) (z : X) (e : Refusal) (remark : Remark) → i < length xs → by unites_files e ≡ true
+pub told_of_one : {X : Type 0} (now : X → List ℕ) (xs : List X) (i : ℕ) (z : X) (e : BookRefusal) (remark : Remark) → i < length xs → by unites_files e ≡ true
     → (is_want e ≡ false → Says (NamesSubject (file (now (get_or xs i z)))) remark) → is_want e ≡ false → NamesOne (united_subjects (map now xs)) e remark
 told_of_one now xs i z e remark inside of says wanted = told_at now xs i z e remark inside of (says wanted)
 
@@ -141,27 +139,27 @@ stop_says path n before (Err e) stop = tt
 
 -- ---- want of memory
 
-pub want_alone : {Y : Type 0} (e : Refusal) → e ≡ WantOfMemory call.Book → is_want e ≡ false → Y
+pub want_alone : {Y : Type 0} (e : BookRefusal) → e ≡ WantOfMemory → is_want e ≡ false → Y
 want_alone e is wanted = let no : true ≡ false = ap is_want (sym is) ∙ wanted in cc
 
-module _ (path : List ℕ) (r : Result Step Refused) (wants : IfErr r (λ e. e.refusal ≡ WantOfMemory call.Book)) where
+module _ (path : List ℕ) (r : Result Step Refused) (wants : IfErr r (λ e. e.refusal ≡ WantOfMemory)) where
   pub want_calls : ComesFrom unites_files r
   want_calls = go r wants
     where
-      go : (r : Result Step Refused) → IfErr r (λ e. e.refusal ≡ WantOfMemory call.Book) → ComesFrom unites_files r
+      go : (r : Result Step Refused) → IfErr r (λ e. e.refusal ≡ WantOfMemory) → ComesFrom unites_files r
       go (Ok s) is = tt
-      go (Err e) is = ap (λ (f : Refusal). unites_files (call_of f)) is
+      go (Err e) is = ap (λ (f : BookRefusal). unites_files (call_of f)) is
 
   pub want_read : is_file_fault r ≡ false
   want_read = go r wants
     where
-      go : (r : Result Step Refused) → IfErr r (λ e. e.refusal ≡ WantOfMemory call.Book) → is_file_fault r ≡ false
+      go : (r : Result Step Refused) → IfErr r (λ e. e.refusal ≡ WantOfMemory) → is_file_fault r ≡ false
       go (Ok s) is = refl
       go (Err e) is = rw is refl
 
   pub want_told : TellsOf (file path) r
   want_told = go r wants
     where
-      go : (r : Result Step Refused) → IfErr r (λ e. e.refusal ≡ WantOfMemory call.Book) → TellsOf (file path) r
+      go : (r : Result Step Refused) → IfErr r (λ e. e.refusal ≡ WantOfMemory) → TellsOf (file path) r
       go (Ok s) is = tt
       go (Err e) is = λ wanted. want_alone e.refusal is wanted

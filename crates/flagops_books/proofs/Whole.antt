@@ -10,6 +10,7 @@ use Rattle.flagops_books.specs.Law.{BookNotes, BytesNote, FileNotes, OneNotes, U
 use Rattle.flagops_books.specs.Union.{IsUnited, IsWithBook, IsWithBytes, IsWithFile, IsWithLines, Later, TakesBytes, United, is_one_line, noted, stray}
 use Rattle.flagops_shell.specs.Files.{Holding}
 use Rattle.flagops_files.specs.Question.{notes_bytes_at}
+use Rattle.flagops_books.specs.declared.refusal.BookRefusal.{BookRefusal}
 use Rattle.flagops_files.specs.declared.refusal.Refusal.{Refusal}
 use Rattle.line_batches.specs.Lines.{parts_of}
 use Rattle.note_books.proofs.Noted.{notes_its_lines}
@@ -37,7 +38,7 @@ or_right : (a b : Bool) → b ≡ true → (a || b) ≡ true
 or_right true b is = refl
 or_right false b is = is
 
-notes_of : Result United Refusal → Notes
+notes_of : Result United BookRefusal → Notes
 notes_of (Ok (noted n t)) = n
 notes_of (Ok (stray path k)) = no_notes
 notes_of (Err e) = no_notes
@@ -60,7 +61,7 @@ in_parts : {A M B N R : Type 0} → A ↔ (M ⊎ R) → M ↔ (B ⊎ N) → A �
 in_parts later step = (λ a. there (later.0 a) step.0, λ x. later.1 (back x step.1))
 
 module _ (at : Holding) (passing : Bool) (all : Notes) (told : Bool) (page : PageName) (input : List ℕ) where
-  abbrev Came : Result United Refusal
+  abbrev Came : Result United BookRefusal
   Came = Ok (noted all told)
 
   -- what is noted in all is noted before, or here
@@ -106,7 +107,7 @@ module _ (at : Holding) (passing : Bool) (all : Notes) (told : Bool) (page : Pag
   by_files : (paths : List (List ℕ)) (before : Notes) (t : Bool) → IsUnited at passing paths before t Came → Parts before (OneNotes at paths page input)
   unfolding IsUnited notes_of
   by_files [] before t is =
-      let same : all page input ≡ before page input = ap (λ (r : Result United Refusal). notes_of r page input) is in
+      let same : all page input ≡ before page input = ap (λ (r : Result United BookRefusal). notes_of r page input) is in
       (λ h. inl (sym same ∙ h), last same)
     where
       last : all page input ≡ before page input → (before page input ≡ true) ⊎ OneNotes at [] page input → all page input ≡ true

@@ -6,7 +6,7 @@ use Rattle.book_core.specs.Reading.{book_of}
 use Rattle.book_core.specs.declared.fault.BookFileFault.{BookFileFault}
 use Rattle.flagops_books.specs.Union.{IsUnited, noted}
 use Rattle.flagops_shell.specs.Files.{Holding, load_of}
-use Rattle.flagops_files.specs.Loading.{◌>>=◌, refused_by}
+use Rattle.flagops_shell.specs.Outcomes.{◌>>=◌, refused_by}
 use Rattle.flagops_files.specs.Question.{if_readable, max_book}
 use Rattle.flagops_files.specs.declared.refusal.Refusal.{Refusal}
 use Rattle.flagops_files.specs.declared.refusal.Refusal.TheVariants.{Load}

@@ -5,16 +5,15 @@ use Rattle.flagops_books.specs.Told.{Adds, NamesFile, NamesOneFile, is_told}
 use Rattle.flagops_books.specs.Union.{United, noted, stray}
 use Rattle.flagops_books.specs.declared.uniting.Step.{Step}
 use Rattle.flagops_books.specs.declared.uniting.Step.TheVariants.{Noted, Stopped}
-use Rattle.flagops_files.specs.Refusal.{is_want}
+use Rattle.flagops_books.specs.Refusal.{is_want, Refused}
 use Rattle.flagops_shell.specs.Report.{outcome_view}
 use Rattle.flagops_shell.specs.Diagnostic.{Says}
-use Rattle.flagops_files.specs.declared.refusal.Refusal.{Refusal}
-use Rattle.flagops_files.specs.Refusal.{Refused}
+use Rattle.flagops_books.specs.declared.refusal.BookRefusal.{BookRefusal}
 use Rattle.note_books.specs.Notes.{Notes, IsBookOf}
 use Rattle.note_books.specs.declared.taking.NotesTaken.{NotesTaken}
 
 -- what was returned is one of these, unless memory ran out
-abbrev pub GivesUnited : Result Step Refused → (Result United Refusal → Type 0) → Type 0
+abbrev pub GivesUnited : Result Step Refused → (Result United BookRefusal → Type 0) → Type 0
 GivesUnited (Ok (Noted g)) Wanted = (all : Notes) × IsBookOf all g.book × Wanted (Ok (noted all (is_told (string_bytes g.told))))
 GivesUnited (Ok (Stopped o)) Wanted = (path : List ℕ) × (n : ℕ) × Wanted (Ok (stray path n)) × (outcome_view o ≡ stray_report path n)
 GivesUnited (Err e) Wanted = is_want e.refusal ≡ false → Wanted (Err e.refusal)

@@ -3,8 +3,8 @@ use Rattle.std.specs.Prelude.{◌≡◌, ◌⊎◌, ◌==◌, ℕ, Bool, not, Li
 use Rattle.flag_text.specs.Printing.{text_of}
 use Rattle.flag_text.specs.Shape.{text}
 use Rattle.flagops_books.specs.Calls.{unites_files}
-use Rattle.flagops_files.specs.Refusal.{loads_book, stores_file}
-use Rattle.flagops_files.specs.Told.{Subjects, by, file}
+use Rattle.flagops_books.specs.Refusal.{loads_book, stores_file, Subjects, by}
+use Rattle.flagops_files.specs.Told.{file}
 
 -- something is told
 abbrev pub is_told : List ℕ → Bool

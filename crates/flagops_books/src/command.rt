@@ -7,17 +7,17 @@ ghost use Rattle.flagops_books.specs.Step.{GivesUnited, SaysUnited};
 ghost use Rattle.flagops_books.specs.Told.{NamesOneFile, book_subjects};
 ghost use Rattle.flagops_books.specs.Words as words;
 ghost use Rattle.flagops_books.specs.Words.{uniting_view};
-ghost use Rattle.flagops_files.specs.Refusal.{ComesFrom, GivesOne, is_file_fault};
-ghost use Rattle.flagops_files.specs.Told.{TellsOfOne};
+ghost use Rattle.flagops_books.specs.Refusal.{ComesFrom, GivesOne, is_file_fault, TellsOfOne};
 ghost use Rattle.flagops_shell.specs.Diagnostic.{Says};
 ghost use Rattle.flagops_shell.specs.Ending.{KeepsUnlessDone};
 ghost use Rattle.flagops_shell.specs.Report.{outcome_view};
 
 use crate::asked::Uniting;
+use crate::loading::check_replaceable;
+use crate::refusal::{BookRefusal, Refused};
 use crate::storing::stored;
 use crate::uniting::{Step, united};
 use crate::words::read_uniting;
-use flagops_files::{Refusal, Refused, check_replaceable};
 use flagops_shell::{Command, FileSet, Outcome};
 use std::alloc::Global;
 use std::convert::AsStr;
@@ -25,7 +25,7 @@ use std::convert::AsStr;
 /// It writes the book of what several files note, replaced whole, and prints how many inputs it has and of how many files it is; a
 /// refusal leaves the files as they were. A person is told of lines that were passed over.
 impl<'w, R, F: FileSet> Command<'w, R, F> for Uniting<'w> {
-    type Refusal = Refusal;
+    type Refusal = BookRefusal;
 
     ghost Asked = { words.Uniting };
 
@@ -44,7 +44,7 @@ impl<'w, R, F: FileSet> Command<'w, R, F> for Uniting<'w> {
         outcome(alloc, files, self)
     }
 
-    fn call_of(&self, refusal: &Refusal) -> &'static str {
+    fn call_of(&self, refusal: &BookRefusal) -> &'static str {
         refusal.call().name()
     }
 }

@@ -24,6 +24,8 @@ mod asked;
 mod command;
 mod laws;
 mod lines;
+mod loading;
+mod refusal;
 mod storing;
 mod uniting;
 mod usage;
@@ -31,3 +33,4 @@ mod words;
 
 pub use asked::Uniting;
 pub use laws::a_book_is_the_union_of_its_files;
+pub use refusal::{BookCall, BookRefusal, Refused};

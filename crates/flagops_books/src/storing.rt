@@ -7,14 +7,15 @@ ghost use Rattle.flagops_books.specs.Report.{IsStored, counts_text};
 ghost use Rattle.flagops_books.specs.Told.{is_told};
 ghost use Rattle.flagops_shell.specs.Ending.{KeepsUnlessDone};
 ghost use Rattle.flagops_shell.specs.Files.{KeepsOthers};
-ghost use Rattle.flagops_files.specs.Refusal.{ComesFrom, GivesOne, is_file_fault, stores_file};
+ghost use Rattle.flagops_books.specs.Refusal.{ComesFrom, GivesOne, is_file_fault, stores_file, TellsOfOne, by};
 ghost use Rattle.flagops_shell.specs.Report.{outcome_view};
-ghost use Rattle.flagops_files.specs.Told.{TellsOfOne, by, file};
+ghost use Rattle.flagops_files.specs.Told.{file};
 ghost use Rattle.flagops_shell.specs.declared.refused.Remark.TheVariants.{Lines};
 
+use crate::loading::store;
+use crate::refusal::{BookRefusal, Refused, out_of_memory};
 use crate::uniting::Gathered;
 use book_core::{Book, print_book};
-use flagops_files::{Call, Refusal, Refused, out_of_memory, store};
 use flagops_shell::{FileSet, Outcome, Remark, Status};
 use std::alloc::{AllocError, Global};
 
@@ -55,11 +56,11 @@ pub(crate) fn stored<F: FileSet>(
 fn output_of(alloc: Global, book: &Book, count: usize) -> Result<Output, Refused>
     ensures text { IfOk result (λ o. o.text.items ≡ counts_text (input_count book.now) count) }
     ensures file { IfOk result (λ o. o.file.items ≡ book_text book.now) }
-    ensures wants { IfErr result (λ e. e.refusal ≡ Refusal.WantOfMemory Call.Book) }
+    ensures wants { IfErr result (λ e. e.refusal ≡ BookRefusal.WantOfMemory) }
 {
     match printed(alloc, book, count) {
         Ok(output) => Ok(output),
-        Err(AllocError) => Err(out_of_memory(Call::Book)),
+        Err(AllocError) => Err(out_of_memory()),
     }
 }
 

@@ -1,10 +1,9 @@
 -- What a person is told of what a command came to, as its trait shows it.
 use Rattle.std.proofs.Common.{◌≡◌, true, false, List, ℕ, Option, Some, None, IfOk, IfSome, IfErr, refl, subst}
 use Rattle.std.specs.Prelude.{Result, Ok, Err}
-use Rattle.flagops_files.specs.Refusal.{ComesFrom, Refused, call_name, call_of, is_want}
-use Rattle.flagops_files.specs.Report.{IsCallOf}
-use Rattle.flagops_files.specs.Told.{TellsOfOne}
-use Rattle.flagops_files.specs.declared.refusal.Call.{Call}
+use Rattle.flagops_commands.specs.Refusal.{ComesFrom, Refused, call_name, call_of, is_want, TellsOfOne}
+use Rattle.flagops_shell.specs.Outcomes.{IsCallOf}
+use Rattle.flagops_commands.specs.declared.refusal.ListedCall.{ListedCall}
 use Rattle.flagops_shell.specs.Diagnostic.{Says}
 use Rattle.flagops_shell.specs.Ending.{Remarks}
 use Rattle.flagops_shell.specs.Files.{Holding}
@@ -22,6 +21,6 @@ remarks (Some at) a (Ok o) names notes = λ remark is. subst (λ (m : Option Rem
 remarks (Some at) a (Err e) names notes = names
 
 -- a call of the command ran out of memory
-pub wants : (a : Asked) (r : Result Outcome Refused) → ComesFrom (calls_of a) r → IfErr r (λ e. IsCallOf (calls_of a) (call_name (call_of e.refusal)))
+pub wants : (a : Asked) (r : Result Outcome Refused) → ComesFrom (calls_of a) r → IfErr r (λ e. IsCallOf call_name (calls_of a) (call_name (call_of e.refusal)))
 wants a (Ok o) comes = tt
 wants a (Err e) comes = (call_of e.refusal, comes, refl)

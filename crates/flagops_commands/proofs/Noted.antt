@@ -3,7 +3,7 @@ use Rattle.std.proofs.Common.{Option, Some, None, Result, IfOk, IfSome}
 use Rattle.std.specs.Prelude.{Ok, Err}
 use Rattle.flagops_shell.specs.Diagnostic.{Says}
 use Rattle.flagops_shell.specs.declared.outcome.Outcome.{Outcome}
-use Rattle.flagops_files.specs.Refusal.{Refused}
+use Rattle.flagops_commands.specs.Refusal.{Refused}
 use Rattle.flagops_shell.specs.declared.refused.Remark.{Remark}
 use Rattle.flagops_shell.specs.declared.refused.Remark.TheVariants.{Short, Lines}
 

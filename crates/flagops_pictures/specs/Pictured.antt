@@ -1,23 +1,28 @@
 -- What `picture` answers, and what a picture has to tell.
-use Rattle.std.specs.Prelude.{◌≡◌, ℕ, List, Bool, true, is_some, OnOk, Option, Result, Ok, Err, String, string_bytes}
+use Rattle.std.specs.Prelude.{◌≡◌, ℕ, List, [], ◌∷◌, Bool, true, is_some, OnOk, Option, Result, Ok, Err, String, string_bytes}
 use Rattle.std.specs.Map.{keys_of}
 use Rattle.std.specs.declared.alloc.Global.{Global}
 use Rattle.book_core.specs.Counts.{counts_of}
 use Rattle.bucket_core.specs.Rule.{Entries, total_weight}
 use Rattle.flagops_rollouts.specs.Doubts.{doubt_of}
 use Rattle.flagops_shell.specs.Files.{Holding}
-use Rattle.flagops_files.specs.PlanFile.{plan_at}
-use Rattle.flagops_files.specs.Question.{BookQuestion, Question, IsBookQuestionAt}
-use Rattle.flagops_files.specs.Refusal.{loads_book_question}
-use Rattle.flagops_files.specs.Report.{Outcomes, beside, done}
+use Rattle.flagops_rollouts.specs.Loaded.{plan_at, IsBookQuestionAt}
+use Rattle.flagops_files.specs.Question.{BookQuestion, Question}
+use Rattle.flagops_rollouts.specs.Refusal.{loads, Outcomes}
+use Rattle.flagops_shell.specs.Outcomes.{beside, done}
 use Rattle.flagops_shell.specs.Report.{Report}
 use Rattle.flagops_files.specs.declared.evidence.Evidence.TheVariants.{Book}
+use Rattle.flagops_rollouts.specs.declared.refusal.RolloutCall.{RolloutCall}
+use Rattle.flagops_files.specs.Refusal as files
 use Rattle.flagops_files.specs.declared.refusal.Call.{Call}
-use Rattle.flagops_files.specs.declared.refusal.Call.TheVariants as call
-use Rattle.flagops_files.specs.declared.refusal.Refusal.{Refusal}
-use Rattle.flagops_files.specs.declared.refusal.Refusal.TheVariants.{Verify}
+use Rattle.flagops_files.specs.declared.refusal.Call.TheVariants as file
+use Rattle.flagops_rollouts.specs.declared.refusal.RolloutCall.TheVariants as call
+use Rattle.flagops_rollouts.specs.declared.refusal.RolloutRefusal.{RolloutRefusal}
+use Rattle.flagops_rollouts.specs.declared.refusal.RolloutRefusal.TheVariants.{Verify}
+use Rattle.picture.specs.Changes.{change_height, change_told}
+use Rattle.picture.specs.Deficits.{none_height, none_told}
 use Rattle.picture.specs.Spelling.{Adds, IsPicture}
-use Rattle.picture.specs.Told.{Item, change_told, none_told}
+use Rattle.picture.specs.Told.{Item, down}
 use Rattle.plan_text.specs.Answer.{Answer, emit, none_exists}
 use Rattle.rollout_checks.specs.Lawful.{Problem}
 use Rattle.rollout_checks.specs.Refined.{problem_checked}
@@ -31,29 +36,30 @@ use Rattle.transport_instance.specs.Certificate.{DualPrices}
 use Rattle.flagops_pictures.specs.Words.{Picturing}
 
 -- what is told of a rule that a problem is answered with: its runs and its switches are those of the recorded inputs
-pub record IsChangeTold (p : Problem) (rule : Entries) (duals : DualPrices) (items : List Item) : Type 0 where
+pub record IsChangeTold (p : Problem) (rule : Entries) (duals : DualPrices) (high : ℕ) (items : List Item) : Type 0 where
   pub runs : List Run
   pub table : ℕ × List Switch
   pub in_runs : AreRuns p.old rule (counts_of p.inputs (total_weight p.old)) 0 runs (total_weight p.old)
   pub switched : IsSwitchTable p.old rule (keys_of p.limits) (counts_of p.inputs (total_weight p.old)) table
   pub told : items ≡ change_told p.old rule p.limits p.pricing runs table duals
+  pub as_high : high ≡ change_height p.limits p.pricing table
 
--- What is told of what a problem is answered with. The bar of a rule stands at some height below the names of a set.
-abbrev pub IsAnswerTold : Result Problem RolloutFault → Answer → List Item → Type 0
-IsAnswerTold (Ok p) (emit rule duals) items = IsChangeTold p rule duals items
-IsAnswerTold (Ok p) (none_exists kind names) items = (bar : ℕ) × (items ≡ none_told bar p.old p.limits kind names)
-IsAnswerTold (Err f) answer items = ⊥
+-- what is told of what a problem is answered with, and how high its picture is
+abbrev pub IsAnswerTold : Result Problem RolloutFault → Answer → ℕ × List Item → Type 0
+IsAnswerTold (Ok p) (emit rule duals) drawn = IsChangeTold p rule duals drawn.0 drawn.1
+IsAnswerTold (Ok p) (none_exists kind names) drawn = (drawn.0 ≡ none_height p.limits names) × (drawn.1 ≡ none_told p.old p.limits kind names)
+IsAnswerTold (Err f) answer drawn = ⊥
 
 -- its picture
 abbrev pub IsDrawn : Result Problem RolloutFault → Answer → List ℕ → Type 0
-IsDrawn asked answer bytes = (items : List Item) × IsAnswerTold asked answer items × IsPicture items bytes
+IsDrawn asked answer bytes = (drawn : ℕ × List Item) × IsAnswerTold asked answer drawn × IsPicture (drawn ∷ []) bytes
 
--- its picture was added to others
-abbrev pub AddsTold : Result Problem RolloutFault → Answer → List ℕ → List ℕ → Type 0
-AddsTold asked answer before after = (items : List Item) × IsAnswerTold asked answer items × Adds items before after
+-- its picture was added to others, so far below the top of the page, and ends so far below it
+abbrev pub AddsTold : Result Problem RolloutFault → Answer → ℕ → ℕ → List ℕ → List ℕ → Type 0
+AddsTold asked answer y end before after = (drawn : ℕ × List Item) × IsAnswerTold asked answer drawn × Adds y drawn.1 before after × (end ≡ down y drawn.0)
 
-abbrev pub AddsChange : Problem → Entries → DualPrices → List ℕ → List ℕ → Type 0
-AddsChange p rule duals before after = (items : List Item) × IsChangeTold p rule duals items × Adds items before after
+abbrev pub AddsChange : Problem → Entries → DualPrices → ℕ → ℕ → List ℕ → List ℕ → Type 0
+AddsChange p rule duals y end before after = (drawn : ℕ × List Item) × IsChangeTold p rule duals drawn.0 drawn.1 × Adds y drawn.1 before after × (end ≡ down y drawn.0)
 
 -- a rule is of this total
 abbrev pub HasWeight : Answer → ℕ → Type 0
@@ -86,7 +92,7 @@ text_view (Ok text) = Ok (string_bytes text)
 text_view (Err e) = Err e
 
 -- its report
-abbrev pub drawn_report : Result (List ℕ) VerifyFault → Result Report Refusal
+abbrev pub drawn_report : Result (List ℕ) VerifyFault → Result Report RolloutRefusal
 drawn_report (Ok bytes) = done bytes
 drawn_report (Err e) = Err (Verify e)
 
@@ -95,7 +101,7 @@ abbrev pub as_question : BookQuestion → Question
 as_question q = record { flags = q.flags; request = q.request; evidence = Book q.book }
 
 -- the report of an answer to a question: its picture, where it is right, beside which a person is told of a doubt
-abbrev pub IsPictured : Option ℕ → Result BookQuestion Refusal → Result Answer Refusal → Outcomes
+abbrev pub IsPictured : Option ℕ → Result BookQuestion RolloutRefusal → Result Answer RolloutRefusal → Outcomes
 IsPictured refine (Err e) answer r = r ≡ Err e
 IsPictured refine (Ok q) (Err e) r = r ≡ Err e
 IsPictured refine (Ok q) (Ok answer) r =
@@ -103,10 +109,14 @@ IsPictured refine (Ok q) (Ok answer) r =
 
 unfoldable pub IsPictureReport : Holding → Picturing → Outcomes
 IsPictureReport at a r =
-    (question : Result BookQuestion Refusal) × IsBookQuestionAt at a.document a.request a.book question × IsPictured a.refine question (plan_at at a.plan) r
+    (question : Result BookQuestion RolloutRefusal) × IsBookQuestionAt at a.document a.request a.book question × IsPictured a.refine question (plan_at at a.plan) r
+
+-- the calls that loading a question over a book and a plan file makes
+abbrev pub loads_pictured : Call → Bool
+loads_pictured file.ReadPlanned = true
+loads_pictured c = files.loads_book_question c
 
 -- the calls that the command makes
-abbrev pub picture_calls : Call → Bool
+abbrev pub picture_calls : RolloutCall → Bool
 picture_calls call.Verify = true
-picture_calls call.ReadPlanned = true
-picture_calls c = loads_book_question c
+picture_calls c = loads loads_pictured c

@@ -30,18 +30,17 @@ use Rattle.transport_instance.specs.Certificate.{DualPrices}
 use Rattle.transport_instance.specs.declared.certificate.CutKind.{CutKind}
 use Rattle.flagops_shell.specs.Files.{Holding, load_of}
 use Rattle.flagops_files.specs.Loading.{max_text}
-use Rattle.flagops_files.specs.PlanFile.{plan_at}
-use Rattle.flagops_files.specs.Question.{Question, IsQuestionAt}
-use Rattle.flagops_files.specs.Refusal.{GivesOne, is_want}
+use Rattle.flagops_rollouts.specs.Loaded.{plan_at, IsQuestionAt}
+use Rattle.flagops_files.specs.Question.{Question}
+use Rattle.flagops_rollouts.specs.Refusal.{GivesOne, is_want, Refused}
 use Rattle.flagops_shell.specs.Report.{outcome_view}
 use Rattle.flagops_files.specs.declared.evidence.Evidence.{Evidence}
 use Rattle.flagops_files.specs.declared.evidence.Evidence.TheVariants.{Book, Tally}
 use Rattle.flagops_shell.specs.declared.outcome.Outcome.{Outcome}
-use Rattle.flagops_files.specs.Refusal.{Refused}
-use Rattle.flagops_files.specs.declared.refusal.Refusal.{Refusal}
+use Rattle.flagops_rollouts.specs.declared.refusal.RolloutRefusal.{RolloutRefusal}
 use Rattle.flagops_rollouts.specs.Keep.{IsEdited, IsEditedTo, IsKeepReport, IsKeepWith, IsKeptAt, IsKeptFor, IsKeptPut, IsKeptWith, IsPut, Kept, LeavesDocument, MayBeKept, some_view}
 use Rattle.flagops_rollouts.specs.Doubts.{doubt_of, settle}
-use Rattle.flagops_files.specs.declared.refusal.Call.TheVariants as call
+use Rattle.flagops_rollouts.specs.declared.refusal.RolloutCall.TheVariants as call
 use Rattle.flagops_rollouts.specs.Verify.{IsToldOn, MayBeTold}
 use Rattle.flagops_shell.proofs.Kept.{others_after}
 
@@ -94,7 +93,7 @@ not_unread (Err f) e there is = cc
 
 -- what a right answer makes of the document
 module _ (refine : Option ℕ) (document : List ℕ) (q : Question) (answer : Answer) where
-  pub kept_rule : (rule : Entries) (c : DualPrices) (kept : Result Kept Refusal) → answer ≡ emit rule c → MayBeTold refine q answer (Ok tt) → IsKeptFor document q rule kept → MayBeKept refine document q answer kept
+  pub kept_rule : (rule : Entries) (c : DualPrices) (kept : Result Kept RolloutRefusal) → answer ≡ emit rule c → MayBeTold refine q answer (Ok tt) → IsKeptFor document q rule kept → MayBeKept refine document q answer kept
   kept_rule rule c kept is told made = (Ok tt, told, subst (λ (a : Answer). IsKeptWith document q a kept) (sym is) made)
 
   pub kept_none : (kind : CutKind) (names : List (List ℕ)) → answer ≡ none_exists kind names → MayBeTold refine q answer (Ok tt) → MayBeKept refine document q answer (Ok None)
@@ -112,7 +111,7 @@ module _ (path : List ℕ) (write strict : Bool) (refine : Option ℕ) (document
       → IfSome old (λ at. GivesOne outcome_view r (IsKeepWith at after path write strict refine document q answer))
   not_kept old after e r is same kept = subst (λ (x : Result Outcome Refused). IfSome old (λ at. GivesOne outcome_view x (IsKeepWith at after path write strict refine document q answer))) (sym is) (none_kept old after e same kept)
 
-  abbrev settled : Result Bool Refusal
+  abbrev settled : Result Bool RolloutRefusal
   settled = settle call.Apply strict (doubt_of q)
 
   -- a doubt that is refused puts nothing
@@ -120,11 +119,11 @@ module _ (path : List ℕ) (write strict : Bool) (refine : Option ℕ) (document
       → IfSome old (λ at. GivesOne outcome_view (Err e) (IsKeepWith at after path write strict refine document q answer))
   not_settled None after kept e same refused may = tt
   not_settled (Some at) after kept e same refused may = λ wanted.
-      (Ok kept, may, subst (λ (s : Result Bool Refusal). IsPut at after path write s (Ok kept) (Err e.refusal)) (sym (refused wanted)) (refl, same))
+      (Ok kept, may, subst (λ (s : Result Bool RolloutRefusal). IsPut at after path write s (Ok kept) (Err e.refusal)) (sym (refused wanted)) (refl, same))
 
   pub kept_put : (old after : Option Holding) (kept : Kept) (told : Bool) (r : Result Outcome Refused) → settled ≡ Ok told → MayBeKept refine document q answer (Ok kept)
       → IfSome old (λ at. GivesOne outcome_view r (IsKeptPut at after path write told kept)) → IfSome old (λ at. GivesOne outcome_view r (IsKeepWith at after path write strict refine document q answer))
-  kept_put old after kept told r is may put = go old (subst (λ (s : Result Bool Refusal). IfSome old (λ at. GivesOne outcome_view r (IsPut at after path write s (Ok kept)))) (sym is) put)
+  kept_put old after kept told r is may put = go old (subst (λ (s : Result Bool RolloutRefusal). IfSome old (λ at. GivesOne outcome_view r (IsPut at after path write s (Ok kept)))) (sym is) put)
     where
       ends : (at : Holding) (s : Result Outcome Refused) → GivesOne outcome_view s (IsPut at after path write settled (Ok kept)) → GivesOne outcome_view s (IsKeepWith at after path write strict refine document q answer)
       ends at (Ok o) put = (Ok kept, may, put)

@@ -4,16 +4,14 @@ use Rattle.std.specs.Prelude.{Result, Ok, Err}
 use Rattle.flag_defs.specs.Document.{Definitions}
 use Rattle.plan_text.specs.Answer.{Answer}
 use Rattle.flagops_rollouts.specs.Apply.{IsApplyReport, IsLocalReport, applied_report}
-use Rattle.flagops_files.specs.Documents.{IsDocumentAt}
+use Rattle.flagops_rollouts.specs.Loaded.{IsDocumentAt, plan_at, IsQuestionAt}
 use Rattle.flagops_shell.specs.Files.{Holding}
 use Rattle.flagops_rollouts.specs.Plan.{IsPlanOf, IsPlanReport}
-use Rattle.flagops_files.specs.PlanFile.{plan_at}
-use Rattle.flagops_files.specs.Question.{Question, IsQuestionAt}
-use Rattle.flagops_files.specs.Refusal.{GivesOne, GivesUnlessWant}
+use Rattle.flagops_rollouts.specs.Refusal.{GivesOne, GivesUnlessWant, Refused}
+use Rattle.flagops_files.specs.Question.{Question}
 use Rattle.flagops_shell.specs.Report.{outcome_view}
 use Rattle.flagops_rollouts.specs.Verify.{IsVerdict, IsVerifyReport}
 use Rattle.flagops_shell.specs.declared.outcome.Outcome.{Outcome}
-use Rattle.flagops_files.specs.Refusal.{Refused}
 
 -- two loads in turn, of which the first leaves the files as they are
 joined : {P Q R : Holding → Type 0} (old kept : Option Holding) → kept ≡ old → IfSome old P → IfSome kept Q → ((at : Holding) → P at → Q at → R at) → IfSome old R

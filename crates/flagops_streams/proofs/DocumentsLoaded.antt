@@ -2,10 +2,11 @@
 use Rattle.std.proofs.Common.{◌≡◌, ◌+◌, ◌<◌, ◌∙◌, ℕ, false, List, [], ◌∷◌, Option, Some, None, Result, Ok, Err, IfSome, refl, add-one, ap, drop, get_or, length, map, subst, sym}
 use Rattle.std.proofs.Math.Seq.{drop-cons}
 use Rattle.flagops_shell.specs.Files.{Holding}
+use Rattle.flagops_shell.specs.Outcomes.{◌>>=◌}
 use Rattle.flagops_streams.specs.Documents.{Answer, ServesTo}
 use Rattle.flagops_streams.specs.Refusal.{is_want}
 use Rattle.flagops_streams.specs.declared.refusal.Refusal.{Refusal}
-use Rattle.flagops_streams.specs.Loading.{◌>>=◌, AnswersTo, Loaded, ServesLoaded, loaded_at, loaded_from, loaded_next}
+use Rattle.flagops_streams.specs.Loading.{AnswersTo, Loaded, ServesLoaded, loaded_at, loaded_from, loaded_next}
 use Rattle.flagops_streams.specs.Words.{Serving}
 
 -- what follows for files whose bytes are known

@@ -3,6 +3,7 @@ use Rattle.std.specs.Prelude.{◌≡◌, ℕ, ◌+◌, Bool, false, List, [], �
 use Rattle.source_merge.specs.Sources.{SourceList}
 use Rattle.source_merge.specs.View.{sources_view}
 use Rattle.flagops_shell.specs.Files.{Holding, load_of}
+use Rattle.flagops_shell.specs.Outcomes.{◌>>=◌}
 use Rattle.flagops_shell.specs.declared.files.LoadFault.{LoadFault}
 use Rattle.flagops_shell.specs.declared.files.LoadFault.TheVariants as load
 use Rattle.limits.specs.Limits.{text_bytes}
@@ -13,12 +14,6 @@ use Rattle.flagops_streams.specs.declared.refusal.Refusal.{Refusal}
 use Rattle.flagops_streams.specs.declared.refusal.Refusal.TheVariants.{Unloaded, Unreadable}
 use Rattle.flagops_streams.specs.Words.{Serving}
 use Rattle.flagops_streams.specs.declared.loading.Unloaded as code
-
--- what comes next, where nothing was refused
-infixl 10 ◌>>=◌
-abbrev pub ◌>>=◌ : {A B : Type 0} → Result A Refusal → (A → Result B Refusal) → Result B Refusal
-Err e >>= next = Err e
-Ok x >>= next = next x
 
 -- documents by their bytes, and the sources that they are merged from
 pub record Loaded : Type 0 where

@@ -6,27 +6,26 @@ ghost use Rattle.flagops_drive.specs.Asks.{asks_of};
 ghost use Rattle.flagops_drive.specs.Driven.{drive_output_view, refusal_of};
 ghost use Rattle.flagops_drive.specs.File.{file_view};
 ghost use Rattle.flagops_commands.specs.Calls.{drive_itself};
-ghost use Rattle.flagops_rollouts.specs.Doubts.{settle};
-ghost use Rattle.flagops_commands.specs.Drive.{IsDriveOutputOf, admitted, doubt_of_asks, recorded};
+ghost use Rattle.flagops_commands.specs.Refusal.{ComesFrom, GivesOne, GivesUnlessWant, is_file_fault, TellsOfOne};
+ghost use Rattle.flagops_commands.specs.Drive.{IsDriveOutputOf, admitted, doubt_of_asks, recorded, settle};
 ghost use Rattle.flagops_commands.specs.Subjects.{NamesDriven, driven_subjects, is_of_asks};
-ghost use Rattle.flagops_files.specs.Refusal.{ComesFrom, GivesOne, GivesUnlessWant, is_file_fault};
-ghost use Rattle.flagops_files.specs.Told.{TellsOfOne, file};
+ghost use Rattle.flagops_commands.specs.declared.refusal.ListedRefusal.{ListedRefusal as Reason};
+ghost use Rattle.flagops_files.specs.Told.{file};
 ghost use Rattle.flagops_shell.specs.Diagnostic.{Says};
-ghost use Rattle.flagops_files.specs.declared.refusal.Call.TheVariants as call;
-ghost use Rattle.flagops_files.specs.declared.refusal.Refusal.{Refusal as Reason};
-ghost use Rattle.flagops_files.specs.declared.refusal.Refusal.TheVariants.{Doubted, Drive};
+ghost use Rattle.flagops_commands.specs.declared.refusal.ListedCall.TheVariants as call;
+ghost use Rattle.flagops_commands.specs.declared.refusal.ListedRefusal.TheVariants.{Doubted, Drive};
 ghost use Rattle.file_diagnostics.specs.Named.{Names};
 
 use crate::books::ask_diagnostics::{DriveSummary, of_driven, of_unrecorded_asks, of_workers};
 use crate::books::asks::{of_no_asks, of_unread};
+use crate::refusal::{ListedRefusal, Refused};
 use book_core::Book;
 use file_diagnostics::of_full_book;
 use flag_defs::Flags;
 use flagops_drive::{
     AsksFile, DriveOutput, DriveRefusal, Endings, Tally, drive_asks, has_unread_ask, refusal_of,
 };
-use flagops_files::{Call, Doubt, Refusal, Refused};
-use flagops_rollouts::joined;
+use flagops_rollouts::{Doubt, joined};
 use flagops_shell::Remark;
 use progress::Meter;
 use std::alloc::{AllocError, Global};
@@ -75,7 +74,7 @@ fn check_members(
     strict: bool,
 ) -> Result<(), Refused>
     requires { is_whole (file_view asks.now) ≡ true }
-    ensures ok { OnOk result (IsOk (settle call.Drive strict (doubt_of_asks (file_view asks.now)))) }
+    ensures ok { OnOk result (IsOk (settle strict (doubt_of_asks (file_view asks.now)))) }
     ensures refused { IfErr result (λ r. admitted strict (refusal_of (asks_of (file_view asks.now)) workers) (file_view asks.now) ≡ Err r.refusal) }
     ensures calls { ComesFrom drive_itself result }
     ensures read { is_file_fault result ≡ false }
@@ -87,7 +86,7 @@ fn check_members(
     Err(match refusal_of(asks, workers) {
         Some(refusal) => undriven(alloc, path, asks, workers, book, refusal),
         None => Refused {
-            refusal: Refusal::Doubted(Call::Drive, Doubt::Unread),
+            refusal: ListedRefusal::Doubted(Doubt::Unread),
             remark: Remark::of(of_unread(alloc, path, asks)),
         },
     })
@@ -109,7 +108,7 @@ fn recorded(
     if strict && drive_output.tally.reached == 0 {
         let endings = words_of(&drive_output.tally.endings);
         return Err(Refused {
-            refusal: Refusal::Doubted(Call::Drive, Doubt::Unrecorded),
+            refusal: ListedRefusal::Doubted(Doubt::Unrecorded),
             remark: Remark::of(of_unrecorded_asks(alloc, path, &endings)),
         });
     }
@@ -130,7 +129,7 @@ fn undriven(
     ensures names { Says (NamesDriven path.now book.now refusal) result.remark }
 {
     Refused {
-        refusal: Refusal::Drive(refusal),
+        refusal: ListedRefusal::Drive(refusal),
         remark: Remark::of(of_refusal(alloc, path, asks, workers, book, refusal)),
     }
 }

@@ -5,10 +5,9 @@ use Rattle.flagops_books.specs.Report.{IsBookReport, IsUnitedFor}
 use Rattle.flagops_books.specs.Step.{GivesUnited}
 use Rattle.flagops_books.specs.Words.{uniting_view}
 use Rattle.flagops_books.specs.declared.uniting.Step.{Step}
-use Rattle.flagops_files.specs.Refusal.{GivesOne}
+use Rattle.flagops_books.specs.Refusal.{GivesOne, Refused}
 use Rattle.flagops_shell.specs.Report.{outcome_view}
 use Rattle.flagops_shell.specs.declared.outcome.Outcome.{Outcome}
-use Rattle.flagops_files.specs.Refusal.{Refused}
 use Rattle.flagops_books.proofs.Ending.{as_many, left, no_union, said_of, stored_reported, stray_reported, told_ok}
 use Rattle.flagops_books.proofs.command.outcome.Goals as goal
 

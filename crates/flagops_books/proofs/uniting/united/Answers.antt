@@ -6,7 +6,7 @@ use Rattle.flagops_books.specs.Step.{GivesUnited}
 use Rattle.flagops_books.specs.Union.{IsUnited}
 use Rattle.flagops_books.specs.declared.uniting.Step.{Step}
 use Rattle.flagops_books.specs.declared.uniting.Step.TheVariants.{Noted, Stopped}
-use Rattle.flagops_files.specs.Refusal.{Refused}
+use Rattle.flagops_books.specs.Refusal.{Refused}
 use Rattle.flagops_books.proofs.Following.{Goes, both_known, everywhere, first_left, goes_all, goes_on, goes_refused, goes_stopped, starts, where_known}
 use Rattle.flagops_books.proofs.Naming.{noted_said, stopped_said, told_of_one}
 use Rattle.note_books.specs.Notes.{no_notes}

@@ -1,7 +1,7 @@
 use Rattle.flag_defs.specs.Flags.{flags_view}
 use Rattle.flagops_drive.specs.Driven.{drive_output_view}
 use Rattle.flagops_drive.specs.File.{file_view}
-use Rattle.flagops_files.specs.Refusal.{loads_book, loads_flags, loads_tree}
+use Rattle.flagops_commands.specs.Refusal.{loads_book, loads_flags, loads_tree}
 use Rattle.flagops_commands.specs.Drive.{HasNoAsks, HasUnreadAsk}
 use Rattle.flagops_commands.proofs.Driving.{at_first, driven, left_by_storing, no_asks, no_book, no_document, not_driven}
 use Rattle.flagops_shell.proofs.Kept.{kept_after, others_after}

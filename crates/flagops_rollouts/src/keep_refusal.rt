@@ -1,6 +1,6 @@
 //! Why the command `apply --keep` refuses what it read.
 ghost use Rattle.std.specs.Prelude.{◌≡◌};
-ghost use Rattle.flagops_files.specs.Keeping.{fault_name, fault_number, name_of, number_of, verdict_number};
+ghost use Rattle.flagops_rollouts.specs.Keeping.{fault_name, fault_number, name_of, number_of, verdict_number};
 
 use kept_document::KeepFault;
 use rollout_checks::{RolloutFault, VerifyFault};

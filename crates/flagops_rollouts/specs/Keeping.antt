@@ -6,8 +6,8 @@ use Rattle.rollout_checks.specs.VerifyFault as verdicts
 use Rattle.rollout_checks.specs.declared.fault.RolloutFault.TheVariants.{OtherTally}
 use Rattle.rollout_checks.specs.declared.verify_fault.VerifyFault.{VerifyFault}
 use Rattle.rollout_checks.specs.declared.verify_fault.VerifyFault.TheVariants.{Request}
-use Rattle.flagops_files.specs.declared.keeping.KeepRefusal.{KeepRefusal}
-use Rattle.flagops_files.specs.declared.keeping.KeepRefusal.TheVariants.{Verify, Document}
+use Rattle.flagops_rollouts.specs.declared.keep_refusal.KeepRefusal.{KeepRefusal}
+use Rattle.flagops_rollouts.specs.declared.keep_refusal.KeepRefusal.TheVariants.{Verify, Document}
 
 -- those of a document that does not take a rule, behind those of a rollout
 abbrev pub fault_number : KeepFault → ℕ
