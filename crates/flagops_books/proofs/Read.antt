@@ -199,7 +199,7 @@ at_most n is = grind (arith, nat_tests)
 at_least : (n : ℕ) → nat_lt 16777216 n ≡ true → 16777216 ≤ n
 at_least n is = grind (arith, nat_tests)
 
-module _ (Next : Later) (passing : Bool) (before all : Notes) (t u : Bool) (path : List ℕ) where
+module _ (Next : Later) (passing : Bool) (before all : Notes) (t u : List ℕ) (path : List ℕ) where
   abbrev Came : Result United BookRefusal
   Came = Ok (noted all u)
 
@@ -285,6 +285,6 @@ module _ (Next : Later) (passing : Bool) (before all : Notes) (t u : Bool) (path
       go false may = piece_alone may (nat_lt 16777216 (length bytes)) refl
 
 -- where a file is not refused, all of it was read
-pub read_whole : (Next : Later) (at : Holding) (passing : Bool) (before all : Notes) (t u : Bool) (path : List ℕ) → IsWithFile Next passing before t path (notes_bytes_at at passing path) (Ok (noted all u)) → notes_bytes_at at passing path ≡ file_bytes_at at path
+pub read_whole : (Next : Later) (at : Holding) (passing : Bool) (before all : Notes) (t u : List ℕ) (path : List ℕ) → IsWithFile Next passing before t path (notes_bytes_at at passing path) (Ok (noted all u)) → notes_bytes_at at passing path ≡ file_bytes_at at path
 unfolding notes_bytes_at file_bytes_at
 read_whole Next at passing before all t u path is = all_read Next passing before all t u path (at path) is

@@ -60,7 +60,7 @@ back (inr (inr r)) step = inr r
 in_parts : {A M B N R : Type 0} → A ↔ (M ⊎ R) → M ↔ (B ⊎ N) → A ↔ (B ⊎ (N ⊎ R))
 in_parts later step = (λ a. there (later.0 a) step.0, λ x. later.1 (back x step.1))
 
-module _ (at : Holding) (passing : Bool) (all : Notes) (told : Bool) (page : PageName) (input : List ℕ) where
+module _ (at : Holding) (passing : Bool) (all : Notes) (told : List ℕ) (page : PageName) (input : List ℕ) where
   abbrev Came : Result United BookRefusal
   Came = Ok (noted all told)
 
@@ -71,7 +71,7 @@ module _ (at : Holding) (passing : Bool) (all : Notes) (told : Bool) (page : Pag
   apart : {Y : Type 0} (path : List ℕ) (k : ℕ) → Came ≡ Ok (stray path k) → Y
   apart path k h = cc
 
-  module _ (Next : Later) (Rest : Type 0) (later : (n : Notes) (t : Bool) → Next n t Came → Parts n Rest) (before : Notes) (t : Bool) where
+  module _ (Next : Later) (Rest : Type 0) (later : (n : Notes) (t : List ℕ) → Next n t Came → Parts n Rest) (before : Notes) (t : List ℕ) where
     by_book : (o : Result Contents BookFileFault) → IsWithBook Next before t o Came → Parts before (BookNotes o page input ⊎ Rest)
     by_book (Err e) is = not_both is
     by_book (Ok other) (inl none) = not_both none.1
@@ -104,7 +104,7 @@ module _ (at : Holding) (passing : Bool) (all : Notes) (told : Bool) (page : Pag
     by_file path (Err e) is = not_both is
     by_file path (Ok bytes) is = by_bytes (begins_book bytes) path bytes is
 
-  by_files : (paths : List (List ℕ)) (before : Notes) (t : Bool) → IsUnited at passing paths before t Came → Parts before (OneNotes at paths page input)
+  by_files : (paths : List (List ℕ)) (before : Notes) (t : List ℕ) → IsUnited at passing paths before t Came → Parts before (OneNotes at paths page input)
   unfolding IsUnited notes_of
   by_files [] before t is =
       let same : all page input ≡ before page input = ap (λ (r : Result United BookRefusal). notes_of r page input) is in
@@ -119,7 +119,7 @@ module _ (at : Holding) (passing : Bool) (all : Notes) (told : Bool) (page : Pag
 
 pub unites_files : UnitesFiles
 unites_files at passing paths all told book united is_of page input =
-    let parts = by_files at passing all told page input paths no_notes false united in
+    let parts = by_files at passing all told page input paths no_notes [] united in
     (λ h. none_before (parts.0 (sym (is_of.held page input) ∙ h)), λ x. is_of.held page input ∙ parts.1 (inr x))
   where
     none_before : {X : Type 0} → (no_notes page input ≡ true) ⊎ X → X

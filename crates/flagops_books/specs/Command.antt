@@ -9,4 +9,4 @@ use Rattle.flagops_shell.specs.Running.{Description}
 
 -- its words, what it comes to over the files, and over those that it leaves, what a person is told of that, and its calls
 abbrev pub description : Description Uniting BookRefusal
-description = described call_name call_of book_by book_faults (λ u at after. IsBookReport at after u) (λ u at. remark_of u) (λ u. book_calls) (λ u old new. LeavesUnited old new u)
+description = described call_name call_of book_by book_faults (λ u at after. IsBookReport at after u) remark_of (λ u. book_calls) (λ u old new. LeavesUnited old new u)

@@ -43,5 +43,5 @@ OneNotes at (path ∷ paths) page input = FileNotes (file_bytes_at at path) page
 
 -- where no file is refused, the book of what they come to has an input on a page exactly where one of them notes it there
 abbrev pub UnitesFiles : Type 0
-UnitesFiles = (at : Holding) (passing : Bool) (paths : List (List ℕ)) (all : Notes) (told : Bool) (book : Contents) → IsUnited at passing paths no_notes false (Ok (noted all told)) → IsBookOf all book
+UnitesFiles = (at : Holding) (passing : Bool) (paths : List (List ℕ)) (all : Notes) (told : List ℕ) (book : Contents) → IsUnited at passing paths no_notes [] (Ok (noted all told)) → IsBookOf all book
     → (page : PageName) (input : List ℕ) → (is_among input (inputs_on book page) ≡ true) ↔ OneNotes at paths page input

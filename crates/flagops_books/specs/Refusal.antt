@@ -1,5 +1,5 @@
 -- Why the command `book` is refused, and the line that a refusal is written as.
-use Rattle.std.specs.Prelude.{◌≡◌, ℕ, Bool, true, false, List, [], codes, decimal, Result}
+use Rattle.std.specs.Prelude.{ℕ, Bool, true, false, List, [], codes, decimal, Result}
 use Rattle.book_core.specs.declared.fault.BookFileFault.{BookFileFault}
 use Rattle.flagops_shell.specs.Report.{want_line_of}
 use Rattle.flagops_shell.specs.Diagnostic.{RemarksOf}

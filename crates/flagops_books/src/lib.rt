@@ -17,7 +17,7 @@
 //! Proved, over the definitions in `specs/`, of [`Uniting`]: over files whose bytes are known it comes to what the files make
 //! (`Report`), unless memory ran out; the book that is written has the notes of all files and nothing else (`Union`;
 //! [`a_book_is_the_union_of_its_files`]); a refusal names the first file at fault, and the line in it, and leaves all files as they
-//! were; and lines that were passed over are told, of which the first names its file.
+//! were; and of each file in which lines were passed over a person is told how many.
 #![tactic(auto)]
 
 mod asked;

@@ -40,7 +40,7 @@ pub(crate) fn stored<F: FileSet>(
     ensures others { KeepsOthers (F.holding files.old) (F.holding files.new) out.now }
     ensures kept { KeepsUnlessDone (F.holding files.old) (F.holding files.new) result }
     ensures names { TellsOfOne ((file out.now, by stores_file) ∷ []) result }
-    ensures told { IfOk result (λ o. IfSome o.remark (λ m. (m ≡ Lines all.told) × (is_told (string_bytes all.told) ≡ true))) }
+    ensures told { IfOk result (λ o. IfSome o.remark (λ m. m ≡ Lines all.told)) }
 {
     let Gathered { book, told } = all;
     let Output { text, file } = output_of(alloc, &book, count)?;
@@ -80,7 +80,7 @@ fn printed(alloc: Global, book: &Book, count: usize) -> Result<Output, AllocErro
 /// What a person is told beside the output, where there is something to tell.
 fn remark_of(told: String) -> Option<Remark>
     ensures told { is_some result ≡ is_told (string_bytes told) }
-    ensures lines { IfSome result (λ m. (m ≡ Lines told) × (is_told (string_bytes told) ≡ true)) }
+    ensures lines { IfSome result (λ m. m ≡ Lines told) }
 {
     if told.is_empty() {
         None

@@ -1,9 +1,9 @@
 //! From the paths of books and of files of note lines to the book of all their notes.
-ghost use Rattle.std.specs.Prelude.{◌≡◌, ◌||◌, false, true, Ok, map, IfErr, IfOk, IfSome, string_bytes};
+ghost use Rattle.std.specs.Prelude.{◌≡◌, ◌||◌, [], false, true, Ok, map, IfErr, IfOk, IfSome, string_bytes};
 ghost use Rattle.book_core.specs.Reading.{book_of};
 ghost use Rattle.flagops_books.specs.Calls.{unites_files};
-ghost use Rattle.flagops_books.specs.Step.{GivesUnited, IsStepOf, IsStopOf, SaysStep, SaysUnited};
-ghost use Rattle.flagops_books.specs.Told.{NamesFile, is_told, united_subjects};
+ghost use Rattle.flagops_books.specs.Step.{GivesUnited, IsStepOf, IsStopOf};
+ghost use Rattle.flagops_books.specs.Told.{united_subjects};
 ghost use Rattle.flagops_books.specs.Union.{IsLast, IsUnited, IsWithBook, IsWithBytes, IsWithFile, is_one_line, union_refusal};
 ghost use Rattle.flagops_shell.specs.Outcomes.{refused_by};
 ghost use Rattle.flagops_files.specs.Question.{notes_bytes_at};
@@ -23,7 +23,7 @@ use flagops_shell::{FileSet, NOTES_PIECE, Outcome, Remark, Status, ends_line};
 use note_books::{NotesFault, NotesTaken, begins_book, take_notes};
 use std::alloc::{AllocError, Global};
 
-/// What files note, and what a person is told of lines that were passed over.
+/// What files note, and what a person is told of each with lines that were passed over.
 #[derive(Drop)]
 pub(crate) struct Gathered {
     pub(crate) book: Book,
@@ -46,12 +46,11 @@ pub(crate) fn united<F: FileSet>(
     paths: &[&str],
     passing: bool,
 ) -> Result<Step, Refused>
-    ensures exact { IfSome (F.holding files.old) (λ at. GivesUnited result (IsUnited at passing (map (λ p. p.now) paths.now) no_notes false)) }
+    ensures exact { IfSome (F.holding files.old) (λ at. GivesUnited result (IsUnited at passing (map (λ p. p.now) paths.now) no_notes [])) }
     ensures calls { ComesFrom unites_files result }
     ensures failed { F.has_failed files.new ≡ (F.has_failed files.old || is_file_fault result) }
     ensures kept { F.holding files.new ≡ F.holding files.old }
     ensures names { TellsOfOne (united_subjects (map (λ p. p.now) paths.now)) result }
-    ensures says { SaysUnited (map (λ p. p.now) paths.now) result }
 {
     let mut all = Gathered {
         book: Book::new(alloc),
@@ -75,12 +74,11 @@ fn with_file<F: FileSet>(
     path: &str,
     passing: bool,
 ) -> Result<Step, Refused>
-    ensures exact { IfSome (F.holding files.old) (λ at. (now : Notes) → IsBookOf now all.book → GivesUnited result (IsWithFile IsLast passing now (is_told (string_bytes all.told)) path.now (notes_bytes_at at passing path.now))) }
+    ensures exact { IfSome (F.holding files.old) (λ at. (now : Notes) → IsBookOf now all.book → GivesUnited result (IsWithFile IsLast passing now (string_bytes all.told) path.now (notes_bytes_at at passing path.now))) }
     ensures calls { ComesFrom unites_files result }
     ensures failed { F.has_failed files.new ≡ (F.has_failed files.old || is_file_fault result) }
     ensures kept { F.holding files.new ≡ F.holding files.old }
     ensures names { TellsOf (file path.now) result }
-    ensures says { SaysStep path.now (string_bytes all.told) result }
 {
     let bytes = load_notes(alloc, files, path, passing)?;
     if begins_book(bytes.as_slice()) {
@@ -92,11 +90,10 @@ fn with_file<F: FileSet>(
 
 /// What is noted so far, with the book that bytes are, which were loaded from a path.
 fn with_book(alloc: Global, all: Gathered, path: &str, bytes: &[u8]) -> Result<Step, Refused>
-    ensures exact { (now : Notes) → IsBookOf now all.book → GivesUnited result (IsWithBook IsLast now (is_told (string_bytes all.told)) (book_of bytes.now)) }
+    ensures exact { (now : Notes) → IsBookOf now all.book → GivesUnited result (IsWithBook IsLast now (string_bytes all.told) (book_of bytes.now)) }
     ensures calls { ComesFrom unites_files result }
     ensures read { is_file_fault result ≡ false }
     ensures names { TellsOf (file path.now) result }
-    ensures says { SaysStep path.now (string_bytes all.told) result }
 {
     let other = book_in(alloc, path, bytes)?;
     let Gathered { book, told } = all;
@@ -145,11 +142,10 @@ fn with_lines(
     bytes: &[u8],
     passing: bool,
 ) -> Result<Step, Refused>
-    ensures exact { (now : Notes) → IsBookOf now all.book → GivesUnited result (IsWithBytes false IsLast passing now (is_told (string_bytes all.told)) path.now bytes.now) }
+    ensures exact { (now : Notes) → IsBookOf now all.book → GivesUnited result (IsWithBytes false IsLast passing now (string_bytes all.told) path.now bytes.now) }
     ensures calls { ComesFrom unites_files result }
     ensures read { is_file_fault result ≡ false }
     ensures names { TellsOf (file path.now) result }
-    ensures says { SaysStep path.now (string_bytes all.told) result }
 {
     if is_one_line(bytes) {
         return stopped(alloc, path, 1, Ends::of(bytes));

@@ -30,7 +30,7 @@ use Rattle.flagops_shell.specs.declared.refused.Remark.{Remark}
 -- ---- one document
 
 refused_of : (path : List ℕ) (o : Result (List ℕ) Refusal) (e : CheckRefusal) → Lifts Load (IsDocumentOf o) (Err e) → IsCheckedOf path o (Err e)
-refused_of path (Err f) e (given, is, same) = same ∙ ap (refused_by Load) is
+refused_of path (Err f) e (given, is, same) = ap (λ (r : Result Definitions CheckRefusal). r >>= λ flags. Ok (checked path [] flags)) (same ∙ ap (refused_by Load) is)
 refused_of path (Ok bytes) e (given, is, same) = (given, is, ap (λ (r : Result Definitions CheckRefusal). r >>= λ flags. Ok (checked path bytes flags)) same)
 
 module _ (at : Holding) (path : List ℕ) where

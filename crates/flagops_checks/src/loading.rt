@@ -3,7 +3,7 @@ ghost use Rattle.std.specs.Prelude.{◌≡◌, ◌||◌, false, IfOk, IfSome, Ok
 ghost use Rattle.flag_defs.specs.Flags.{flags_view};
 ghost use Rattle.flag_doubts.specs.Doubled.{json_of};
 ghost use Rattle.flag_doubts.specs.Repeated.{Finds};
-ghost use Rattle.flagops_files.specs.Documents as files;
+ghost use Rattle.flagops_files.specs.Documents as documents;
 ghost use Rattle.flagops_files.specs.Documents.{IsDocumentIn};
 ghost use Rattle.flagops_shell.specs.Files.{load_of};
 ghost use Rattle.flagops_files.specs.Loading.{max_text};
@@ -58,7 +58,7 @@ fn load_with_names<R: Threads, F: FileSet>(
     files: &mut F,
     path: &str,
 ) -> Result<Loaded, Refused>
-    ensures exact { IfSome (F.holding files.old) (λ at. GivesOne (λ d. flags_view d.flags) result (files.IsDocumentAt at path.now)) }
+    ensures exact { IfSome (F.holding files.old) (λ at. GivesOne (λ d. flags_view d.flags) result (documents.IsDocumentAt at path.now)) }
     ensures bytes { IfSome (F.holding files.old) (λ at. IfOk result (λ d. load_of at path.now max_text ≡ Ok d.bytes.items)) }
     ensures found { IfOk result (λ d. Finds (json_of d.bytes.items) d.repeated) }
     ensures calls { ComesFrom loads_flags result }

@@ -7,18 +7,20 @@ use Rattle.flagops_commands.specs.declared.refusal.ListedCall.{ListedCall}
 use Rattle.flagops_shell.specs.Diagnostic.{Says}
 use Rattle.flagops_shell.specs.Ending.{Remarks}
 use Rattle.flagops_shell.specs.Files.{Holding}
+use Rattle.flagops_shell.specs.Report.{outcome_view}
 use Rattle.flagops_shell.specs.declared.outcome.Outcome.{Outcome}
 use Rattle.flagops_shell.specs.declared.refused.Remark.{Remark}
 use Rattle.flagops_words.specs.Asked.{Asked}
 use Rattle.flagops_commands.specs.Commands.{calls_of}
-use Rattle.flagops_commands.specs.Subjects.{notes_of, remark_of, subjects_of}
+use Rattle.flagops_commands.specs.Subjects.{notes_of, numbers_of, remark_of, subjects_of}
 
--- of a report its note, and of a refusal the name of what is refused
+-- of a report its note and its numbers, and of a refusal the name of what is refused
 pub remarks : (files : Option Holding) (a : Asked) (r : Result Outcome Refused) → TellsOfOne (subjects_of a) r → IfOk r (λ o. IfSome o.remark (Says (notes_of a)))
-    → IfSome files (λ at. Remarks is_want (remark_of a) r)
-remarks None a r names notes = tt
-remarks (Some at) a (Ok o) names notes = λ remark is. subst (λ (m : Option Remark). IfSome m (Says (notes_of a))) is notes
-remarks (Some at) a (Err e) names notes = names
+    → IfOk r (λ o. IfSome files (λ at. IfSome o.remark (Says (numbers_of a at (outcome_view o))))) → IfSome files (λ at. Remarks is_want (remark_of a at) r)
+remarks None a r names notes numbers = tt
+remarks (Some at) a (Ok o) names notes numbers = λ remark is.
+    (subst (λ (m : Option Remark). IfSome m (Says (notes_of a))) is notes, subst (λ (m : Option Remark). IfSome m (Says (numbers_of a at (outcome_view o)))) is numbers)
+remarks (Some at) a (Err e) names notes numbers = names
 
 -- a call of the command ran out of memory
 pub wants : (a : Asked) (r : Result Outcome Refused) → ComesFrom (calls_of a) r → IfErr r (λ e. IsCallOf call_name (calls_of a) (call_name (call_of e.refusal)))

@@ -9,3 +9,4 @@ mod Loaded
 mod Members
 mod Noted
 pub mod Refusing
+mod Summary

@@ -61,4 +61,4 @@ calls_of (drive document file workers book add strict json) c = drive_calls c
 
 -- what is known of these commands
 abbrev pub description : Description Asked ListedRefusal
-description = described call_name call_of asked_by faults_of (λ a at after. IsOutcome at after a) (λ a at. remark_of a) calls_of Leaves
+description = described call_name call_of asked_by faults_of (λ a at after. IsOutcome at after a) remark_of calls_of Leaves

@@ -3,6 +3,7 @@ pub mod Calls
 pub mod Commands
 pub mod Completions
 pub mod Drive
+pub mod DriveSummary
 pub mod FileLines
 pub mod Loaded
 pub mod Price

@@ -7,12 +7,15 @@ use Rattle.flagops_files.specs.declared.refusal.Call.TheVariants as file_call
 use Rattle.flagops_commands.specs.Refusal.{loads_book, loads_flags, loads_rule, loads_tree, rolled, stores_file, Remarks, Subjects, by}
 use Rattle.flagops_files.specs.Told.{NamesOne, file, word}
 use Rattle.flagops_shell.specs.Diagnostic.{Says}
+use Rattle.flagops_shell.specs.Files.{Holding}
+use Rattle.flagops_shell.specs.Report.{Report}
 use Rattle.flagops_commands.specs.declared.refusal.ListedCall.{ListedCall}
 use Rattle.flagops_commands.specs.declared.refusal.ListedCall.TheVariants as call
 use Rattle.flagops_commands.specs.declared.refusal.PriceMismatch.TheVariants.{Weight, BadKeys}
 use Rattle.flagops_commands.specs.declared.refusal.ListedRefusal.{ListedRefusal}
 use Rattle.flagops_commands.specs.declared.refusal.ListedRefusal.TheVariants.{Note, Price, Drive, Doubted}
 use Rattle.flagops_commands.specs.Calls.{loads_request}
+use Rattle.flagops_commands.specs.DriveSummary.{TellsPrinted}
 use Rattle.flagops_rollouts.specs.Doubts.{NamesDoubted}
 use Rattle.file_diagnostics.specs.Named.{Names, NamesWord}
 use Rattle.flagops_rollouts.specs.Subjects.{apply_subjects, keep_subjects, plan_subjects, verify_subjects}
@@ -100,7 +103,12 @@ notes_of (keep document answer request book write refine strict) = NamesDoubted 
 notes_of (drive document asks workers book add strict json) = Names asks
 notes_of asked = λ lines. Unit {0}
 
--- the remark on what a command comes to
-abbrev pub remark_of : Asked → Remarks
-remark_of asked (Ok report) remark = Says (notes_of asked) remark
-remark_of asked (Err e) remark = NamesOne (subjects_of asked) e remark
+-- and the numbers that are told: of `drive`, those of what it printed
+abbrev pub numbers_of : Asked → Holding → Report → List ℕ → Type 0
+numbers_of (drive document asks workers book add strict json) at report = TellsPrinted at asks book add json report.text
+numbers_of asked at report = λ lines. Unit {0}
+
+-- the remark on what a command comes to over these files
+abbrev pub remark_of : Asked → Holding → Remarks
+remark_of asked at (Ok report) remark = Says (notes_of asked) remark × Says (numbers_of asked at report) remark
+remark_of asked at (Err e) remark = NamesOne (subjects_of asked) e remark

@@ -6,7 +6,7 @@ ghost use Rattle.flagops_words.specs.Asked.{asked_view};
 ghost use Rattle.flagops_commands.specs.Refusal.{ComesFrom, GivesOne, is_file_fault, TellsOfOne};
 ghost use Rattle.flagops_shell.specs.Report.{outcome_view};
 ghost use Rattle.flagops_shell.specs.Diagnostic.{Says};
-ghost use Rattle.flagops_commands.specs.Subjects.{notes_of, subjects_of};
+ghost use Rattle.flagops_commands.specs.Subjects.{notes_of, numbers_of, subjects_of};
 
 use crate::books::drive::drive;
 use crate::completions::completions;
@@ -23,7 +23,7 @@ use std::thread::Threads;
 
 /// What the command answers, or why it is refused. `drive` waits for its workers; each other command is done without a
 /// handle to wait by, so it returns.
-#[tactic(auto, using(crate::proofs::Noted::nothing, crate::proofs::Refusing::all_kept))]
+#[tactic(auto, using(crate::proofs::Noted::nothing, crate::proofs::Noted::no_numbers, crate::proofs::Refusing::all_kept))]
 pub fn outcome<R: Threads + Wait + Sync, F: FileSet>(
     rt: &R,
     alloc: Global,
@@ -37,6 +37,7 @@ pub fn outcome<R: Threads + Wait + Sync, F: FileSet>(
     ensures kept { KeepsUnlessDone (F.holding files.old) (F.holding files.new) result }
     ensures names { TellsOfOne (subjects_of (asked_view asked.now)) result }
     ensures notes { IfOk result (λ o. IfSome o.remark (Says (notes_of (asked_view asked.now)))) }
+    ensures numbers { IfOk result (λ o. IfSome (F.holding files.old) (λ at. IfSome o.remark (Says (numbers_of (asked_view asked.now) at (outcome_view o))))) }
 {
     match asked {
         Asked::Drive {

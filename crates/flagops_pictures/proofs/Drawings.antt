@@ -1,6 +1,6 @@
 -- What is known of an answer that was shown to be right.
 use Rattle.std.proofs.Common.{◌≡◌, ◌<◌, ◌≤◌, length, sum, Ok, Err, Result, subst, arith}
-use Rattle.std.specs.Prelude.{OnOk}
+use Rattle.std.specs.Prelude.{IfOk, OnOk}
 use Rattle.book_core.specs.Book.{most_inputs}
 use Rattle.bucket_core.specs.Rule.{total_weight}
 use Rattle.flagops_pictures.specs.Pictured.{HasWeight}
@@ -36,6 +36,6 @@ few_of asked answer p shown posed =
     omega (arith, all, posed.few)
 
 -- a call that went well tells what it tells
-pub if_on : {X E : Type 0} {A B : Type 0} (r : Result X E) → OnOk r A → (A → B) → OnOk r B
-if_on (Ok x) a f = f a
-if_on (Err e) a f = tt
+pub if_both : {X E : Type 0} {A : Type 0} {B C : X → Type 0} (r : Result X E) → OnOk r A → IfOk r B → ((x : X) → A → B x → C x) → IfOk r C
+if_both (Ok x) a b f = f x a b
+if_both (Err e) a b f = tt

@@ -4,9 +4,9 @@ use Rattle.std.proofs.Math.Seq.{drop-cons}
 use Rattle.std.proofs.lemmas.Bool.{eqb-true}
 use Rattle.std.proofs.lemmas.List.{nil_from_length, take_all}
 use Rattle.book_core.specs.Book.{Contents}
-use Rattle.picture.specs.Spelling.{Adds, IsBody}
-use Rattle.picture.specs.Told.{Item, step_told}
-use Rattle.picture.proofs.Bodies.{one_more}
+use Rattle.picture.specs.Spelling.{Adds, IsBody, Pictures, depth}
+use Rattle.picture.specs.Told.{Item, down, step_height, step_told}
+use Rattle.picture.proofs.Bodies.{depth_more, one_more}
 use Rattle.plan_text.specs.Answer.{Answer, emit, none_exists, planned_view}
 use Rattle.plan_text.specs.declared.planned.Planned.{Planned}
 use Rattle.ramp.specs.Ramp.{Standing, left_by, still}
@@ -14,23 +14,28 @@ use Rattle.ramp_steps.specs.Steps.{requests_view}
 use Rattle.ramp.specs.Right.{AreRight, IsRight, checked_on}
 use Rattle.rollout_checks.specs.declared.fault.RolloutFault.{RolloutFault}
 use Rattle.flagops_pictures.specs.Pictured.{AddsTold}
-use Rattle.flagops_pictures.specs.Ramps.{AreTold, Continues}
+use Rattle.flagops_pictures.specs.Ramps.{AreTold, Continues, step_picture}
 
 -- nothing is told of no answers
 pub told_none : (standing : Standing) (refine : Option ℕ) (requests : List (List ℕ)) (book : Contents) (n : ℕ) → AreTold standing refine requests book n [] []
 told_none standing refine [] book n = refl
 told_none standing refine (request ∷ requests) book n = refl
 
-pub continues_none : (bytes : List ℕ) → Continues [] bytes bytes
-continues_none bytes = λ told body. subst (λ (xs : List Item). IsBody xs bytes) (sym (append-nil told)) body
+pub continues_none : (y : ℕ) (bytes : List ℕ) → Continues [] y y bytes bytes
+continues_none y bytes = λ above body top. (subst (λ (ps : Pictures). IsBody ps bytes) (sym (append-nil above)) body, top ∙ ap depth (sym (append-nil above)))
 
 -- the number of a step, its picture, and the rest
-pub continues_step : (n : ℕ) (this rest : List Item) (a b c d : List ℕ) → Adds (step_told n ∷ []) a b → Adds this b c → Continues rest c d → Continues (step_told n ∷ (this ++ rest)) a d
-continues_step n this rest a b c d first second others = λ told body.
-    let one = one_more told (step_told n ∷ []) a b body first in
-    let two = one_more (told ++ (step_told n ∷ [])) this b c one second in
-    let all = others ((told ++ (step_told n ∷ [])) ++ this) two in
-    subst (λ (xs : List Item). IsBody xs d) (append_assoc (told ++ (step_told n ∷ [])) this rest ∙ append_assoc told (step_told n ∷ []) (this ++ rest)) all
+pub continues_step : (n : ℕ) (this : ℕ × List Item) (rest : Pictures) (y y1 y2 end : ℕ) (a b c d : List ℕ) → Adds y (step_told n ∷ []) a b → y1 ≡ down y step_height → Adds y1 this.1 b c → y2 ≡ down y1 this.0
+    → Continues rest y2 end c d → Continues (step_picture n ∷ (this ∷ rest)) y end a d
+continues_step n this rest y y1 y2 end a b c d first below second lower others = λ above body top.
+    let numbered : Pictures = above ++ (step_picture n ∷ []) in
+    let one = one_more above (step_picture n) a b body (subst (λ (z : ℕ). Adds z (step_told n ∷ []) a b) top first) in
+    let at_one : y1 ≡ depth numbered = below ∙ (ap (λ (z : ℕ). down z step_height) top ∙ sym (depth_more above (step_picture n))) in
+    let two = one_more numbered this b c one (subst (λ (z : ℕ). Adds z this.1 b c) at_one second) in
+    let at_two : y2 ≡ depth (numbered ++ (this ∷ [])) = lower ∙ (ap (λ (z : ℕ). down z this.0) at_one ∙ sym (depth_more numbered this)) in
+    let all = others (numbered ++ (this ∷ [])) two at_two in
+    let same : (numbered ++ (this ∷ [])) ++ rest ≡ above ++ (step_picture n ∷ (this ∷ rest)) = append_assoc numbered (this ∷ []) rest ∙ append_assoc above (step_picture n ∷ []) (this ∷ rest) in
+    (subst (λ (ps : Pictures). IsBody ps d) same all.0, all.1 ∙ ap depth same)
 
 -- no answer is right behind a refusal
 pub none_behind : (e : RolloutFault) (requests : List (List ℕ)) (book : Contents) (answers : List Answer) → answers ≢ [] → AreRight (Err e) (Some 1) requests book answers → ⊥
@@ -45,13 +50,13 @@ goes_on standing (none_exists kind names) requests book [] some right = absurd (
 goes_on standing (none_exists kind names) requests book (answer ∷ answers) some right = absurd right
 
 -- what is told of answers, and was added
-abbrev pub Tells : Standing → Option ℕ → List (List ℕ) → Contents → ℕ → List Answer → List ℕ → List ℕ → Type 0
-Tells standing refine requests book n answers before after = (items : List Item) × AreTold standing refine requests book n answers items × Continues items before after
+abbrev pub Tells : Standing → Option ℕ → List (List ℕ) → Contents → ℕ → List Answer → ℕ → ℕ → List ℕ → List ℕ → Type 0
+Tells standing refine requests book n answers y end before after = (ps : Pictures) × AreTold standing refine requests book n answers ps × Continues ps y end before after
 
 -- there are no answers
-pub no_answers : (standing : Standing) (refine : Option ℕ) (requests : List (List ℕ)) (book : Contents) (n : ℕ) (answers : List Answer) (bytes : List ℕ) → answers ≡ [] → Tells standing refine requests book n answers bytes bytes
-no_answers standing refine requests book n answers bytes none =
-    ([], subst (λ (xs : List Answer). AreTold standing refine requests book n xs []) (sym none) (told_none standing refine requests book n), continues_none bytes)
+pub no_answers : (standing : Standing) (refine : Option ℕ) (requests : List (List ℕ)) (book : Contents) (n : ℕ) (answers : List Answer) (y : ℕ) (bytes : List ℕ) → answers ≡ [] → Tells standing refine requests book n answers y y bytes bytes
+no_answers standing refine requests book n answers y bytes none =
+    ([], subst (λ (xs : List Answer). AreTold standing refine requests book n xs []) (sym none) (told_none standing refine requests book n), continues_none y bytes)
 
 module _ (standing : Standing) (refine : Option ℕ) (requests : List (List ℕ)) (book : Contents) (answers : List Answer) (request : List ℕ) (more : List (List ℕ)) (answer : Answer) (others : List Answer) (is : requests ≡ request ∷ more) (are : answers ≡ answer ∷ others) where
   -- the first is right, and so are those behind it
@@ -59,18 +64,18 @@ module _ (standing : Standing) (refine : Option ℕ) (requests : List (List ℕ)
   both_right right = subst (λ (xs : List Answer). AreRight standing refine (request ∷ more) book xs) are (subst (λ (rs : List (List ℕ)). AreRight standing refine rs book answers) is right)
 
   -- the first was told, and so were those behind it
-  pub both_told : (n : ℕ) (a b c d : List ℕ) → Adds (step_told n ∷ []) a b → AddsTold (checked_on standing refine answer request book) answer b c → Tells (left_by standing request answer) (Some 1) (still answer more) book (suc n) others c d
-      → Tells standing refine requests book n answers a d
-  both_told n a b c d first second rest =
-      let all : Tells standing refine (request ∷ more) book n (answer ∷ others) a d =
-      (step_told n ∷ (second.0 ++ rest.0), (second.0, rest.0, second.1, rest.1, refl), continues_step n second.0 rest.0 a b c d first second.2 rest.2) in
-      subst (λ (rs : List (List ℕ)). Tells standing refine rs book n answers a d) (sym is) (subst (λ (xs : List Answer). Tells standing refine (request ∷ more) book n xs a d) (sym are) all)
+  pub both_told : (n y y1 y2 end : ℕ) (a b c d : List ℕ) → Adds y (step_told n ∷ []) a b → y1 ≡ down y step_height → AddsTold (checked_on standing refine answer request book) answer y1 y2 b c
+      → Tells (left_by standing request answer) (Some 1) (still answer more) book (suc n) others y2 end c d → Tells standing refine requests book n answers y end a d
+  both_told n y y1 y2 end a b c d first below second rest =
+      let all : Tells standing refine (request ∷ more) book n (answer ∷ others) y end a d =
+      (step_picture n ∷ (second.0 ∷ rest.0), (second.0, rest.0, second.1, rest.1, refl), continues_step n second.0 rest.0 y y1 y2 end a b c d first below second.2 second.3 rest.2) in
+      subst (λ (rs : List (List ℕ)). Tells standing refine rs book n answers y end a d) (sym is) (subst (λ (xs : List Answer). Tells standing refine (request ∷ more) book n xs y end a d) (sym are) all)
 
 -- those behind it, on the flags that it leaves
-pub behind : (left next : Standing) (steps more : List (List ℕ)) (book : Contents) (n m : ℕ) (answers : List Answer) (c d : List ℕ) → left ≡ next → steps ≡ more → m ≡ suc n → Tells next (Some 1) more book m answers c d → Tells left (Some 1) steps book (suc n) answers c d
-behind left next steps more book n m answers c d stands same follows tells =
-    subst (λ (s : Standing). Tells s (Some 1) steps book (suc n) answers c d) (sym stands)
-    (subst (λ (rs : List (List ℕ)). Tells next (Some 1) rs book (suc n) answers c d) (sym same) (subst (λ (k : ℕ). Tells next (Some 1) more book k answers c d) follows tells))
+pub behind : (left next : Standing) (steps more : List (List ℕ)) (book : Contents) (n m : ℕ) (answers : List Answer) (y end : ℕ) (c d : List ℕ) → left ≡ next → steps ≡ more → m ≡ suc n → Tells next (Some 1) more book m answers y end c d → Tells left (Some 1) steps book (suc n) answers y end c d
+behind left next steps more book n m answers y end c d stands same follows tells =
+    subst (λ (s : Standing). Tells s (Some 1) steps book (suc n) answers y end c d) (sym stands)
+    (subst (λ (rs : List (List ℕ)). Tells next (Some 1) rs book (suc n) answers y end c d) (sym same) (subst (λ (k : ℕ). Tells next (Some 1) more book k answers y end c d) follows tells))
 
 -- ---- lists, as the program cuts and tests them
 
@@ -87,8 +92,8 @@ some_as f [] b tests is = λ none. absurd (let both : true ≡ false = sym tests
 some_as f (x ∷ xs) b tests is = λ none. cc
 
 -- a call that went well tells what it tells
-pub if_well : {X E : Type 0} {A B : Type 0} (r : Result X E) → (A → B) → IfOk r (λ x. A) → IfOk r (λ x. B)
-if_well (Ok x) f a = f a
+pub if_well : {X E : Type 0} {A B : X → Type 0} (r : Result X E) → ((x : X) → A x → B x) → IfOk r A → IfOk r B
+if_well (Ok x) f a = f x a
 if_well (Err e) f a = tt
 
 -- the first step and answer of lists that are not empty, as the program cuts them, where all answers are right
@@ -132,16 +137,16 @@ module _ (standing : Standing) (refine : Option ℕ) (steps : List (Vec ℕ Glob
         none_behind e (still answer requests_behind) book (map planned_view others) some
         (subst (λ (s : Standing). AreRight s (Some 1) (still answer requests_behind) book (map planned_view others)) stands (both right).1)
 
-    pub all_told : (n : ℕ) (a b c d : List ℕ) (next : Standing) → left ≡ next → Adds (step_told n ∷ []) a b → AddsTold (checked_on standing refine answer x.items book) answer b c → Tells next (Some 1) requests_behind book (n + 1) (map planned_view others) c d
-        → Tells standing refine (requests_view steps) book n (map planned_view answers) a d
-    all_told n a b c d next stands first second tells =
+    pub all_told : (n y y1 y2 end : ℕ) (a b c d : List ℕ) (next : Standing) → left ≡ next → Adds y (step_told n ∷ []) a b → y1 ≡ down y step_height → AddsTold (checked_on standing refine answer x.items book) answer y1 y2 b c
+        → Tells next (Some 1) requests_behind book (n + 1) (map planned_view others) y2 end c d → Tells standing refine (requests_view steps) book n (map planned_view answers) y end a d
+    all_told n y y1 y2 end a b c d next stands first below second tells =
         let follows : n + 1 ≡ suc n = add-one n in
-        both_told standing refine (requests_view steps) book (map planned_view answers) x.items requests_behind answer (map planned_view others) is are n a b c d first second
-        (behind left next (still answer requests_behind) requests_behind book n (n + 1) (map planned_view others) c d stands same follows tells)
+        both_told standing refine (requests_view steps) book (map planned_view answers) x.items requests_behind answer (map planned_view others) is are n y y1 y2 end a b c d first below second
+        (behind left next (still answer requests_behind) requests_behind book n (n + 1) (map planned_view others) y2 end c d stands same follows tells)
 
   -- there are none
-  pub last_told : (ended : Bool) → ended ≡ (length others == 0) → ended ≡ true → (n : ℕ) (a b c : List ℕ) → Adds (step_told n ∷ []) a b → AddsTold (checked_on standing refine answer x.items book) answer b c
-      → Tells standing refine (requests_view steps) book n (map planned_view answers) a c
-  last_told ended tests is_ended n a b c first second =
-      both_told standing refine (requests_view steps) book (map planned_view answers) x.items requests_behind answer (map planned_view others) is are n a b c c first second
-      (no_answers left (Some 1) (still answer requests_behind) book (suc n) (map planned_view others) c (empty_as planned_view others ended tests is_ended))
+  pub last_told : (ended : Bool) → ended ≡ (length others == 0) → ended ≡ true → (n y y1 y2 : ℕ) (a b c : List ℕ) → Adds y (step_told n ∷ []) a b → y1 ≡ down y step_height → AddsTold (checked_on standing refine answer x.items book) answer y1 y2 b c
+      → Tells standing refine (requests_view steps) book n (map planned_view answers) y y2 a c
+  last_told ended tests is_ended n y y1 y2 a b c first below second =
+      both_told standing refine (requests_view steps) book (map planned_view answers) x.items requests_behind answer (map planned_view others) is are n y y1 y2 y2 a b c c first below second
+      (no_answers left (Some 1) (still answer requests_behind) book (suc n) (map planned_view others) y2 c (empty_as planned_view others ended tests is_ended))

@@ -1,5 +1,5 @@
 -- What `picture` answers, and what a picture has to tell.
-use Rattle.std.specs.Prelude.{◌≡◌, ℕ, List, Bool, true, is_some, OnOk, Option, Result, Ok, Err, String, string_bytes}
+use Rattle.std.specs.Prelude.{◌≡◌, ℕ, List, [], ◌∷◌, Bool, true, is_some, OnOk, Option, Result, Ok, Err, String, string_bytes}
 use Rattle.std.specs.Map.{keys_of}
 use Rattle.std.specs.declared.alloc.Global.{Global}
 use Rattle.book_core.specs.Counts.{counts_of}
@@ -19,8 +19,10 @@ use Rattle.flagops_files.specs.declared.refusal.Call.TheVariants as file
 use Rattle.flagops_rollouts.specs.declared.refusal.RolloutCall.TheVariants as call
 use Rattle.flagops_rollouts.specs.declared.refusal.RolloutRefusal.{RolloutRefusal}
 use Rattle.flagops_rollouts.specs.declared.refusal.RolloutRefusal.TheVariants.{Verify}
+use Rattle.picture.specs.Changes.{change_height, change_told}
+use Rattle.picture.specs.Deficits.{none_height, none_told}
 use Rattle.picture.specs.Spelling.{Adds, IsPicture}
-use Rattle.picture.specs.Told.{Item, change_told, none_told}
+use Rattle.picture.specs.Told.{Item, down}
 use Rattle.plan_text.specs.Answer.{Answer, emit, none_exists}
 use Rattle.rollout_checks.specs.Lawful.{Problem}
 use Rattle.rollout_checks.specs.Refined.{problem_checked}
@@ -34,29 +36,30 @@ use Rattle.transport_instance.specs.Certificate.{DualPrices}
 use Rattle.flagops_pictures.specs.Words.{Picturing}
 
 -- what is told of a rule that a problem is answered with: its runs and its switches are those of the recorded inputs
-pub record IsChangeTold (p : Problem) (rule : Entries) (duals : DualPrices) (items : List Item) : Type 0 where
+pub record IsChangeTold (p : Problem) (rule : Entries) (duals : DualPrices) (high : ℕ) (items : List Item) : Type 0 where
   pub runs : List Run
   pub table : ℕ × List Switch
   pub in_runs : AreRuns p.old rule (counts_of p.inputs (total_weight p.old)) 0 runs (total_weight p.old)
   pub switched : IsSwitchTable p.old rule (keys_of p.limits) (counts_of p.inputs (total_weight p.old)) table
   pub told : items ≡ change_told p.old rule p.limits p.pricing runs table duals
+  pub as_high : high ≡ change_height p.limits p.pricing table
 
--- What is told of what a problem is answered with. The bar of a rule stands at some height below the names of a set.
-abbrev pub IsAnswerTold : Result Problem RolloutFault → Answer → List Item → Type 0
-IsAnswerTold (Ok p) (emit rule duals) items = IsChangeTold p rule duals items
-IsAnswerTold (Ok p) (none_exists kind names) items = (bar : ℕ) × (items ≡ none_told bar p.old p.limits kind names)
-IsAnswerTold (Err f) answer items = ⊥
+-- what is told of what a problem is answered with, and how high its picture is
+abbrev pub IsAnswerTold : Result Problem RolloutFault → Answer → ℕ × List Item → Type 0
+IsAnswerTold (Ok p) (emit rule duals) drawn = IsChangeTold p rule duals drawn.0 drawn.1
+IsAnswerTold (Ok p) (none_exists kind names) drawn = (drawn.0 ≡ none_height p.limits names) × (drawn.1 ≡ none_told p.old p.limits kind names)
+IsAnswerTold (Err f) answer drawn = ⊥
 
 -- its picture
 abbrev pub IsDrawn : Result Problem RolloutFault → Answer → List ℕ → Type 0
-IsDrawn asked answer bytes = (items : List Item) × IsAnswerTold asked answer items × IsPicture items bytes
+IsDrawn asked answer bytes = (drawn : ℕ × List Item) × IsAnswerTold asked answer drawn × IsPicture (drawn ∷ []) bytes
 
--- its picture was added to others
-abbrev pub AddsTold : Result Problem RolloutFault → Answer → List ℕ → List ℕ → Type 0
-AddsTold asked answer before after = (items : List Item) × IsAnswerTold asked answer items × Adds items before after
+-- its picture was added to others, so far below the top of the page, and ends so far below it
+abbrev pub AddsTold : Result Problem RolloutFault → Answer → ℕ → ℕ → List ℕ → List ℕ → Type 0
+AddsTold asked answer y end before after = (drawn : ℕ × List Item) × IsAnswerTold asked answer drawn × Adds y drawn.1 before after × (end ≡ down y drawn.0)
 
-abbrev pub AddsChange : Problem → Entries → DualPrices → List ℕ → List ℕ → Type 0
-AddsChange p rule duals before after = (items : List Item) × IsChangeTold p rule duals items × Adds items before after
+abbrev pub AddsChange : Problem → Entries → DualPrices → ℕ → ℕ → List ℕ → List ℕ → Type 0
+AddsChange p rule duals y end before after = (drawn : ℕ × List Item) × IsChangeTold p rule duals drawn.0 drawn.1 × Adds y drawn.1 before after × (end ≡ down y drawn.0)
 
 -- a rule is of this total
 abbrev pub HasWeight : Answer → ℕ → Type 0

@@ -6,28 +6,32 @@ use Rattle.flagops_ramps.specs.Doubts.{doubt_of_steps}
 use Rattle.flagops_ramps.specs.Report.{Came}
 use Rattle.flagops_ramps.specs.Judging.{Answered, Found, IsFoundAt}
 use Rattle.flagops_ramps.specs.Words.{Verifying}
-use Rattle.picture.specs.Spelling.{IsBody, IsPicture}
-use Rattle.picture.specs.Told.{Item, step_told}
+use Rattle.picture.specs.Spelling.{IsBody, IsPicture, Pictures, depth}
+use Rattle.picture.specs.Told.{Item, step_height, step_told}
 use Rattle.plan_text.specs.Answer.{Answer}
 use Rattle.ramp.specs.Ramp.{Standing, left_by, still}
 use Rattle.ramp.specs.Right.{checked_on}
 use Rattle.flagops_pictures.specs.Pictured.{IsAnswerTold}
 
--- What is told of answers in turn, behind the number of each step: the first is to a step on these flags, and each other to one on what the one before leaves.
-abbrev pub AreTold : Standing → Option ℕ → List (List ℕ) → Contents → ℕ → List Answer → List Item → Type 0
-AreTold standing refine [] book n answers items = items ≡ []
-AreTold standing refine (request ∷ requests) book n [] items = items ≡ []
-AreTold standing refine (request ∷ requests) book n (answer ∷ answers) items =
-    (this : List Item) × (rest : List Item) × IsAnswerTold (checked_on standing refine answer request book) answer this
-    × AreTold (left_by standing request answer) (Some 1) (still answer requests) book (suc n) answers rest × (items ≡ step_told n ∷ (this ++ rest))
+-- the number of a step, as a picture
+abbrev pub step_picture : ℕ → ℕ × List Item
+step_picture n = (step_height, step_told n ∷ [])
 
--- pictures that tell this were added behind others
-abbrev pub Continues : List Item → List ℕ → List ℕ → Type 0
-Continues items before after = (told : List Item) → IsBody told before → IsBody (told ++ items) after
+-- The pictures of answers in turn, each below the number of its step: the first is to a step on these flags, and each other to one on what the one before leaves.
+abbrev pub AreTold : Standing → Option ℕ → List (List ℕ) → Contents → ℕ → List Answer → Pictures → Type 0
+AreTold standing refine [] book n answers ps = ps ≡ []
+AreTold standing refine (request ∷ requests) book n [] ps = ps ≡ []
+AreTold standing refine (request ∷ requests) book n (answer ∷ answers) ps =
+    (this : ℕ × List Item) × (rest : Pictures) × IsAnswerTold (checked_on standing refine answer request book) answer this
+    × AreTold (left_by standing request answer) (Some 1) (still answer requests) book (suc n) answers rest × (ps ≡ step_picture n ∷ (this ∷ rest))
+
+-- these pictures were added below others, which end so far below the top of the page, and then all end so far below it
+abbrev pub Continues : Pictures → ℕ → ℕ → List ℕ → List ℕ → Type 0
+Continues ps y end before after = (above : Pictures) → IsBody above before → y ≡ depth above → IsBody (above ++ ps) after × (end ≡ depth (above ++ ps))
 
 -- the page of the pictures of answers, each below the number of its step, from 1
 abbrev pub IsRampDrawn : Option ℕ → Answered → List ℕ → Type 0
-IsRampDrawn refine a bytes = (items : List Item) × AreTold (Ok a.question.flags) refine a.requests a.question.book 1 a.answers items × IsPicture items bytes
+IsRampDrawn refine a bytes = (ps : Pictures) × AreTold (Ok a.question.flags) refine a.requests a.question.book 1 a.answers ps × IsPicture ps bytes
 
 -- the pictures where the answers are found right, beside which a person is told of a doubt; and else the refusal of `verify-ramp`
 abbrev pub IsRampPictureOf : Option ℕ → Found → Came → Type 0

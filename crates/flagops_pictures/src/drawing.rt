@@ -1,5 +1,5 @@
 //! The pictures of answers that are right.
-ghost use Rattle.std.specs.Prelude.{◌≡◌, ◌<◌, ◌≤◌, length, sum, Ok, IfOk, IfSome, OnOk, string_bytes};
+ghost use Rattle.std.specs.Prelude.{◌≡◌, ◌<◌, ◌≤◌, length, sum, Ok, IfOk, IfSome, string_bytes};
 ghost use Rattle.book_core.specs.Book.{Inputs, most_inputs};
 ghost use Rattle.bucket_core.specs.Rule.{total_weight};
 ghost use Rattle.flag_defs.specs.Flags.{flags_view};
@@ -61,7 +61,7 @@ pub(crate) fn add_picture(
 ) -> Result<u64, AllocError>
     requires factor { IfSome asked.refine (λ m. 0 < m) }
     requires shown { IsShown (problem_checked asked.refine (planned_view planned.now) (flags_view asked.flags.now) asked.request.now asked.book.now) (planned_view planned.now) }
-    ensures { OnOk result (AddsTold (problem_checked asked.entry.refine (planned_view planned.now) (flags_view asked.entry.flags.now) asked.entry.request.now asked.entry.book.now) (planned_view planned.now) (string_bytes pictures.old) (string_bytes pictures.new)) }
+    ensures { IfOk result (λ end. AddsTold (problem_checked asked.entry.refine (planned_view planned.now) (flags_view asked.entry.flags.now) asked.entry.request.now asked.entry.book.now) (planned_view planned.now) y end (string_bytes pictures.old) (string_bytes pictures.new)) }
 {
     match Request::read(alloc, asked.request) {
         Ok(request) => add_asked(rt, alloc, pictures, y, asked, &request, planned),
@@ -84,7 +84,7 @@ fn add_asked(
     requires factor { IfSome asked.refine (λ m. 0 < m) }
     requires request { asked_of asked.request.now ≡ Ok request.now }
     requires shown { IsShown (problem_checked asked.refine (planned_view planned.now) (flags_view asked.flags.now) asked.request.now asked.book.now) (planned_view planned.now) }
-    ensures { OnOk result (AddsTold (problem_checked asked.entry.refine (planned_view planned.now) (flags_view asked.entry.flags.now) asked.entry.request.now asked.entry.book.now) (planned_view planned.now) (string_bytes pictures.old) (string_bytes pictures.new)) }
+    ensures { IfOk result (λ end. AddsTold (problem_checked asked.entry.refine (planned_view planned.now) (flags_view asked.entry.flags.now) asked.entry.request.now asked.entry.book.now) (planned_view planned.now) y end (string_bytes pictures.old) (string_bytes pictures.new)) }
 {
     let problem = posed(rt, alloc, asked, request, planned)?;
     let below = draw(alloc, pictures, y, &problem, planned)?;
@@ -139,7 +139,7 @@ fn draw(
     requires points { length problem.now.counts.items ≡ total_weight problem.now.old }
     requires few { sum problem.now.counts.items ≤ most_inputs }
     requires weight { HasWeight (planned_view planned.now) (total_weight problem.now.old) }
-    ensures { OnOk result ((inputs : Inputs) → IsCounted problem.now inputs → AddsTold (Ok (problem_view problem.now inputs)) (planned_view planned.now) (string_bytes pictures.old) (string_bytes pictures.new)) }
+    ensures { IfOk result (λ end. (inputs : Inputs) → IsCounted problem.now inputs → AddsTold (Ok (problem_view problem.now inputs)) (planned_view planned.now) y end (string_bytes pictures.old) (string_bytes pictures.new)) }
 {
     match planned {
         Planned::Emit(rule, certificate) => {
@@ -170,7 +170,7 @@ fn draw_rule(
     requires points { length problem.now.counts.items ≡ total_weight problem.now.old }
     requires few { sum problem.now.counts.items ≤ most_inputs }
     requires weight { total_weight rule.now ≡ total_weight problem.now.old }
-    ensures { OnOk result ((inputs : Inputs) → IsCounted problem.now inputs → AddsChange (problem_view problem.now inputs) rule.now (certificate_view certificate.now) (string_bytes pictures.old) (string_bytes pictures.new)) }
+    ensures { IfOk result (λ end. (inputs : Inputs) → IsCounted problem.now inputs → AddsChange (problem_view problem.now inputs) rule.now (certificate_view certificate.now) y end (string_bytes pictures.old) (string_bytes pictures.new)) }
 {
     let counts = problem.counts.as_slice();
     let runs = runs(alloc, &problem.old, rule, counts)?;

@@ -12,7 +12,7 @@ ghost use Rattle.flagops_ramps.specs.Words as words;
 ghost use Rattle.flagops_rollouts.specs.Doubts.{NamesDoubted};
 ghost use Rattle.flagops_shell.specs.Diagnostic.{Says};
 ghost use Rattle.flagops_ramps.specs.Words.{verifying_view};
-ghost use Rattle.picture.specs.Told.{Item};
+ghost use Rattle.picture.specs.Spelling.{Pictures};
 ghost use Rattle.plan_text.specs.Answer.{planned_view};
 ghost use Rattle.ramp.specs.Right.{AreRight};
 ghost use Rattle.ramp_steps.specs.Steps.{most_steps, requests_view};
@@ -160,7 +160,7 @@ fn add_steps<R: Threads + Sync>(
     requires factor { IfSome refine (λ m. 0 < m) }
     requires few { place.number + length steps.now ≤ most_steps + 1 }
     requires right { AreRight (Ok (flags_view flags.now)) refine (requests_view steps.now) book.now (map planned_view answers.now) }
-    ensures { IfOk result (λ _. (items : List Item) × AreTold (Ok (flags_view flags.now)) refine (requests_view steps.now) book.now place.number (map planned_view answers.now) items × Continues items (string_bytes pictures.old) (string_bytes pictures.new)) }
+    ensures { IfOk result (λ end. (ps : Pictures) × AreTold (Ok (flags_view flags.now)) refine (requests_view steps.now) book.now place.number (map planned_view answers.now) ps × Continues ps place.y end (string_bytes pictures.old) (string_bytes pictures.new)) }
 {
     let [request, more @ ..] = steps else {
         return Ok(place.y);

@@ -9,7 +9,7 @@ use Rattle.flagops_rollouts.specs.Doubts.{NamesDoubt, NamesDoubted, doubt_of, do
 use Rattle.flagops_rollouts.specs.Plan.{Holds, IsPlanOf, MayBePlanned, plan_report}
 use Rattle.flagops_rollouts.specs.Verify.{IsVerdict, MayBeTold, valid_as}
 use Rattle.flagops_rollouts.proofs.Telling.{told_among}
-use Rattle.flagops_files.proofs.Told.{told_left}
+use Rattle.flagops_files.proofs.Told.{told_left, told_right}
 use Rattle.flagops_files.specs.Question.{Question}
 use Rattle.flagops_rollouts.specs.Refusal.{GivesOne, GivesUnlessWant, is_want, Subjects, TellsOfOne, Refused}
 use Rattle.flagops_shell.specs.Outcomes.{beside, done}
@@ -95,3 +95,7 @@ tells_left {X} xs ys e r is told = subst (λ (s : Result X Refused). TellsOfOne 
 pub tells_among : {X : Type 0} (xs : Subjects) (s : Subject × (RolloutRefusal → Bool)) (ys : Subjects) (r : Result X Refused) → TellsOfOne (s ∷ []) r → TellsOfOne (xs ++ (s ∷ ys)) r
 tells_among xs s ys (Ok x) told = tt
 tells_among xs s ys (Err e) told = λ wanted. told_among xs s ys e.refusal e.remark (told wanted)
+
+pub tells_right : {X : Type 0} (xs ys : Subjects) (r : Result X Refused) → TellsOfOne ys r → TellsOfOne (xs ++ ys) r
+tells_right xs ys (Ok x) told = tt
+tells_right xs ys (Err e) told = λ wanted. told_right xs ys e.refusal e.remark (told wanted)

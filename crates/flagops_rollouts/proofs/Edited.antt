@@ -32,7 +32,12 @@ use Rattle.flagops_shell.specs.Files.{Holding, load_of}
 use Rattle.flagops_files.specs.Loading.{max_text}
 use Rattle.flagops_rollouts.specs.Loaded.{plan_at, IsQuestionAt}
 use Rattle.flagops_files.specs.Question.{Question}
-use Rattle.flagops_rollouts.specs.Refusal.{GivesOne, is_want, Refused}
+use Rattle.flagops_rollouts.specs.Refusal.{ComesFrom, GivesOne, Refused, call_of, is_want}
+use Rattle.flagops_files.specs.Refusal as files
+use Rattle.flagops_files.specs.declared.refusal.Call.{Call}
+use Rattle.flagops_files.specs.declared.refusal.Call.TheVariants as file
+use Rattle.flagops_rollouts.specs.declared.refusal.RolloutCall.{RolloutCall}
+use Rattle.flagops_rollouts.specs.Calls.{keep_calls, loads_kept, puts_document}
 use Rattle.flagops_shell.specs.Report.{outcome_view}
 use Rattle.flagops_files.specs.declared.evidence.Evidence.{Evidence}
 use Rattle.flagops_files.specs.declared.evidence.Evidence.TheVariants.{Book, Tally}
@@ -152,6 +157,10 @@ module _ (path plan request book : List ℕ) (write strict : Bool) (refine : Opt
         go None asked planned same = tt
         go (Some at) asked planned same = λ wanted. (Ok q, asked, rw (planned wanted) (refl, same))
 
+    pub no_plan_so : (old mid after : Option Holding) (e : Refused) (r : Result Outcome Refused) → r ≡ Err e → mid ≡ old → after ≡ mid → IfSome old (λ at. IsQuestionAt at path request book (Ok q))
+        → IfSome mid (λ at. is_want e.refusal ≡ false → plan_at at plan ≡ Err e.refusal) → Is old after r
+    no_plan_so old mid after e r is first second asked planned = subst (Is old after) (sym is) (no_plan old mid after e first second asked planned)
+
     module _ (document : List ℕ) (answer : Answer) where
       pub kept_whole : (old mid last after : Option Holding) (r : Result Outcome Refused) → mid ≡ old → last ≡ mid → IfSome old (λ at. IsQuestionAt at path request book (Ok q)) → IfSome old (λ at. load_of at path max_text ≡ Ok document)
           → IfSome mid (λ at. plan_at at plan ≡ Ok answer) → IfSome last (λ at. GivesOne outcome_view r (IsKeepWith at after path write strict refine document q answer)) → Is old after r
@@ -179,6 +188,30 @@ or_false false = refl
 -- no file failed until the last of three steps
 pub failed_after : (start first second last fault : Bool) → first ≡ (start || false) → second ≡ (first || false) → last ≡ (second || fault) → last ≡ (start || fault)
 failed_after start first second last fault a b c = c ∙ ap (λ (x : Bool). x || fault) (b ∙ (or_false first ∙ (a ∙ or_false start)))
+
+-- ---- what is refused
+
+-- what is refused where the document is put is refused by the command
+stored : (c : Call) → files.stores_file c ≡ true → loads_kept c ≡ true
+stored file.Store is = refl
+stored file.Load is = cc
+stored file.ReadTree is = cc
+stored file.ReadRule is = cc
+stored file.ReadFlags is = cc
+stored file.ReadBook is = cc
+stored file.ReadTally is = cc
+stored file.ReadPlanned is = cc
+
+put_by : (c : RolloutCall) → puts_document c ≡ true → keep_calls c ≡ true
+put_by call.Apply is = refl
+put_by (call.Load c) is = stored c is
+put_by call.Verify is = cc
+put_by call.Plan is = cc
+put_by call.PrintPlanned is = cc
+
+pub comes_so : {X : Type 0} (r : Result X Refused) → ComesFrom puts_document r → ComesFrom keep_calls r
+comes_so (Ok x) comes = tt
+comes_so (Err e) comes = put_by (call_of e.refusal) comes
 
 -- ---- what is left
 

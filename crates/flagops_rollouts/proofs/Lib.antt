@@ -1,5 +1,5 @@
 mod Asked
-mod Doubting
+pub mod Doubting
 mod Edited
 mod Loaded
 mod Passed

@@ -1,2 +1,4 @@
 pub mod Bodies
-pub mod Telling
+mod Looks
+mod Remaining
+mod Telling

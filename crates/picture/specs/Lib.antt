@@ -1,3 +1,5 @@
+pub mod Changes
+pub mod Deficits
 pub mod Spelling
 pub mod Told
 pub mod Words

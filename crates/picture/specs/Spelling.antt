@@ -1,9 +1,9 @@
 -- How the elements of a picture are spelled (Scalable Vector Graphics 2, chapters 5, 10 and 11).
-use Rattle.std.specs.Prelude.{◌≡◌, ℕ, List, [], ◌++◌, ◌==◌, chars, codes, if◌then◌else◌, Option, Some, None}
+use Rattle.std.specs.Prelude.{◌≡◌, ℕ, List, [], ◌∷◌, ◌++◌, ◌==◌, chars, codes, map, if◌then◌else◌, Option, Some, None}
 use Rattle.std.specs.Fmt.{decimal, signed_decimal}
 use Rattle.std.specs.List.{flat_map}
 use Rattle.xml_text.specs.Escape.{begun, escaped}
-use Rattle.picture.specs.Told.{Item, told}
+use Rattle.picture.specs.Told.{Item, down, foot, told}
 use Rattle.picture.specs.Words.{class_of, text_of}
 use Rattle.picture.specs.declared.element.Band.{Band}
 use Rattle.picture.specs.declared.element.Content.{Content}
@@ -74,11 +74,9 @@ unfoldable pub spelled_line : Place → Extent → List ℕ
 spelled_line p e = codes "<rect class=\"s\"" ++ (at p ++ sized e)
 
 abbrev pub spelled : Element → List ℕ
-spelled (element.Caption s p c) = spelled_text s p c
 spelled (element.Text s p c) = spelled_text s p c
 spelled (element.Name p size t) = spelled_name p size t.now
 spelled (element.Piece p) = spelled_piece p
-spelled (element.Swatch p) = spelled_piece p
 spelled (element.Band b) = spelled_band b
 spelled (element.Line p e) = spelled_line p e
 
@@ -90,14 +88,27 @@ placed y es = codes "<g transform=\"translate(0 " ++ (decimal y ++ (codes ")\">\
 unfoldable pub page : ℕ → List ℕ → List ℕ
 page height pictures = codes "<svg xmlns=\"http://www.w3.org/2000/svg\" role=\"img\" viewBox=\"0 0 1200 " ++ (decimal height ++ (codes "\">\n" ++ (HEAD.now ++ (pictures ++ codes "</svg>\n"))))
 
--- a picture that tells this was added to those that were there
-unfoldable pub Adds : List Item → List ℕ → List ℕ → Type 0
-Adds items before after = (y : ℕ) × (es : List Element) × (after ≡ before ++ placed y es) × (told es ≡ items)
+-- a picture that tells this was added to those that were there, so far below the top of the page
+unfoldable pub Adds : ℕ → List Item → List ℕ → List ℕ → Type 0
+Adds y items before after = (es : List Element) × (after ≡ before ++ placed y es) × (told es ≡ items)
 
--- pictures that tell this in turn: how far below the top each stands, and its elements
-unfoldable pub IsBody : List Item → List ℕ → Type 0
-IsBody items bytes = (ds : List (ℕ × List Element)) × (bytes ≡ flat_map (λ d. placed d.0 d.1) ds) × (flat_map (λ d. told d.1) ds ≡ items)
+-- pictures one below the other, from so far below the top on: how high each is, and its elements
+abbrev pub stacked : ℕ → List (ℕ × List Element) → List ℕ
+stacked y [] = []
+stacked y (d ∷ ds) = placed y d.1 ++ stacked (down y d.0) ds
 
--- a page that tells this
-unfoldable pub IsPicture : List Item → List ℕ → Type 0
-IsPicture items bytes = (height : ℕ) × (pictures : List ℕ) × (bytes ≡ page height pictures) × IsBody items pictures
+-- the pictures of a page: how high each is, and what it tells
+abbrev pub Pictures : Type 0
+Pictures = List (ℕ × List Item)
+
+-- how far below the top of the page they end
+abbrev pub depth : {X : Type 0} → List (ℕ × X) → ℕ
+depth ps = foot (λ y p. down y p.0) 0 ps
+
+-- they are on the page, from its top on
+unfoldable pub IsBody : Pictures → List ℕ → Type 0
+IsBody ps bytes = (ds : List (ℕ × List Element)) × (bytes ≡ stacked 0 ds) × (map (λ d. (d.0, told d.1)) ds ≡ ps)
+
+-- a page that has these pictures, and is as high as they are
+unfoldable pub IsPicture : Pictures → List ℕ → Type 0
+IsPicture ps bytes = (pictures : List ℕ) × (bytes ≡ page (depth ps) pictures) × IsBody ps pictures

@@ -1,68 +1,105 @@
--- What a picture tells: its texts with their places, the points that each bar and each band stands for, and the rows of its tables.
-use Rattle.std.specs.Prelude.{ℕ, ◌+◌, ◌-◌, ◌*◌, ◌/◌, min, max, ℤ, List, [], ◌∷◌, ◌++◌, map, length, nat_lt, ◌||◌, Option, Some, None, if◌then◌else◌}
-use Rattle.std.specs.List.{flat_map, range_with_len}
-use Rattle.std.specs.Map.{keys_of, lookup}
+-- What a picture tells: its texts and names at their places, the points that each bar and each band stands for, and the look of each variant.
+use Rattle.std.specs.Prelude.{ℕ, ◌+◌, ◌-◌, ◌*◌, ◌/◌, ◌%◌, ◌^◌, min, List, [], ◌∷◌, ◌++◌, map, length, nat_lt, position, unwrap_or, if◌then◌else◌}
+use Rattle.std.specs.List.{flat_map}
 use Rattle.std.specs.Str.{bytes_eq}
-use Rattle.bucket_core.specs.Rule.{Entries, total_of, total_weight}
+use Rattle.bucket_core.specs.Rule.{Entries, total_weight}
 use Rattle.price_core.specs.Limits.{Limits}
-use Rattle.price_core.specs.Pricing.{Pricing, is_forbidden, price_of}
 use Rattle.switch_table.specs.Runs.{Run}
-use Rattle.switch_table.specs.Switches.{name_of, switch_at}
-use Rattle.switch_table.specs.declared.table.Switch.{Switch}
-use Rattle.transport_instance.specs.Certificate.{DualPrices}
-use Rattle.transport_instance.specs.declared.certificate.CutKind.{CutKind}
-use Rattle.transport_instance.specs.declared.certificate.CutKind.TheVariants as kind
 use Rattle.picture.specs.declared.element.Content.{Content}
 use Rattle.picture.specs.declared.element.Content.TheVariants as content
 use Rattle.picture.specs.declared.element.Element.{Element}
 use Rattle.picture.specs.declared.element.Element.TheVariants as element
 use Rattle.picture.specs.declared.element.Extent.{Extent}
+use Rattle.picture.specs.declared.element.Look.{Look}
 use Rattle.picture.specs.declared.element.Place.{Place}
 use Rattle.picture.specs.declared.words.Style.{Style}
 use Rattle.picture.specs.declared.words.Style.TheVariants as style
 use Rattle.picture.specs.declared.words.Word.{Word}
 use Rattle.picture.specs.declared.words.Word.TheVariants as word
 
--- What an element tells: a caption at its place; a text of a table, or a name, so far from the left edge; points of a variant, or points
--- that go from one variant to another with their number and that of their users, as a rectangle.
+-- What an element tells: a text or a name at its place; a rectangle in the look of a variant; points that go from one variant to another with
+-- their number and that of their users, as a rectangle in the look of the second.
 pub data Item : Type 0 where
-  caption : Place → Content → Item
-  cell : ℕ → Content → Item
-  name : ℕ → List ℕ → Item
-  piece : List ℕ → Place → Extent → Item
-  band : List ℕ → List ℕ → ℕ → ℕ → Place → Extent → Item
+  text : Style → Place → Content → Item
+  name : Place → List ℕ → Item
+  piece : List ℕ → Look → Place → Extent → Item
+  band : List ℕ → List ℕ → ℕ → ℕ → Look → Place → Extent → Item
 
--- The names on the bars and beside them are for the eye: each is told in the lists below.
+-- The letters on bars and bands, the size of a name's letters, and the lines between points are for the eye.
 abbrev pub told_element : Element → List Item
-told_element (element.Caption s p c) = caption p c ∷ []
-told_element (element.Text s p c) = cell p.x c ∷ []
-told_element (element.Name p n t) = name p.x t.now ∷ []
-told_element (element.Piece p) = piece p.name.now p.place p.extent ∷ []
-told_element (element.Swatch p) = []
-told_element (element.Band b) = band b.from.now b.to.now b.points b.users b.place b.extent ∷ []
+told_element (element.Text s p c) = text s p c ∷ []
+told_element (element.Name p n t) = name p t.now ∷ []
+told_element (element.Piece p) = piece p.name.now p.look p.place p.extent ∷ []
+told_element (element.Band b) = band b.from.now b.to.now b.points b.users b.look b.place b.extent ∷ []
 told_element (element.Line p e) = []
 
 abbrev pub told : List Element → List Item
 told es = flat_map told_element es
 
+-- ---- places
+
+abbrev pub spot : ℕ → ℕ → Place
+spot x y = record { x = x; y = y }
+
+-- so far down from a height, and no further than numbers go
+abbrev pub down : ℕ → ℕ → ℕ
+down y n = min (y + n) (2 ^ 64 - 1)
+
+-- a row is 46 high
+abbrev pub next_row : ℕ → ℕ
+next_row y = down y 46
+
+-- what rows tell one below the other, from a height on, by where each ends
+abbrev pub rows_told : {A : Type 0} → (ℕ → A → List Item) → (ℕ → A → ℕ) → ℕ → List A → List Item
+rows_told tell end y [] = []
+rows_told tell end y (a ∷ rest) = tell y a ++ rows_told tell end (end y a) rest
+
+-- where they end
+abbrev pub foot : {A : Type 0} → (ℕ → A → ℕ) → ℕ → List A → ℕ
+foot end y [] = y
+foot end y (a ∷ rest) = foot end (end y a) rest
+
+-- ---- texts
+
 -- a number that ends at a place
 abbrev pub number_element : ℕ → ℕ → ℕ → Element
-number_element x y n = element.Text style.Value (record { x = x; y = y }) (content.Number n)
+number_element x y n = element.Text style.Value (spot x y) (content.Number n)
 
--- ---- captions and headings
+abbrev pub number : ℕ → ℕ → ℕ → Item
+number x y n = text style.Value (spot x y) (content.Number n)
 
-abbrev pub says : ℕ → ℕ → Content → Item
-says x y c = caption (record { x = x; y = y }) c
+-- a heading over names, and one over numbers
+abbrev pub heading : ℕ → ℕ → Word → Item
+heading x y w = text style.Heading (spot x y) (content.Word w)
 
-abbrev pub number : ℕ → ℕ → Item
-number x n = cell x (content.Number n)
+abbrev pub column : ℕ → ℕ → Word → Item
+column x y w = text style.Value (spot x y) (content.Word w)
 
-abbrev pub heading : ℕ → Word → Item
-heading x w = cell x (content.Word w)
+-- headings of the program, at a height
+abbrev pub headings_told : ℕ → List (Style × ℕ × Word) → List Item
+headings_told y hs = map (λ h. text h.0 (spot h.1 y) (content.Word h.2)) hs
 
--- headings of the program, each over the column that it names
-abbrev pub headings_told : List (Style × ℕ × Word) → List Item
-headings_told hs = map (λ h. heading h.1 h.2) hs
+-- ---- looks
+
+-- a colour and a pattern for each place: no two of 64 have both
+abbrev pub look_at : ℕ → Look
+look_at i = record { colour = i % 8; pattern = (i + i / 8) % 8 }
+
+-- the look of a variant, by its place among the limits
+abbrev pub look_of : Limits → List ℕ → Look
+look_of limits n = look_at (unwrap_or (position (λ l. bytes_eq l.0 n) limits) 0)
+
+-- the look of a variant in the row of its name
+abbrev pub swatch : Limits → ℕ → List ℕ → Item
+swatch limits y n = piece n (look_of limits n) (spot 40 (y - 26)) (record { width = 44; height = 32 })
+
+-- a name behind its look
+abbrev pub named_told : Limits → ℕ → List ℕ → List Item
+named_told limits y n = swatch limits y n ∷ name (spot 100 y) n ∷ []
+
+-- where the numbers of such a row stand: below a name of more bytes than this, which has a row of its own
+abbrev pub numbers_at : ℕ → ℕ → List ℕ → ℕ
+numbers_at most y n = if nat_lt most (length n) then next_row y else y
 
 -- ---- points over the width of a picture
 
@@ -77,119 +114,33 @@ place_of y total p = record { x = edge total p; y = y }
 abbrev pub extent_of : ℕ → ℕ → ℕ → Extent
 extent_of total p q = record { width = edge total q - edge total p; height = 80 }
 
--- the bar of the entries of a rule, from a point on: each with its name over its points
-abbrev pub pieces_told : ℕ → ℕ → ℕ → Entries → List Item
-pieces_told y total p [] = []
-pieces_told y total p (e ∷ es) = piece e.0 (place_of y total p) (extent_of total p (p + e.1)) ∷ pieces_told y total (p + e.1) es
+-- the bar of the entries of a rule, from a point on: each with its name and its look over its points
+abbrev pub pieces_told : Limits → ℕ → ℕ → ℕ → Entries → List Item
+pieces_told limits y total p [] = []
+pieces_told limits y total p (e ∷ es) = piece e.0 (look_of limits e.0) (place_of y total p) (extent_of total p (p + e.1)) ∷ pieces_told limits y total (p + e.1) es
 
 -- that of a rule
-abbrev pub bar_told : ℕ → Entries → List Item
-bar_told y rule = pieces_told y (total_weight rule) 0 rule
-
--- ---- a change
-
--- its cost, and the captions of both bars with the number of the points
-abbrev pub head_told : ℕ → ℕ → List Item
-head_told cost total =
-    says 40 66 (content.Counted word.Cost cost) ∷ says 40 110 (content.Word word.Least) ∷ says 40 170 (content.Word word.Before) ∷ says 1160 170 (content.Counted word.Points total) ∷ says 40 466 (content.Word word.After) ∷ []
+abbrev pub bar_told : Limits → ℕ → Entries → List Item
+bar_told limits y rule = pieces_told limits y (total_weight rule) 0 rule
 
 -- the point behind a run
 abbrev pub behind : ℕ → ℕ → Run → ℕ
 behind total p r = min (p + r.points) total
 
--- a run that moves, with its names, its points and its users, between the two bars
-abbrev pub run_told : ℕ → ℕ → Run → List Item
-run_told total p r =
-    if bytes_eq r.from r.to then [] else band r.from r.to r.points r.users (place_of 264 total p) (extent_of total p (behind total p r)) ∷ []
+-- a run that moves, with its names, its points, its users and the look of its new name, between the two bars
+abbrev pub run_told : Limits → ℕ → ℕ → Run → List Item
+run_told limits total p r =
+    if bytes_eq r.from r.to then [] else band r.from r.to r.points r.users (look_of limits r.to) (place_of 264 total p) (extent_of total p (behind total p r)) ∷ []
 
 -- those of runs, from a point on
-abbrev pub runs_told : ℕ → ℕ → List Run → List Item
-runs_told total p [] = []
-runs_told total p (r ∷ rs) = run_told total p r ++ runs_told total (behind total p r) rs
-
--- the old rule below the one caption, the runs that move, and the new rule above the other
-abbrev pub bars_told : Entries → Entries → List Run → List Item
-bars_told old new runs = bar_told 184 old ++ (runs_told (total_weight old) 0 runs ++ bar_told 344 new)
-
-abbrev pub dual_told : Option ℤ → List Item
-dual_told None = []
-dual_told (Some z) = cell 1160 (content.Signed z) ∷ []
-
-abbrev pub variant_headings : List Item
-variant_headings = heading 100 word.Variant ∷ heading 600 word.Before ∷ heading 720 word.After ∷ heading 860 word.AtLeast ∷ heading 990 word.AtMost ∷ heading 1160 word.DualPrice ∷ []
-
--- a variant with its points before and after, and its limits
-abbrev pub totals_told : Entries → Entries → List ℕ × (ℕ × ℕ) → List Item
-totals_told old new l = name 100 l.0 ∷ number 600 (total_of old l.0) ∷ number 720 (total_of new l.0) ∷ number 860 l.1.0 ∷ number 990 l.1.1 ∷ []
-
--- the same, with its dual price
-abbrev pub variant_told : Entries → Entries → List (List ℕ × ℤ) → List ℕ × (ℕ × ℕ) → List Item
-variant_told old new duals l = totals_told old new l ++ dual_told (lookup (bytes_eq l.0) duals)
-
-abbrev pub variants_told : Entries → Entries → Limits → List (List ℕ × ℤ) → List Item
-variants_told old new limits duals = variant_headings ++ flat_map (variant_told old new duals) limits
-
-abbrev pub switch_headings : List Item
-switch_headings = heading 100 word.From ∷ heading 410 word.To ∷ heading 820 word.Points ∷ heading 970 word.Users ∷ heading 1160 word.Price ∷ []
-
--- the price of a change, where it is allowed
-abbrev pub price_told : Pricing → List ℕ → List ℕ → Option ℕ
-price_told pricing a b = if is_forbidden pricing a b then None else Some (price_of pricing a b)
-
--- where the second name stands: beside the first, or below it where one of them is long
-abbrev pub second_name : List ℕ → List ℕ → ℕ
-second_name a b = if nat_lt 17 (max (length a) (length b)) then 100 else 410
-
-abbrev pub names_told : List ℕ → List ℕ → List Item
-names_told a b = name 100 a ∷ name (second_name a b) b ∷ []
-
--- a switch that has points or is not allowed, with its names, its points, its users and its price
-abbrev pub switch_told : Pricing → List ℕ → List ℕ → Switch → List Item
-switch_told pricing a b s =
-    if nat_lt 0 s.points || is_forbidden pricing a b then names_told a b ++ (number 820 s.points ∷ number 970 s.users ∷ cell 1160 (content.Price (price_told pricing a b)) ∷ []) else []
-
--- the switches from one variant to each
-abbrev pub row_told : Pricing → List (List ℕ) → ℕ × List Switch → ℕ → List Item
-row_told pricing names t i = flat_map (λ j. switch_told pricing (name_of names i) (name_of names j) (switch_at t i j)) (range_with_len 0 t.0)
-
--- those from each
-abbrev pub table_told : Pricing → List (List ℕ) → ℕ × List Switch → List Item
-table_told pricing names t = switch_headings ++ flat_map (row_told pricing names t) (range_with_len 0 t.0)
-
--- the cost and the points, both rules and the runs that move between them, the variants, and the switches between these
-unfoldable pub change_told : Entries → Entries → Limits → Pricing → List Run → ℕ × List Switch → DualPrices → List Item
-change_told old new limits pricing runs t duals =
-    head_told duals.cost (total_weight old) ++ (bars_told old new runs ++ (variants_told old new limits duals.beta ++ table_told pricing (keys_of limits) t))
-
--- ---- a set that shows that no rule fits
-
--- of which kind a set is, in words
-abbrev pub kind_word : CutKind → Word
-kind_word kind.Over = word.Over
-kind_word kind.Under = word.Under
-
--- that no rule keeps the limits, the number of the points, and the kind of the set
-abbrev pub none_head_told : CutKind → ℕ → List Item
-none_head_told k total = says 40 66 (content.Word word.NoRule) ∷ says 1160 66 (content.Counted word.Points total) ∷ says 40 114 (content.Word (kind_word k)) ∷ []
-
-abbrev pub set_told : List (List ℕ) → List Item
-set_told names = map (name 100) names
-
-abbrev pub limit_headings : List Item
-limit_headings = heading 100 word.Variant ∷ heading 820 word.Points ∷ heading 990 word.AtLeast ∷ heading 1160 word.AtMost ∷ []
-
--- a variant with its points and its limits
-abbrev pub limit_told : Entries → List ℕ × (ℕ × ℕ) → List Item
-limit_told old l = name 100 l.0 ∷ number 820 (total_of old l.0) ∷ number 990 l.1.0 ∷ number 1160 l.1.1 ∷ []
-
-abbrev pub limits_told : Entries → Limits → List Item
-limits_told old limits = limit_headings ++ flat_map (limit_told old) limits
-
--- the kind and the names of the set, the rule below them as a bar at a height, and the variants
-unfoldable pub none_told : ℕ → Entries → Limits → CutKind → List (List ℕ) → List Item
-none_told y old limits k names = none_head_told k (total_weight old) ++ (set_told names ++ (bar_told y old ++ limits_told old limits))
+abbrev pub runs_told : Limits → ℕ → ℕ → List Run → List Item
+runs_told limits total p [] = []
+runs_told limits total p (r ∷ rs) = run_told limits total p r ++ runs_told limits total (behind total p r) rs
 
 -- ---- the number of a step
 
 abbrev pub step_told : ℕ → Item
-step_told n = says 40 96 (content.Counted word.Step n)
+step_told n = text style.Title (spot 40 96) (content.Counted word.Step n)
+
+abbrev pub step_height : ℕ
+step_height = 100

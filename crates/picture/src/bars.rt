@@ -1,7 +1,9 @@
 //! Rules as bars over the points.
-ghost use Rattle.std.specs.Prelude.{◌≡◌, ◌≤◌, ◌++◌, OnOk};
+ghost use Rattle.std.specs.Prelude.{◌≡◌, ◌≤◌, ◌++◌, OnOk, position, string_bytes};
+ghost use Rattle.std.specs.Str.{bytes_eq};
 ghost use Rattle.bucket_core.specs.Rule.{IsRuleTotal};
-ghost use Rattle.picture.specs.Told.{bar_told, edge, extent_of, place_of, told};
+ghost use Rattle.price_core.specs.Limits.{limits_view};
+ghost use Rattle.picture.specs.Told.{bar_told, edge, extent_of, look_of, place_of, told};
 
 use crate::element::{Element, Extent, Look, Piece, Place};
 use bucket_core::Rule;
@@ -45,15 +47,21 @@ pub(crate) fn extent(begin: u64, end: u64, total: u64) -> Extent
 }
 
 /// The look of the variant of a name: no two of 64 have one colour and one pattern.
-pub(crate) fn look_of(limits: &[Limit], name: &str) -> Look {
-    let place = limits
-        .iter()
-        .position(|limit| limit.name.as_str() == name)
-        .unwrap_or(0) as u64;
+pub(crate) fn look_of(limits: &[Limit], name: &str) -> Look
+    ensures { result ≡ look_of (limits_view limits.now) name.now }
+{
+    let place = place_among(limits, name).unwrap_or(0) as u64;
     Look {
         colour: place % 8,
         pattern: (place + place / 8) % 8,
     }
+}
+
+/// Which of the limits are those of a name.
+fn place_among(limits: &[Limit], name: &str) -> Option<usize>
+    ensures { result ≡ position (λ l. bytes_eq (string_bytes l.name) name.now) limits.now }
+{
+    limits.iter().position(|limit| limit.name.as_str() == name)
 }
 
 /// Adds the bar of a rule, at a height.
@@ -63,7 +71,7 @@ pub(crate) fn add_bar<'a>(
     limits: &[Limit],
     y: u64,
 ) -> Result<(), AllocError>
-    ensures { OnOk result (told elements.new.items ≡ told elements.old.items ++ bar_told y rule.now) }
+    ensures { OnOk result (told elements.new.items ≡ told elements.old.items ++ bar_told (limits_view limits.entry.now) y rule.now) }
 {
     let total = u64::from(rule.total());
     let mut begin = 0u64;
@@ -81,6 +89,7 @@ fn piece<'a>(name: &'a str, limits: &[Limit], y: u64, begin: u64, end: u64, tota
     requires begin { begin ≤ total }
     requires end { end ≤ total }
     ensures name { result.name.now ≡ name.now }
+    ensures look { result.look ≡ look_of (limits_view limits.now) name.now }
     ensures place { result.place ≡ place_of y total begin }
     ensures extent { result.extent ≡ extent_of total begin end }
 {

@@ -1,12 +1,13 @@
 //! The picture of a rule that replaces another.
-ghost use Rattle.std.specs.Prelude.{◌≡◌, ◌≤◌, ◌++◌, min, OnErr, OnOk, length, string_bytes};
+ghost use Rattle.std.specs.Prelude.{◌≡◌, ◌≤◌, ◌++◌, min, IfOk, OnErr, OnOk, length, string_bytes};
 ghost use Rattle.std.specs.Map.{keys_of};
 ghost use Rattle.bucket_core.specs.Rule.{IsRuleTotal, total_weight};
 ghost use Rattle.price_core.specs.Limits.{limits_view};
 ghost use Rattle.switch_table.specs.Runs.{run_view, runs_view};
 ghost use Rattle.transport_instance.specs.Certificate.{certificate_view};
+ghost use Rattle.picture.specs.Changes.{bars_told, change_height, change_told, head_told};
 ghost use Rattle.picture.specs.Spelling.{Adds};
-ghost use Rattle.picture.specs.Told.{bars_told, behind, change_told, extent_of, head_told, place_of, runs_told, told};
+ghost use Rattle.picture.specs.Told.{behind, down, extent_of, look_of, place_of, runs_told, told};
 
 use crate::bars::{BAR, LEFT, add_bar, edge, extent, look_of};
 use crate::element::{Band, Content, Element, Extent, Place, add};
@@ -38,7 +39,7 @@ pub struct Change<'a> {
 
 /// Adds the picture of a change to those of a page, so far below its top, and gives how far below it the picture ends. Where
 /// memory runs out the pictures are as they were. The condition is that the table has a place for each variant that has limits.
-#[tactic(auto, unfolding(crate::specs::Spelling::Adds, crate::specs::Told::change_told))]
+#[tactic(auto, unfolding(crate::specs::Spelling::Adds, crate::specs::Changes::change_told, crate::specs::Changes::change_height))]
 pub fn draw_change(
     alloc: Global,
     pictures: &mut String,
@@ -46,9 +47,10 @@ pub fn draw_change(
     change: &Change<'_>,
 ) -> Result<u64, AllocError>
     requires { change.now.table.now.0 ≡ length (keys_of change.now.totals.now) }
-    ensures adds { OnOk result (Adds
+    ensures adds { OnOk result (Adds y
         (change_told change.now.old.now change.now.new.now change.now.totals.now change.now.prices.now (runs_view change.now.runs.now) change.now.table.now (certificate_view change.now.certificate.now))
         (string_bytes pictures.old) (string_bytes pictures.new)) }
+    ensures below { IfOk result (λ end. end ≡ down y (change_height change.now.totals.now change.now.prices.now change.now.table.now)) }
     ensures kept { OnErr result (string_bytes pictures.new ≡ string_bytes pictures.old) }
 {
     let limits = change.totals.entries();
@@ -77,19 +79,19 @@ fn add_head<'a>(elements: &mut Vec<Element<'a>>, change: &Change<'a>) -> Result<
     add(
         elements,
         &[
-            Element::Caption(Style::Title, Place { x: LEFT, y: 66 }, cost),
-            Element::Caption(
+            Element::Text(Style::Title, Place { x: LEFT, y: 66 }, cost),
+            Element::Text(
                 Style::Row,
                 Place { x: LEFT, y: 110 },
                 Content::Word(Word::Least),
             ),
-            Element::Caption(
+            Element::Text(
                 Style::Heading,
                 Place { x: LEFT, y: 170 },
                 Content::Word(Word::Before),
             ),
-            Element::Caption(Style::Value, Place { x: 1160, y: 170 }, points),
-            Element::Caption(
+            Element::Text(Style::Value, Place { x: 1160, y: 170 }, points),
+            Element::Text(
                 Style::Heading,
                 Place { x: LEFT, y: 466 },
                 Content::Word(Word::After),
@@ -104,7 +106,7 @@ fn add_bars<'a>(
     change: &Change<'a>,
     limits: &[Limit],
 ) -> Result<(), AllocError>
-    ensures { OnOk result (told elements.new.items ≡ told elements.old.items ++ bars_told change.now.old.now change.now.new.now (runs_view change.now.runs.now)) }
+    ensures { OnOk result (told elements.new.items ≡ told elements.old.items ++ bars_told (limits_view limits.entry.now) change.now.old.now change.now.new.now (runs_view change.now.runs.now)) }
 {
     add_bar(elements, change.old, limits, BEFORE)?;
     add_bands(elements, change.runs, limits, u64::from(change.old.total()))?;
@@ -119,7 +121,7 @@ fn add_bands<'a>(
     total: u64,
 ) -> Result<(), AllocError>
     requires { IsRuleTotal total }
-    ensures { OnOk result (told elements.new.items ≡ told elements.old.items ++ runs_told total 0 (runs_view runs.now)) }
+    ensures { OnOk result (told elements.new.items ≡ told elements.old.items ++ runs_told (limits_view limits.entry.now) total 0 (runs_view runs.now)) }
 {
     let mut begin = 0u64;
     for (i, run) in runs.iter().enumerate() {
@@ -213,6 +215,7 @@ fn band<'a>(
     ensures to { result.to.now ≡ run.now.to.now }
     ensures points { result.points ≡ run.now.points }
     ensures users { result.users ≡ run.now.users }
+    ensures look { result.look ≡ look_of (limits_view limits.now) run.now.to.now }
     ensures place { result.place ≡ place_of 264 total begin }
     ensures extent { result.extent ≡ extent_of total begin end }
 {

@@ -37,7 +37,7 @@ pub enum Content {
     Price(Option<u64>),
 }
 
-/// The points of a variant, drawn as a rectangle, with so many of its name's characters on it.
+/// A rectangle in the look of a variant, with so many of its name's characters on it.
 #[derive(Clone, Copy, Debug)]
 pub struct Piece<'a> {
     pub name: &'a str,
@@ -64,15 +64,10 @@ pub struct Band<'a> {
 /// An element of a picture.
 #[derive(Clone, Copy, Debug)]
 pub enum Element<'a> {
-    /// A text at a place of its own.
-    Caption(Style, Place, Content),
-    /// A text of a table, in its column.
     Text(Style, Place, Content),
     /// A name, at a size of its letters.
     Name(Place, u64, &'a str),
     Piece(Piece<'a>),
-    /// The look of a variant, beside its name.
-    Swatch(Piece<'a>),
     Band(Band<'a>),
     /// A thin line, as between points.
     Line(Place, Extent),

@@ -8,7 +8,8 @@
 //! Proved, over the definitions of `specs/`: a picture is a list of elements, each spelled as `Spelling` says, so that no name
 //! adds markup of its own; and what the elements tell, in their order, is what `Told` says of the rules, the limits, the prices,
 //! the runs, the table and the certificate. Captions and bars are told with their places, a bar by the points of its rule, and
-//! each text of a table with its column. How high a row stands and how things look is not.
+//! each text of a table with its column. How far below the top a picture ends is what `Heights` says. How high a row stands in it,
+//! and how things look, is not.
 #![tactic(auto)]
 
 mod bars;

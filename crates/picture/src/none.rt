@@ -1,10 +1,10 @@
 //! The picture of a set of variants which shows that no rule fits.
-ghost use Rattle.std.specs.Prelude.{◌≡◌, ◌++◌, ◌∷◌, [], ℕ, OnErr, OnOk, string_bytes};
-ghost use Rattle.std.specs.List.{flat_map};
+ghost use Rattle.std.specs.Prelude.{◌≡◌, ◌++◌, [], IfOk, OnErr, OnOk, string_bytes};
 ghost use Rattle.bucket_core.specs.Rule.{names_view, total_weight};
 ghost use Rattle.price_core.specs.Limits.{limit_view, limits_view};
+ghost use Rattle.picture.specs.Deficits.{bar_end, limit_end, limit_told, limits_end, limits_told, none_head_told, none_height, none_told, set_end, set_told};
 ghost use Rattle.picture.specs.Spelling.{Adds};
-ghost use Rattle.picture.specs.Told.{bar_told, limit_told, limits_told, name, none_head_told, none_told, set_told, told};
+ghost use Rattle.picture.specs.Told.{bar_told, down, foot, named_told, rows_told, told};
 
 use crate::bars::{BAR, LEFT, add_bar};
 use crate::element::{Content, Element, Place, add};
@@ -29,14 +29,15 @@ pub struct Deficit<'a> {
 
 /// Adds the picture of a set which shows that no rule fits to those of a page, so far below its top, and gives how far below it
 /// the picture ends. Where memory runs out the pictures are as they were.
-#[tactic(auto, unfolding(crate::specs::Spelling::Adds, crate::specs::Told::none_told))]
+#[tactic(auto, unfolding(crate::specs::Spelling::Adds, crate::specs::Deficits::none_told, crate::specs::Deficits::none_height))]
 pub fn draw_none(
     alloc: Global,
     pictures: &mut String,
     y: u64,
     deficit: &Deficit<'_>,
 ) -> Result<u64, AllocError>
-    ensures adds { OnOk result ((bar : ℕ) × Adds (none_told bar deficit.now.old.now deficit.now.totals.now deficit.now.cut.now.kind (names_view deficit.now.cut.now.names.items)) (string_bytes pictures.old) (string_bytes pictures.new)) }
+    ensures adds { OnOk result (Adds y (none_told deficit.now.old.now deficit.now.totals.now deficit.now.cut.now.kind (names_view deficit.now.cut.now.names.items)) (string_bytes pictures.old) (string_bytes pictures.new)) }
+    ensures below { IfOk result (λ end. end ≡ down y (none_height deficit.now.totals.now (names_view deficit.now.cut.now.names.items))) }
     ensures kept { OnErr result (string_bytes pictures.new ≡ string_bytes pictures.old) }
 {
     let limits = deficit.totals.entries();
@@ -61,13 +62,13 @@ fn add_head(elements: &mut Vec<Element<'_>>, deficit: &Deficit<'_>) -> Result<()
     add(
         elements,
         &[
-            Element::Caption(
+            Element::Text(
                 Style::Title,
                 Place { x: LEFT, y: 66 },
                 Content::Word(Word::NoRule),
             ),
-            Element::Caption(Style::Value, Place { x: 1160, y: 66 }, points),
-            Element::Caption(Style::Row, Place { x: LEFT, y: 114 }, Content::Word(kind)),
+            Element::Text(Style::Value, Place { x: 1160, y: 66 }, points),
+            Element::Text(Style::Row, Place { x: LEFT, y: 114 }, Content::Word(kind)),
         ],
     )
 }
@@ -79,7 +80,8 @@ fn add_set<'a>(
     limits: &[Limit],
     y: u64,
 ) -> Result<u64, AllocError>
-    ensures { OnOk result (told elements.new.items ≡ told elements.old.items ++ set_told (names_view names.entry.now)) }
+    ensures told { OnOk result (told elements.new.items ≡ told elements.old.items ++ set_told (limits_view limits.entry.now) y (names_view names.entry.now)) }
+    ensures below { IfOk result (λ end. end ≡ set_end y (names_view names.entry.now)) }
 {
     let mut row = y;
     for name in names {
@@ -96,12 +98,12 @@ fn add_named<'a>(
     limits: &[Limit],
     y: u64,
 ) -> Result<(), AllocError>
-    ensures { OnOk result (told elements.new.items ≡ told elements.old.items ++ (name 100 variant.now ∷ [])) }
+    ensures { OnOk result (told elements.new.items ≡ told elements.old.items ++ named_told (limits_view limits.entry.now) y variant.now) }
 {
     add(
         elements,
         &[
-            Element::Swatch(swatch(limits, variant, y)),
+            Element::Piece(swatch(limits, variant, y)),
             Element::Name(Place { x: NAMES, y }, size_for(variant, 1060), variant),
         ],
     )
@@ -114,7 +116,8 @@ fn add_rule<'a>(
     limits: &[Limit],
     y: u64,
 ) -> Result<u64, AllocError>
-    ensures { OnOk result (told elements.new.items ≡ told elements.old.items ++ bar_told y rule.now) }
+    ensures told { OnOk result (told elements.new.items ≡ told elements.old.items ++ bar_told (limits_view limits.entry.now) y rule.now) }
+    ensures below { IfOk result (λ end. end ≡ bar_end y) }
 {
     add_bar(elements, rule, limits, y)?;
     Ok(y.saturating_add(BAR).saturating_add(ROW))
@@ -134,7 +137,8 @@ fn add_limits<'a>(
     limits: &'a [Limit],
     y: u64,
 ) -> Result<u64, AllocError>
-    ensures { OnOk result (told elements.new.items ≡ told elements.old.items ++ limits_told old.now (limits_view limits.entry.now)) }
+    ensures told { OnOk result (told elements.new.items ≡ told elements.old.items ++ limits_told old.now (limits_view limits.entry.now) y) }
+    ensures below { IfOk result (λ end. end ≡ limits_end (limits_view limits.entry.now) y) }
 {
     add_headings(elements, HEADINGS, y)?;
     add_rows(elements, old, limits, y.saturating_add(ROW))
@@ -146,7 +150,8 @@ fn add_rows<'a>(
     limits: &'a [Limit],
     y: u64,
 ) -> Result<u64, AllocError>
-    ensures { OnOk result (told elements.new.items ≡ told elements.old.items ++ flat_map (limit_told old.now) (limits_view limits.entry.now)) }
+    ensures told { OnOk result (told elements.new.items ≡ told elements.old.items ++ rows_told (limit_told (limits_view limits.entry.now) old.now) limit_end y (limits_view limits.entry.now)) }
+    ensures below { IfOk result (λ end. end ≡ foot limit_end y (limits_view limits.entry.now)) }
 {
     let mut row = y;
     for limit in limits {
@@ -162,7 +167,8 @@ fn add_limit<'a>(
     limit: &'a Limit,
     y: u64,
 ) -> Result<u64, AllocError>
-    ensures { OnOk result (told elements.new.items ≡ told elements.old.items ++ limit_told old.now (limit_view limit.entry.now)) }
+    ensures told { OnOk result (told elements.new.items ≡ told elements.old.items ++ limit_told (limits_view limits.entry.now) old.now y (limit_view limit.entry.now)) }
+    ensures below { IfOk result (λ end. end ≡ limit_end y (limit_view limit.entry.now)) }
 {
     let name = limit.name.as_str();
     let below = if name.len() > 34 {

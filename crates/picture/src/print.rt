@@ -1,19 +1,18 @@
 //! The text of a picture.
-ghost use Rattle.std.specs.Prelude.{◌≡◌, ◌++◌, List, Some, IfOk, OnErr, OnOk, string_bytes};
+ghost use Rattle.std.specs.Prelude.{◌≡◌, ◌++◌, Some, IfOk, OnErr, OnOk, string_bytes};
 ghost use Rattle.std.specs.Fmt.{decimal, signed_decimal};
 ghost use Rattle.std.specs.List.{flat_map};
-ghost use Rattle.picture.specs.Spelling.{IsBody, IsPicture, at, band_title, coloured, label, page, patterned, placed, rectangles, sized, spelled, spelled_band, spelled_content, spelled_line, spelled_name, spelled_piece, spelled_text, users_label};
-ghost use Rattle.picture.specs.Told.{Item};
+ghost use Rattle.picture.specs.Spelling.{IsBody, IsPicture, Pictures, at, band_title, coloured, depth, label, page, patterned, placed, rectangles, sized, spelled, spelled_band, spelled_content, spelled_line, spelled_name, spelled_piece, spelled_text, users_label};
 
 use crate::element::{Band, Content, Element, Extent, Look, Piece, Place};
 use crate::words::{Style, Word};
 use std::alloc::{AllocError, Global};
 use xml_text::{push_escaped, push_start};
 
-/// The page of this height that has pictures, one below the other, as the calls that draw them wrote them.
+/// The page that has pictures, one below the other, as the calls that draw them wrote them, and ends this far below its top.
 #[tactic(auto, unfolding(crate::specs::Spelling::page, crate::specs::Spelling::IsPicture))]
 pub fn page(alloc: Global, height: u64, pictures: &str) -> Result<String, AllocError>
-    ensures { IfOk result (λ s. (items : List Item) → IsBody items pictures.now → IsPicture items (string_bytes s)) }
+    ensures { IfOk result (λ s. (ps : Pictures) → IsBody ps pictures.now → height ≡ depth ps → IsPicture ps (string_bytes s)) }
 {
     let text = page_text(alloc, height, pictures)?;
     Ok(text)
@@ -73,11 +72,9 @@ fn push(out: &mut String, element: &Element<'_>) -> Result<(), AllocError>
     ensures { OnOk result (string_bytes out.new ≡ string_bytes out.old ++ spelled element.now) }
 {
     match element {
-        Element::Caption(style, place, content) => push_text(out, *style, *place, *content),
         Element::Text(style, place, content) => push_text(out, *style, *place, *content),
         Element::Name(place, size, name) => push_name(out, *place, *size, name),
         Element::Piece(piece) => push_piece(out, piece),
-        Element::Swatch(piece) => push_piece(out, piece),
         Element::Band(band) => push_band(out, band),
         Element::Line(place, extent) => push_line(out, *place, *extent),
     }

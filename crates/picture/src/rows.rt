@@ -1,6 +1,7 @@
 //! What the lists and the tables of a picture share: their headings, and rows with names and numbers.
-ghost use Rattle.std.specs.Prelude.{◌≡◌, ◌++◌, OnOk};
-ghost use Rattle.picture.specs.Told.{headings_told, number_element, told};
+ghost use Rattle.std.specs.Prelude.{◌≡◌, ◌++◌, ◌-◌, OnOk};
+ghost use Rattle.price_core.specs.Limits.{limits_view};
+ghost use Rattle.picture.specs.Told.{headings_told, look_of, number_element, spot, told};
 
 use crate::bars::{LEFT, look_of};
 use crate::element::{Content, Element, Extent, Piece, Place};
@@ -29,7 +30,7 @@ pub(crate) fn add_headings(
     headings: &[(Style, u64, Word)],
     y: u64,
 ) -> Result<(), AllocError>
-    ensures { OnOk result (told elements.new.items ≡ told elements.old.items ++ headings_told headings.now) }
+    ensures { OnOk result (told elements.new.items ≡ told elements.old.items ++ headings_told y headings.now) }
 {
     for (style, x, word) in headings {
         elements.push(Element::Text(*style, Place { x: *x, y }, Content::Word(*word)))?;
@@ -38,7 +39,12 @@ pub(crate) fn add_headings(
 }
 
 /// The look of a variant, to the left of its name in the row at a height.
-pub(crate) fn swatch<'a>(limits: &[Limit], name: &'a str, y: u64) -> Piece<'a> {
+pub(crate) fn swatch<'a>(limits: &[Limit], name: &'a str, y: u64) -> Piece<'a>
+    ensures name { result.name.now ≡ name.now }
+    ensures look { result.look ≡ look_of (limits_view limits.now) name.now }
+    ensures place { result.place ≡ spot 40 (y - 26) }
+    ensures extent { result.extent ≡ record { width = 44; height = 32 } }
+{
     Piece {
         name,
         look: look_of(limits, name),

@@ -1,7 +1,7 @@
 //! The number of a step above its picture.
-ghost use Rattle.std.specs.Prelude.{◌≡◌, ◌++◌, ◌∷◌, [], OnErr, OnOk, string_bytes};
+ghost use Rattle.std.specs.Prelude.{◌≡◌, ◌++◌, ◌∷◌, [], IfOk, OnErr, OnOk, string_bytes};
 ghost use Rattle.picture.specs.Spelling.{Adds};
-ghost use Rattle.picture.specs.Told.{step_told, told};
+ghost use Rattle.picture.specs.Told.{down, step_height, step_told, told};
 
 use crate::bars::LEFT;
 use crate::element::{Content, Element, Extent, Place, add};
@@ -16,7 +16,8 @@ const STEP: u64 = 100;
 /// runs out the pictures are as they were.
 #[tactic(auto, unfolding(crate::specs::Spelling::Adds))]
 pub fn draw_step(alloc: Global, pictures: &mut String, y: u64, step: u64) -> Result<u64, AllocError>
-    ensures adds { OnOk result (Adds (step_told step ∷ []) (string_bytes pictures.old) (string_bytes pictures.new)) }
+    ensures adds { OnOk result (Adds y (step_told step ∷ []) (string_bytes pictures.old) (string_bytes pictures.new)) }
+    ensures below { IfOk result (λ end. end ≡ down y step_height) }
     ensures kept { OnErr result (string_bytes pictures.new ≡ string_bytes pictures.old) }
 {
     let mut elements = Vec::new(alloc);
@@ -36,7 +37,7 @@ fn add_number(elements: &mut Vec<Element<'_>>, step: u64) -> Result<(), AllocErr
         elements,
         &[
             Element::Line(Place { x: LEFT, y: 30 }, line),
-            Element::Caption(
+            Element::Text(
                 Style::Title,
                 Place { x: LEFT, y: 96 },
                 Content::Counted(Word::Step, step),

@@ -1,9 +1,10 @@
 //! The table of the switches.
-ghost use Rattle.std.specs.Prelude.{◌≡◌, ◌++◌, ◌<◌, [], OnOk, length};
-ghost use Rattle.std.specs.List.{flat_map, range_with_len};
+ghost use Rattle.std.specs.Prelude.{◌≡◌, ◌++◌, ◌<◌, [], IfOk, OnOk, length};
+ghost use Rattle.std.specs.List.{range_with_len};
 ghost use Rattle.std.specs.Map.{keys_of};
 ghost use Rattle.price_core.specs.Limits.{limits_view};
-ghost use Rattle.picture.specs.Told.{names_told, price_told, row_told, switch_told, table_told, told};
+ghost use Rattle.picture.specs.Changes.{names_told, pair_end, price_told, row_end, row_told, switch_end, switch_told, table_end, table_told};
+ghost use Rattle.picture.specs.Told.{foot, next_row, rows_told, told};
 
 use crate::change::Change;
 use crate::element::{Content, Element, Place, add};
@@ -29,7 +30,8 @@ pub(crate) fn add_table<'a>(
     y: u64,
 ) -> Result<u64, AllocError>
     requires { change.now.table.now.0 ≡ length limits.now }
-    ensures { OnOk result (told elements.new.items ≡ told elements.old.items ++ table_told change.now.prices.now (keys_of (limits_view limits.entry.now)) change.now.table.now) }
+    ensures told { OnOk result (told elements.new.items ≡ told elements.old.items ++ table_told change.now.prices.now (keys_of (limits_view limits.entry.now)) change.now.table.now y) }
+    ensures below { IfOk result (λ end. end ≡ table_end change.now.prices.now (keys_of (limits_view limits.entry.now)) change.now.table.now y) }
 {
     add_headings(elements, HEADINGS, y)?;
     add_rows(elements, change, limits, y.saturating_add(ROW))
@@ -43,7 +45,8 @@ fn add_rows<'a>(
     y: u64,
 ) -> Result<u64, AllocError>
     requires { change.now.table.now.0 ≡ length limits.now }
-    ensures { OnOk result (told elements.new.items ≡ told elements.old.items ++ flat_map (row_told change.now.prices.now (keys_of (limits_view limits.entry.now)) change.now.table.now) (range_with_len 0 change.now.table.now.0)) }
+    ensures told { OnOk result (told elements.new.items ≡ told elements.old.items ++ rows_told (row_told change.now.prices.now (keys_of (limits_view limits.entry.now)) change.now.table.now) (row_end change.now.prices.now (keys_of (limits_view limits.entry.now)) change.now.table.now) y (range_with_len 0 change.now.table.now.0)) }
+    ensures below { IfOk result (λ end. end ≡ foot (row_end change.now.prices.now (keys_of (limits_view limits.entry.now)) change.now.table.now) y (range_with_len 0 change.now.table.now.0)) }
 {
     let mut row = y;
     for from in 0..limits.len() {
@@ -62,7 +65,8 @@ fn add_row<'a>(
 ) -> Result<u64, AllocError>
     requires width { change.now.table.now.0 ≡ length limits.now }
     requires inside { from < length limits.now }
-    ensures { OnOk result (told elements.new.items ≡ told elements.old.items ++ row_told change.now.prices.now (keys_of (limits_view limits.entry.now)) change.now.table.now from) }
+    ensures told { OnOk result (told elements.new.items ≡ told elements.old.items ++ row_told change.now.prices.now (keys_of (limits_view limits.entry.now)) change.now.table.now y from) }
+    ensures below { IfOk result (λ end. end ≡ row_end change.now.prices.now (keys_of (limits_view limits.entry.now)) change.now.table.now y from) }
 {
     let mut row = y;
     for to in 0..limits.len() {
@@ -82,7 +86,8 @@ fn add_switch<'a>(
     switch: Switch,
     y: u64,
 ) -> Result<u64, AllocError>
-    ensures { OnOk result (told elements.new.items ≡ told elements.old.items ++ switch_told prices.now from.now to.now switch) }
+    ensures told { OnOk result (told elements.new.items ≡ told elements.old.items ++ switch_told prices.now y from.now to.now switch) }
+    ensures below { IfOk result (λ end. end ≡ switch_end prices.now y from.now to.now switch) }
 {
     let price = price_of(prices, from, to);
     if switch.points == 0 && price.is_some() {
@@ -122,7 +127,8 @@ fn add_names<'a>(
     to: &'a str,
     y: u64,
 ) -> Result<u64, AllocError>
-    ensures { OnOk result (told elements.new.items ≡ told elements.old.items ++ names_told from.now to.now) }
+    ensures told { OnOk result (told elements.new.items ≡ told elements.old.items ++ names_told y from.now to.now) }
+    ensures below { IfOk result (λ end. end ≡ pair_end y from.now to.now) }
 {
     let is_long = from.len().max(to.len()) > 17;
     let width = if is_long { 1060 } else { 300 };

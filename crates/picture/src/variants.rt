@@ -1,12 +1,12 @@
 //! The list of the variants.
-ghost use Rattle.std.specs.Prelude.{◌≡◌, ◌++◌, [], OnOk};
-ghost use Rattle.std.specs.List.{flat_map};
+ghost use Rattle.std.specs.Prelude.{◌≡◌, ◌++◌, [], IfOk, OnOk};
 ghost use Rattle.std.specs.Map.{lookup};
 ghost use Rattle.std.specs.Str.{bytes_eq};
 ghost use Rattle.bucket_core.specs.Rule.{total_of};
 ghost use Rattle.price_core.specs.Limits.{limit_view, limits_view};
 ghost use Rattle.transport_instance.specs.Certificate.{beta_view};
-ghost use Rattle.picture.specs.Told.{dual_told, told, totals_told, variant_told, variants_told};
+ghost use Rattle.picture.specs.Changes.{dual_told, totals_told, variant_end, variant_told, variants_end, variants_told};
+ghost use Rattle.picture.specs.Told.{foot, rows_told, told};
 
 use crate::change::Change;
 use crate::element::{Content, Element, Place, add};
@@ -31,8 +31,9 @@ pub(crate) fn add_variants<'a>(
     limits: &'a [Limit],
     y: u64,
 ) -> Result<u64, AllocError>
-    ensures { OnOk result (told elements.new.items ≡ told elements.old.items
-        ++ variants_told change.now.old.now change.now.new.now (limits_view limits.entry.now) (beta_view change.now.certificate.now.beta.items)) }
+    ensures told { OnOk result (told elements.new.items ≡ told elements.old.items
+        ++ variants_told change.now.old.now change.now.new.now (limits_view limits.entry.now) (beta_view change.now.certificate.now.beta.items) y) }
+    ensures below { IfOk result (λ end. end ≡ variants_end (limits_view limits.entry.now) y) }
 {
     add_headings(elements, HEADINGS, y)?;
     let below = add_rows(elements, change, limits, y.saturating_add(ROW))?;
@@ -46,8 +47,9 @@ fn add_rows<'a>(
     limits: &'a [Limit],
     y: u64,
 ) -> Result<u64, AllocError>
-    ensures { OnOk result (told elements.new.items ≡ told elements.old.items
-        ++ flat_map (variant_told change.now.old.now change.now.new.now (beta_view change.now.certificate.now.beta.items)) (limits_view limits.entry.now)) }
+    ensures told { OnOk result (told elements.new.items ≡ told elements.old.items
+        ++ rows_told (variant_told (limits_view limits.entry.now) change.now.old.now change.now.new.now (beta_view change.now.certificate.now.beta.items)) variant_end y (limits_view limits.entry.now)) }
+    ensures below { IfOk result (λ end. end ≡ foot variant_end y (limits_view limits.entry.now)) }
 {
     let mut row = y;
     for limit in limits {
@@ -64,8 +66,9 @@ fn add_variant<'a>(
     limit: &'a Limit,
     y: u64,
 ) -> Result<u64, AllocError>
-    ensures { OnOk result (told elements.new.items ≡ told elements.old.items
-        ++ variant_told change.now.old.now change.now.new.now (beta_view change.now.certificate.now.beta.items) (limit_view limit.entry.now)) }
+    ensures told { OnOk result (told elements.new.items ≡ told elements.old.items
+        ++ variant_told (limits_view limits.entry.now) change.now.old.now change.now.new.now (beta_view change.now.certificate.now.beta.items) y (limit_view limit.entry.now)) }
+    ensures below { IfOk result (λ end. end ≡ variant_end y (limit_view limit.entry.now)) }
 {
     let name = limit.name.as_str();
     let below = if name.len() > 26 {
@@ -88,14 +91,14 @@ fn add_totals<'a>(
     y: u64,
     below: u64,
 ) -> Result<(), AllocError>
-    ensures { OnOk result (told elements.new.items ≡ told elements.old.items ++ totals_told change.now.old.now change.now.new.now (limit_view limit.entry.now)) }
+    ensures { OnOk result (told elements.new.items ≡ told elements.old.items ++ totals_told (limits_view limits.entry.now) change.now.old.now change.now.new.now y below (limit_view limit.entry.now)) }
 {
     let name = limit.name.as_str();
     let width = if y < below { 1060 } else { 440 };
     add(
         elements,
         &[
-            Element::Swatch(swatch(limits, name, y)),
+            Element::Piece(swatch(limits, name, y)),
             Element::Name(Place { x: NAMES, y }, size_for(name, width), name),
             number_at(600, below, change.old.total_of(name)),
             number_at(720, below, change.new.total_of(name)),
@@ -107,7 +110,7 @@ fn add_totals<'a>(
 
 /// Adds a dual price at a height, if there is one.
 fn add_dual(elements: &mut Vec<Element<'_>>, dual: Option<i64>, y: u64) -> Result<(), AllocError>
-    ensures { OnOk result (told elements.new.items ≡ told elements.old.items ++ dual_told dual) }
+    ensures { OnOk result (told elements.new.items ≡ told elements.old.items ++ dual_told y dual) }
 {
     match dual {
         Some(dual) => add(

@@ -65,9 +65,18 @@ fn is_wanting(alloc: Global, call: ListedCall, line: &[u8], count: usize) -> boo
 /// A call, and the line on its want of memory.
 const WANTS: &[(ListedCall, &[u8])] = &[
     (ListedCall::Flagops, b"refused flagops 0 WantOfMemory\n"),
-    (ListedCall::Load(Call::Load), b"refused load 0 WantOfMemory\n"),
-    (ListedCall::Load(Call::ReadTree), b"refused read_tree 0 WantOfMemory\n"),
-    (ListedCall::Load(Call::ReadRule), b"refused read_rule 0 WantOfMemory\n"),
+    (
+        ListedCall::Load(Call::Load),
+        b"refused load 0 WantOfMemory\n",
+    ),
+    (
+        ListedCall::Load(Call::ReadTree),
+        b"refused read_tree 0 WantOfMemory\n",
+    ),
+    (
+        ListedCall::Load(Call::ReadRule),
+        b"refused read_rule 0 WantOfMemory\n",
+    ),
     (ListedCall::Bucket, b"refused bucket 0 WantOfMemory\n"),
 ];
 

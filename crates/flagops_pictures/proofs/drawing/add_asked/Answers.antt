@@ -28,4 +28,4 @@ draw-requires-clause-weight g c =
 pub returns : goal.returns
 returns g c =
     let posed = c.in_ok-problem.ensures in
-    subst (λ (r : Result Problem RolloutFault). AddsTold r (planned_view c.args.planned.now) (string_bytes c.args.pictures.now) (string_bytes c.draw.new.pictures)) (sym posed.is) (c.in_ok-below.ensures posed.inputs posed.counted)
+    subst (λ (r : Result Problem RolloutFault). AddsTold r (planned_view c.args.planned.now) c.args.y c.in_ok-below.below (string_bytes c.args.pictures.now) (string_bytes c.draw.new.pictures)) (sym posed.is) (c.in_ok-below.ensures posed.inputs posed.counted)

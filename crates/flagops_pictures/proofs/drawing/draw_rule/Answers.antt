@@ -1,5 +1,5 @@
 use Rattle.std.proofs.Common.{◌∙◌, ap, arith, length, refl, sum}
-use Rattle.picture.specs.Told.{change_told}
+use Rattle.picture.specs.Changes.{change_height, change_told}
 use Rattle.rollout_checks.specs.Lawful.{problem_view}
 use Rattle.switch_table.specs.Runs.{runs_view}
 use Rattle.transport_instance.specs.Certificate.{certificate_view}
@@ -22,11 +22,13 @@ pub returns : goal.returns
 returns c = λ inputs counted.
     let p = c.args.problem.now in
     let items = change_told p.old c.args.rule.now p.totals p.request.now.prices (runs_view c.in_ok-runs.runs.items) c.in_ok-table.table (certificate_view c.args.certificate.now) in
-    let told : IsChangeTold (problem_view p inputs) c.args.rule.now (certificate_view c.args.certificate.now) items = record {
+    let high = change_height p.totals p.request.now.prices c.in_ok-table.table in
+    let told : IsChangeTold (problem_view p inputs) c.args.rule.now (certificate_view c.args.certificate.now) high items = record {
       runs = runs_view c.in_ok-runs.runs.items;
       table = c.in_ok-table.table;
       in_runs = rw (c.as_slice-counts.ensures.value, counted) at c.in_ok-runs.ensures;
       switched = rw (c.as_slice-counts.ensures.value, counted) at c.in_ok-table.ensures;
       told = refl;
+      as_high = refl;
     } in
-    (items, told, rw (c.prices.ensures.value, c.as_slice.ensures.value) at c.in_ok-below.ensures.adds)
+    ((high, items), told, rw (c.prices.ensures.value, c.as_slice.ensures.value) at c.in_ok-below.ensures.adds, rw c.prices.ensures.value at c.in_ok-below.ensures.below)

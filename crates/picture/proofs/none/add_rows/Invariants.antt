@@ -1,9 +1,12 @@
-use Rattle.std.proofs.Common.{◌≡◌, ◌++◌, drop}
-use Rattle.std.specs.List.{flat_map}
+use Rattle.std.proofs.Common.{◌++◌, drop}
 use Rattle.price_core.specs.Limits.{limits_view}
-use Rattle.picture.specs.Told.{limit_told, told}
+use Rattle.picture.specs.Deficits.{limit_end, limit_told}
+use Rattle.picture.specs.Told.{foot, rows_told, told}
+use Rattle.picture.proofs.Remaining.{Stands}
 use Rattle.picture.proofs.none.add_rows.Given as goal
 
--- what is told so far, and what the rest tells
+-- the rows that are left
 abbrev pub invariant-loop-limit : goal.invariant-loop-limit
-invariant-loop-limit l = told l.elements.items ++ flat_map (limit_told l.old) (limits_view (drop l.limit-index l.limits)) ≡ told l.fn.elements.items ++ flat_map (limit_told l.old) (limits_view l.limits)
+invariant-loop-limit l =
+    let limits = limits_view l.limits in
+    Stands (limit_told limits l.old) limit_end l.row (limits_view (drop l.limit-index l.limits)) (told l.elements.items) (told l.fn.elements.items ++ rows_told (limit_told limits l.old) limit_end l.y limits) (foot limit_end l.y limits)
