@@ -21,9 +21,9 @@
 //!
 //! Proved, over the definitions in `specs/`: of words with a mistake, that it is told; else, over files and a standard input whose
 //! bytes are known, that the output is what they make (`Record`, `Tally`, `Join`), or a front of it, or that memory ran out, with
-//! its status; that a person is told of a refusal by the name of what is refused (`Remarks`), and beside an answer just of what was
-//! passed over (`Beside`); that a file that could not be read is what is reported; and that files are only read. What is joined of
-//! the tallies of sets of inputs is the tally of their union ([`joined_files_are_of_all`]).
+//! its status; that a person is told of a refusal by the name of what is refused (`Remarks`); that a file that could not be read is
+//! what is reported; and that files are only read. What is joined of the tallies of sets of inputs is the tally of their union
+//! ([`joined_files_are_of_all`]).
 #![tactic(auto)]
 
 mod asked;
