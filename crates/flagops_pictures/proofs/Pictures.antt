@@ -1,17 +1,21 @@
 -- What was loaded in turn and then drawn, as one report.
-use Rattle.std.proofs.Common.{◌≡◌, ◌⊎◌, ℕ, List, Bool, is_some, true, false, Option, Some, None, IfErr, IfOk, IfSome, inl, inr, refl, sym, ap, ◌∙◌, subst}
+use Rattle.std.proofs.Common.{◌≡◌, ◌⊎◌, ◌||◌, ◌++◌, ℕ, List, Bool, is_some, true, false, Option, Some, None, IfErr, IfOk, IfSome, inl, inr, refl, sym, ap, ◌∙◌, subst}
 use Rattle.std.specs.Prelude.{Result, Ok, Err}
 use Rattle.flagops_rollouts.specs.Doubts.{doubt_of}
 use Rattle.flagops_shell.specs.Files.{Holding}
 use Rattle.flagops_rollouts.specs.Loaded.{plan_at, IsBookQuestionAt}
 use Rattle.flagops_files.specs.Question.{BookQuestion}
-use Rattle.flagops_rollouts.specs.Refusal.{GivesOne, GivesUnlessWant, call_of, is_want, Refused}
+use Rattle.flagops_files.proofs.Told.{told_right}
+use Rattle.flagops_files.specs.declared.refusal.Call.TheVariants as file
+use Rattle.flagops_rollouts.specs.Refusal.{GivesOne, GivesUnlessWant, call_of, is_want, loads_plan, Refused, Subjects, TellsOfOne}
+use Rattle.flagops_rollouts.specs.declared.refusal.RolloutCall.TheVariants as call
+use Rattle.flagops_shell.specs.Apart.{apart}
 use Rattle.flagops_shell.specs.Outcomes.{beside}
 use Rattle.flagops_shell.specs.Report.{Report, outcome_view}
 use Rattle.flagops_shell.specs.declared.outcome.Outcome.{Outcome}
 use Rattle.flagops_rollouts.specs.declared.refusal.RolloutCall.{RolloutCall}
 use Rattle.flagops_rollouts.specs.declared.refusal.RolloutRefusal.{RolloutRefusal}
-use Rattle.flagops_pictures.specs.Pictured.{IsDrawnOrDenied, IsPictureReport, IsPictured, as_question, asked_over, drawn_report}
+use Rattle.flagops_pictures.specs.Pictured.{IsDrawnOrDenied, IsPictureReport, IsPictured, as_question, asked_over, drawn_report, picture_calls}
 use Rattle.flagops_pictures.specs.Words.{Picturing}
 use Rattle.plan_text.specs.Answer.{Answer}
 
@@ -33,6 +37,45 @@ module _ (a : Picturing) (q : BookQuestion) (answer : Answer) where
   pub pictured : (old kept : Option Holding) (r : Result Outcome Refused) → kept ≡ old → IfSome old (λ at. IsBookQuestionAt at a.document a.request a.book (Ok q))
       → IfSome kept (λ at. plan_at at a.plan ≡ Ok answer) → GivesOne outcome_view r (IsPictured a.refine (Ok q) (Ok answer)) → IfSome old (λ at. GivesOne outcome_view r (IsPictureReport at a))
   pictured old kept r same asked answered drawn = joined old kept same asked answered (λ at x y. pictured_over at r x y drawn)
+
+-- a plan file that is refused
+module _ (a : Picturing) (q : BookQuestion) (e : Refused) where
+  unanswered_over : (at : Holding) → IsBookQuestionAt at a.document a.request a.book (Ok q) → (is_want e.refusal ≡ false → plan_at at a.plan ≡ Err e.refusal) → is_want e.refusal ≡ false → IsPictureReport at a (Err e.refusal)
+  unfolding IsPictureReport
+  unanswered_over at asked refused no_want = (Ok q, asked, rw (refused no_want) refl)
+
+  pub unanswered : (old kept : Option Holding) (r : Result Outcome Refused) → r ≡ Err e → kept ≡ old → IfSome old (λ at. IsBookQuestionAt at a.document a.request a.book (Ok q))
+      → IfSome kept (λ at. is_want e.refusal ≡ false → plan_at at a.plan ≡ Err e.refusal) → IfSome old (λ at. GivesOne outcome_view r (IsPictureReport at a))
+  unanswered old kept r is same asked refused =
+      subst (λ (s : Result Outcome Refused). IfSome old (λ at. GivesOne outcome_view s (IsPictureReport at a))) (sym is) (joined old kept same asked refused unanswered_over)
+
+-- the calls that loading a plan file makes are calls of the command
+pub plan_comes : (c : RolloutCall) → loads_plan c ≡ true → picture_calls c ≡ true
+plan_comes (call.Load file.Load) e = refl
+plan_comes (call.Load file.ReadPlanned) e = refl
+plan_comes (call.Load file.ReadTree) e = apart e
+plan_comes (call.Load file.ReadRule) e = apart e
+plan_comes (call.Load file.ReadFlags) e = apart e
+plan_comes (call.Load file.ReadBook) e = apart e
+plan_comes (call.Load file.ReadTally) e = apart e
+plan_comes (call.Load file.Store) e = apart e
+plan_comes call.Verify e = refl
+plan_comes call.Apply e = apart e
+plan_comes call.Plan e = apart e
+plan_comes call.PrintPlanned e = apart e
+
+-- no file failed in two loads, and what comes behind them reads none
+or_false : (b : Bool) → (b || false) ≡ b
+or_false true = refl
+or_false false = refl
+
+pub no_failure : (start first last failed : Bool) → first ≡ (start || false) → last ≡ (first || false) → failed ≡ false → last ≡ (start || failed)
+no_failure start first last failed a b read = b ∙ (or_false first ∙ (a ∙ ap (λ (x : Bool). start || x) (sym read)))
+
+-- what is told of one of the last is told of one of all
+pub tells_right : (xs ys : Subjects) (r : Result Outcome Refused) → TellsOfOne ys r → TellsOfOne (xs ++ ys) r
+tells_right xs ys (Ok o) told = tt
+tells_right xs ys (Err e) told = λ no_want. told_right xs ys e.refusal e.remark (told no_want)
 
 -- the picture of an answer that is right, and whether a person is told something beside it
 pub drawn_so : (refine : Option ℕ) (q : BookQuestion) (answer : Answer) (bytes : List ℕ) (r : Result Outcome Refused) → IsDrawnOrDenied (asked_over refine answer q) answer (Ok bytes)
