@@ -9,7 +9,7 @@ static pthread_mutex_t lock = PTHREAD_MUTEX_INITIALIZER;
 static void *run(void *unused) {
     (void)unused;
     flagops_seat mine = FLAGOPS_NONE;
-    size_t wrong = 0, noted = 0, written = 0;
+    size_t wrong = 0, reached = 0, due = 0, noted = 0, written = 0;
     uint8_t out[4096];
     for (int i = 0; i < ROUNDS; i++) {
         if (i % 16 == 0) {
@@ -20,15 +20,17 @@ static void *run(void *unused) {
         if (i == 0) wrong += flagops_record(&mine, 65536) != FLAGOPS_OK;
         answer a = resolve(&mine, "checkout", FLAGOPS_BOOL, "false", "{\"targetingKey\":\"ann\"}");
         wrong += a.number != FLAGOPS_OK;
-        if (a.details.code == FLAGOPS_NO_CODE) wrong += a.details.reason != FLAGOPS_TARGETING_MATCH;
+        if (a.details.code == FLAGOPS_NO_CODE) wrong += a.details.reason != FLAGOPS_TARGETING_MATCH, reached++;
         else wrong += a.details.code != FLAGOPS_FLAG_NOT_FOUND || a.written != 5;
         if (i % 256 == 255) {
             wrong += flagops_notes(&mine, out, sizeof out, &written) != FLAGOPS_OK;
             noted += written > 0;
+            due = reached;
         }
     }
     flagops_close(&mine);
-    if (noted == 0) wrong++;
+    /* (where other work holds the main thread back, a thread may be done before it meets a document with flags) */
+    if ((noted > 0) != (due > 0)) wrong++;
     return (void *)wrong;
 }
 

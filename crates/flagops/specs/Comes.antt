@@ -5,8 +5,11 @@ use Rattle.clap.specs.Walk.{Text}
 use Rattle.flagops_books.specs.Command as books
 use Rattle.flagops_checks.specs.Command as checks
 use Rattle.flagops_commands.specs.Commands as commands
-use Rattle.flagops_files.specs.Refusal as files
-use Rattle.flagops_files.specs.declared.refusal.Refusal.{Refusal}
+use Rattle.flagops_commands.specs.Refusal as listed
+use Rattle.flagops_books.specs.Refusal as book_refusals
+use Rattle.flagops_checks.specs.Refusal as check_refusals
+use Rattle.flagops_rollouts.specs.Refusal as rollouts
+use Rattle.flagops_rollouts.specs.declared.refusal.RolloutRefusal.{RolloutRefusal}
 use Rattle.flagops_filters.specs.Ended.{AnswersRecord, AnswersTally, TellsRecord, TellsTally, UnreadRecord, UnreadTally}
 use Rattle.flagops_filters.specs.Command as joins
 use Rattle.flagops_filters.specs.Refusal as filters
@@ -23,13 +26,17 @@ use Rattle.flagops.specs.declared.family.Family.{Family}
 use Rattle.flagops.specs.declared.family.Family.TheVariants.{Files, Serve, Follow, Ramp, VerifyRamp, Picture, PictureRamp, PlanPicture, ApplyStep, Ofrep, Record, Tally, Join, Book, Check}
 
 module _ (old new : Shown) (held holds : Option Holding) (had_failed has_failed : Bool) (status : ℕ) (given : Option (List ℕ)) (is_cut : Bool) where
-  -- of a command that is refused as files are
-  abbrev pub Answers : {A : Type 0} → Description A Refusal → List Text → Type 0
-  Answers d words = Runs d files.is_unread files.line_of old new status held holds had_failed has_failed words
+  -- of a command, by which of its refusals are of a file that could not be read or written, and by their lines
+  abbrev pub Answers : {A R : Type 0} → Description A R → (R → Bool) → (R → List ℕ) → List Text → Type 0
+  Answers d is_unread line_of words = Runs d is_unread line_of old new status held holds had_failed has_failed words
+
+  -- of one that is refused as the commands on rollouts are
+  abbrev pub AnswersRollout : {A : Type 0} → Description A RolloutRefusal → List Text → Type 0
+  AnswersRollout d words = Answers d rollouts.is_unread rollouts.line_of words
 
   -- of a command on the steps of a ramp
   abbrev pub AnswersSteps : {A : Type 0} → Description A RampRefusal → List Text → Type 0
-  AnswersSteps d words = Runs d ramp_refusals.is_unread ramp_refusals.line_of old new status held holds had_failed has_failed words
+  AnswersSteps d words = Answers d ramp_refusals.is_unread ramp_refusals.line_of words
 
   -- Of `serve`: its answer over files whose bytes are known; that all was published or refused; a read that failed; what is told of
   -- words with a mistake; and the files as they were.
@@ -67,18 +74,18 @@ module _ (old new : Shown) (held holds : Option Holding) (had_failed has_failed 
       × (holds ≡ held)
 
   abbrev pub Comes : Family → List Text → Type 0
-  Comes Files words = Answers commands.description words
+  Comes Files words = Answers commands.description listed.is_unread listed.line_of words
   Comes Serve words = ComesOfServe words
   Comes Follow words = ComesOfFollow words
   Comes Ramp words = AnswersSteps ramps.ramp_description words
   Comes VerifyRamp words = AnswersSteps ramps.verify_description words
-  Comes Picture words = Answers pictures.picture_description words
+  Comes Picture words = AnswersRollout pictures.picture_description words
   Comes PictureRamp words = AnswersSteps pictures.ramp_description words
-  Comes PlanPicture words = Answers pictures.plan_description words
+  Comes PlanPicture words = AnswersRollout pictures.plan_description words
   Comes ApplyStep words = AnswersSteps ramps.step_description words
   Comes Ofrep words = ComesOfOfrep words
   Comes Record words = ComesOfRecord words
   Comes Tally words = ComesOfTally words
-  Comes Join words = Runs joins.join_description filters.is_unread filters.line_of old new status held holds had_failed has_failed words
-  Comes Book words = Answers books.description words
-  Comes Check words = Answers checks.description words
+  Comes Join words = Answers joins.join_description filters.is_unread filters.line_of words
+  Comes Book words = Answers books.description book_refusals.is_unread book_refusals.line_of words
+  Comes Check words = Answers checks.description check_refusals.is_unread check_refusals.line_of words

@@ -1,4 +1,5 @@
 -- Files that are read one after the other.
+use Rattle.flagops_files.specs.declared.refusal.Refusal.{Refusal}
 use Rattle.std.proofs.Common.{◌≡◌, ◌+◌, ◌<◌, ℕ, Bool, true, false, List, [], ◌∷◌, Option, Some, None, IfSome, add-one, refl, ap, sym, subst, drop, get_or, length, map, inl, inr, string_bytes}
 use Rattle.std.proofs.Math.Seq.{drop-cons}
 use Rattle.std.specs.Prelude.{Result, Ok, Err}
@@ -7,7 +8,6 @@ use Rattle.book_core.specs.Book.{Contents, inputs_on}
 use Rattle.book_core.specs.Reading.{book_of}
 use Rattle.book_core.specs.declared.fault.BookFileFault.{BookFileFault}
 use Rattle.flagops_books.specs.Step.{GivesUnited}
-use Rattle.flagops_books.specs.Told.{is_told}
 use Rattle.flagops_books.specs.Union.{IsLast, IsUnited, IsWithBook, IsWithBytes, IsWithFile, IsWithLines, Later, United, noted, stray}
 use Rattle.flagops_books.specs.declared.uniting.Gathered.{Gathered}
 use Rattle.flagops_books.specs.declared.uniting.Step.{Step}
@@ -15,8 +15,8 @@ use Rattle.flagops_books.specs.declared.uniting.Step.TheVariants.{Noted, Stopped
 use Rattle.flagops_shell.specs.Files.{Holding}
 use Rattle.flagops_files.specs.Question.{notes_bytes_at}
 use Rattle.flagops_shell.specs.declared.outcome.Outcome.{Outcome}
-use Rattle.flagops_files.specs.declared.refusal.Refusal.{Refusal}
-use Rattle.flagops_files.specs.Refusal.{Refused}
+use Rattle.flagops_books.specs.declared.refusal.BookRefusal.{BookRefusal}
+use Rattle.flagops_books.specs.Refusal.{Refused}
 use Rattle.note_books.specs.Blank.{begins_book}
 use Rattle.note_books.specs.Lines.{Taken}
 use Rattle.note_books.specs.Notes.{IsBookOf, Notes, both, no_notes, notes_in}
@@ -26,63 +26,63 @@ use Rattle.note_books.specs.declared.fault.NotesFault.TheVariants as lines
 not_both : {X E Y : Type 0} {x : X} {e : E} → Ok x ≡ Err e → Y
 not_both h = cc
 
-apart : {Y : Type 0} (n : Notes) (t : Bool) (path : List ℕ) (k : ℕ) → (let r : Result United Refusal = Ok (noted n t) in r) ≡ Ok (stray path k) → Y
+apart : {Y : Type 0} (n : Notes) (t : List ℕ) (path : List ℕ) (k : ℕ) → (let r : Result United BookRefusal = Ok (noted n t) in r) ≡ Ok (stray path k) → Y
 apart n t path k h = cc
 
-notes_of : Result United Refusal → Notes
+notes_of : Result United BookRefusal → Notes
 notes_of (Ok (noted n t)) = n
 notes_of (Ok (stray path k)) = no_notes
 notes_of (Err e) = no_notes
 
-told_in : Result United Refusal → Bool
+told_in : Result United BookRefusal → List ℕ
 told_in (Ok (noted n t)) = t
-told_in (Ok (stray path k)) = false
-told_in (Err e) = false
+told_in (Ok (stray path k)) = []
+told_in (Err e) = []
 
 -- ---- one file, and those behind it
 
-module _ (Next : Later) (passing : Bool) (n : Notes) (t : Bool) (r : Result United Refusal) (later : Next n t r) where
-  same_noted : (m : Notes) (u : Bool) → IsLast m u (Ok (noted n t)) → Next m u r
+module _ (Next : Later) (passing : Bool) (n : Notes) (t : List ℕ) (r : Result United BookRefusal) (later : Next n t r) where
+  same_noted : (m : Notes) (u : List ℕ) → IsLast m u (Ok (noted n t)) → Next m u r
   unfolding told_in notes_of
-  same_noted m u is = subst (λ (x : Notes). Next x u r) (ap notes_of is) (subst (λ (b : Bool). Next n b r) (ap told_in is) later)
+  same_noted m u is = subst (λ (x : Notes). Next x u r) (ap notes_of is) (subst (λ (l : List ℕ). Next n l r) (ap told_in is) later)
 
-  behind_book : (all : Notes) (told : Bool) (o : Result Contents BookFileFault) → IsWithBook IsLast all told o (Ok (noted n t)) → IsWithBook Next all told o r
+  behind_book : (all : Notes) (told : List ℕ) (o : Result Contents BookFileFault) → IsWithBook IsLast all told o (Ok (noted n t)) → IsWithBook Next all told o r
   behind_book all told (Err e) is = not_both is
   behind_book all told (Ok other) (inl none) = not_both none.1
   behind_book all told (Ok other) (inr more) = inr (more.0, more.1, same_noted (both all (notes_in other)) told more.2)
 
-  behind_lines : (told : Bool) (path : List ℕ) (o : Result Taken NotesFault) → IsWithLines IsLast told path o (Ok (noted n t)) → IsWithLines Next told path o r
+  behind_lines : (told : List ℕ) (path : List ℕ) (o : Result Taken NotesFault) → IsWithLines IsLast told path o (Ok (noted n t)) → IsWithLines Next told path o r
   behind_lines told path (Ok taken) is = same_noted taken.notes _ is
   behind_lines told path (Err (lines.Line k)) is = apart n t path k is
   behind_lines told path (Err lines.PageFull) is = not_both is
   behind_lines told path (Err lines.WantOfMemory) is = absurd is
 
-  behind_bytes : (as_book : Bool) (all : Notes) (told : Bool) (path bytes : List ℕ) → IsWithBytes as_book IsLast passing all told path bytes (Ok (noted n t)) → IsWithBytes as_book Next passing all told path bytes r
+  behind_bytes : (as_book : Bool) (all : Notes) (told : List ℕ) (path bytes : List ℕ) → IsWithBytes as_book IsLast passing all told path bytes (Ok (noted n t)) → IsWithBytes as_book Next passing all told path bytes r
   behind_bytes true all told path bytes is = behind_book all told (book_of bytes) is
   behind_bytes false all told path bytes is = (is.0, is.1, behind_lines told path is.0 is.2)
 
-  behind_file : (all : Notes) (told : Bool) (path : List ℕ) (o : Result (List ℕ) Refusal) → IsWithFile IsLast passing all told path o (Ok (noted n t)) → IsWithFile Next passing all told path o r
+  behind_file : (all : Notes) (told : List ℕ) (path : List ℕ) (o : Result (List ℕ) Refusal) → IsWithFile IsLast passing all told path o (Ok (noted n t)) → IsWithFile Next passing all told path o r
   behind_file all told path (Err e) is = not_both is
   behind_file all told path (Ok bytes) is = behind_bytes (begins_book bytes) all told path bytes is
 
 -- a file that is refused, or a line of it
-module _ (Next : Later) (passing : Bool) (r : Result United Refusal) (last : (n : Notes) (t : Bool) → r ≡ Ok (noted n t) → ⊥) where
-  stop_book : (all : Notes) (told : Bool) (o : Result Contents BookFileFault) → IsWithBook IsLast all told o r → IsWithBook Next all told o r
+module _ (Next : Later) (passing : Bool) (r : Result United BookRefusal) (last : (n : Notes) (t : List ℕ) → r ≡ Ok (noted n t) → ⊥) where
+  stop_book : (all : Notes) (told : List ℕ) (o : Result Contents BookFileFault) → IsWithBook IsLast all told o r → IsWithBook Next all told o r
   stop_book all told (Err e) is = is
   stop_book all told (Ok other) (inl none) = inl none
   stop_book all told (Ok other) (inr more) = absurd (last (both all (notes_in other)) told more.2)
 
-  stop_lines : (told : Bool) (path : List ℕ) (o : Result Taken NotesFault) → IsWithLines IsLast told path o r → IsWithLines Next told path o r
+  stop_lines : (told : List ℕ) (path : List ℕ) (o : Result Taken NotesFault) → IsWithLines IsLast told path o r → IsWithLines Next told path o r
   stop_lines told path (Ok taken) is = absurd (last taken.notes _ is)
   stop_lines told path (Err (lines.Line k)) is = is
   stop_lines told path (Err lines.PageFull) is = is
   stop_lines told path (Err lines.WantOfMemory) is = absurd is
 
-  stop_bytes : (as_book : Bool) (all : Notes) (told : Bool) (path bytes : List ℕ) → IsWithBytes as_book IsLast passing all told path bytes r → IsWithBytes as_book Next passing all told path bytes r
+  stop_bytes : (as_book : Bool) (all : Notes) (told : List ℕ) (path bytes : List ℕ) → IsWithBytes as_book IsLast passing all told path bytes r → IsWithBytes as_book Next passing all told path bytes r
   stop_bytes true all told path bytes is = stop_book all told (book_of bytes) is
   stop_bytes false all told path bytes is = (is.0, is.1, stop_lines told path is.0 is.2)
 
-  stop_file : (all : Notes) (told : Bool) (path : List ℕ) (o : Result (List ℕ) Refusal) → IsWithFile IsLast passing all told path o r → IsWithFile Next passing all told path o r
+  stop_file : (all : Notes) (told : List ℕ) (path : List ℕ) (o : Result (List ℕ) Refusal) → IsWithFile IsLast passing all told path o r → IsWithFile Next passing all told path o r
   stop_file all told path (Err e) is = is
   stop_file all told path (Ok bytes) is = stop_bytes (begins_book bytes) all told path bytes is
 
@@ -96,49 +96,49 @@ no_book = record { lawful = record { rising = tt; filled = tt }; held = λ page 
 -- what the paths that are left come to behind what is noted so far, all come to
 abbrev pub Goes : Holding → Bool → List (List ℕ) → List (List ℕ) → Gathered → Type 0
 Goes at passing paths left g =
-    (now : Notes) × IsBookOf now g.book × ((r : Result United Refusal) → IsUnited at passing left now (is_told (string_bytes g.told)) r → IsUnited at passing paths no_notes false r)
+    (now : Notes) × IsBookOf now g.book × ((r : Result United BookRefusal) → IsUnited at passing left now (string_bytes g.told) r → IsUnited at passing paths no_notes [] r)
 
 pub starts : (at : Holding) (passing : Bool) (paths : List (List ℕ)) (g : Gathered) → g.book ≡ [] → string_bytes g.told ≡ [] → Goes at passing paths paths g
 starts at passing paths g none quiet = (
   no_notes,
   subst (IsBookOf no_notes) (sym none) no_book,
-  λ r later. subst (λ (b : Bool). IsUnited at passing paths no_notes b r) (ap is_told quiet) later,
+  λ r later. subst (λ (l : List ℕ). IsUnited at passing paths no_notes l r) quiet later,
 )
 
 module _ (at : Holding) (passing : Bool) (paths left rest : List (List ℕ)) (path : List ℕ) (g : Gathered) (goes : Goes at passing paths left g) (first : left ≡ path ∷ rest) where
   abbrev Behind : Result Step Refused → Type 0
-  Behind r = (now : Notes) → IsBookOf now g.book → GivesUnited r (IsWithFile IsLast passing now (is_told (string_bytes g.told)) path (notes_bytes_at at passing path))
+  Behind r = (now : Notes) → IsBookOf now g.book → GivesUnited r (IsWithFile IsLast passing now (string_bytes g.told) path (notes_bytes_at at passing path))
 
-  along : (r : Result United Refusal) → IsWithFile (IsUnited at passing rest) passing goes.0 (is_told (string_bytes g.told)) path (notes_bytes_at at passing path) r → IsUnited at passing paths no_notes false r
+  along : (r : Result United BookRefusal) → IsWithFile (IsUnited at passing rest) passing goes.0 (string_bytes g.told) path (notes_bytes_at at passing path) r → IsUnited at passing paths no_notes [] r
   unfolding IsUnited
-  along r came = goes.2 r (subst (λ (ps : List (List ℕ)). IsUnited at passing ps goes.0 (is_told (string_bytes g.told)) r) (sym first) came)
+  along r came = goes.2 r (subst (λ (ps : List (List ℕ)). IsUnited at passing ps goes.0 (string_bytes g.told) r) (sym first) came)
 
   pub goes_on : (s : Step) (next : Gathered) → s ≡ Noted next → Behind (Ok s) → Goes at passing paths rest next
   goes_on s next is gives =
-      let came : GivesUnited (Ok (Noted next)) (IsWithFile IsLast passing goes.0 (is_told (string_bytes g.told)) path (notes_bytes_at at passing path)) = subst (λ (x : Step). Behind (Ok x)) is gives goes.0 goes.1 in (
+      let came : GivesUnited (Ok (Noted next)) (IsWithFile IsLast passing goes.0 (string_bytes g.told) path (notes_bytes_at at passing path)) = subst (λ (x : Step). Behind (Ok x)) is gives goes.0 goes.1 in (
         came.0,
         came.1,
-        λ r later. along r (behind_file (IsUnited at passing rest) passing came.0 (is_told (string_bytes next.told)) r later goes.0 (is_told (string_bytes g.told)) path (notes_bytes_at at passing path) came.2),
+        λ r later. along r (behind_file (IsUnited at passing rest) passing came.0 (string_bytes next.told) r later goes.0 (string_bytes g.told) path (notes_bytes_at at passing path) came.2),
       )
 
-  pub goes_stopped : (s : Step) (o : Outcome) → s ≡ Stopped o → Behind (Ok s) → GivesUnited (Ok (Stopped o)) (IsUnited at passing paths no_notes false)
+  pub goes_stopped : (s : Step) (o : Outcome) → s ≡ Stopped o → Behind (Ok s) → GivesUnited (Ok (Stopped o)) (IsUnited at passing paths no_notes [])
   goes_stopped s o is gives =
-      let came : GivesUnited (Ok (Stopped o)) (IsWithFile IsLast passing goes.0 (is_told (string_bytes g.told)) path (notes_bytes_at at passing path)) = subst (λ (x : Step). Behind (Ok x)) is gives goes.0 goes.1 in
-      let r : Result United Refusal = Ok (stray came.0 came.1) in (
+      let came : GivesUnited (Ok (Stopped o)) (IsWithFile IsLast passing goes.0 (string_bytes g.told) path (notes_bytes_at at passing path)) = subst (λ (x : Step). Behind (Ok x)) is gives goes.0 goes.1 in
+      let r : Result United BookRefusal = Ok (stray came.0 came.1) in (
         came.0,
         came.1,
-        along r (stop_file (IsUnited at passing rest) passing r (λ n t is. apart n t came.0 came.1 (sym is)) goes.0 (is_told (string_bytes g.told)) path (notes_bytes_at at passing path) came.2),
+        along r (stop_file (IsUnited at passing rest) passing r (λ n t is. apart n t came.0 came.1 (sym is)) goes.0 (string_bytes g.told) path (notes_bytes_at at passing path) came.2),
         came.3,
       )
 
-  pub goes_refused : (e : Refused) → Behind (Err e) → GivesUnited (Err e) (IsUnited at passing paths no_notes false)
+  pub goes_refused : (e : Refused) → Behind (Err e) → GivesUnited (Err e) (IsUnited at passing paths no_notes [])
   goes_refused e gives = λ wanted.
-      along (Err e.refusal) (stop_file (IsUnited at passing rest) passing (Err e.refusal) (λ n t is. not_both (sym is)) goes.0 (is_told (string_bytes g.told)) path (notes_bytes_at at passing path) (gives goes.0 goes.1 wanted))
+      along (Err e.refusal) (stop_file (IsUnited at passing rest) passing (Err e.refusal) (λ n t is. not_both (sym is)) goes.0 (string_bytes g.told) path (notes_bytes_at at passing path) (gives goes.0 goes.1 wanted))
 
-pub goes_all : (at : Holding) (passing : Bool) (paths left : List (List ℕ)) (g : Gathered) → Goes at passing paths left g → left ≡ [] → GivesUnited (Ok (Noted g)) (IsUnited at passing paths no_notes false)
+pub goes_all : (at : Holding) (passing : Bool) (paths left : List (List ℕ)) (g : Gathered) → Goes at passing paths left g → left ≡ [] → GivesUnited (Ok (Noted g)) (IsUnited at passing paths no_notes [])
 unfolding IsUnited
 goes_all at passing paths left g goes none =
-    let told = is_told (string_bytes g.told) in
+    let told = string_bytes g.told in
     (goes.0, goes.1, goes.2 (Ok (noted goes.0 told)) (subst (λ (ps : List (List ℕ)). IsUnited at passing ps goes.0 told (Ok (noted goes.0 told))) (sym none) refl))
 
 -- the first of those that are left, and those behind it

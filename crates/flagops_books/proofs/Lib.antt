@@ -1,7 +1,8 @@
 pub mod Ending
 pub mod Following
+mod Loaded
 pub mod Matched
 pub mod Naming
-pub mod Unions
 mod Read
+pub mod Unions
 mod Whole

@@ -14,8 +14,9 @@ use Rattle.flagops_books.specs.Law.{file_bytes_at}
 use Rattle.flagops_books.specs.Union.{IsWithBook, IsWithBytes, IsWithFile, IsWithLines, Later, TakesBytes, United, is_one_line, noted, stray}
 use Rattle.flagops_shell.specs.Beginning.{ends_line, is_feed, is_ink, may_begin_notes, may_begin_record, may_note}
 use Rattle.flagops_shell.specs.Files.{Holding, front_of, front_of_notes, notes_piece}
-use Rattle.flagops_files.specs.Loading.{◌>>=◌, refused_by}
+use Rattle.flagops_shell.specs.Outcomes.{◌>>=◌, refused_by}
 use Rattle.flagops_files.specs.Question.{if_readable, max_book, notes_bytes_at}
+use Rattle.flagops_books.specs.declared.refusal.BookRefusal.{BookRefusal}
 use Rattle.flagops_files.specs.declared.refusal.Refusal.{Refusal}
 use Rattle.flagops_files.specs.declared.refusal.Refusal.TheVariants.{Load}
 use Rattle.line_batches.proofs.Cutting.{some_part}
@@ -198,8 +199,8 @@ at_most n is = grind (arith, nat_tests)
 at_least : (n : ℕ) → nat_lt 16777216 n ≡ true → 16777216 ≤ n
 at_least n is = grind (arith, nat_tests)
 
-module _ (Next : Later) (passing : Bool) (before all : Notes) (t u : Bool) (path : List ℕ) where
-  abbrev Came : Result United Refusal
+module _ (Next : Later) (passing : Bool) (before all : Notes) (t u : List ℕ) (path : List ℕ) where
+  abbrev Came : Result United BookRefusal
   Came = Ok (noted all u)
 
   apart : {Y : Type 0} (other : List ℕ) (k : ℕ) → Came ≡ Ok (stray other k) → Y
@@ -284,6 +285,6 @@ module _ (Next : Later) (passing : Bool) (before all : Notes) (t u : Bool) (path
       go false may = piece_alone may (nat_lt 16777216 (length bytes)) refl
 
 -- where a file is not refused, all of it was read
-pub read_whole : (Next : Later) (at : Holding) (passing : Bool) (before all : Notes) (t u : Bool) (path : List ℕ) → IsWithFile Next passing before t path (notes_bytes_at at passing path) (Ok (noted all u)) → notes_bytes_at at passing path ≡ file_bytes_at at path
+pub read_whole : (Next : Later) (at : Holding) (passing : Bool) (before all : Notes) (t u : List ℕ) (path : List ℕ) → IsWithFile Next passing before t path (notes_bytes_at at passing path) (Ok (noted all u)) → notes_bytes_at at passing path ≡ file_bytes_at at path
 unfolding notes_bytes_at file_bytes_at
 read_whole Next at passing before all t u path is = all_read Next passing before all t u path (at path) is

@@ -10,6 +10,7 @@ use Rattle.flagops_books.specs.Law.{BookNotes, BytesNote, FileNotes, OneNotes, U
 use Rattle.flagops_books.specs.Union.{IsUnited, IsWithBook, IsWithBytes, IsWithFile, IsWithLines, Later, TakesBytes, United, is_one_line, noted, stray}
 use Rattle.flagops_shell.specs.Files.{Holding}
 use Rattle.flagops_files.specs.Question.{notes_bytes_at}
+use Rattle.flagops_books.specs.declared.refusal.BookRefusal.{BookRefusal}
 use Rattle.flagops_files.specs.declared.refusal.Refusal.{Refusal}
 use Rattle.line_batches.specs.Lines.{parts_of}
 use Rattle.note_books.proofs.Noted.{notes_its_lines}
@@ -37,7 +38,7 @@ or_right : (a b : Bool) → b ≡ true → (a || b) ≡ true
 or_right true b is = refl
 or_right false b is = is
 
-notes_of : Result United Refusal → Notes
+notes_of : Result United BookRefusal → Notes
 notes_of (Ok (noted n t)) = n
 notes_of (Ok (stray path k)) = no_notes
 notes_of (Err e) = no_notes
@@ -59,8 +60,8 @@ back (inr (inr r)) step = inr r
 in_parts : {A M B N R : Type 0} → A ↔ (M ⊎ R) → M ↔ (B ⊎ N) → A ↔ (B ⊎ (N ⊎ R))
 in_parts later step = (λ a. there (later.0 a) step.0, λ x. later.1 (back x step.1))
 
-module _ (at : Holding) (passing : Bool) (all : Notes) (told : Bool) (page : PageName) (input : List ℕ) where
-  abbrev Came : Result United Refusal
+module _ (at : Holding) (passing : Bool) (all : Notes) (told : List ℕ) (page : PageName) (input : List ℕ) where
+  abbrev Came : Result United BookRefusal
   Came = Ok (noted all told)
 
   -- what is noted in all is noted before, or here
@@ -70,7 +71,7 @@ module _ (at : Holding) (passing : Bool) (all : Notes) (told : Bool) (page : Pag
   apart : {Y : Type 0} (path : List ℕ) (k : ℕ) → Came ≡ Ok (stray path k) → Y
   apart path k h = cc
 
-  module _ (Next : Later) (Rest : Type 0) (later : (n : Notes) (t : Bool) → Next n t Came → Parts n Rest) (before : Notes) (t : Bool) where
+  module _ (Next : Later) (Rest : Type 0) (later : (n : Notes) (t : List ℕ) → Next n t Came → Parts n Rest) (before : Notes) (t : List ℕ) where
     by_book : (o : Result Contents BookFileFault) → IsWithBook Next before t o Came → Parts before (BookNotes o page input ⊎ Rest)
     by_book (Err e) is = not_both is
     by_book (Ok other) (inl none) = not_both none.1
@@ -103,10 +104,10 @@ module _ (at : Holding) (passing : Bool) (all : Notes) (told : Bool) (page : Pag
     by_file path (Err e) is = not_both is
     by_file path (Ok bytes) is = by_bytes (begins_book bytes) path bytes is
 
-  by_files : (paths : List (List ℕ)) (before : Notes) (t : Bool) → IsUnited at passing paths before t Came → Parts before (OneNotes at paths page input)
+  by_files : (paths : List (List ℕ)) (before : Notes) (t : List ℕ) → IsUnited at passing paths before t Came → Parts before (OneNotes at paths page input)
   unfolding IsUnited notes_of
   by_files [] before t is =
-      let same : all page input ≡ before page input = ap (λ (r : Result United Refusal). notes_of r page input) is in
+      let same : all page input ≡ before page input = ap (λ (r : Result United BookRefusal). notes_of r page input) is in
       (λ h. inl (sym same ∙ h), last same)
     where
       last : all page input ≡ before page input → (before page input ≡ true) ⊎ OneNotes at [] page input → all page input ≡ true
@@ -118,7 +119,7 @@ module _ (at : Holding) (passing : Bool) (all : Notes) (told : Bool) (page : Pag
 
 pub unites_files : UnitesFiles
 unites_files at passing paths all told book united is_of page input =
-    let parts = by_files at passing all told page input paths no_notes false united in
+    let parts = by_files at passing all told page input paths no_notes [] united in
     (λ h. none_before (parts.0 (sym (is_of.held page input) ∙ h)), λ x. is_of.held page input ∙ parts.1 (inr x))
   where
     none_before : {X : Type 0} → (no_notes page input ≡ true) ⊎ X → X

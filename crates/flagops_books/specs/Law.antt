@@ -6,7 +6,7 @@ use Rattle.book_core.specs.Reading.{book_of}
 use Rattle.book_core.specs.declared.fault.BookFileFault.{BookFileFault}
 use Rattle.flagops_books.specs.Union.{IsUnited, noted}
 use Rattle.flagops_shell.specs.Files.{Holding, load_of}
-use Rattle.flagops_files.specs.Loading.{◌>>=◌, refused_by}
+use Rattle.flagops_shell.specs.Outcomes.{◌>>=◌, refused_by}
 use Rattle.flagops_files.specs.Question.{if_readable, max_book}
 use Rattle.flagops_files.specs.declared.refusal.Refusal.{Refusal}
 use Rattle.flagops_files.specs.declared.refusal.Refusal.TheVariants.{Load}
@@ -43,5 +43,5 @@ OneNotes at (path ∷ paths) page input = FileNotes (file_bytes_at at path) page
 
 -- where no file is refused, the book of what they come to has an input on a page exactly where one of them notes it there
 abbrev pub UnitesFiles : Type 0
-UnitesFiles = (at : Holding) (passing : Bool) (paths : List (List ℕ)) (all : Notes) (told : Bool) (book : Contents) → IsUnited at passing paths no_notes false (Ok (noted all told)) → IsBookOf all book
+UnitesFiles = (at : Holding) (passing : Bool) (paths : List (List ℕ)) (all : Notes) (told : List ℕ) (book : Contents) → IsUnited at passing paths no_notes [] (Ok (noted all told)) → IsBookOf all book
     → (page : PageName) (input : List ℕ) → (is_among input (inputs_on book page) ≡ true) ↔ OneNotes at paths page input

@@ -1,6 +1,8 @@
 pub mod Calls
 pub mod Command
+pub mod FileLines
 pub mod Law
+pub mod Refusal
 pub mod Report
 pub mod Step
 pub mod Stray

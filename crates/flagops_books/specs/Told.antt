@@ -1,27 +1,32 @@
 -- What a person is told of files, beside the output.
-use Rattle.std.specs.Prelude.{◌≡◌, ◌⊎◌, ◌==◌, ℕ, Bool, not, List, [], ◌∷◌, ◌++◌, length, map, codes}
+use Rattle.std.specs.Prelude.{◌≡◌, ◌||◌, ◌==◌, ℕ, Bool, true, false, not, List, [], ◌∷◌, ◌++◌, length, map, codes, decimal, if◌then◌else◌}
 use Rattle.flag_text.specs.Printing.{text_of}
 use Rattle.flag_text.specs.Shape.{text}
 use Rattle.flagops_books.specs.Calls.{unites_files}
-use Rattle.flagops_files.specs.Refusal.{loads_book, stores_file}
-use Rattle.flagops_files.specs.Told.{Subjects, by, file}
+use Rattle.flagops_books.specs.Refusal.{loads_book, stores_file, Subjects, by}
+use Rattle.flagops_files.specs.Told.{file}
 
 -- something is told
 abbrev pub is_told : List ℕ → Bool
 is_told lines = not (length lines == 0)
 
--- lines begin with the path of a file, as a JSON text
+-- lines of a refusal begin with the path of a file, as a JSON text
 abbrev pub NamesFile : List ℕ → List ℕ → Type 0
-NamesFile path lines = (rest : List ℕ) × ((lines ≡ codes "error: " ++ (text_of (text path) ++ rest)) ⊎ (lines ≡ codes "note: " ++ (text_of (text path) ++ rest)))
+NamesFile path lines = (rest : List ℕ) × (lines ≡ codes "error: " ++ (text_of (text path) ++ rest))
 
--- that of one of these files
-abbrev pub NamesOneFile : List (List ℕ) → List ℕ → Type 0
-NamesOneFile [] lines = ⊥
-NamesOneFile (path ∷ paths) lines = NamesFile path lines ⊎ NamesOneFile paths lines
+-- the line on what was passed over in the file at a path: so many lines, and perhaps bytes behind the last one
+unfoldable pub passed_line : List ℕ → ℕ → Bool → List ℕ
+passed_line path passed false = codes "note: " ++ (text_of (text path) ++ (codes ": lines that are no note, passed over: " ++ (decimal passed ++ codes "\n")))
+passed_line path passed true =
+    codes "note: "
+    ++ (text_of (text path)
+    ++ (if passed == 0
+    then codes ": the last line has no end and is passed over\n"
+    else codes ": lines that are no note, passed over: " ++ (decimal passed ++ codes ", and the last line, which has no end\n")))
 
--- what is told of one file more
-abbrev pub Adds : List ℕ → List ℕ → List ℕ → Type 0
-Adds path before after = (after ≡ before) ⊎ ((line : List ℕ) × NamesFile path line × (after ≡ before ++ line))
+-- what a person is told of the file: that line where something was passed over, and else nothing
+abbrev pub passed_text : List ℕ → ℕ → Bool → List ℕ
+passed_text path passed torn = if not (passed == 0) || torn then passed_line path passed torn else []
 
 -- the files that are read, and the one that is looked at first and then written, each with the refusals that are of it
 abbrev pub united_subjects : List (List ℕ) → Subjects

@@ -2,30 +2,29 @@
 ghost use Rattle.std.specs.Prelude.{◌≡◌, ◌||◌, IfOk, IfSome, ⊤};
 ghost use Rattle.flagops_books.specs.Calls.{book_calls, unites_files};
 ghost use Rattle.flagops_books.specs.Command.{description};
-ghost use Rattle.flagops_books.specs.Report.{IsBookReport, IsUnitedFor, LeavesUnited};
-ghost use Rattle.flagops_books.specs.Step.{GivesUnited, SaysUnited};
-ghost use Rattle.flagops_books.specs.Told.{NamesOneFile, book_subjects};
+ghost use Rattle.flagops_books.specs.Report.{IsBookReport, IsUnitedFor, LeavesUnited, TellsUnited};
+ghost use Rattle.flagops_books.specs.Step.{GivesUnited};
+ghost use Rattle.flagops_books.specs.Told.{book_subjects};
 ghost use Rattle.flagops_books.specs.Words as words;
 ghost use Rattle.flagops_books.specs.Words.{uniting_view};
-ghost use Rattle.flagops_files.specs.Refusal.{ComesFrom, GivesOne, is_file_fault};
-ghost use Rattle.flagops_files.specs.Told.{TellsOfOne};
-ghost use Rattle.flagops_shell.specs.Diagnostic.{Says};
+ghost use Rattle.flagops_books.specs.Refusal.{ComesFrom, GivesOne, is_file_fault, TellsOfOne};
 ghost use Rattle.flagops_shell.specs.Ending.{KeepsUnlessDone};
 ghost use Rattle.flagops_shell.specs.Report.{outcome_view};
 
 use crate::asked::Uniting;
+use crate::loading::check_replaceable;
+use crate::refusal::{BookRefusal, Refused};
 use crate::storing::stored;
 use crate::uniting::{Step, united};
 use crate::words::read_uniting;
-use flagops_files::{Refusal, Refused, check_replaceable};
 use flagops_shell::{Command, FileSet, Outcome};
 use std::alloc::Global;
 use std::convert::AsStr;
 
 /// It writes the book of what several files note, replaced whole, and prints how many inputs it has and of how many files it is; a
-/// refusal leaves the files as they were. A person is told of lines that were passed over.
+/// refusal leaves the files as they were. A person is told of each file in which lines were passed over.
 impl<'w, R, F: FileSet> Command<'w, R, F> for Uniting<'w> {
-    type Refusal = Refusal;
+    type Refusal = BookRefusal;
 
     ghost Asked = { words.Uniting };
 
@@ -44,7 +43,7 @@ impl<'w, R, F: FileSet> Command<'w, R, F> for Uniting<'w> {
         outcome(alloc, files, self)
     }
 
-    fn call_of(&self, refusal: &Refusal) -> &'static str {
+    fn call_of(&self, refusal: &BookRefusal) -> &'static str {
         refusal.call().name()
     }
 }
@@ -61,7 +60,7 @@ fn outcome<F: FileSet>(
     ensures left { LeavesUnited (F.holding files.old) (F.holding files.new) (uniting_view asked.now) }
     ensures kept { KeepsUnlessDone (F.holding files.old) (F.holding files.new) result }
     ensures names { TellsOfOne (book_subjects (uniting_view asked.now).out (uniting_view asked.now).files) result }
-    ensures notes { IfOk result (λ o. IfSome o.remark (Says (NamesOneFile (uniting_view asked.now).files))) }
+    ensures notes { IfOk result (λ o. IfSome (F.holding files.old) (λ at. IfSome o.remark (TellsUnited (uniting_view asked.now) at))) }
 {
     let came = united_for(alloc, files, asked)?;
     match came {
@@ -81,7 +80,6 @@ fn united_for<F: FileSet>(
     ensures failed { F.has_failed files.new ≡ (F.has_failed files.old || is_file_fault result) }
     ensures kept { F.holding files.new ≡ F.holding files.old }
     ensures names { TellsOfOne (book_subjects (uniting_view asked.now).out (uniting_view asked.now).files) result }
-    ensures says { SaysUnited (uniting_view asked.now).files result }
 {
     match check_replaceable(alloc, files, asked.out) {
         Ok(_) => united(alloc, files, asked.files.as_slice(), asked.torn),

@@ -17,13 +17,15 @@
 //! Proved, over the definitions in `specs/`, of [`Uniting`]: over files whose bytes are known it comes to what the files make
 //! (`Report`), unless memory ran out; the book that is written has the notes of all files and nothing else (`Union`;
 //! [`a_book_is_the_union_of_its_files`]); a refusal names the first file at fault, and the line in it, and leaves all files as they
-//! were; and lines that were passed over are told, of which the first names its file.
+//! were; and of each file in which lines were passed over a person is told how many.
 #![tactic(auto)]
 
 mod asked;
 mod command;
 mod laws;
 mod lines;
+mod loading;
+mod refusal;
 mod storing;
 mod uniting;
 mod usage;
@@ -31,3 +33,4 @@ mod words;
 
 pub use asked::Uniting;
 pub use laws::a_book_is_the_union_of_its_files;
+pub use refusal::{BookCall, BookRefusal, Refused};

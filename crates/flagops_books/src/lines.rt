@@ -1,7 +1,7 @@
 //! What is printed and told of lines that are those of no note.
-ghost use Rattle.std.specs.Prelude.{◌≡◌, ◌||◌, ◌==◌, true, not, IfOk, string_bytes};
+ghost use Rattle.std.specs.Prelude.{◌≡◌, ◌++◌, IfOk, string_bytes};
 ghost use Rattle.flagops_books.specs.Stray.{stray_line};
-ghost use Rattle.flagops_books.specs.Told.{Adds, NamesFile, is_told};
+ghost use Rattle.flagops_books.specs.Told.{NamesFile, passed_line, passed_text};
 
 use file_diagnostics::Ends;
 use flagops_files::quoted;
@@ -43,40 +43,19 @@ pub(crate) fn with_passed(
     passed: u64,
     torn: bool,
 ) -> Result<String, AllocError>
-    ensures told { IfOk result (λ s. is_told (string_bytes s) ≡ (is_told (string_bytes told) || (not (passed == 0) || torn))) }
-    ensures adds { IfOk result (λ s. Adds path.now (string_bytes told) (string_bytes s)) }
+    ensures { IfOk result (λ s. string_bytes s ≡ string_bytes told ++ passed_text path.now passed torn) }
 {
-    if passes_over(passed, torn) {
-        return with_line(alloc, told, path, passed, torn);
+    if passed == 0 && !torn {
+        return Ok(told);
     }
-    Ok(told)
-}
-
-/// Whether something was passed over.
-fn passes_over(passed: u64, torn: bool) -> bool
-    ensures { result ≡ (not (passed == 0) || torn) }
-{
-    passed != 0 || torn
-}
-
-/// What is told of files so far, with a line on the file at a path.
-fn with_line(
-    alloc: Global,
-    told: String,
-    path: &str,
-    passed: u64,
-    torn: bool,
-) -> Result<String, AllocError>
-    ensures told { IfOk result (λ s. is_told (string_bytes s) ≡ true) }
-    ensures adds { IfOk result (λ s. Adds path.now (string_bytes told) (string_bytes s)) }
-{
     let line = passed_line(alloc, path, passed, torn)?;
     format!(in alloc; "{told}{line}")
 }
 
-/// A line on what was passed over in the file at a path.
+/// The line on what was passed over in the file at a path.
+#[tactic(auto, unfolding(crate::specs::Told::passed_line))]
 fn passed_line(alloc: Global, path: &str, passed: u64, torn: bool) -> Result<String, AllocError>
-    ensures { IfOk result (λ s. NamesFile path.now (string_bytes s)) }
+    ensures { IfOk result (λ s. string_bytes s ≡ passed_line path.now passed torn) }
 {
     let name = quoted(alloc, path)?;
     if !torn {

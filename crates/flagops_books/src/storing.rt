@@ -7,14 +7,15 @@ ghost use Rattle.flagops_books.specs.Report.{IsStored, counts_text};
 ghost use Rattle.flagops_books.specs.Told.{is_told};
 ghost use Rattle.flagops_shell.specs.Ending.{KeepsUnlessDone};
 ghost use Rattle.flagops_shell.specs.Files.{KeepsOthers};
-ghost use Rattle.flagops_files.specs.Refusal.{ComesFrom, GivesOne, is_file_fault, stores_file};
+ghost use Rattle.flagops_books.specs.Refusal.{ComesFrom, GivesOne, is_file_fault, stores_file, TellsOfOne, by};
 ghost use Rattle.flagops_shell.specs.Report.{outcome_view};
-ghost use Rattle.flagops_files.specs.Told.{TellsOfOne, by, file};
+ghost use Rattle.flagops_files.specs.Told.{file};
 ghost use Rattle.flagops_shell.specs.declared.refused.Remark.TheVariants.{Lines};
 
+use crate::loading::store;
+use crate::refusal::{BookRefusal, Refused, out_of_memory};
 use crate::uniting::Gathered;
 use book_core::{Book, print_book};
-use flagops_files::{Call, Refusal, Refused, out_of_memory, store};
 use flagops_shell::{FileSet, Outcome, Remark, Status};
 use std::alloc::{AllocError, Global};
 
@@ -39,7 +40,7 @@ pub(crate) fn stored<F: FileSet>(
     ensures others { KeepsOthers (F.holding files.old) (F.holding files.new) out.now }
     ensures kept { KeepsUnlessDone (F.holding files.old) (F.holding files.new) result }
     ensures names { TellsOfOne ((file out.now, by stores_file) ∷ []) result }
-    ensures told { IfOk result (λ o. IfSome o.remark (λ m. (m ≡ Lines all.told) × (is_told (string_bytes all.told) ≡ true))) }
+    ensures told { IfOk result (λ o. IfSome o.remark (λ m. m ≡ Lines all.told)) }
 {
     let Gathered { book, told } = all;
     let Output { text, file } = output_of(alloc, &book, count)?;
@@ -55,11 +56,11 @@ pub(crate) fn stored<F: FileSet>(
 fn output_of(alloc: Global, book: &Book, count: usize) -> Result<Output, Refused>
     ensures text { IfOk result (λ o. o.text.items ≡ counts_text (input_count book.now) count) }
     ensures file { IfOk result (λ o. o.file.items ≡ book_text book.now) }
-    ensures wants { IfErr result (λ e. e.refusal ≡ Refusal.WantOfMemory Call.Book) }
+    ensures wants { IfErr result (λ e. e.refusal ≡ BookRefusal.WantOfMemory) }
 {
     match printed(alloc, book, count) {
         Ok(output) => Ok(output),
-        Err(AllocError) => Err(out_of_memory(Call::Book)),
+        Err(AllocError) => Err(out_of_memory()),
     }
 }
 
@@ -79,7 +80,7 @@ fn printed(alloc: Global, book: &Book, count: usize) -> Result<Output, AllocErro
 /// What a person is told beside the output, where there is something to tell.
 fn remark_of(told: String) -> Option<Remark>
     ensures told { is_some result ≡ is_told (string_bytes told) }
-    ensures lines { IfSome result (λ m. (m ≡ Lines told) × (is_told (string_bytes told) ≡ true)) }
+    ensures lines { IfSome result (λ m. m ≡ Lines told) }
 {
     if told.is_empty() {
         None

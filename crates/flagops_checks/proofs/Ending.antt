@@ -11,9 +11,8 @@ use Rattle.flagops_checks.specs.Words.{Checking, checking_view}
 use Rattle.flagops_checks.specs.declared.asked.Checking as code
 use Rattle.flagops_checks.specs.declared.form.Form.{Form}
 use Rattle.flagops_checks.specs.declared.gathering.Gathered.{Gathered}
-use Rattle.flagops_files.specs.Refusal.{ComesFrom, Refused, call_name, call_of, is_want}
-use Rattle.flagops_files.specs.Report.{IsCallOf}
-use Rattle.flagops_files.specs.Told.{TellsOfOne}
+use Rattle.flagops_checks.specs.Refusal.{ComesFrom, Refused, call_name, call_of, is_want, TellsOfOne}
+use Rattle.flagops_shell.specs.Outcomes.{IsCallOf}
 use Rattle.flagops_shell.specs.Diagnostic.{Says}
 use Rattle.flagops_shell.specs.Ending.{KeepsUnlessDone, Remarks}
 use Rattle.flagops_shell.specs.Files.{Holding}
@@ -64,7 +63,7 @@ remarks (Some at) c (Ok o) names notes = λ remark is. subst (λ (m : Option Rem
 remarks (Some at) c (Err e) names notes = names
 
 -- a call of the command ran out of memory
-pub wants : (r : Result Outcome Refused) → ComesFrom check_calls r → IfErr r (λ e. IsCallOf check_calls (call_name (call_of e.refusal)))
+pub wants : (r : Result Outcome Refused) → ComesFrom check_calls r → IfErr r (λ e. IsCallOf call_name check_calls (call_name (call_of e.refusal)))
 wants (Ok o) comes = tt
 wants (Err e) comes = (call_of e.refusal, comes, refl)
 

@@ -6,60 +6,64 @@ use Rattle.std.specs.Prelude.{Result, Ok, Err}
 use Rattle.flag_defs.specs.Document.{Definitions}
 use Rattle.flagops_checks.specs.Judged.{Checked, are_wrong, checked, has_broken, has_doubted}
 use Rattle.flagops_checks.specs.Printed.{document_text, report_text}
-use Rattle.flagops_checks.specs.Documents.{AreChecked, IsCheckedAt, IsCheckedOf}
+use Rattle.flagops_checks.specs.Documents.{AreChecked, IsCheckedAt, IsCheckedOf, IsDocumentAt}
 use Rattle.flagops_checks.specs.Step.{Adds, AddsLines, GivesAll, GivesNext, Holds, HoldsLines}
 use Rattle.flagops_checks.specs.Calls.{check_calls}
 use Rattle.flagops_checks.specs.Told.{TellsAll, TellsDocument, check_subjects}
 use Rattle.flagops_checks.specs.declared.form.Form.{Form}
 use Rattle.flagops_checks.specs.declared.gathering.Gathered.{Gathered}
 use Rattle.flagops_checks.specs.declared.remark_lines.RemarkLines.{RemarkLines}
-use Rattle.flagops_files.specs.Documents.{IsDocumentAt, IsDocumentIn, IsDocumentOf}
-use Rattle.flagops_shell.specs.Files.{Holding, load_of}
-use Rattle.flagops_files.specs.Loading.{◌>>=◌, max_text, refused_by}
-use Rattle.flagops_files.specs.Refusal.{is_want}
-use Rattle.flagops_files.specs.Told.{NamesOne, NamesSubject, by, file}
-use Rattle.flagops_shell.specs.Diagnostic.{Says}
+use Rattle.flagops_files.specs.Documents as files
+use Rattle.flagops_files.specs.Documents.{IsDocumentIn, IsDocumentOf}
 use Rattle.flagops_files.specs.declared.refusal.Refusal.{Refusal}
-use Rattle.flagops_files.specs.declared.refusal.Refusal.TheVariants.{Load}
-use Rattle.flagops_files.specs.Refusal.{Refused}
+use Rattle.flagops_files.specs.declared.refusal.Refusal.TheVariants as file
+use Rattle.flagops_shell.specs.Files.{Holding, load_of}
+use Rattle.flagops_files.specs.Loading.{max_text}
+use Rattle.flagops_shell.specs.Outcomes.{◌>>=◌, Lifts, refused_by}
+use Rattle.flagops_files.specs.Told.{NamesOne, NamesSubject, file}
+use Rattle.flagops_shell.specs.Diagnostic.{Says}
+use Rattle.flagops_checks.specs.Refusal.{is_want, by, Refused}
+use Rattle.flagops_checks.specs.declared.refusal.CheckRefusal.{CheckRefusal}
+use Rattle.flagops_checks.specs.declared.refusal.CheckRefusal.TheVariants.{Load}
 use Rattle.flagops_shell.specs.declared.refused.Remark.{Remark}
 
 -- ---- one document
 
-refused_of : (path : List ℕ) (o : Result (List ℕ) Refusal) (e : Refusal) → IsDocumentOf o (Err e) → IsCheckedOf path o (Err e)
-refused_of path (Err f) e is = let same : f ≡ e = cc in ap Err (sym same)
-refused_of path (Ok bytes) e is = (Err e, is, refl)
+refused_of : (path : List ℕ) (o : Result (List ℕ) Refusal) (e : CheckRefusal) → Lifts Load (IsDocumentOf o) (Err e) → IsCheckedOf path o (Err e)
+refused_of path (Err f) e (given, is, same) = ap (λ (r : Result Definitions CheckRefusal). r >>= λ flags. Ok (checked path [] flags)) (same ∙ ap (refused_by Load) is)
+refused_of path (Ok bytes) e (given, is, same) = (given, is, ap (λ (r : Result Definitions CheckRefusal). r >>= λ flags. Ok (checked path bytes flags)) same)
 
 module _ (at : Holding) (path : List ℕ) where
-  pub no_document : (e : Refusal) → IsDocumentAt at path (Err e) → IsCheckedAt at path (Err e)
-  unfolding IsDocumentAt IsCheckedAt
-  no_document e is = refused_of path (refused_by Load (load_of at path max_text)) e is
+  pub no_document : (e : CheckRefusal) → IsDocumentAt at path (Err e) → IsCheckedAt at path (Err e)
+  unfolding IsDocumentAt files.IsDocumentAt IsCheckedAt
+  no_document e is = refused_of path (refused_by file.Load (load_of at path max_text)) e is
 
   pub a_document : (bytes : List ℕ) (flags : Definitions) → load_of at path max_text ≡ Ok bytes → IsDocumentAt at path (Ok flags) → IsCheckedAt at path (Ok (checked path bytes flags))
-  unfolding IsDocumentAt IsCheckedAt
-  a_document bytes flags loaded is =
-      let known : refused_by Load (load_of at path max_text) ≡ Ok bytes = ap (refused_by Load) loaded in
-      let found : IsDocumentIn bytes (Ok flags) = subst (λ (o : Result (List ℕ) Refusal). IsDocumentOf o (Ok flags)) known is in
-      let r : Result Checked Refusal = Ok (checked path bytes flags) in
-      subst (λ (o : Result (List ℕ) Refusal). IsCheckedOf path o r) (sym known) (Ok flags, found, refl)
+  unfolding IsDocumentAt files.IsDocumentAt IsCheckedAt
+  a_document bytes flags loaded (given, is, same) =
+      let known : refused_by file.Load (load_of at path max_text) ≡ Ok bytes = ap (refused_by file.Load) loaded in
+      let found : IsDocumentIn bytes given = subst (λ (o : Result (List ℕ) Refusal). IsDocumentOf o given) known is in
+      let r : Result Checked CheckRefusal = Ok (checked path bytes flags) in
+      subst (λ (o : Result (List ℕ) Refusal). IsCheckedOf path o r) (sym known)
+      (given, found, ap (λ (d : Result Definitions CheckRefusal). d >>= λ fs. Ok (checked path bytes fs)) same)
 
 -- ---- along the paths
 
-abbrev with_front : List Checked → Result (List Checked) Refusal → Result (List Checked) Refusal
+abbrev with_front : List Checked → Result (List Checked) CheckRefusal → Result (List Checked) CheckRefusal
 with_front cs r = r >>= λ more. Ok (cs ++ more)
 
-no_front : (r : Result (List Checked) Refusal) → with_front [] r ≡ r
+no_front : (r : Result (List Checked) CheckRefusal) → with_front [] r ≡ r
 no_front (Ok more) = refl
 no_front (Err e) = refl
 
-longer_front : (cs : List Checked) (c : Checked) (r : Result (List Checked) Refusal) → with_front cs (r >>= λ more. Ok (c ∷ more)) ≡ with_front (cs ++ c ∷ []) r
+longer_front : (cs : List Checked) (c : Checked) (r : Result (List Checked) CheckRefusal) → with_front cs (r >>= λ more. Ok (c ∷ more)) ≡ with_front (cs ++ c ∷ []) r
 longer_front cs c (Ok more) = ap Ok (sym (append_assoc cs (c ∷ []) more))
 longer_front cs c (Err e) = refl
 
 -- what the paths that are left come to behind what is found so far, all come to
 abbrev pub Goes : Form → Holding → List (List ℕ) → List (List ℕ) → Gathered → Type 0
 Goes form at paths left g =
-    (cs : List Checked) × Holds form cs g × ((r : Result (List Checked) Refusal) → AreChecked at left r → AreChecked at paths (r >>= λ more. Ok (cs ++ more)))
+    (cs : List Checked) × Holds form cs g × ((r : Result (List Checked) CheckRefusal) → AreChecked at left r → AreChecked at paths (r >>= λ more. Ok (cs ++ more)))
 
 pub starts : (form : Form) (at : Holding) (paths : List (List ℕ)) (g : Gathered) → g.text.items ≡ [] → g.is_wrong ≡ false → string_bytes g.told.lines ≡ [] → Goes form at paths paths g
 starts form at paths g empty right silent = (
@@ -93,7 +97,7 @@ held_on form cs c before after holds adds = record {
 }
 
 module _ (form : Form) (at : Holding) (paths left rest : List (List ℕ)) (path : List ℕ) (g : Gathered) (goes : Goes form at paths left g) (first : left ≡ path ∷ rest) where
-  along : (r : Result (List Checked) Refusal) → AreChecked at (path ∷ rest) r → AreChecked at paths (with_front goes.0 r)
+  along : (r : Result (List Checked) CheckRefusal) → AreChecked at (path ∷ rest) r → AreChecked at paths (with_front goes.0 r)
   along r came = goes.2 r (subst (λ (ps : List (List ℕ)). AreChecked at ps r) (sym first) came)
 
   pub goes_on : (next : Gathered) → GivesNext form g (Ok next) (IsCheckedAt at path) → Goes form at paths rest next
@@ -157,7 +161,7 @@ no_less i less = absurd (omega (arith, less))
 less : (i n : ℕ) → suc i < suc n → i < n
 less i n h = omega (arith, h)
 
-told_at : {X : Type 0} (now : X → List ℕ) (xs : List X) (i : ℕ) (z : X) (e : Refusal) (remark : Remark) → i < length xs → by check_calls e ≡ true → Says (NamesSubject (file (now (get_or xs i z)))) remark
+told_at : {X : Type 0} (now : X → List ℕ) (xs : List X) (i : ℕ) (z : X) (e : CheckRefusal) (remark : Remark) → i < length xs → by check_calls e ≡ true → Says (NamesSubject (file (now (get_or xs i z)))) remark
     → NamesOne (check_subjects (map now xs)) e remark
 told_at now [] i z e remark inside of says = no_less i inside
 told_at now (x ∷ xs) zero z e remark inside of says = inl (of, says)

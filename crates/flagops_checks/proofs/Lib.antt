@@ -1,6 +1,7 @@
 pub mod Ending
 mod Flagged
 mod Following
+mod Loaded
 mod Matched
 mod Null
 mod Plainly

@@ -1,9 +1,11 @@
 pub mod Calls
 pub mod Command
 pub mod Documents
+pub mod FileLines
 pub mod Judged
 pub mod Names
 pub mod Printed
+pub mod Refusal
 pub mod Report
 pub mod Step
 pub mod Told

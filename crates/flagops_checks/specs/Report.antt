@@ -7,23 +7,23 @@ use Rattle.flagops_checks.specs.Told.{TellsAll, check_subjects}
 use Rattle.flagops_checks.specs.Words.{Checking}
 use Rattle.flagops_checks.specs.declared.form.Form.{Form}
 use Rattle.flagops_shell.specs.Files.{Holding}
-use Rattle.flagops_files.specs.Loading.{◌>>=◌}
-use Rattle.flagops_files.specs.Report.{Outcomes}
+use Rattle.flagops_shell.specs.Outcomes.{◌>>=◌}
+use Rattle.flagops_checks.specs.Refusal.{Outcomes, Remarks}
 use Rattle.flagops_shell.specs.Report.{Report}
-use Rattle.flagops_files.specs.Told.{NamesOne, Remarks}
+use Rattle.flagops_files.specs.Told.{NamesOne}
 use Rattle.flagops_shell.specs.Diagnostic.{Says}
-use Rattle.flagops_files.specs.declared.refusal.Refusal.{Refusal}
+use Rattle.flagops_checks.specs.declared.refusal.CheckRefusal.{CheckRefusal}
 
 -- with `--strict` this is no success
 abbrev pub check_status : Bool → Bool → ℕ
 check_status strict wrong = if strict && wrong then 1 else 0
 
 -- what is printed of them; a person is told beside it where something is wrong
-abbrev pub check_report : Bool → Form → List Checked → Result Report Refusal
+abbrev pub check_report : Bool → Form → List Checked → Result Report CheckRefusal
 check_report strict form cs = Ok (record { text = report_text form cs; status = check_status strict (are_wrong cs); is_told = are_wrong cs })
 
 unfoldable pub IsCheckReport : Holding → Checking → Outcomes
-IsCheckReport at c r = (cs : Result (List Checked) Refusal) × AreChecked at c.documents cs × (r ≡ (cs >>= check_report c.strict (form_of c.json c.documents)))
+IsCheckReport at c r = (cs : Result (List Checked) CheckRefusal) × AreChecked at c.documents cs × (r ≡ (cs >>= check_report c.strict (form_of c.json c.documents)))
 
 -- ---- what is told
 

@@ -6,9 +6,8 @@ use Rattle.flagops_checks.specs.Told.{TellsAll, TellsDocument}
 use Rattle.flagops_checks.specs.declared.form.Form.{Form}
 use Rattle.flagops_checks.specs.declared.gathering.Gathered.{Gathered}
 use Rattle.flagops_checks.specs.declared.remark_lines.RemarkLines.{RemarkLines}
-use Rattle.flagops_files.specs.Refusal.{is_want}
-use Rattle.flagops_files.specs.declared.refusal.Refusal.{Refusal}
-use Rattle.flagops_files.specs.Refusal.{Refused}
+use Rattle.flagops_checks.specs.Refusal.{is_want, Refused}
+use Rattle.flagops_checks.specs.declared.refusal.CheckRefusal.{CheckRefusal}
 use Rattle.flagops_shell.specs.declared.refused.Remark.{Remark}
 use Rattle.flagops_shell.specs.declared.refused.Remark.TheVariants.{Lines, Short}
 
@@ -38,11 +37,11 @@ pub record Adds (form : Form) (c : Checked) (before after : Gathered) : Type 0 w
   pub told : AddsLines form c before.told after.told
 
 -- what was returned is what is printed and told of such documents, unless memory ran out
-abbrev pub GivesAll : Form → Result Gathered Refused → (Result (List Checked) Refusal → Type 0) → Type 0
+abbrev pub GivesAll : Form → Result Gathered Refused → (Result (List Checked) CheckRefusal → Type 0) → Type 0
 GivesAll form (Ok g) Wanted = (cs : List Checked) × Wanted (Ok cs) × Holds form cs g
 GivesAll form (Err e) Wanted = is_want e.refusal ≡ false → Wanted (Err e.refusal)
 
 -- the same of a document more
-abbrev pub GivesNext : Form → Gathered → Result Gathered Refused → (Result Checked Refusal → Type 0) → Type 0
+abbrev pub GivesNext : Form → Gathered → Result Gathered Refused → (Result Checked CheckRefusal → Type 0) → Type 0
 GivesNext form before (Ok g) Wanted = (c : Checked) × Wanted (Ok c) × Adds form c before g
 GivesNext form before (Err e) Wanted = is_want e.refusal ≡ false → Wanted (Err e.refusal)

@@ -8,9 +8,10 @@ use Rattle.flag_text.specs.Shape.{text}
 use Rattle.flagops_checks.specs.Calls.{check_calls}
 use Rattle.flagops_checks.specs.Judged.{Checked, Judged, has_broken}
 use Rattle.flagops_checks.specs.declared.form.Form.{Form}
-use Rattle.flagops_files.specs.Told.{Subjects, by, file}
+use Rattle.flagops_files.specs.Told.{file}
 use Rattle.file_diagnostics.specs.Broken.{TellsBroken}
 use Rattle.file_diagnostics.specs.Named.{Names}
+use Rattle.flagops_checks.specs.Refusal.{Subjects, by}
 
 -- the line of a doubt: the path of the document and the key of the flag as JSON texts, why, and the doubt by its name
 abbrev pub IsDoubtLine : List ℕ → List ℕ → Doubt → List ℕ → Type 0

@@ -7,17 +7,16 @@ ghost use Rattle.flagops_checks.specs.Step.{Speaks};
 ghost use Rattle.flagops_checks.specs.Told.{check_subjects};
 ghost use Rattle.flagops_checks.specs.Words as words;
 ghost use Rattle.flagops_checks.specs.Words.{checking_view};
-ghost use Rattle.flagops_files.specs.Refusal.{ComesFrom, GivesOne, is_file_fault};
-ghost use Rattle.flagops_files.specs.Told.{TellsOfOne};
+ghost use Rattle.flagops_checks.specs.Refusal.{ComesFrom, GivesOne, is_file_fault, TellsOfOne};
 ghost use Rattle.flagops_shell.specs.Diagnostic.{Says};
 ghost use Rattle.flagops_shell.specs.Report.{outcome_view, status_number};
 
 use crate::asked::Checking;
 use crate::form::Form;
 use crate::gathering::{Gathered, gather};
+use crate::refusal::{CheckRefusal, Refused};
 use crate::remark_lines::RemarkLines;
 use crate::words::read_checking;
-use flagops_files::{Refusal, Refused};
 use flagops_shell::{Command, FileSet, Outcome, Remark, Status};
 use std::alloc::Global;
 use std::convert::AsStr;
@@ -27,7 +26,7 @@ use std::thread::Threads;
 /// `--strict` the status is 1 where a flag is broken or doubted, or a member of a document is not read or stands more than once.
 /// The first document that is refused refuses the command. Files are only read.
 impl<'w, R: Threads, F: FileSet> Command<'w, R, F> for Checking<'w> {
-    type Refusal = Refusal;
+    type Refusal = CheckRefusal;
 
     ghost Asked = { words.Checking };
 
@@ -46,7 +45,7 @@ impl<'w, R: Threads, F: FileSet> Command<'w, R, F> for Checking<'w> {
         outcome(rt, alloc, files, self)
     }
 
-    fn call_of(&self, refusal: &Refusal) -> &'static str {
+    fn call_of(&self, refusal: &CheckRefusal) -> &'static str {
         refusal.call().name()
     }
 }

@@ -8,19 +8,19 @@ ghost use Rattle.flagops_checks.specs.Judged.{checked, checked_view};
 ghost use Rattle.flagops_checks.specs.Documents.{AreChecked, IsCheckedAt};
 ghost use Rattle.flagops_checks.specs.Step.{Adds, GivesAll, GivesNext};
 ghost use Rattle.flagops_checks.specs.Told.{check_subjects};
-ghost use Rattle.flagops_files.specs.Refusal.{ComesFrom, is_file_fault};
-ghost use Rattle.flagops_files.specs.Told.{TellsOf, TellsOfOne, file};
+ghost use Rattle.flagops_checks.specs.Refusal.{ComesFrom, is_file_fault, TellsOf, TellsOfOne};
+ghost use Rattle.flagops_files.specs.Told.{file};
 
 use crate::checked::Checked;
 use crate::form::Form;
 use crate::judging::judge;
-use crate::loading::{Loaded, load_with_names};
+use crate::loading::{Loaded, load_checked};
 use crate::names::names_of;
 use crate::printing::push_document;
+use crate::refusal::{Refused, out_of_memory};
 use crate::remark_lines::RemarkLines;
 use flag_defs::Flags;
 use flag_doubts::Repeated;
-use flagops_files::{Call, Refused, out_of_memory};
 use flagops_shell::FileSet;
 use std::alloc::{AllocError, Global};
 use std::mem;
@@ -82,7 +82,7 @@ fn with_document<R: Threads, F: FileSet>(
         bytes,
         flags,
         repeated,
-    } = load_with_names(rt, alloc, files, path)?;
+    } = load_checked(rt, alloc, files, path)?;
     let next = with_flags(alloc, form, all, path, bytes.as_slice(), &flags, repeated);
     if alone {
         // The program ends soon, and its memory with it.
@@ -90,7 +90,7 @@ fn with_document<R: Threads, F: FileSet>(
     }
     match next {
         Ok(next) => Ok(next),
-        Err(AllocError) => Err(out_of_memory(Call::Check)),
+        Err(AllocError) => Err(out_of_memory()),
     }
 }
 

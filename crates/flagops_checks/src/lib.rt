@@ -33,9 +33,11 @@ mod objects;
 mod places;
 mod printing;
 mod reasons;
+mod refusal;
 mod remark_lines;
 mod telling;
 mod usage;
 mod words;
 
 pub use asked::Checking;
+pub use refusal::{CheckCall, CheckRefusal, Refused};

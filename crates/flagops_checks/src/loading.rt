@@ -3,11 +3,14 @@ ghost use Rattle.std.specs.Prelude.{◌≡◌, ◌||◌, false, IfOk, IfSome, Ok
 ghost use Rattle.flag_defs.specs.Flags.{flags_view};
 ghost use Rattle.flag_doubts.specs.Doubled.{json_of};
 ghost use Rattle.flag_doubts.specs.Repeated.{Finds};
-ghost use Rattle.flagops_files.specs.Documents.{IsDocumentAt, IsDocumentIn};
+ghost use Rattle.flagops_files.specs.Documents as documents;
+ghost use Rattle.flagops_files.specs.Documents.{IsDocumentIn};
 ghost use Rattle.flagops_shell.specs.Files.{load_of};
 ghost use Rattle.flagops_files.specs.Loading.{max_text};
-ghost use Rattle.flagops_files.specs.Refusal.{ComesFrom, GivesOne, is_file_fault, loads_flags, reads_flags};
-ghost use Rattle.flagops_files.specs.Told.{TellsOf, file};
+ghost use Rattle.flagops_files.specs.Refusal.{ComesFrom, GivesOne, TellsOf, is_file_fault, loads_flags, reads_flags};
+ghost use Rattle.flagops_files.specs.Told.{file};
+ghost use Rattle.flagops_checks.specs.Documents.{IsDocumentAt};
+ghost use Rattle.flagops_checks.specs.Refusal as checks;
 
 use file_diagnostics::of_document;
 use flag_defs::Flags;
@@ -25,15 +28,37 @@ pub(crate) struct Loaded {
     pub(crate) repeated: Repeated,
 }
 
+/// The document at a path, with what is found by the names in it.
+#[tactic(auto, using(crate::proofs::Loaded::told, crate::proofs::Loaded::comes, crate::proofs::Loaded::failed_load))]
+pub(crate) fn load_checked<R: Threads, F: FileSet>(
+    rt: &R,
+    alloc: Global,
+    files: &mut F,
+    path: &str,
+) -> Result<Loaded, crate::refusal::Refused>
+    ensures exact { IfSome (F.holding files.old) (λ at. checks.GivesOne (λ d. flags_view d.flags) result (IsDocumentAt at path.now)) }
+    ensures bytes { IfSome (F.holding files.old) (λ at. IfOk result (λ d. load_of at path.now max_text ≡ Ok d.bytes.items)) }
+    ensures found { IfOk result (λ d. Finds (json_of d.bytes.items) d.repeated) }
+    ensures calls { checks.ComesFrom checks.loads_flags result }
+    ensures failed { F.has_failed files.new ≡ (F.has_failed files.old || checks.is_file_fault result) }
+    ensures kept { F.holding files.new ≡ F.holding files.old }
+    ensures names { checks.TellsOf (file path.now) result }
+{
+    match load_with_names(rt, alloc, files, path) {
+        Ok(loaded) => Ok(loaded),
+        Err(refused) => Err(flagops_shell::Refused::of(refused)),
+    }
+}
+
 /// The document at a path, refused as `flagops_files::load_document` refuses it.
 #[tactic(auto, unfolding(flagops_files::specs::Documents::IsDocumentAt))]
-pub(crate) fn load_with_names<R: Threads, F: FileSet>(
+fn load_with_names<R: Threads, F: FileSet>(
     rt: &R,
     alloc: Global,
     files: &mut F,
     path: &str,
 ) -> Result<Loaded, Refused>
-    ensures exact { IfSome (F.holding files.old) (λ at. GivesOne (λ d. flags_view d.flags) result (IsDocumentAt at path.now)) }
+    ensures exact { IfSome (F.holding files.old) (λ at. GivesOne (λ d. flags_view d.flags) result (documents.IsDocumentAt at path.now)) }
     ensures bytes { IfSome (F.holding files.old) (λ at. IfOk result (λ d. load_of at path.now max_text ≡ Ok d.bytes.items)) }
     ensures found { IfOk result (λ d. Finds (json_of d.bytes.items) d.repeated) }
     ensures calls { ComesFrom loads_flags result }

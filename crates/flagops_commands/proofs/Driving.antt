@@ -9,24 +9,22 @@ use Rattle.flagops_drive.specs.Driven.{DriveOutput, IsDriveOf, refusal_of, worke
 use Rattle.flagops_drive.specs.Fault.{want}
 use Rattle.flagops_drive.specs.declared.fault.DriveRefusal.{DriveRefusal}
 use Rattle.flagops_drive.specs.declared.fault.DriveRefusal.TheVariants as reason
-use Rattle.flagops_files.specs.Documents.{IsDocumentAt}
+use Rattle.flagops_commands.specs.Loaded.{IsDocumentAt, tree_at}
 use Rattle.flagops_shell.specs.Files.{Holding, KeepsOthers, Stores}
-use Rattle.flagops_files.specs.Loading.{◌>>=◌, max_text, refused_by, tree_at}
-use Rattle.flagops_files.specs.Refusal.{GivesOne, GivesUnlessWant, is_want, unwritable}
-use Rattle.flagops_files.specs.Report.{beside, done}
+use Rattle.flagops_files.specs.Loading.{max_text}
+use Rattle.flagops_shell.specs.Outcomes.{◌>>=◌, refused_by, beside, done}
+use Rattle.flagops_commands.specs.Refusal.{GivesOne, GivesUnlessWant, is_want, unwritable, Refused}
 use Rattle.flagops_shell.specs.Report.{Report, outcome_view}
 use Rattle.flagops_shell.specs.declared.outcome.Outcome.{Outcome}
-use Rattle.flagops_files.specs.Refusal.{Refused}
-use Rattle.flagops_files.specs.declared.refusal.Call.TheVariants as call
-use Rattle.flagops_files.specs.declared.refusal.Refusal.{Refusal}
-use Rattle.flagops_files.specs.declared.refusal.Refusal.TheVariants.{Drive}
-use Rattle.flagops_rollouts.specs.Doubts.{settle}
-use Rattle.flagops_commands.specs.Drive.{AreRead, IsAnswered, IsDriveReport, IsDriveOutputOf, IsWritten, LeavesBook, admitted, before_at, doubt_of_asks, recorded}
+use Rattle.flagops_commands.specs.declared.refusal.ListedRefusal.{ListedRefusal}
+use Rattle.flagops_commands.specs.declared.refusal.ListedCall.TheVariants as call
+use Rattle.flagops_commands.specs.declared.refusal.ListedRefusal.TheVariants.{Drive}
+use Rattle.flagops_commands.specs.Drive.{AreRead, IsAnswered, IsDriveReport, IsDriveOutputOf, IsWritten, LeavesBook, admitted, before_at, doubt_of_asks, recorded, settle}
 use Rattle.flagops_shell.specs.Ending.{KeepsUnlessDone}
 
 -- ---- the book is written
 
-pub book_stored : (old new : Option Holding) (book : List ℕ) (d : DriveOutput) (r : Result Report Refusal) → r ≡ beside true (done d.text) → Stores old new book d.book → KeepsOthers old new book
+pub book_stored : (old new : Option Holding) (book : List ℕ) (d : DriveOutput) (r : Result Report ListedRefusal) → r ≡ beside true (done d.text) → Stores old new book d.book → KeepsOthers old new book
     → IfSome old (λ at. IsWritten at new book (Ok d) r)
 book_stored None new book d r is stored kept = tt
 book_stored (Some at) new book d r is stored kept = inl (is, stored, kept)
@@ -85,13 +83,13 @@ module _ (path asks : List ℕ) (workers : ℕ) (book : List ℕ) (add strict js
 same_reason : {X : Type 0} (d e : DriveRefusal) → IsErrOf {T = X} (Err d) e → d ≡ e
 same_reason d e is = cc
 
-not_ok : {X : Type 0} (e : Refusal) → IsOk {T = Bool} (Err e) → X
+not_ok : {X : Type 0} (e : ListedRefusal) → IsOk {T = Bool} (Err e) → X
 not_ok e h = cc
 
 -- what is refused before an ask is answered is what `drive` refuses, where nothing is doubted that is refused
-pub undriven_first : {X : Type 0} (strict : Bool) (o : Option DriveRefusal) (t : Shape) (d : DriveRefusal) → IsOk (settle call.Drive strict (doubt_of_asks t)) → ((first : DriveRefusal) → o ≡ Some first → IsErrOf {T = X} (Err d) first)
-    → (e : Refusal) → admitted strict o t ≡ Err e → Drive d ≡ e
-undriven_first strict None t d ok first e is = not_ok e (subst (λ (s : Result Bool Refusal). IsOk s) is ok)
+pub undriven_first : {X : Type 0} (strict : Bool) (o : Option DriveRefusal) (t : Shape) (d : DriveRefusal) → IsOk (settle strict (doubt_of_asks t)) → ((first : DriveRefusal) → o ≡ Some first → IsErrOf {T = X} (Err d) first)
+    → (e : ListedRefusal) → admitted strict o t ≡ Err e → Drive d ≡ e
+undriven_first strict None t d ok first e is = not_ok e (subst (λ (s : Result Bool ListedRefusal). IsOk s) is ok)
 undriven_first strict (Some x) t d ok first e is =
     let same : d ≡ x = same_reason d x (first x refl) in
     let refused : Drive x ≡ e = cc in
@@ -102,13 +100,13 @@ is_so : {d : DriveRefusal} → is_want (Drive d) ≡ false → d ≢ want
 is_so h same = let b : is_want (Drive want) ≡ false = ap (λ (x : DriveRefusal). is_want (Drive x)) (sym same) ∙ h in cc
 
 module _ (strict : Bool) (t : Shape) (flags : Definitions) (workers : ℕ) (before : Option Contents) (json : Bool) (d : DriveRefusal) where
-  settled_so : (s : Result Bool Refusal) → IsOk s → IsDriveOf flags (asks_of t) workers before json (Err d) → IsAnswered s flags t before workers strict json (Err (Drive d))
+  settled_so : (s : Result Bool ListedRefusal) → IsOk s → IsDriveOf flags (asks_of t) workers before json (Err d) → IsAnswered s flags t before workers strict json (Err (Drive d))
   settled_so (Ok noted) ok is = (Err d, is, refl)
   settled_so (Err e) ok is = not_ok e ok
 
-  pub undriven_so : {X : Type 0} (o : Option DriveRefusal) → IsOk (settle call.Drive strict (doubt_of_asks t)) → ((first : DriveRefusal) → o ≡ Some first → IsErrOf {T = X} (Err d) first)
+  pub undriven_so : {X : Type 0} (o : Option DriveRefusal) → IsOk (settle strict (doubt_of_asks t)) → ((first : DriveRefusal) → o ≡ Some first → IsErrOf {T = X} (Err d) first)
       → (d ≢ want → IsDriveOf flags (asks_of t) workers before json (Err d)) → is_want (Drive d) ≡ false → IsAnswered (admitted strict o t) flags t before workers strict json (Err (Drive d))
-  undriven_so None ok first drives wanted = settled_so (settle call.Drive strict (doubt_of_asks t)) ok (drives (is_so wanted))
+  undriven_so None ok first drives wanted = settled_so (settle strict (doubt_of_asks t)) ok (drives (is_so wanted))
   undriven_so (Some x) ok first drives wanted =
       let same : d ≡ x = same_reason d x (first x refl) in
       ap (λ (e : DriveRefusal). Err (Drive e)) same
@@ -119,27 +117,27 @@ driven_unrefused None flags workers before json d h = cc
 driven_unrefused (Some asks) flags workers before json d h = ap (option_map reason.Drive) h.0
 
 module _ (strict : Bool) (t : Shape) (flags : Definitions) (workers : ℕ) (before : Option Contents) (json : Bool) (d : DriveOutput) where
-  driven_settled : (s : Result Bool Refusal) → IsOk s → IsDriveOf flags (asks_of t) workers before json (Ok d) → IsAnswered s flags t before workers strict json (recorded strict d)
+  driven_settled : (s : Result Bool ListedRefusal) → IsOk s → IsDriveOf flags (asks_of t) workers before json (Ok d) → IsAnswered s flags t before workers strict json (recorded strict d)
   driven_settled (Ok noted) ok is = (Ok d, is, refl)
   driven_settled (Err e) ok is = not_ok e ok
 
-  pub driven_so : IsOk (settle call.Drive strict (doubt_of_asks t)) → IsDriveOf flags (asks_of t) workers before json (Ok d)
+  pub driven_so : IsOk (settle strict (doubt_of_asks t)) → IsDriveOf flags (asks_of t) workers before json (Ok d)
       → IsAnswered (admitted strict (refusal_of (asks_of t) workers) t) flags t before workers strict json (recorded strict d)
   driven_so ok is =
       let none = driven_unrefused (asks_of t) flags workers before json d is in
-      subst (λ (o : Option DriveRefusal). IsAnswered (admitted strict o t) flags t before workers strict json (recorded strict d)) (sym none) (driven_settled (settle call.Drive strict (doubt_of_asks t)) ok is)
+      subst (λ (o : Option DriveRefusal). IsAnswered (admitted strict o t) flags t before workers strict json (recorded strict d)) (sym none) (driven_settled (settle strict (doubt_of_asks t)) ok is)
 
-  pub driven_admitted : {X : Type 0} → IsOk (settle call.Drive strict (doubt_of_asks t)) → IsDriveOf flags (asks_of t) workers before json (Ok d) → (e : Refusal) → admitted strict (refusal_of (asks_of t) workers) t ≡ Err e → X
+  pub driven_admitted : {X : Type 0} → IsOk (settle strict (doubt_of_asks t)) → IsDriveOf flags (asks_of t) workers before json (Ok d) → (e : ListedRefusal) → admitted strict (refusal_of (asks_of t) workers) t ≡ Err e → X
   driven_admitted ok is e refused =
       let none = driven_unrefused (asks_of t) flags workers before json d is in
-      not_ok e (subst (λ (s : Result Bool Refusal). IsOk s) (ap (λ (o : Option DriveRefusal). admitted strict o t) (sym none) ∙ refused) ok)
+      not_ok e (subst (λ (s : Result Bool ListedRefusal). IsOk s) (ap (λ (o : Option DriveRefusal). admitted strict o t) (sym none) ∙ refused) ok)
 
-pub gives_one : {X Y : Type 0} (seen : X → Y) (r : Result X Refused) (wanted : Result Y Refusal) (P : Result Y Refusal → Type 0) → GivesUnlessWant seen r wanted → P wanted → GivesOne seen r P
+pub gives_one : {X Y : Type 0} (seen : X → Y) (r : Result X Refused) (wanted : Result Y ListedRefusal) (P : Result Y ListedRefusal → Type 0) → GivesUnlessWant seen r wanted → P wanted → GivesOne seen r P
 gives_one seen (Ok x) wanted P is h = subst P is h
 gives_one seen (Err r) wanted P is h = λ w. subst P (is w) h
 
 -- asks that are not refused before one is answered
-admits : (strict : Bool) (o : Option DriveRefusal) (t : Shape) (noted : Bool) → admitted strict o t ≡ Ok noted → settle call.Drive strict (doubt_of_asks t) ≡ Ok noted
+admits : (strict : Bool) (o : Option DriveRefusal) (t : Shape) (noted : Bool) → admitted strict o t ≡ Ok noted → settle strict (doubt_of_asks t) ≡ Ok noted
 admits strict None t noted is = is
 admits strict (Some e) t noted is = cc
 
@@ -151,19 +149,19 @@ answered flags (Some asks) workers before json d is = (ap (option_map reason.Dri
 
 -- asks that came to something were admitted
 drove_by : (flags : Definitions) (t : Shape) (workers : ℕ) (before : Option Contents) (strict json : Bool) (d : DriveOutput) → IsDriveOutputOf (Ok flags) (Ok t) (Ok before) workers strict json (Ok d)
-    → (workers_refusal workers ≡ None) × (is_some (asks_of t) ≡ true) × IsOk (settle call.Drive strict (doubt_of_asks t))
+    → (workers_refusal workers ≡ None) × (is_some (asks_of t) ≡ true) × IsOk (settle strict (doubt_of_asks t))
 drove_by flags t workers before strict json d came = go (admitted strict (refusal_of (asks_of t) workers) t) refl came
   where
     made : (noted : Bool) → admitted strict (refusal_of (asks_of t) workers) t ≡ Ok noted → (r : Result DriveOutput DriveRefusal) → IsDriveOf flags (asks_of t) workers before json r → Ok d ≡ (refused_by Drive r >>= recorded strict)
-        → (workers_refusal workers ≡ None) × (is_some (asks_of t) ≡ true) × IsOk (settle call.Drive strict (doubt_of_asks t))
+        → (workers_refusal workers ≡ None) × (is_some (asks_of t) ≡ true) × IsOk (settle strict (doubt_of_asks t))
     made noted is (Ok x) drive_output same =
         let fit : (workers_refusal workers ≡ None) × (is_some (asks_of t) ≡ true) = answered flags (asks_of t) workers before json x drive_output in
-        let settled : settle call.Drive strict (doubt_of_asks t) ≡ Ok noted = admits strict (refusal_of (asks_of t) workers) t noted is in
-        (fit.0, fit.1, subst (λ (s : Result Bool Refusal). IsOk s) (sym settled) refl)
+        let settled : settle strict (doubt_of_asks t) ≡ Ok noted = admits strict (refusal_of (asks_of t) workers) t noted is in
+        (fit.0, fit.1, subst (λ (s : Result Bool ListedRefusal). IsOk s) (sym settled) refl)
     made noted is (Err e) drive_output same = cc
 
-    go : (a : Result Bool Refusal) → admitted strict (refusal_of (asks_of t) workers) t ≡ a → IsAnswered a flags t before workers strict json (Ok d)
-        → (workers_refusal workers ≡ None) × (is_some (asks_of t) ≡ true) × IsOk (settle call.Drive strict (doubt_of_asks t))
+    go : (a : Result Bool ListedRefusal) → admitted strict (refusal_of (asks_of t) workers) t ≡ a → IsAnswered a flags t before workers strict json (Ok d)
+        → (workers_refusal workers ≡ None) × (is_some (asks_of t) ≡ true) × IsOk (settle strict (doubt_of_asks t))
     go (Ok noted) is came = made noted is came.0 came.1 came.2
     go (Err e) is came = cc
 
@@ -171,10 +169,10 @@ pub left_by_storing : (path asks : List ℕ) (workers : ℕ) (book : List ℕ) (
     → IfSome old (λ at. IsDocumentAt at path (Ok flags)) → IfSome old (λ at. tree_at at asks max_text ≡ Ok t) → IfSome old (λ at. before_at at book add ≡ Ok before)
     → IsDriveOutputOf (Ok flags) (Ok t) (Ok before) workers strict json (Ok d) → KeepsOthers old after book → LeavesBook old after path asks workers book add strict
 left_by_storing path asks workers book add strict json flags t before old after d document tree had drive_output kept =
-    let fit : (workers_refusal workers ≡ None) × (is_some (asks_of t) ≡ true) × IsOk (settle call.Drive strict (doubt_of_asks t)) = drove_by flags t workers before strict json d drive_output in
+    let fit : (workers_refusal workers ≡ None) × (is_some (asks_of t) ≡ true) × IsOk (settle strict (doubt_of_asks t)) = drove_by flags t workers before strict json d drive_output in
     inr (fit.0, read old document tree had fit.1 fit.2, kept)
   where
     read : (h : Option Holding) → IfSome h (λ at. IsDocumentAt at path (Ok flags)) → IfSome h (λ at. tree_at at asks max_text ≡ Ok t) → IfSome h (λ at. before_at at book add ≡ Ok before)
-        → is_some (asks_of t) ≡ true → IsOk (settle call.Drive strict (doubt_of_asks t)) → IfSome h (λ at. AreRead at path asks book add strict)
+        → is_some (asks_of t) ≡ true → IsOk (settle strict (doubt_of_asks t)) → IfSome h (λ at. AreRead at path asks book add strict)
     read None document tree had some ok = tt
     read (Some at) document tree had some ok = (flags, document, t, tree, some, ok, before, had)

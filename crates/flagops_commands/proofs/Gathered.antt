@@ -19,9 +19,9 @@ use Rattle.book_core.proofs.Paged.{reply_to-on}
 use Rattle.book_core.specs.declared.fault.BookFault.{BookFault}
 use Rattle.book_core.specs.declared.noted.Noted.{Noted}
 use Rattle.book_core.specs.declared.noted.Noted.TheVariants.{Again, New}
-use Rattle.flagops_files.specs.Loading.{◌>>=◌, refused_by}
-use Rattle.flagops_files.specs.declared.refusal.Refusal.{Refusal}
-use Rattle.flagops_files.specs.declared.refusal.Refusal.TheVariants.{Note}
+use Rattle.flagops_shell.specs.Outcomes.{◌>>=◌, refused_by}
+use Rattle.flagops_commands.specs.declared.refusal.ListedRefusal.{ListedRefusal}
+use Rattle.flagops_commands.specs.declared.refusal.ListedRefusal.TheVariants.{Note}
 use Rattle.rule_text.specs.Texts.{texts_view}
 use Rattle.flagops_commands.specs.Price.{are_short, are_taken, exposed, key_page, noted_from}
 use Rattle.transport_instance.proofs.Joined.{rise-nil}
@@ -143,7 +143,7 @@ taken inputs key short few =
     (cases_Bool (is_among key inputs))
 
 -- the inputs of the page after the keys, or the first refusal of one
-abbrev exposed_from : Contents → Inputs → Result Inputs Refusal
+abbrev exposed_from : Contents → Inputs → Result Inputs ListedRefusal
 exposed_from book keys = noted_from book keys >>= λ after. Ok (inputs_on after key_page)
 
 noted-gathered : (book : Contents) (keys : Inputs) → All IsShort keys → length (inputs_on book key_page) + length keys ≤ most_inputs → exposed_from book keys ≡ Ok (gathered (inputs_on book key_page) keys)

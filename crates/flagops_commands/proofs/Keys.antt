@@ -4,10 +4,12 @@ use Rattle.flag_text.specs.Readers.{as_text, as_list}
 use Rattle.flag_text.specs.Reading.{tree_of}
 use Rattle.flag_text.specs.Shape.{Shape, null, boolean, whole, other, text, list, object, Items, no_items, item}
 use Rattle.rule_text.specs.Texts.{AreTexts, text_items}
-use Rattle.flagops_files.specs.Loading.{◌>>=◌, refused_by, max_text}
-use Rattle.flagops_files.specs.declared.refusal.PriceMismatch.TheVariants.{BadKeys}
-use Rattle.flagops_files.specs.declared.refusal.Refusal.TheVariants.{Price, ReadTree}
+use Rattle.flagops_files.specs.Loading.{max_text}
+use Rattle.flagops_shell.specs.Outcomes.{◌>>=◌, refused_by}
+use Rattle.flagops_commands.specs.declared.refusal.PriceMismatch.TheVariants.{BadKeys}
 use Rattle.flagops_commands.specs.Price.{if_keys, keys_in, keys_of, texts_of}
+use Rattle.flagops_commands.specs.declared.refusal.ListedRefusal.TheVariants.{Price}
+use Rattle.flagops_commands.specs.Refusal.{no_tree}
 
 texts_read : (ss : List (List ℕ)) → texts_of (text_items ss) ≡ Some ss
 texts_read [] = refl
@@ -15,7 +17,7 @@ texts_read (s ∷ ss) = rw (texts_read ss) refl
 
 -- texts are their own keys
 pub keys_read : (bytes : List ℕ) (ss : List (List ℕ)) → AreTexts bytes max_text ss → keys_of bytes ≡ Ok ss
-keys_read bytes ss are = ap (λ r. refused_by ReadTree r >>= keys_in) are ∙ ap if_keys (texts_read ss)
+keys_read bytes ss are = ap (λ r. refused_by no_tree r >>= keys_in) are ∙ ap if_keys (texts_read ss)
 
 text_of_tree : (t : Shape) (s : List ℕ) → as_text t ≡ Some s → t ≡ text s
 text_of_tree null s e = absurd (cc)
@@ -54,4 +56,4 @@ no_texts t (Some ss) e apart = absurd (apart ss (tree_of_texts t ss e))
 -- a tree of other bytes has none
 pub keys_refused : (bytes : List ℕ) (t : Shape) → tree_of bytes max_text ≡ Ok t → ((ss : List (List ℕ)) → AreTexts bytes max_text ss → ⊥) → keys_of bytes ≡ Err (Price BadKeys)
 keys_refused bytes t is apart =
-    ap (λ r. refused_by ReadTree r >>= keys_in) is ∙ no_texts t (option_and_then texts_of (as_list t)) refl (λ ss same. apart ss (is ∙ ap Ok same))
+    ap (λ r. refused_by no_tree r >>= keys_in) is ∙ no_texts t (option_and_then texts_of (as_list t)) refl (λ ss same. apart ss (is ∙ ap Ok same))

@@ -1,10 +1,12 @@
 pub mod AddedUp
+mod Described
 mod Distinct
 pub mod Driving
 mod Gathered
 pub mod Hexadecimal
 mod Keys
-mod Described
+mod Loaded
 mod Members
 mod Noted
 pub mod Refusing
+mod Summary

@@ -1,24 +1,26 @@
 -- What `drive` refuses: by name where the workers or the asks are wrong or a member is not read, and before any file is stored.
 use Rattle.std.proofs.Common.{◌≡◌, ◌∙◌, ◌||◌, ℕ, List, Option, Some, None, Bool, true, false, IfSome, inl, refl, sym, ap, subst}
-use Rattle.std.specs.Prelude.{if◌then◌else◌, Result, Ok, Err}
+use Rattle.std.specs.Prelude.{if◌then◌else◌, nat_eq, Result, Ok, Err}
 use Rattle.flag_text.specs.Shape.{Shape}
 use Rattle.flagops_drive.proofs.Named.{is_refused, named}
 use Rattle.flagops_drive.specs.Asks.{Ask, asks_of}
 use Rattle.flagops_drive.specs.Driven.{refusal_of, workers_refusal}
 use Rattle.flagops_drive.specs.Unread.{has_unread_ask}
 use Rattle.flagops_drive.specs.declared.fault.DriveRefusal.{DriveRefusal}
+use Rattle.flagops_drive.specs.Fault.{number_of}
+use Rattle.flagops_drive.specs.declared.fault.DriveRefusal.TheVariants as reason
 use Rattle.flagops_drive.specs.declared.fault.DriveRefusal.TheVariants.{BadAsks}
+use Rattle.book_share.specs.declared.drive_fault.DriveFault.TheVariants as sharing
 use Rattle.flagops_shell.specs.Files.{Holding}
-use Rattle.flagops_files.specs.Loading.{max_text, tree_at}
-use Rattle.flagops_files.specs.Refusal.{call_of, is_want}
-use Rattle.flagops_files.specs.declared.refusal.Call.{Call}
-use Rattle.flagops_files.specs.declared.refusal.Call.TheVariants as call
-use Rattle.flagops_files.specs.declared.refusal.Refusal.{Refusal}
-use Rattle.flagops_files.specs.declared.refusal.Doubt.TheVariants as doubt
-use Rattle.flagops_files.specs.declared.refusal.Refusal.TheVariants.{Drive, Doubted}
-use Rattle.flagops_files.specs.Refusal.{Refused}
-use Rattle.flagops_rollouts.specs.Doubts.{settle}
-use Rattle.flagops_commands.specs.Drive.{HasNoAsks, HasUnreadAsk, IsRefusedByName, admitted}
+use Rattle.flagops_files.specs.Loading.{max_text}
+use Rattle.flagops_commands.specs.Loaded.{tree_at}
+use Rattle.flagops_commands.specs.Refusal.{call_of, is_want, Refused}
+use Rattle.flagops_commands.specs.declared.refusal.ListedCall.TheVariants as call
+use Rattle.flagops_commands.specs.declared.refusal.ListedCall.{ListedCall}
+use Rattle.flagops_rollouts.specs.declared.refusal.Doubt.TheVariants as doubt
+use Rattle.flagops_commands.specs.declared.refusal.ListedRefusal.{ListedRefusal}
+use Rattle.flagops_commands.specs.declared.refusal.ListedRefusal.TheVariants.{Drive, Doubted}
+use Rattle.flagops_commands.specs.Drive.{HasNoAsks, HasUnreadAsk, IsRefusedByName, admitted, settle}
 use Rattle.flagops_shell.specs.Ending.{KeepsUnlessDone}
 use Rattle.flagops_shell.specs.declared.outcome.Outcome.{Outcome}
 
@@ -26,25 +28,34 @@ differs : {X : Type 0} → true ≡ false → X
 differs h = cc
 
 -- a refusal by a call that is not `drive` itself
-pub by_another : (calls : Call → Bool) (r : Refusal) → calls call.Drive ≡ false → calls (call_of r) ≡ true → call_of r ≡ call.Drive → is_want r ≡ false
+pub by_another : (calls : ListedCall → Bool) (r : ListedRefusal) → calls call.Drive ≡ false → calls (call_of r) ≡ true → call_of r ≡ call.Drive → is_want r ≡ false
 by_another calls r apart made is = differs (sym made ∙ (ap calls is ∙ apart))
 
 -- ---- what is refused before an ask is answered
 
 -- asks are refused so, and not for want of memory
 abbrev pub AreRefused : Bool → Shape → ℕ → Type 0
-AreRefused strict t workers = (x : Refusal) × (admitted strict (refusal_of (asks_of t) workers) t ≡ Err x) × (is_want x ≡ false)
+AreRefused strict t workers = (x : ListedRefusal) × (admitted strict (refusal_of (asks_of t) workers) t ≡ Err x) × (is_want x ≡ false)
 
 -- and then so is what was returned
-pub by_name : (strict : Bool) (t : Shape) (workers : ℕ) (r : Refusal) → AreRefused strict t workers → ((x : Refusal) → admitted strict (refusal_of (asks_of t) workers) t ≡ Err x → r ≡ x) → is_want r ≡ false
+pub by_name : (strict : Bool) (t : Shape) (workers : ℕ) (r : ListedRefusal) → AreRefused strict t workers → ((x : ListedRefusal) → admitted strict (refusal_of (asks_of t) workers) t ≡ Err x → r ≡ x) → is_want r ≡ false
 by_name strict t workers r are refused = ap is_want (refused are.0 are.1) ∙ are.2
 
-pub none_driven : (strict : Bool) (t : Shape) (workers : ℕ) → AreRefused strict t workers → ((x : Refusal) → admitted strict (refusal_of (asks_of t) workers) t ≡ Err x → ⊥) → ⊥
+pub none_driven : (strict : Bool) (t : Shape) (workers : ℕ) → AreRefused strict t workers → ((x : ListedRefusal) → admitted strict (refusal_of (asks_of t) workers) t ≡ Err x → ⊥) → ⊥
 none_driven strict t workers are refused = refused are.0 are.1
+
+-- a fault of another number than that of want of memory
+by_number : (e : DriveRefusal) → nat_eq (number_of e) 0 ≡ false → is_want (Drive e) ≡ false
+by_number (reason.Drive sharing.WantOfMemory) apart = differs apart
+by_number (reason.Drive sharing.NoWorkers) apart = refl
+by_number (reason.Drive sharing.TooManyWorkers) apart = refl
+by_number (reason.Drive sharing.Stalled) apart = refl
+by_number reason.BadAsks apart = refl
+by_number reason.PageFull apart = refl
 
 -- what `drive` itself refuses
 by_drive : (strict : Bool) (t : Shape) (workers : ℕ) (e : DriveRefusal) → refusal_of (asks_of t) workers ≡ Some e → AreRefused strict t workers
-by_drive strict t workers e is = (Drive e, ap (λ (o : Option DriveRefusal). admitted strict o t) is, named (asks_of t) workers e is)
+by_drive strict t workers e is = (Drive e, ap (λ (o : Option DriveRefusal). admitted strict o t) is, by_number e (named (asks_of t) workers e is))
 
 -- a wrong number of workers
 pub wrong_workers : (strict : Bool) (t : Shape) (workers : ℕ) (e : DriveRefusal) → workers_refusal workers ≡ Some e → AreRefused strict t workers
@@ -60,7 +71,7 @@ unread t workers has = go (refusal_of (asks_of t) workers) refl
   where
     go : (o : Option DriveRefusal) → refusal_of (asks_of t) workers ≡ o → AreRefused true t workers
     go (Some e) is = by_drive true t workers e is
-    go None is = (Doubted call.Drive doubt.Unread, ap (λ (o : Option DriveRefusal). admitted true o t) is ∙ ap (λ (b : Bool). settle call.Drive true (if b then Some doubt.Unread else None)) has, refl)
+    go None is = (Doubted doubt.Unread, ap (λ (o : Option DriveRefusal). admitted true o t) is ∙ ap (λ (b : Bool). settle true (if b then Some doubt.Unread else None)) has, refl)
 
 -- ---- the file of the asks
 

@@ -5,10 +5,10 @@ use Rattle.murmur_core.specs.Murmur.{hash}
 use Rattle.flag_text.specs.Shape.{text}
 use Rattle.flag_text.specs.Printing.{text_of}
 use Rattle.flagops_shell.specs.Files.{Holding}
-use Rattle.flagops_files.specs.Loading.{◌>>=◌, choice_at}
-use Rattle.flagops_files.specs.Report.{done}
+use Rattle.flagops_shell.specs.Outcomes.{◌>>=◌, done}
+use Rattle.flagops_commands.specs.Loaded.{choice_at}
 use Rattle.flagops_shell.specs.Report.{Report}
-use Rattle.flagops_files.specs.declared.refusal.Refusal.{Refusal}
+use Rattle.flagops_commands.specs.declared.refusal.ListedRefusal.{ListedRefusal}
 
 -- the last k hexadecimal digits of a number, in lower case, zeros in front of it included
 unfoldable pub hex_digits : ℕ → ℕ → List ℕ
@@ -42,7 +42,7 @@ unfoldable pub bucket_json : List ℕ → Chosen → List ℕ
 bucket_json key c = three_members (eight_hex_digits (hash key 0)) (decimal c.0) (text_of (text (name_of c)))
 
 -- what is printed of what the rule of a rule file gives a key: the lines, or with `--json` the JSON text
-unfoldable pub bucket_report : Holding → List ℕ → List ℕ → Bool → Result Report Refusal
+unfoldable pub bucket_report : Holding → List ℕ → List ℕ → Bool → Result Report ListedRefusal
 bucket_report at rule key json = do
   c ← choice_at at rule key
   done (if json then bucket_json key c else bucket_text key c)

@@ -11,15 +11,17 @@ use Rattle.flagops_commands.specs.Price.{price_report}
 use Rattle.flagops_commands.specs.Calls.{bucket_calls, completions_calls, price_calls, resolve_calls, drive_calls}
 use Rattle.flagops_rollouts.specs.Calls.{verify_calls, apply_calls, keep_calls, plan_calls}
 use Rattle.flagops_commands.specs.Subjects.{remark_of}
-use Rattle.flagops_files.specs.Described.{described}
-use Rattle.flagops_files.specs.Report.{Outcomes}
-use Rattle.flagops_files.specs.declared.refusal.Refusal.{Refusal}
+use Rattle.flagops_shell.specs.Described.{described}
+use Rattle.flagops_commands.specs.Refusal.{Outcomes, call_name, call_of, rolls}
+use Rattle.flagops_commands.specs.declared.refusal.ListedRefusal.{ListedRefusal}
+use Rattle.flagops_commands.specs.declared.refusal.ListedRefusal.TheVariants.{Rollout}
+use Rattle.flagops_shell.specs.Outcomes.{Lifts}
 use Rattle.flagops_shell.specs.Running.{Description}
 use Rattle.flagops_words.specs.Words.{asked_by, faults_of}
 use Rattle.flagops_commands.specs.Resolve.{IsResolveReport}
 use Rattle.flagops_rollouts.specs.Verify.{IsVerifyReport}
-use Rattle.flagops_files.specs.declared.refusal.Call.{Call}
-use Rattle.flagops_files.specs.declared.refusal.Call.TheVariants as call
+use Rattle.flagops_commands.specs.declared.refusal.ListedCall.{ListedCall}
+use Rattle.flagops_commands.specs.declared.refusal.ListedCall.TheVariants as call
 use Rattle.flagops_words.specs.Asked.{Asked, bucket, price, resolve, verify, apply, keep, plan, drive, completions}
 
 -- the command waits for others: `drive` for its workers, and no other command
@@ -32,10 +34,10 @@ abbrev pub IsOutcome : Holding → Option Holding → Asked → Outcomes
 IsOutcome at after (bucket rule key json) r = bucket_report at rule key json ≡ r
 IsOutcome at after (price old new request keys json) r = price_report at old new request keys json ≡ r
 IsOutcome at after (resolve document key kind default context moment) r = IsResolveReport at document key kind default context moment r
-IsOutcome at after (verify document request book file refine strict json) r = IsVerifyReport at document request book file refine strict json r
-IsOutcome at after (apply document file key site) r = IsApplyReport at document file key site r
-IsOutcome at after (keep document file request book write refine strict) r = IsKeepReport at after document file request book write refine strict r
-IsOutcome at after (plan document request book refine strict explain) r = IsPlanReport at document request book refine strict explain r
+IsOutcome at after (verify document request book file refine strict json) r = Lifts Rollout (IsVerifyReport at document request book file refine strict json) r
+IsOutcome at after (apply document file key site) r = Lifts Rollout (IsApplyReport at document file key site) r
+IsOutcome at after (keep document file request book write refine strict) r = Lifts Rollout (IsKeepReport at after document file request book write refine strict) r
+IsOutcome at after (plan document request book refine strict explain) r = Lifts Rollout (IsPlanReport at document request book refine strict explain) r
 IsOutcome at after (completions shell) r = completions_report shell ≡ r
 IsOutcome at after (drive document file workers book add strict json) r = IsDriveReport at after document file workers book add strict json r
 
@@ -46,17 +48,17 @@ Leaves (drive document file workers book add strict json) old new = LeavesBook o
 Leaves asked old new = new ≡ old
 
 -- the calls that each command makes
-abbrev pub calls_of : Asked → Call → Bool
+abbrev pub calls_of : Asked → ListedCall → Bool
 calls_of (bucket rule key json) c = bucket_calls c
 calls_of (price old new request keys json) c = price_calls c
 calls_of (resolve document key kind default context moment) c = resolve_calls c
-calls_of (verify document request book file refine strict json) c = verify_calls c
-calls_of (apply document file key site) c = apply_calls c
-calls_of (keep document file request book write refine strict) c = keep_calls c
-calls_of (plan document request book refine strict explain) c = plan_calls c
+calls_of (verify document request book file refine strict json) c = rolls verify_calls c
+calls_of (apply document file key site) c = rolls apply_calls c
+calls_of (keep document file request book write refine strict) c = rolls keep_calls c
+calls_of (plan document request book refine strict explain) c = rolls plan_calls c
 calls_of (completions shell) c = completions_calls c
 calls_of (drive document file workers book add strict json) c = drive_calls c
 
 -- what is known of these commands
-abbrev pub description : Description Asked Refusal
-description = described asked_by faults_of (λ a at after. IsOutcome at after a) (λ a at. remark_of a) calls_of Leaves
+abbrev pub description : Description Asked ListedRefusal
+description = described call_name call_of asked_by faults_of (λ a at after. IsOutcome at after a) remark_of calls_of Leaves

@@ -7,24 +7,21 @@ use Rattle.flagops_drive.specs.Asks.{asks_of}
 use Rattle.flagops_drive.specs.Driven.{DriveOutput, IsDriveOf, refusal_of, workers_refusal}
 use Rattle.flagops_drive.specs.Unread.{has_unread_ask}
 use Rattle.flagops_drive.specs.declared.fault.DriveRefusal.{DriveRefusal}
-use Rattle.flagops_rollouts.specs.Doubts.{settle}
-use Rattle.flagops_files.specs.Documents.{IsDocumentAt}
+use Rattle.flagops_commands.specs.Loaded.{IsDocumentAt, tree_at, book_at, replaceable_at}
 use Rattle.flagops_shell.specs.Files.{Holding, KeepsOthers, Stores}
-use Rattle.flagops_files.specs.Loading.{◌>>=◌, max_text, refused_by, tree_at}
-use Rattle.flagops_files.specs.Question.{book_at, replaceable_at}
-use Rattle.flagops_files.specs.Refusal.{call_of, is_want, unwritable}
-use Rattle.flagops_files.specs.Report.{Outcomes, beside, done}
+use Rattle.flagops_files.specs.Loading.{max_text}
+use Rattle.flagops_shell.specs.Outcomes.{◌>>=◌, refused_by, beside, done}
+use Rattle.flagops_commands.specs.Refusal.{call_of, is_want, unwritable, Outcomes, Refused}
+use Rattle.flagops_rollouts.specs.declared.refusal.Doubt.{Doubt}
 use Rattle.flagops_shell.specs.Report.{status_number}
 use Rattle.flagops_shell.specs.declared.outcome.Outcome.{Outcome}
-use Rattle.flagops_files.specs.declared.refusal.Call.TheVariants as call
-use Rattle.flagops_files.specs.declared.refusal.Doubt.{Doubt}
-use Rattle.flagops_files.specs.declared.refusal.Doubt.TheVariants as doubt
-use Rattle.flagops_files.specs.declared.refusal.Refusal.{Refusal}
-use Rattle.flagops_files.specs.declared.refusal.Refusal.TheVariants.{Drive}
-use Rattle.flagops_files.specs.Refusal.{Refused}
+use Rattle.flagops_commands.specs.declared.refusal.ListedCall.TheVariants as call
+use Rattle.flagops_commands.specs.declared.refusal.ListedRefusal.{ListedRefusal}
+use Rattle.flagops_rollouts.specs.declared.refusal.Doubt.TheVariants as doubt
+use Rattle.flagops_commands.specs.declared.refusal.ListedRefusal.TheVariants.{Drive, Doubted}
 
 -- the book that was there before: that of the file where it is added to, and else none, where the file may become another book
-unfoldable pub before_at : Holding → List ℕ → Bool → Result (Option Contents) Refusal
+unfoldable pub before_at : Holding → List ℕ → Bool → Result (Option Contents) ListedRefusal
 before_at at book false = replaceable_at at book >>= λ _. Ok None
 before_at at book true = book_at at book >>= λ before. Ok (Some before)
 
@@ -36,41 +33,47 @@ doubt_of_asks t = if has_unread_ask t then Some doubt.Unread else None
 abbrev pub doubt_of_drove : DriveOutput → Option Doubt
 doubt_of_drove d = if d.reached == 0 then Some doubt.Unrecorded else None
 
+-- whether a person is told of a doubt; with `--strict` it is refused
+abbrev pub settle : Bool → Option Doubt → Result Bool ListedRefusal
+settle false d = Ok (is_some d)
+settle true None = Ok false
+settle true (Some d) = Err (Doubted d)
+
 -- why asks are refused before one of them is answered: by `drive` itself, or for what is doubted of them
-abbrev pub admitted : Bool → Option DriveRefusal → Shape → Result Bool Refusal
+abbrev pub admitted : Bool → Option DriveRefusal → Shape → Result Bool ListedRefusal
 admitted strict (Some e) t = Err (Drive e)
-admitted strict None t = settle call.Drive strict (doubt_of_asks t)
+admitted strict None t = settle strict (doubt_of_asks t)
 
 -- what they came to, unless that is doubted and refused
-abbrev pub recorded : Bool → DriveOutput → Result DriveOutput Refusal
-recorded strict d = settle call.Drive strict (doubt_of_drove d) >>= λ _. Ok d
+abbrev pub recorded : Bool → DriveOutput → Result DriveOutput ListedRefusal
+recorded strict d = settle strict (doubt_of_drove d) >>= λ _. Ok d
 
 -- what comes of asks that were admitted, or refused
-abbrev pub IsAnswered : Result Bool Refusal → Definitions → Shape → Option Contents → ℕ → Bool → Bool → Result DriveOutput Refusal → Type 0
+abbrev pub IsAnswered : Result Bool ListedRefusal → Definitions → Shape → Option Contents → ℕ → Bool → Bool → Result DriveOutput ListedRefusal → Type 0
 IsAnswered (Err e) flags t before workers strict json r = r ≡ Err e
 IsAnswered (Ok noted) flags t before workers strict json r =
     (d : Result DriveOutput DriveRefusal) × IsDriveOf flags (asks_of t) workers before json d × (r ≡ (refused_by Drive d >>= recorded strict))
 
 -- what comes of the asks, where the document, the asks and the book before were read, each before the next
-abbrev pub IsDriveOutputOf : Result Definitions Refusal → Result Shape Refusal → Result (Option Contents) Refusal → ℕ → Bool → Bool → Result DriveOutput Refusal → Type 0
+abbrev pub IsDriveOutputOf : Result Definitions ListedRefusal → Result Shape ListedRefusal → Result (Option Contents) ListedRefusal → ℕ → Bool → Bool → Result DriveOutput ListedRefusal → Type 0
 IsDriveOutputOf (Err e) asks before workers strict json r = r ≡ Err e
 IsDriveOutputOf (Ok flags) (Err e) before workers strict json r = r ≡ Err e
 IsDriveOutputOf (Ok flags) (Ok t) (Err e) workers strict json r = r ≡ Err e
 IsDriveOutputOf (Ok flags) (Ok t) (Ok before) workers strict json r = IsAnswered (admitted strict (refusal_of (asks_of t) workers) t) flags t before workers strict json r
 
 -- The book is written before the output, and no other file changes; none does where there is no book, or where it is refused to be written. A person is told how many asks ended in what, and how many inputs they reached.
-abbrev pub IsWritten : Holding → Option Holding → List ℕ → Result DriveOutput Refusal → Outcomes
+abbrev pub IsWritten : Holding → Option Holding → List ℕ → Result DriveOutput ListedRefusal → Outcomes
 IsWritten at after book (Err e) r = (r ≡ Err e) × (after ≡ Some at)
 IsWritten at after book (Ok d) r = ((r ≡ beside true (done d.text)) × Stores (Some at) after book d.book × KeepsOthers (Some at) after book) ⊎ ((r ≡ Err unwritable) × (after ≡ Some at))
 
 unfoldable pub IsDriveReport : Holding → Option Holding → List ℕ → List ℕ → ℕ → List ℕ → Bool → Bool → Bool → Outcomes
 IsDriveReport at after path asks workers book add strict json r =
-    (document : Result Definitions Refusal) × IsDocumentAt at path document × (d : Result DriveOutput Refusal) × IsDriveOutputOf document (tree_at at asks max_text) (before_at at book add) workers strict json d × IsWritten at after book d r
+    (document : Result Definitions ListedRefusal) × IsDocumentAt at path document × (d : Result DriveOutput ListedRefusal) × IsDriveOutputOf document (tree_at at asks max_text) (before_at at book add) workers strict json d × IsWritten at after book d r
 
 -- the document and the asks of these files were read, of which nothing is doubted that is refused, and the book that is added to
 abbrev pub AreRead : Holding → List ℕ → List ℕ → List ℕ → Bool → Bool → Type 0
 AreRead at path asks book add strict =
-    (flags : Definitions) × IsDocumentAt at path (Ok flags) × (t : Shape) × (tree_at at asks max_text ≡ Ok t) × (is_some (asks_of t) ≡ true) × IsOk (settle call.Drive strict (doubt_of_asks t))
+    (flags : Definitions) × IsDocumentAt at path (Ok flags) × (t : Shape) × (tree_at at asks max_text ≡ Ok t) × (is_some (asks_of t) ≡ true) × IsOk (settle strict (doubt_of_asks t))
     × (before : Option Contents) × (before_at at book add ≡ Ok before)
 
 -- The files stay as they are; or the number of workers is right, the files were read, and the file of the book alone changes.

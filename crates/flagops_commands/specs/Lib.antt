@@ -3,7 +3,11 @@ pub mod Calls
 pub mod Commands
 pub mod Completions
 pub mod Drive
+pub mod DriveSummary
+pub mod FileLines
+pub mod Loaded
 pub mod Price
+pub mod Refusal
 pub mod Resolve
 pub mod Subjects
 pub mod Totals

@@ -11,26 +11,28 @@ use Rattle.book_core.specs.Page.{PageName}
 use Rattle.price_core.specs.Cost.{cost_of, first_forbidden_of}
 use Rattle.price_core.specs.Pricing.{Pricing}
 use Rattle.price_core.specs.Request.{Asked, asked_of}
-use Rattle.flagops_shell.specs.Files.{Holding, load_of}
-use Rattle.flagops_files.specs.Loading.{◌>>=◌, refused_by, rule_at, max_text}
-use Rattle.flagops_files.specs.Report.{beside, done}
+use Rattle.flagops_shell.specs.Files.{Holding}
+use Rattle.flagops_files.specs.Loading.{max_text}
+use Rattle.flagops_shell.specs.Outcomes.{◌>>=◌, refused_by, beside, done}
 use Rattle.flagops_shell.specs.Report.{Report}
 use Rattle.flagops_rollouts.specs.Doubts.{is_unread}
 use Rattle.flagops_commands.specs.Totals.{totals_by_name}
-use Rattle.flagops_files.specs.declared.refusal.Refusal.{Refusal}
-use Rattle.flagops_files.specs.declared.refusal.Refusal.TheVariants.{Load, ReadRequest, ReadTree, Note, Price}
-use Rattle.flagops_files.specs.declared.refusal.PriceMismatch.TheVariants.{Weight, BadKeys}
+use Rattle.flagops_commands.specs.Loaded.{bytes_at, rule_at}
+use Rattle.flagops_commands.specs.declared.refusal.ListedRefusal.{ListedRefusal}
+use Rattle.flagops_commands.specs.declared.refusal.ListedRefusal.TheVariants.{ReadRequest, Note, Price}
+use Rattle.flagops_commands.specs.Refusal.{no_tree}
+use Rattle.flagops_commands.specs.declared.refusal.PriceMismatch.TheVariants.{Weight, BadKeys}
 
 -- ---- what is read
 
 -- a request, and whether it has a member that is not read
-abbrev pub with_doubt : List ℕ → Result Asked Refusal → Result (Asked × Bool) Refusal
+abbrev pub with_doubt : List ℕ → Result Asked ListedRefusal → Result (Asked × Bool) ListedRefusal
 with_doubt bytes asked = asked >>= λ a. Ok (a, is_unread bytes)
 
 -- those of the file at a path
-unfoldable pub request_at : Holding → List ℕ → Result (Asked × Bool) Refusal
+unfoldable pub request_at : Holding → List ℕ → Result (Asked × Bool) ListedRefusal
 request_at at path = do
-  bytes ← refused_by Load (load_of at path max_text)
+  bytes ← bytes_at at path
   with_doubt bytes (refused_by ReadRequest (asked_of bytes))
 
 -- the texts of a list of texts
@@ -39,17 +41,17 @@ texts_of no_items = Some []
 texts_of (item t ts) = option_and_then (λ s. option_map (λ ss. s ∷ ss) (texts_of ts)) (as_text t)
 
 -- a list of texts
-abbrev pub if_keys : Option Inputs → Result Inputs Refusal
+abbrev pub if_keys : Option Inputs → Result Inputs ListedRefusal
 if_keys None = Err (Price BadKeys)
 if_keys (Some keys) = Ok keys
 
 -- the keys that a tree stands for
-abbrev pub keys_in : Shape → Result Inputs Refusal
+abbrev pub keys_in : Shape → Result Inputs ListedRefusal
 keys_in t = if_keys (option_and_then texts_of (as_list t))
 
 -- the keys that the bytes of a file stand for
-abbrev pub keys_of : List ℕ → Result Inputs Refusal
-keys_of bytes = refused_by ReadTree (tree_of bytes max_text) >>= keys_in
+abbrev pub keys_of : List ℕ → Result Inputs ListedRefusal
+keys_of bytes = refused_by no_tree (tree_of bytes max_text) >>= keys_in
 
 -- ---- what is noted
 
@@ -58,7 +60,7 @@ abbrev pub key_page : PageName
 key_page = record { flag = []; site = 0; by = None }
 
 -- the book after the keys, or the first refusal of one
-abbrev pub noted_from : Contents → Inputs → Result Contents Refusal
+abbrev pub noted_from : Contents → Inputs → Result Contents ListedRefusal
 noted_from book [] = Ok book
 noted_from book (key ∷ keys) = refused_by Note (reply_to book key_page key) >>= λ _. noted_from (with_input book key_page key) keys
 
@@ -72,7 +74,7 @@ abbrev pub are_taken : List (Bor (List ℕ)) → Bool
 are_taken keys = nat_le (length keys) most_inputs && are_short keys
 
 -- the inputs that the book then has
-abbrev pub exposed : Inputs → Result Inputs Refusal
+abbrev pub exposed : Inputs → Result Inputs ListedRefusal
 exposed keys = noted_from [] keys >>= λ book. Ok (inputs_on book key_page)
 
 -- ---- what is written
@@ -123,23 +125,23 @@ unfoldable pub price_json : Entries → Entries → Pricing → Inputs → List 
 price_json old new pricing inputs = price_members (totals_by_name new) (first_forbidden_of old new pricing) (cost_of old new inputs pricing)
 
 -- The rules have one total. The lines are printed, or with `--json` the JSON text.
-abbrev pub weighed : Bool → Entries → Entries → Pricing → Inputs → Result Report Refusal
+abbrev pub weighed : Bool → Entries → Entries → Pricing → Inputs → Result Report ListedRefusal
 weighed json old new pricing inputs =
     if total_weight old == total_weight new then done (if json then price_json old new pricing inputs else price_text old new pricing inputs) else Err (Price Weight)
 
 -- the keys come to these inputs, which are then paid for
-abbrev pub weighed_keys : Bool → Entries → Entries → Pricing → Inputs → Result Report Refusal
+abbrev pub weighed_keys : Bool → Entries → Entries → Pricing → Inputs → Result Report ListedRefusal
 weighed_keys json old new pricing keys = exposed keys >>= λ inputs. weighed json old new pricing inputs
 
 -- the same of the bytes of a key file
-unfoldable pub weighed_bytes : Bool → Entries → Entries → Pricing → List ℕ → Result Report Refusal
+unfoldable pub weighed_bytes : Bool → Entries → Entries → Pricing → List ℕ → Result Report ListedRefusal
 weighed_bytes json old new pricing bytes = keys_of bytes >>= λ keys. weighed_keys json old new pricing keys
 
 -- what the command reports, its files read in the order of the words, and whether a person is told of a doubt beside it
-unfoldable pub price_report : Holding → List ℕ → List ℕ → List ℕ → List ℕ → Bool → Result Report Refusal
+unfoldable pub price_report : Holding → List ℕ → List ℕ → List ℕ → List ℕ → Bool → Result Report ListedRefusal
 price_report at old new request keys json = do
   o ← rule_at at old
   n ← rule_at at new
   a ← request_at at request
-  bytes ← refused_by Load (load_of at keys max_text)
+  bytes ← bytes_at at keys
   beside a.1 (weighed_bytes json o n a.0.prices bytes)

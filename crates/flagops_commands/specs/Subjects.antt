@@ -3,35 +3,35 @@
 use Rattle.std.specs.Prelude.{ℕ, Bool, true, false, List, [], ◌∷◌, ◌++◌, Ok, Err, codes}
 use Rattle.flagops_drive.specs.declared.fault.DriveRefusal.{DriveRefusal}
 use Rattle.flagops_drive.specs.declared.fault.DriveRefusal.TheVariants as driving
-use Rattle.flagops_files.specs.Question.{question_subjects}
-use Rattle.flagops_files.specs.Refusal.{loads_book, loads_flags, loads_plan, loads_rule, loads_tree, stores_file}
-use Rattle.flagops_files.specs.Told.{NamesOne, Remarks, Subjects, by, file, word}
+use Rattle.flagops_files.specs.declared.refusal.Call.TheVariants as file_call
+use Rattle.flagops_commands.specs.Refusal.{loads_book, loads_flags, loads_rule, loads_tree, rolled, stores_file, Remarks, Subjects, by}
+use Rattle.flagops_files.specs.Told.{NamesOne, file, word}
 use Rattle.flagops_shell.specs.Diagnostic.{Says}
-use Rattle.flagops_files.specs.declared.keeping.KeepRefusal.TheVariants as keeping
-use Rattle.flagops_files.specs.declared.refusal.Call.{Call}
-use Rattle.flagops_files.specs.declared.refusal.Call.TheVariants as call
-use Rattle.flagops_files.specs.declared.refusal.PriceMismatch.TheVariants.{Weight, BadKeys}
-use Rattle.flagops_files.specs.declared.refusal.Refusal.{Refusal}
-use Rattle.flagops_files.specs.declared.refusal.Refusal.TheVariants.{Note, Price, Plan, PrintPlanned, Verify, Apply, Keep, Drive, Doubted}
+use Rattle.flagops_shell.specs.Files.{Holding}
+use Rattle.flagops_shell.specs.Report.{Report}
+use Rattle.flagops_commands.specs.declared.refusal.ListedCall.{ListedCall}
+use Rattle.flagops_commands.specs.declared.refusal.ListedCall.TheVariants as call
+use Rattle.flagops_commands.specs.declared.refusal.PriceMismatch.TheVariants.{Weight, BadKeys}
+use Rattle.flagops_commands.specs.declared.refusal.ListedRefusal.{ListedRefusal}
+use Rattle.flagops_commands.specs.declared.refusal.ListedRefusal.TheVariants.{Note, Price, Drive, Doubted}
 use Rattle.flagops_commands.specs.Calls.{loads_request}
-use Rattle.flagops_rollouts.specs.Doubts.{NamesDoubted, doubt_subjects}
+use Rattle.flagops_commands.specs.DriveSummary.{TellsPrinted}
+use Rattle.flagops_rollouts.specs.Doubts.{NamesDoubted}
 use Rattle.file_diagnostics.specs.Named.{Names, NamesWord}
 use Rattle.flagops_rollouts.specs.Subjects.{apply_subjects, keep_subjects, plan_subjects, verify_subjects}
 use Rattle.flagops_words.specs.Asked.{Asked, bucket, price, resolve, verify, apply, keep, plan, drive, completions}
-use Rattle.rollout_checks.specs.declared.verify_fault.VerifyFault.{VerifyFault}
-use Rattle.rollout_checks.specs.declared.verify_fault.VerifyFault.TheVariants as verdict
 
 abbrev pub bucket_subjects : List ℕ → Subjects
 bucket_subjects rule = (file rule, by loads_rule) ∷ []
 
 -- a key file is refused as a file, for what it holds, or for a key
-abbrev pub is_of_keys : Refusal → Bool
+abbrev pub is_of_keys : ListedRefusal → Bool
 is_of_keys (Price BadKeys) = true
 is_of_keys (Note e) = true
 is_of_keys e = by loads_tree e
 
 -- two rules are refused together, by the weights of the old one
-abbrev pub is_of_rules : Refusal → Bool
+abbrev pub is_of_rules : ListedRefusal → Bool
 is_of_rules (Price Weight) = true
 is_of_rules e = false
 
@@ -43,21 +43,21 @@ price_subjects old new request keys =
     (file old, by loads_rule) ∷ (file new, by loads_rule) ∷ (file request, by loads_request) ∷ (file keys, is_of_keys) ∷ (word old_weights, is_of_rules) ∷ []
 
 -- a word is read as a file's text is
-abbrev pub reads_tree : Call → Bool
-reads_tree call.ReadTree = true
+abbrev pub reads_tree : ListedCall → Bool
+reads_tree (call.Load file_call.ReadTree) = true
 reads_tree c = false
 
 abbrev pub resolve_subjects : List ℕ → List ℕ → Subjects
 resolve_subjects document context = (file document, by loads_flags) ∷ (word (codes "DEFAULT"), by reads_tree) ∷ (file context, by loads_tree) ∷ []
 
 -- asks are refused as a file, for what it holds, or for what is doubted of it
-abbrev pub is_of_asks : Refusal → Bool
+abbrev pub is_of_asks : ListedRefusal → Bool
 is_of_asks (Drive driving.BadAsks) = true
-is_of_asks (Doubted call.Drive d) = true
+is_of_asks (Doubted d) = true
 is_of_asks e = by loads_tree e
 
 -- asks that are not driven, as by too many workers
-abbrev pub is_of_driving : Refusal → Bool
+abbrev pub is_of_driving : ListedRefusal → Bool
 is_of_driving (Drive (driving.Drive e)) = true
 is_of_driving e = false
 
@@ -65,7 +65,7 @@ abbrev pub the_workers : List ℕ
 the_workers = codes "WORKERS"
 
 -- a book that cannot take what was reached
-abbrev pub is_of_adding : Refusal → Bool
+abbrev pub is_of_adding : ListedRefusal → Bool
 is_of_adding (Drive driving.PageFull) = true
 is_of_adding e = false
 
@@ -86,10 +86,10 @@ abbrev pub subjects_of : Asked → Subjects
 subjects_of (bucket rule key json) = bucket_subjects rule
 subjects_of (price old new request keys json) = price_subjects old new request keys
 subjects_of (resolve document key kind default context moment) = resolve_subjects document context
-subjects_of (verify document request book answer refine strict json) = verify_subjects document request book answer
-subjects_of (plan document request book refine strict explain) = plan_subjects document request book
-subjects_of (apply document answer key site) = apply_subjects document answer
-subjects_of (keep document answer request book write refine strict) = keep_subjects document answer request book
+subjects_of (verify document request book answer refine strict json) = rolled (verify_subjects document request book answer)
+subjects_of (plan document request book refine strict explain) = rolled (plan_subjects document request book)
+subjects_of (apply document answer key site) = rolled (apply_subjects document answer)
+subjects_of (keep document answer request book write refine strict) = rolled (keep_subjects document answer request book)
 subjects_of (drive document asks workers book add strict json) = drive_subjects document asks book
 subjects_of (completions shell) = []
 
@@ -103,7 +103,12 @@ notes_of (keep document answer request book write refine strict) = NamesDoubted 
 notes_of (drive document asks workers book add strict json) = Names asks
 notes_of asked = λ lines. Unit {0}
 
--- the remark on what a command comes to
-abbrev pub remark_of : Asked → Remarks
-remark_of asked (Ok report) remark = Says (notes_of asked) remark
-remark_of asked (Err e) remark = NamesOne (subjects_of asked) e remark
+-- and the numbers that are told: of `drive`, those of what it printed
+abbrev pub numbers_of : Asked → Holding → Report → List ℕ → Type 0
+numbers_of (drive document asks workers book add strict json) at report = TellsPrinted at asks book add json report.text
+numbers_of asked at report = λ lines. Unit {0}
+
+-- the remark on what a command comes to over these files
+abbrev pub remark_of : Asked → Holding → Remarks
+remark_of asked at (Ok report) remark = Says (notes_of asked) remark × Says (numbers_of asked at report) remark
+remark_of asked at (Err e) remark = NamesOne (subjects_of asked) e remark

@@ -3,19 +3,18 @@ ghost use Rattle.std.specs.Prelude.{◌≡◌, ◌||◌, false, IfOk, IfSome};
 ghost use Rattle.flagops_commands.specs.Commands.{calls_of, IsOutcome, Leaves, waits};
 ghost use Rattle.flagops_shell.specs.Ending.{KeepsUnlessDone};
 ghost use Rattle.flagops_words.specs.Asked.{asked_view};
-ghost use Rattle.flagops_files.specs.Refusal.{ComesFrom, GivesOne, is_file_fault};
+ghost use Rattle.flagops_commands.specs.Refusal.{ComesFrom, GivesOne, is_file_fault, TellsOfOne};
 ghost use Rattle.flagops_shell.specs.Report.{outcome_view};
-ghost use Rattle.flagops_files.specs.Told.{TellsOfOne};
 ghost use Rattle.flagops_shell.specs.Diagnostic.{Says};
-ghost use Rattle.flagops_commands.specs.Subjects.{notes_of, subjects_of};
+ghost use Rattle.flagops_commands.specs.Subjects.{notes_of, numbers_of, subjects_of};
 
 use crate::books::drive::drive;
 use crate::completions::completions;
 use crate::flags::resolve::resolve;
+use crate::refusal::Refused;
+use crate::rollouts::{apply, keep, plan, verify};
 use crate::rules::bucket::bucket;
 use crate::rules::price::price;
-use flagops_files::Refused;
-use flagops_rollouts::{apply, keep, plan, verify};
 use flagops_shell::{FileSet, Outcome};
 use flagops_words::Asked;
 use std::alloc::Global;
@@ -24,7 +23,7 @@ use std::thread::Threads;
 
 /// What the command answers, or why it is refused. `drive` waits for its workers; each other command is done without a
 /// handle to wait by, so it returns.
-#[tactic(auto, using(crate::proofs::Noted::nothing, crate::proofs::Refusing::all_kept))]
+#[tactic(auto, using(crate::proofs::Noted::nothing, crate::proofs::Noted::no_numbers, crate::proofs::Refusing::all_kept))]
 pub fn outcome<R: Threads + Wait + Sync, F: FileSet>(
     rt: &R,
     alloc: Global,
@@ -38,6 +37,7 @@ pub fn outcome<R: Threads + Wait + Sync, F: FileSet>(
     ensures kept { KeepsUnlessDone (F.holding files.old) (F.holding files.new) result }
     ensures names { TellsOfOne (subjects_of (asked_view asked.now)) result }
     ensures notes { IfOk result (λ o. IfSome o.remark (Says (notes_of (asked_view asked.now)))) }
+    ensures numbers { IfOk result (λ o. IfSome (F.holding files.old) (λ at. IfSome o.remark (Says (numbers_of (asked_view asked.now) at (outcome_view o))))) }
 {
     match asked {
         Asked::Drive {

@@ -2,11 +2,10 @@
 ghost use Rattle.std.specs.Prelude.{◌≡◌, [], false};
 ghost use Rattle.flagops_commands.specs.Calls.{completions_calls};
 ghost use Rattle.flagops_commands.specs.Completions.{completions_report};
-ghost use Rattle.flagops_files.specs.Refusal.{ComesFrom, GivesUnlessWant, is_file_fault};
+ghost use Rattle.flagops_commands.specs.Refusal.{ComesFrom, GivesUnlessWant, is_file_fault, TellsOfOne};
 ghost use Rattle.flagops_shell.specs.Report.{outcome_view};
-ghost use Rattle.flagops_files.specs.Told.{TellsOfOne};
 
-use flagops_files::{Call, Refused, out_of_memory};
+use crate::refusal::{ListedCall, Refused, out_of_memory};
 use flagops_shell::{Outcome, Status};
 use flagops_words::Shell;
 use std::alloc::{AllocError, Global};
@@ -20,6 +19,6 @@ pub fn completions(alloc: Global, shell: Shell) -> Result<Outcome, Refused>
 {
     match String::from_str(alloc, shell.script()) {
         Ok(text) => Ok(Outcome::plain(text.into_bytes(), Status::Done)),
-        Err(AllocError) => Err(out_of_memory(Call::Flagops)),
+        Err(AllocError) => Err(out_of_memory(ListedCall::Flagops)),
     }
 }

@@ -26,6 +26,10 @@ mod commands;
 mod completions;
 mod flags;
 mod listed;
+mod loading;
+mod refusal;
+mod rollouts;
 mod rules;
 
 pub use listed::Listed;
+pub use refusal::{ListedCall, ListedRefusal, PriceMismatch, Refused};

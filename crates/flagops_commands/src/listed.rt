@@ -6,7 +6,7 @@ ghost use Rattle.flagops_words.specs.Asked.{asked_view};
 ghost use Rattle.flagops_commands.specs.Commands.{description};
 
 use crate::commands::outcome;
-use flagops_files::{Refusal, Refused};
+use crate::refusal::{ListedRefusal, Refused};
 use flagops_shell::{Command, FileSet, Outcome};
 use flagops_words::{Asked, read_words};
 use std::alloc::Global;
@@ -21,7 +21,7 @@ pub struct Listed<'w> {
 }
 
 impl<'w, R: Threads + Wait + Sync, F: FileSet> Command<'w, R, F> for Listed<'w> {
-    type Refusal = Refusal;
+    type Refusal = ListedRefusal;
 
     ghost Asked = { words.Asked };
 
@@ -41,7 +41,7 @@ impl<'w, R: Threads + Wait + Sync, F: FileSet> Command<'w, R, F> for Listed<'w> 
         outcome(rt, alloc, files, &self.asked)
     }
 
-    fn call_of(&self, refusal: &Refusal) -> &'static str {
+    fn call_of(&self, refusal: &ListedRefusal) -> &'static str {
         refusal.call().name()
     }
 }

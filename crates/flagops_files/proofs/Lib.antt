@@ -1,2 +1,3 @@
-pub mod Told
+mod Asked
 mod Recorded
+pub mod Told

@@ -1,9 +1,10 @@
 -- A remark that is made of lines, and what is told of one of several things.
-use Rattle.std.proofs.Common.{◌≡◌, ℕ, List, [], ◌∷◌, ◌++◌, Result, Ok, Err, IfOk, String, string_bytes, sym, subst, inl, inr, Global}
+use Rattle.std.proofs.Common.{◌≡◌, ℕ, Bool, false, List, [], ◌∷◌, ◌++◌, Result, Ok, Err, IfOk, String, string_bytes, sym, subst, inl, inr, Global}
 use Rattle.std.specs.Prelude.{OnErr}
-use Rattle.flagops_files.specs.Told.{NamesOne, Subjects}
+use Rattle.flagops_files.specs.Told.{NamesOne, NamesSubject, Subject, Subjects}
+use Rattle.flagops_shell.proofs.Lifted.{not_want}
 use Rattle.flagops_shell.specs.Diagnostic.{Says}
-use Rattle.flagops_files.specs.declared.refusal.Refusal.{Refusal}
+use Rattle.flagops_shell.specs.declared.refused.Refused.{Refused}
 use Rattle.flagops_shell.specs.declared.refused.Remark.{Remark}
 use Rattle.flagops_shell.specs.declared.refused.Remark.TheVariants.{Short, Lines}
 
@@ -14,11 +15,24 @@ says P (Ok s) remark is short named = subst (Says P) (sym is) named
 says P (Err e) remark is short named = subst (Says P) (sym short) tt
 
 -- one of the first is one of all
-pub told_left : (xs ys : Subjects) (e : Refusal) (remark : Remark) → NamesOne xs e remark → NamesOne (xs ++ ys) e remark
+pub told_left : {R : Type 0} (xs ys : Subjects R) (e : R) (remark : Remark) → NamesOne xs e remark → NamesOne (xs ++ ys) e remark
 told_left [] ys e remark told = absurd told
 told_left (x ∷ xs) ys e remark (inl told) = inl told
 told_left (x ∷ xs) ys e remark (inr more) = inr (told_left xs ys e remark more)
 
-pub told_right : (xs ys : Subjects) (e : Refusal) (remark : Remark) → NamesOne ys e remark → NamesOne (xs ++ ys) e remark
+pub told_right : {R : Type 0} (xs ys : Subjects R) (e : R) (remark : Remark) → NamesOne ys e remark → NamesOne (xs ++ ys) e remark
 told_right [] ys e remark told = told
 told_right (x ∷ xs) ys e remark told = inr (told_right xs ys e remark told)
+
+-- ---- a refusal of another family is told as it was
+
+module _ {E R : Type 0} (want : E → Bool) (is_want : R → Bool) (f : E → R) (same : (e : E) → is_want (f e) ≡ want e) (e : Refused E) (t : Refused R) (is : t.refusal ≡ f e.refusal) (said : t.remark ≡ e.remark) where
+  -- by the name of the one thing that it is of
+  pub told_of : (subject : Subject) → (want e.refusal ≡ false → Says (NamesSubject subject) e.remark) → is_want t.refusal ≡ false → Says (NamesSubject subject) t.remark
+  told_of subject told no_want = subst (Says (NamesSubject subject)) (sym said) (told (not_want want is_want f same e t is no_want))
+
+  -- by that of one of several, where what it is of as the other it is of as this
+  pub told_of_one : (xs : Subjects E) (ys : Subjects R) → ((r : E) (remark : Remark) → NamesOne xs r remark → NamesOne ys (f r) remark)
+      → (want e.refusal ≡ false → NamesOne xs e.refusal e.remark) → is_want t.refusal ≡ false → NamesOne ys t.refusal t.remark
+  told_of_one xs ys alike told no_want =
+      subst (λ (r : R). NamesOne ys r t.remark) (sym is) (subst (NamesOne ys (f e.refusal)) (sym said) (alike e.refusal e.remark (told (not_want want is_want f same e t is no_want))))

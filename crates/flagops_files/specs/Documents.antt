@@ -3,9 +3,10 @@ use Rattle.std.specs.Prelude.{◌≡◌, ℕ, List, Result, Ok, Err}
 use Rattle.flag_defs.specs.Document.{Definitions, DocumentMeans}
 use Rattle.flag_defs.specs.declared.fault.DefFault.{DefFault}
 use Rattle.flagops_shell.specs.Files.{Holding, load_of}
-use Rattle.flagops_files.specs.Loading.{max_text, refused_by}
+use Rattle.flagops_files.specs.Loading.{max_text}
 use Rattle.flagops_files.specs.declared.refusal.Refusal.{Refusal}
 use Rattle.flagops_files.specs.declared.refusal.Refusal.TheVariants.{Load, ReadFlags}
+use Rattle.flagops_shell.specs.Outcomes.{refused_by}
 
 -- what the bytes mean
 abbrev pub IsDocumentIn : List ℕ → Result Definitions Refusal → Type 0

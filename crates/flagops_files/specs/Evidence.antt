@@ -8,7 +8,7 @@ use Rattle.tally_core.specs.Tally.{PageTally}
 use Rattle.tally_text.specs.Reading.{ReadsTally}
 use Rattle.tally_text.specs.declared.fault.TallyFileFault.{TallyFileFault}
 use Rattle.tally_text.specs.declared.fault.TallyFileFault.TheVariants.{WantOfMemory}
-use Rattle.flagops_files.specs.Loading.{◌>>=◌, refused_by}
+use Rattle.flagops_shell.specs.Outcomes.{◌>>=◌, refused_by}
 use Rattle.flagops_files.specs.declared.evidence.Evidence.{Evidence}
 use Rattle.flagops_files.specs.declared.evidence.Evidence.TheVariants.{Book, Tally}
 use Rattle.flagops_files.specs.declared.refusal.Refusal.{Refusal}

@@ -1,14 +1,11 @@
-pub mod Described
 pub mod Documents
 pub mod Evidence
 pub mod FileLines
-pub mod Keeping
 pub mod Lines
 pub mod Loading
 pub mod Payload
 pub mod PlanFile
 pub mod Question
 pub mod Refusal
-pub mod Report
 pub mod Tallies
 pub mod Told

@@ -1,5 +1,5 @@
 -- Files loaded and read in turn, each before the next.
-use Rattle.std.specs.Prelude.{ℕ, List, Option, Result, Ok, Err}
+use Rattle.std.specs.Prelude.{ℕ, List, Option, Result}
 use Rattle.flag_text.specs.Shape.{Shape}
 use Rattle.flag_text.specs.Reading.{tree_of}
 use Rattle.bucket_core.specs.Rule.{Entries}
@@ -8,20 +8,10 @@ use Rattle.rule_text.specs.Reading.{rule_of_text}
 use Rattle.rule_text.specs.declared.fault.RuleTextFault.{RuleTextFault}
 use Rattle.rule_text.specs.declared.fault.RuleTextFault.TheVariants.{Text, Rule}
 use Rattle.flagops_shell.specs.Files.{Holding, load_of}
+use Rattle.flagops_shell.specs.Outcomes.{◌>>=◌, refused_by}
 use Rattle.flagops_files.specs.declared.refusal.Refusal.{Refusal}
 use Rattle.limits.specs.Limits.{file_bytes, text_bytes}
 use Rattle.flagops_files.specs.declared.refusal.Refusal.TheVariants.{Load, ReadTree, ReadRule}
-
--- what comes next, where nothing was refused
-infixl 10 ◌>>=◌
-abbrev pub ◌>>=◌ : {X Y E : Type 0} → Result X E → (X → Result Y E) → Result Y E
-Err e >>= next = Err e
-Ok x >>= next = next x
-
--- a fault of a call, as the refusal of that call
-abbrev pub refused_by : {X E : Type 0} → (E → Refusal) → Result X E → Result X Refusal
-refused_by f (Ok x) = Ok x
-refused_by f (Err e) = Err (f e)
 
 -- the largest rule or plan file, in bytes
 abbrev pub max_rule : ℕ

@@ -1,28 +1,16 @@
 -- What the line of a refusal says beyond the name of its fault.
-use Rattle.std.specs.Prelude.{ℕ, List, [], ◌++◌, codes, decimal, string_bytes}
-use Rattle.flag_text.specs.Printing.{text_of}
-use Rattle.flag_text.specs.Shape.{text}
+use Rattle.std.specs.Prelude.{ℕ, List, [], ◌++◌, codes, decimal}
 use Rattle.book_core.specs.declared.fault.BookFileFault.{BookFileFault}
 use Rattle.book_core.specs.declared.fault.BookFileFault.TheVariants as book
 use Rattle.price_core.specs.Fault as requests
 use Rattle.rollout_checks.specs.declared.fault.RolloutFault.{RolloutFault}
 use Rattle.rollout_checks.specs.declared.fault.RolloutFault.TheVariants as rollout
-use Rattle.rollout_checks.specs.declared.verify_fault.VerifyFault.{VerifyFault}
-use Rattle.rollout_checks.specs.declared.verify_fault.VerifyFault.TheVariants.{Request, Check}
-use Rattle.flagops_files.specs.declared.keeping.KeepRefusal.{KeepRefusal}
-use Rattle.flagops_files.specs.declared.keeping.KeepRefusal.TheVariants as keeping
 use Rattle.tally_text.specs.declared.fault.TallyFileFault.{TallyFileFault}
 use Rattle.tally_text.specs.declared.fault.TallyFileFault.TheVariants as tally
-use Rattle.transport_instance.specs.declared.fault.CheckFault.{CheckFault}
-use Rattle.transport_instance.specs.declared.fault.CheckFault.TheVariants as check
 
 -- a number, behind a blank
 abbrev pub number_item : ℕ → List ℕ
 number_item n = codes " " ++ decimal n
-
--- a pair of names as JSON texts with a number between them, each behind a blank
-abbrev pub pair_items : List ℕ → ℕ → List ℕ → List ℕ
-pair_items name n other = codes " " ++ (text_of (text name) ++ (codes " " ++ (decimal n ++ (codes " " ++ text_of (text other)))))
 
 -- the number and the name of a fault, each behind a blank
 abbrev pub fault_items : ℕ → List ℕ → List ℕ
@@ -46,18 +34,3 @@ tally_items e = []
 abbrev pub rollout_items : RolloutFault → List ℕ
 rollout_items (rollout.Request e) = fault_items (requests.number_of e) (requests.name_of e)
 rollout_items e = []
-
--- the point, or the pair of a group and a name
-abbrev pub check_items : CheckFault → List ℕ
-check_items (check.Forbidden point) = number_item point
-check_items (check.Slack name count variant) = pair_items (string_bytes name) count (string_bytes variant)
-check_items e = []
-
-abbrev pub verify_items : VerifyFault → List ℕ
-verify_items (Request e) = rollout_items e
-verify_items (Check e) = check_items e
-
--- an answer that is not right, as `verify` says it
-abbrev pub keep_items : KeepRefusal → List ℕ
-keep_items (keeping.Verify e) = verify_items e
-keep_items (keeping.Document e) = []

@@ -8,14 +8,15 @@ use Rattle.flagops_files.specs.Documents.{IsDocumentAt}
 use Rattle.flagops_shell.specs.Beginning.{first_line}
 use Rattle.flagops_files.specs.Evidence.{IsEvidenceOf}
 use Rattle.flagops_shell.specs.Files.{Holding, first_piece, load_book_of, load_notes_of, load_of}
-use Rattle.flagops_files.specs.Loading.{◌>>=◌, max_text, refused_by}
-use Rattle.flagops_files.specs.Refusal.{loads_book, loads_evidence, loads_file, loads_flags}
-use Rattle.flagops_files.specs.Told.{Subjects, by, file}
+use Rattle.flagops_files.specs.Loading.{max_text}
+use Rattle.flagops_files.specs.Refusal.{loads_book, loads_evidence, loads_file, loads_flags, Subjects, by}
+use Rattle.flagops_files.specs.Told.{file}
 use Rattle.flagops_files.specs.declared.book_question.BookQuestion as program_book
 use Rattle.flagops_files.specs.declared.evidence.Evidence.{Evidence}
 use Rattle.flagops_files.specs.declared.question.Question as program
 use Rattle.flagops_files.specs.declared.refusal.Refusal.{Refusal}
 use Rattle.flagops_files.specs.declared.refusal.Refusal.TheVariants.{Load, LongBook, ReadBook}
+use Rattle.flagops_shell.specs.Outcomes.{◌>>=◌, refused_by}
 
 -- the flags, the bytes of the request, and the book or the tally of what was recorded
 pub record Question : Type 0 where

@@ -1,54 +1,40 @@
--- The line that a refusal is written as.
-use Rattle.std.specs.Prelude.{◌≡◌, ℕ, Bool, true, false, List, [], ◌++◌, codes, decimal, nat_eq, Result, Ok, Err, IfErr}
+-- Why a file is not read or written, and the line that a refusal is written as.
+use Rattle.std.specs.Prelude.{◌≡◌, ℕ, Bool, true, false, List, [], ◌∷◌, ◌++◌, codes, decimal, Result}
 use Rattle.flag_text.specs.Fault as texts
+use Rattle.flag_text.specs.declared.fault.TextFault.TheVariants as text
 use Rattle.bucket_core.specs.Fault as rules
+use Rattle.bucket_core.specs.declared.fault.RuleFault.TheVariants as rule
 use Rattle.book_core.specs.Fault as books
-use Rattle.price_core.specs.Fault as requests
+use Rattle.book_core.specs.declared.fault.BookFileFault.TheVariants as book
 use Rattle.flag_defs.specs.Fault as documents
-use Rattle.rollout_checks.specs.Fault as rollouts
+use Rattle.flag_defs.specs.declared.fault.DefFault.TheVariants as document
 use Rattle.plan_text.specs.Fault as plan_files
-use Rattle.rollout_checks.specs.VerifyFault as verdicts
-use Rattle.flagops_drive.specs.Fault as drives
+use Rattle.plan_text.specs.declared.fault.PlanFileFault.TheVariants as plan
+use Rattle.tally_text.specs.declared.fault.TallyFileFault.TheVariants as tally
 use Rattle.flagops_shell.specs.Files.{load_number, load_name, store_number, store_name}
 use Rattle.flagops_shell.specs.Ending as shell
-use Rattle.flagops_shell.specs.Report.{want_line_of}
 use Rattle.flagops_shell.specs.Given as given
-use Rattle.flagops_files.specs.Keeping as keeping
-use Rattle.flagops_files.specs.Payload.{file_items, keep_items, rollout_items, tally_items, verify_items}
+use Rattle.flagops_shell.specs.Outcomes as outcomes
+use Rattle.flagops_shell.specs.Report.{want_line_of}
+use Rattle.flagops_shell.specs.declared.files.LoadFault.TheVariants as load
+use Rattle.flagops_shell.specs.declared.files.StoreFault.TheVariants as store
+use Rattle.flagops_shell.specs.declared.refused.Refused as refusals
+use Rattle.flagops_files.specs.Payload.{file_items, tally_items}
 use Rattle.flagops_files.specs.Tallies as tallies
-use Rattle.flagops_shell.specs.declared.files.LoadFault.TheVariants.{Unreadable}
-use Rattle.flagops_shell.specs.declared.files.StoreFault.TheVariants.{Unwritable}
+use Rattle.flagops_files.specs.Told as told
 use Rattle.flagops_files.specs.declared.refusal.Call.{Call}
 use Rattle.flagops_files.specs.declared.refusal.Call.TheVariants as call
 use Rattle.flagops_files.specs.declared.refusal.Refusal.{Refusal}
-use Rattle.flagops_shell.specs.declared.refused.Refused as refusals
-use Rattle.flagops_files.specs.declared.refusal.Refusal.TheVariants.{WantOfMemory, Load, LongBook, ReadTree, ReadRule, ReadRequest, Note, Price, ReadFlags, ReadBook, ReadTally, FullBook, ReadPlanned, Verify, Apply, Keep, Plan, PrintPlanned, Drive, Store, Doubted}
-use Rattle.flagops_files.specs.declared.refusal.Doubt.{Doubt}
-use Rattle.flagops_files.specs.declared.refusal.Doubt.TheVariants.{Unread, Unrecorded, Foreign}
-use Rattle.flagops_files.specs.declared.refusal.PriceMismatch.{PriceMismatch}
-use Rattle.flagops_files.specs.declared.refusal.PriceMismatch.TheVariants.{Weight, BadKeys}
+use Rattle.flagops_files.specs.declared.refusal.Refusal.TheVariants.{WantOfMemory, Load, LongBook, ReadTree, ReadRule, ReadFlags, ReadBook, ReadTally, ReadPlanned, Store}
 
 abbrev pub call_name : Call → List ℕ
-call_name call.Flagops = codes "flagops"
 call_name call.Load = codes "load"
 call_name call.ReadTree = codes "read_tree"
 call_name call.ReadRule = codes "read_rule"
-call_name call.Bucket = codes "bucket"
-call_name call.ReadRequest = codes "Request::read"
-call_name call.Note = codes "note"
-call_name call.Price = codes "price"
 call_name call.ReadFlags = codes "read_flags"
-call_name call.Check = codes "check"
-call_name call.Resolve = codes "resolve"
 call_name call.ReadBook = codes "read_book"
 call_name call.ReadTally = codes "read_tally"
-call_name call.Book = codes "book"
 call_name call.ReadPlanned = codes "read_planned"
-call_name call.Verify = codes "verify"
-call_name call.Apply = codes "apply"
-call_name call.Plan = codes "plan"
-call_name call.PrintPlanned = codes "print_planned"
-call_name call.Drive = codes "drive"
 call_name call.Store = codes "store"
 
 -- the call that loading the bytes of a file makes
@@ -112,103 +98,55 @@ call_of (Load e) = call.Load
 call_of LongBook = call.Load
 call_of (ReadTree e) = call.ReadTree
 call_of (ReadRule e) = call.ReadRule
-call_of (ReadRequest e) = call.ReadRequest
-call_of (Note e) = call.Note
-call_of (Price e) = call.Price
 call_of (ReadFlags e) = call.ReadFlags
 call_of (ReadBook e) = call.ReadBook
 call_of (ReadTally e) = call.ReadTally
-call_of FullBook = call.Book
 call_of (ReadPlanned e) = call.ReadPlanned
-call_of (Verify e) = call.Verify
-call_of (Apply e) = call.Apply
-call_of (Keep e) = call.Apply
-call_of (Plan e) = call.Plan
-call_of (PrintPlanned e) = call.PrintPlanned
-call_of (Drive e) = call.Drive
 call_of (Store e) = call.Store
-call_of (Doubted c d) = c
-
--- the number and the name of what the command `price` refuses
-abbrev pub mismatch_number : PriceMismatch → ℕ
-mismatch_number Weight = 1
-mismatch_number BadKeys = 2
-
-abbrev pub mismatch_name : PriceMismatch → List ℕ
-mismatch_name Weight = codes "Weight"
-mismatch_name BadKeys = codes "BadKeys"
-
--- the number and the name of a doubt that is refused: a number that no fault of a call has
-abbrev pub doubt_number : Doubt → ℕ
-doubt_number Unread = 16
-doubt_number Unrecorded = 17
-doubt_number Foreign = 18
-
-abbrev pub doubt_name : Doubt → List ℕ
-doubt_name Unread = codes "Unread"
-doubt_name Unrecorded = codes "Unrecorded"
-doubt_name Foreign = codes "Foreign"
 
 -- the number and the name of its fault
 abbrev pub number_of : Refusal → ℕ
 number_of (WantOfMemory c) = 0
 number_of (Load e) = load_number e
-number_of LongBook = load_number Unreadable
+number_of LongBook = load_number load.Unreadable
 number_of (ReadTree e) = texts.number_of e
 number_of (ReadRule e) = rules.number_of e
-number_of (ReadRequest e) = requests.number_of e
-number_of (Note e) = books.number_of e
-number_of (Price e) = mismatch_number e
 number_of (ReadFlags e) = documents.number_of e
 number_of (ReadBook e) = books.file_number_of e
 number_of (ReadTally e) = tallies.number_of e
-number_of FullBook = 2
 number_of (ReadPlanned e) = plan_files.number_of e
-number_of (Verify e) = verdicts.number_of e
-number_of (Apply e) = rollouts.number_of e
-number_of (Keep e) = keeping.number_of e
-number_of (Plan e) = rollouts.number_of e
-number_of (PrintPlanned e) = plan_files.number_of e
-number_of (Drive e) = drives.number_of e
 number_of (Store e) = store_number e
-number_of (Doubted c d) = doubt_number d
 
 abbrev pub name_of : Refusal → List ℕ
 name_of (WantOfMemory c) = codes "WantOfMemory"
 name_of (Load e) = load_name e
-name_of LongBook = load_name Unreadable
+name_of LongBook = load_name load.Unreadable
 name_of (ReadTree e) = texts.name_of e
 name_of (ReadRule e) = rules.name_of e
-name_of (ReadRequest e) = requests.name_of e
-name_of (Note e) = books.name_of e
-name_of (Price e) = mismatch_name e
 name_of (ReadFlags e) = documents.name_of e
 name_of (ReadBook e) = books.file_name_of e
 name_of (ReadTally e) = tallies.name_of e
-name_of FullBook = codes "PageFull"
 name_of (ReadPlanned e) = plan_files.name_of e
-name_of (Verify e) = verdicts.name_of e
-name_of (Apply e) = rollouts.name_of e
-name_of (Keep e) = keeping.name_of e
-name_of (Plan e) = rollouts.name_of e
-name_of (PrintPlanned e) = plan_files.name_of e
-name_of (Drive e) = drives.name_of e
 name_of (Store e) = store_name e
-name_of (Doubted c d) = doubt_name d
 
 -- what a fault says beyond its name, each item behind a blank
 abbrev pub payload_of : Refusal → List ℕ
 payload_of (ReadBook e) = file_items e
 payload_of (ReadTally e) = tally_items e
-payload_of (Verify e) = verify_items e
-payload_of (Apply e) = rollout_items e
-payload_of (Keep e) = keep_items e
-payload_of (Plan e) = rollout_items e
 payload_of r = []
 
--- memory ran out: each fault has this as its number 0
+-- memory ran out
 abbrev pub is_want : Refusal → Bool
-is_want r = nat_eq (number_of r) 0
+is_want (WantOfMemory c) = true
+is_want (Load load.WantOfMemory) = true
+is_want (ReadTree text.WantOfMemory) = true
+is_want (ReadRule rule.WantOfMemory) = true
+is_want (ReadFlags document.WantOfMemory) = true
+is_want (ReadBook book.WantOfMemory) = true
+is_want (ReadTally tally.WantOfMemory) = true
+is_want (ReadPlanned plan.WantOfMemory) = true
+is_want (Store store.WantOfMemory) = true
+is_want r = false
 
 -- `refused`, the call, the number, the name and the payload, separated by blanks
 abbrev pub line_with : List ℕ → List ℕ → List ℕ → List ℕ → List ℕ
@@ -234,22 +172,38 @@ GivesUnlessWant seen r wanted = given.GivesUnlessWant is_want seen r wanted
 
 -- a refusal comes from one of these calls
 abbrev pub ComesFrom : {X : Type 0} → (Call → Bool) → Result X Refused → Type 0
-ComesFrom calls r = IfErr r (λ e. calls (call_of e.refusal) ≡ true)
+ComesFrom calls r = outcomes.ComesFrom call_of calls r
+
+-- the refusals of these calls
+abbrev pub by : (Call → Bool) → Refusal → Bool
+by calls e = calls (call_of e)
+
+-- what may be refused, each with the refusals that are of it
+abbrev pub Subjects : Type 0
+Subjects = told.Subjects Refusal
+
+-- a refusal is told by the name of what is refused
+abbrev pub TellsOf : {X : Type 0} → told.Subject → Result X Refused → Type 0
+TellsOf subject r = told.TellsOf is_want subject r
+
+-- a refusal is told by the name of one of them
+abbrev pub TellsOfOne : {X : Type 0} → Subjects → Result X Refused → Type 0
+TellsOfOne subjects r = told.TellsOfOne is_want subjects r
 
 -- a file could not be read or written
 abbrev pub is_unread : Refusal → Bool
-is_unread (Load Unreadable) = true
-is_unread (Store Unwritable) = true
+is_unread (Load load.Unreadable) = true
+is_unread (Store store.Unwritable) = true
 is_unread r = false
 
 abbrev pub is_file_fault : {X : Type 0} → Result X Refused → Bool
 is_file_fault r = shell.is_file_fault is_unread r
 
 abbrev pub unreadable : Refusal
-unreadable = Load Unreadable
+unreadable = Load load.Unreadable
 
 abbrev pub unwritable : Refusal
-unwritable = Store Unwritable
+unwritable = Store store.Unwritable
 
 -- the call that writing a file makes
 abbrev pub stores_file : Call → Bool

@@ -2,8 +2,8 @@
 ghost use Rattle.std.specs.Prelude.{◌≡◌, ◌||◌, false, IfSome, option_map};
 ghost use Rattle.flagops_shell.specs.Beginning.{first_line};
 ghost use Rattle.flagops_files.specs.Question.{book_at, book_bytes_at, if_readable, if_replaceable, notes_bytes_at, replaceable_at};
-ghost use Rattle.flagops_files.specs.Refusal.{ComesFrom, GivesUnlessWant, is_file_fault, loads_book, loads_file};
-ghost use Rattle.flagops_files.specs.Told.{TellsOf, file};
+ghost use Rattle.flagops_files.specs.Refusal.{ComesFrom, GivesUnlessWant, is_file_fault, loads_book, loads_file, TellsOf};
+ghost use Rattle.flagops_files.specs.Told.{file};
 
 use crate::refusal::{Refusal, Refused};
 use book_core::{Book, BookFileFault, read_book};

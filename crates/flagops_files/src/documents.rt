@@ -4,8 +4,8 @@ ghost use Rattle.flag_defs.specs.Flags.{flags_view};
 ghost use Rattle.flagops_files.specs.Documents.{IsDocumentAt, IsDocumentIn};
 ghost use Rattle.flagops_shell.specs.Files.{load_of};
 ghost use Rattle.flagops_files.specs.Loading.{max_text};
-ghost use Rattle.flagops_files.specs.Refusal.{ComesFrom, GivesOne, is_file_fault, loads_flags, reads_flags};
-ghost use Rattle.flagops_files.specs.Told.{TellsOf, file};
+ghost use Rattle.flagops_files.specs.Refusal.{ComesFrom, GivesOne, is_file_fault, loads_flags, reads_flags, TellsOf};
+ghost use Rattle.flagops_files.specs.Told.{file};
 
 use crate::loading::{TEXT_LIMIT, load};
 use crate::refusal::{Refusal, Refused};

@@ -2,8 +2,8 @@
 ghost use Rattle.std.specs.Prelude.{◌≡◌, ◌<◌, ◌||◌, false, true, IfSome};
 ghost use Rattle.flagops_files.specs.Evidence.{IsReadAs, begins_tally};
 ghost use Rattle.flagops_files.specs.Question.{IsEvidenceAt};
-ghost use Rattle.flagops_files.specs.Refusal.{ComesFrom, GivesOne, is_file_fault, loads_evidence};
-ghost use Rattle.flagops_files.specs.Told.{TellsOf, file};
+ghost use Rattle.flagops_files.specs.Refusal.{ComesFrom, GivesOne, is_file_fault, loads_evidence, TellsOf};
+ghost use Rattle.flagops_files.specs.Told.{file};
 
 use crate::books::load_book_bytes;
 use crate::refusal::{Refusal, Refused};
@@ -11,7 +11,8 @@ use file_diagnostics::{Ends, of_book, of_tally};
 use flag_defs::Flags;
 use flagops_shell::{FileSet, Remark};
 use page_tally::BookFile;
-use rollout_checks::{Refining, RequestFile, read_book_asked};
+use price_core::Request;
+use rollout_checks::{Refining, read_book_asked};
 use std::alloc::Global;
 use std::thread::Threads;
 use tally_core::PageTally;
@@ -30,13 +31,13 @@ pub enum Evidence {
 }
 
 /// What the file at a path records: it is read as a tally where its first line begins as that of one, and else as a book. A
-/// book is read for a request, as by [`read_book_asked`]. The condition is a factor from 1.
+/// book is read for a request where there is one, as by [`read_book_asked`]. The condition is a factor from 1.
 pub fn load_evidence<R: Threads, F: FileSet>(
     rt: &R,
     alloc: Global,
     files: &mut F,
     flags: &Flags,
-    request: &RequestFile,
+    request: Option<&Request>,
     factor: u32,
     path: &str,
 ) -> Result<Evidence, Refused>
@@ -57,7 +58,7 @@ fn evidence_in<R: Threads>(
     rt: &R,
     alloc: Global,
     flags: &Flags,
-    request: &RequestFile,
+    request: Option<&Request>,
     factor: u32,
     path: &str,
     bytes: Vec<u8>,
@@ -73,7 +74,7 @@ fn evidence_in<R: Threads>(
     }
     let ends = Ends::of(bytes.as_slice());
     let refining = Refining::Times(factor);
-    match read_book_asked(rt, alloc, refining, flags, request.asked().ok(), bytes) {
+    match read_book_asked(rt, alloc, refining, flags, request, bytes) {
         Ok(book) => Ok(Evidence::Book(book)),
         Err(fault) => Err(Refused {
             refusal: Refusal::ReadBook(fault),

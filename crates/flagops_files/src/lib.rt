@@ -4,11 +4,9 @@
 //!   path to what the file stands for: a tree, a rule, a flag document, a plan file, or the [`Question`] of a rollout, whose
 //!   [`Evidence`] is a book or a tally by the file's first line.
 //!   [`store`] replaces a file whole: where it is refused, the files are as they were.
-//! - A [`Refusal`] is the fault of one of the calls that a command makes. It is a [`CommandRefusal`], as those of other families
-//!   of commands, by which it has the line that it is written as; a [`Refused`] has it with the [`Remark`] that a person is told.
-//! - An [`Outcome`] is the whole output of a command with its [`Status`] and perhaps a remark; [`report`] writes both, and
-//!   [`want`] writes the line of a call that ran out of memory, for which it takes none. [`finish`] writes what a command came
-//!   to, an outcome or a refusal.
+//! - A [`Refusal`] is the fault of one of the calls by which a file is read or written; the families of commands have their own,
+//!   made of it by `From`. It is a [`CommandRefusal`], by which it has the line that it is written as; a [`Refused`] has it with the
+//!   [`Remark`] that a person is told.
 //!
 //! ```rust
 //! use flagops_files::{CommandRefusal, SystemFiles, load_rule};
@@ -31,7 +29,6 @@ mod book_question;
 mod books;
 mod documents;
 mod evidence;
-mod keeping;
 mod lines;
 mod loading;
 mod payload;
@@ -50,14 +47,13 @@ pub use book_question::{BookQuestion, load_book_question};
 pub use books::{check_replaceable, load_book, load_notes};
 pub use documents::{Document, load_document, load_flags};
 pub use evidence::{Evidence, load_evidence};
-pub use keeping::KeepRefusal;
 pub use lines::{fault_line, file_line, whole_line};
 pub use loading::{TEXT_LIMIT, load, load_choice, load_rule, load_tree};
-pub use payload::{number_item, rollout_items, verify_items};
+pub use payload::{number_item, rollout_items};
 pub use plan_file::load_planned;
 pub use question::{Question, load_question};
 pub use quoting::quoted;
-pub use refusal::{Call, Doubt, PriceMismatch, Refusal, Refused, out_of_memory};
+pub use refusal::{Call, Refusal, Refused, out_of_memory};
 pub use requests::load_request;
 pub use room::make_room_for;
 pub use storing::store;

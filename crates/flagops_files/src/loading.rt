@@ -2,14 +2,15 @@
 ghost use Rattle.std.specs.Prelude.{◌≡◌, ◌≤◌, ◌+◌, ◌||◌, true, length, IfOk, IfSome};
 ghost use Rattle.flag_text.specs.Shape.{is_whole};
 ghost use Rattle.flag_text.specs.View.{view};
-ghost use Rattle.flagops_files.specs.Refusal.{ComesFrom, GivesUnlessWant, is_file_fault, loads_file, loads_rule, loads_tree};
+ghost use Rattle.flagops_files.specs.Refusal.{ComesFrom, GivesUnlessWant, is_file_fault, loads_file, loads_rule, loads_tree, TellsOf};
 ghost use Rattle.flagops_shell.specs.Files.{load_of};
-ghost use Rattle.flagops_files.specs.Loading.{choice_at, refusal_of, refused_by, rule_at, tree_at};
+ghost use Rattle.flagops_files.specs.Loading.{choice_at, refusal_of, rule_at, tree_at};
 ghost use Rattle.flagops_files.specs.declared.refusal.Refusal.TheVariants.{Load};
-ghost use Rattle.flagops_files.specs.Told.{TellsOf, file};
+ghost use Rattle.flagops_files.specs.Told.{file};
 ghost use Rattle.flagops_shell.specs.Diagnostic.{Says};
 ghost use Rattle.file_diagnostics.specs.Named.{Names};
 ghost use Rattle.rule_text.specs.Choosing.{choice_view};
+ghost use Rattle.flagops_shell.specs.Outcomes.{refused_by};
 
 use crate::refusal::{Refusal, Refused};
 use bucket_core::Rule;

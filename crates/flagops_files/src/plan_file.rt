@@ -2,8 +2,8 @@
 ghost use Rattle.std.specs.Prelude.{◌≡◌, ◌||◌, IfSome};
 ghost use Rattle.plan_text.specs.Answer.{planned_view};
 ghost use Rattle.flagops_files.specs.PlanFile.{plan_at};
-ghost use Rattle.flagops_files.specs.Refusal.{ComesFrom, GivesUnlessWant, is_file_fault, loads_plan};
-ghost use Rattle.flagops_files.specs.Told.{TellsOf, file};
+ghost use Rattle.flagops_files.specs.Refusal.{ComesFrom, GivesUnlessWant, is_file_fault, loads_plan, TellsOf};
+ghost use Rattle.flagops_files.specs.Told.{file};
 
 use crate::loading::{RULE_LIMIT, load};
 use crate::refusal::{Refusal, Refused};

@@ -3,8 +3,7 @@ ghost use Rattle.std.specs.Prelude.{◌≡◌, ◌<◌, ◌||◌, IfOk, IfSome, 
 ghost use Rattle.flagops_shell.specs.Files.{load_of};
 ghost use Rattle.flagops_files.specs.Loading.{max_text};
 ghost use Rattle.flagops_files.specs.Question.{IsQuestionAt, question_subjects, question_view};
-ghost use Rattle.flagops_files.specs.Refusal.{ComesFrom, GivesOne, is_file_fault, loads_question};
-ghost use Rattle.flagops_files.specs.Told.{TellsOfOne};
+ghost use Rattle.flagops_files.specs.Refusal.{ComesFrom, GivesOne, is_file_fault, loads_question, TellsOfOne};
 
 use crate::documents::{Document, load_document};
 use crate::evidence::{Evidence, load_evidence};
@@ -49,7 +48,8 @@ pub fn load_question<R: Threads, F: FileSet>(
 {
     let Document { bytes, flags } = load_document(alloc, files, document)?;
     let request = load_request(alloc, files, request)?;
-    let evidence = load_evidence(rt, alloc, files, &flags, &request, factor, evidence)?;
+    let asked = request.asked().ok();
+    let evidence = load_evidence(rt, alloc, files, &flags, asked, factor, evidence)?;
     Ok(Question {
         document: bytes,
         flags,

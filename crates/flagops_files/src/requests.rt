@@ -1,10 +1,11 @@
 //! From the path of a rollout request to what it asks.
 ghost use Rattle.std.specs.Prelude.{◌≡◌, ◌||◌, IfSome};
 ghost use Rattle.flagops_shell.specs.Files.{load_of};
-ghost use Rattle.flagops_files.specs.Loading.{max_text, refused_by};
-ghost use Rattle.flagops_files.specs.Refusal.{ComesFrom, GivesUnlessWant, is_file_fault, loads_file};
-ghost use Rattle.flagops_files.specs.Told.{TellsOf, file};
+ghost use Rattle.flagops_files.specs.Loading.{max_text};
+ghost use Rattle.flagops_files.specs.Refusal.{ComesFrom, GivesUnlessWant, is_file_fault, loads_file, TellsOf};
+ghost use Rattle.flagops_files.specs.Told.{file};
 ghost use Rattle.flagops_files.specs.declared.refusal.Refusal.TheVariants.{Load};
+ghost use Rattle.flagops_shell.specs.Outcomes.{refused_by};
 
 use crate::loading::{TEXT_LIMIT, load};
 use crate::refusal::{Call, Refused, out_of_memory};

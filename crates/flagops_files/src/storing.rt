@@ -1,8 +1,8 @@
 //! From bytes to a file at a path.
 ghost use Rattle.std.specs.Prelude.{◌≡◌, ◌||◌, false, IfErr, OnErr, OnOk};
 ghost use Rattle.flagops_shell.specs.Files.{KeepsOthers, Stores};
-ghost use Rattle.flagops_files.specs.Refusal.{ComesFrom, is_file_fault, is_want, stores_file, unwritable};
-ghost use Rattle.flagops_files.specs.Told.{TellsOf, file};
+ghost use Rattle.flagops_files.specs.Refusal.{ComesFrom, is_file_fault, is_want, stores_file, unwritable, TellsOf};
+ghost use Rattle.flagops_files.specs.Told.{file};
 
 use crate::refusal::{Refusal, Refused};
 use file_diagnostics::of_unwritable;

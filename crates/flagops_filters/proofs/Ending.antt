@@ -5,17 +5,18 @@ use Rattle.clap.specs.declared.error.kind.ErrorKind.{ErrorKind}
 use Rattle.flagops_words.specs.Alone.{IsToldBy}
 use Rattle.flagops_shell.specs.Console.{Shown}
 use Rattle.flagops_shell.specs.Diagnostic.{PutsRemark, Says}
-use Rattle.flagops_shell.specs.Ending.{Ends, KeepsUnlessDone, Remarks, ShowsOne, ShowsRefusal, ShowsUnread}
+use Rattle.flagops_shell.specs.Ending.{Ends, KeepsUnlessDone, Remarks, ShowsRefusal, ShowsUnread}
 use Rattle.flagops_shell.specs.Files.{Holding}
-use Rattle.flagops_shell.specs.Report.{ShowsReport, outcome_view, refusal_report, want_line_of}
+use Rattle.flagops_shell.specs.Report.{ShowsReport, outcome_view}
 use Rattle.flagops_shell.specs.Running.{MayRun}
 use Rattle.flagops_shell.specs.Usage.{ShowsUsage, ShowsWordsWant}
 use Rattle.flagops_shell.specs.declared.outcome.Outcome.{Outcome}
 use Rattle.flagops_shell.specs.declared.refused.Remark.{Remark}
 use Rattle.flagops_filters.specs.Command.{tally_description}
 use Rattle.flagops_filters.specs.Refusal.{is_unread, is_want, line_of}
-use Rattle.flagops_filters.specs.Remarks.{BeginsWith, NamesRefused, join_remark, tally_opening, tally_remark}
-use Rattle.flagops_filters.specs.Report.{Came, GivesOne, Told}
+use Rattle.flagops_filters.specs.Beside.{Reads, tally_beside}
+use Rattle.flagops_filters.specs.Remarks.{NamesRefused, join_remark, tally_remark}
+use Rattle.flagops_filters.specs.Report.{Told}
 use Rattle.flagops_filters.specs.Tally.{IsTallyReport, tally_call}
 use Rattle.flagops_filters.specs.Words.{Tallying}
 use Rattle.flagops_filters.specs.Writing.{RefusesOrWants}
@@ -94,27 +95,26 @@ failed_now false has unread fails none failed = sym fails ∙ failed
 
 module _ (old new : Shown) (status : ℕ) (a : Tallying) (is_cut : Bool) (after : Option Holding) (has_failed : Bool) where
   abbrev pub Comes : Option Holding → Option (List ℕ) → Type 0
-  Comes holding given = IfSome holding (λ at. IfSome given (λ bytes. Ends old new status line_of (λ n. n ≡ tally_call) (tally_remark a.document) (MayRun (tally_description bytes is_cut) is_unread a at after has_failed)))
+  Comes holding given = IfSome holding (λ at. IfSome given (λ bytes. Ends old new status line_of (λ n. n ≡ tally_call) (tally_remark bytes a.document) (MayRun (tally_description bytes is_cut) is_unread a at after has_failed)))
 
   -- the remark is told
-  noted : (o : Outcome) → IfSome o.remark (Says (BeginsWith tally_opening)) → PutsRemark old.reported new.reported new.is_mute o.remark → is_some o.remark ≡ true
-      → (remark : Remark) × Says (BeginsWith tally_opening) remark × PutsRemark old.reported new.reported new.is_mute (Some remark)
-  noted o = go o.remark
+  noted : (P : List ℕ → Type 0) (o : Outcome) → IfSome o.remark (Says P) → PutsRemark old.reported new.reported new.is_mute o.remark → is_some o.remark ≡ true
+      → (remark : Remark) × Says P remark × PutsRemark old.reported new.reported new.is_mute (Some remark)
+  noted P o = go o.remark
     where
-      go : (m : Option Remark) → IfSome m (Says (BeginsWith tally_opening)) → PutsRemark old.reported new.reported new.is_mute m → is_some m ≡ true
-          → (remark : Remark) × Says (BeginsWith tally_opening) remark × PutsRemark old.reported new.reported new.is_mute (Some remark)
+      go : (m : Option Remark) → IfSome m (Says P) → PutsRemark old.reported new.reported new.is_mute m → is_some m ≡ true → (remark : Remark) × Says P remark × PutsRemark old.reported new.reported new.is_mute (Some remark)
       go None says puts some = cc
       go (Some remark) says puts some = (remark, says, puts)
 
-  pub reported : (holding : Option Holding) (given : Option (List ℕ)) (o : Outcome) → IfSome holding (λ at. IfSome given (λ bytes. IsTallyReport at a bytes is_cut (Ok (outcome_view o)))) → IfSome o.remark (Says (BeginsWith tally_opening))
+  pub reported : (holding : Option Holding) (given : Option (List ℕ)) (o : Outcome) → IfSome holding (λ at. IfSome given (λ bytes. IsTallyReport at a bytes is_cut (Ok (outcome_view o)))) → IfSome given (λ bytes. IfSome o.remark (Says (Reads (tally_beside bytes))))
       → ShowsReport old new status (outcome_view o) → PutsRemark old.reported new.reported new.is_mute o.remark → Comes holding given
   reported None None o is says shows puts = tt
   reported None (Some bytes) o is says shows puts = tt
   reported (Some at) None o is says shows puts = tt
-  reported (Some at) (Some bytes) o is says shows puts = inl (Ok (outcome_view o), (is, λ none. absurd none), (shows, noted o says puts))
+  reported (Some at) (Some bytes) o is says shows puts = inl (Ok (outcome_view o), (is, λ none. absurd none), (shows, noted (Reads (tally_beside bytes)) o says puts))
 
   refused_at : (at : Holding) (bytes : List ℕ) (t : Told) → (is_want t.refusal ≡ false → IsTallyReport at a bytes is_cut (Err t.refusal)) → (is_unread t.refusal ≡ true → has_failed ≡ true) → (is_want t.refusal ≡ false → Says (NamesRefused a.document t.refusal) t.remark)
-      → ShowsRefusal old new status is_want line_of tally_call t.refusal t.remark → Ends old new status line_of (λ n. n ≡ tally_call) (tally_remark a.document) (MayRun (tally_description bytes is_cut) is_unread a at after has_failed)
+      → ShowsRefusal old new status is_want line_of tally_call t.refusal t.remark → Ends old new status line_of (λ n. n ≡ tally_call) (tally_remark bytes a.document) (MayRun (tally_description bytes is_cut) is_unread a at after has_failed)
   refused_at at bytes t is fails names (inl shows) = inl (Err t.refusal, (is shows.0, fails), (shows.1, λ told. (t.remark, names shows.0, shows.2)))
   refused_at at bytes t is fails names (inr wants) = inr (tally_call, refl, wants)
 

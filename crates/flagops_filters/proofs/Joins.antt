@@ -3,7 +3,8 @@ use Rattle.std.proofs.Common.{◌≡◌, ◌+◌, ◌<◌, ℕ, List, [], ◌∷
 use Rattle.std.proofs.Math.Seq.{drop-cons}
 use Rattle.std.specs.Prelude.{IfSome}
 use Rattle.flagops_shell.specs.Files.{Holding, load_of}
-use Rattle.flagops_files.specs.Loading.{max_rule, refused_by}
+use Rattle.flagops_files.specs.Loading.{max_rule}
+use Rattle.flagops_shell.specs.Outcomes.{refused_by}
 use Rattle.flagops_files.specs.Refusal as files
 use Rattle.flagops_shell.specs.declared.outcome.Outcome.{Outcome}
 use Rattle.flagops_files.specs.declared.refusal.Refusal.{Refusal}

@@ -4,6 +4,5 @@ mod Joins
 mod Loaded
 pub mod Matched
 pub mod Naming
-pub mod Noted
 mod Recorded
 mod Tallied

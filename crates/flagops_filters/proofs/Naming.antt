@@ -1,18 +1,18 @@
 -- Of which file a person is told.
-use Rattle.std.proofs.Common.{◌≡◌, ◌<◌, ℕ, zero, suc, Bool, true, false, List, [], ◌∷◌, IfErr, Result, Ok, Err, arith, ap, get_or, length, map, inl, inr, refl, string_bytes, subst, sym}
+use Rattle.std.proofs.Common.{◌≡◌, ◌<◌, ℕ, zero, suc, false, List, [], ◌∷◌, IfErr, Result, Ok, Err, arith, ap, get_or, length, map, inl, inr, refl, string_bytes, subst, sym}
 use Rattle.flagops_files.specs.Refusal as files
 use Rattle.flagops_files.specs.Refusal.{Refused}
-use Rattle.flagops_files.specs.declared.refusal.Refusal as files_refusal
 use Rattle.file_diagnostics.specs.Named.{Names}
 use Rattle.flagops_shell.specs.Diagnostic.{Says}
 use Rattle.flagops_shell.specs.declared.refused.Remark.{Remark}
 use Rattle.flagops_shell.specs.declared.refused.Remark.TheVariants.{Short, Lines}
+use Rattle.rollout_checks.specs.declared.fault.RolloutFault.{RolloutFault}
 use Rattle.flagops_filters.specs.Refusal.{is_unread, is_want}
-use Rattle.flagops_filters.specs.Remarks.{BeginsWith, NamesOnePath, NamesPath, NamesRefused, NotesIf, RemarksBy, RemarksOnePath}
+use Rattle.flagops_filters.specs.Remarks.{NamesOnePath, NamesPath, NamesRefused, RemarksBy, RemarksOnePath}
 use Rattle.flagops_filters.specs.Report.{Told, is_file_fault}
 use Rattle.flagops_filters.specs.Stopping.{IsStopped}
 use Rattle.flagops_filters.specs.declared.refusal.FilterRefusal.{FilterRefusal}
-use Rattle.flagops_filters.specs.declared.refusal.FilterRefusal.TheVariants.{Load}
+use Rattle.flagops_filters.specs.declared.refusal.FilterRefusal.TheVariants.{Load, Flag}
 use Rattle.flagops_filters.proofs.Loaded.{not_want}
 
 -- what follows from what a remark says, it says too
@@ -56,7 +56,7 @@ all_named path paths (Err t) names = λ no_want. says_so (NamesOnePath paths) (N
 
 -- ---- a flag, or the standard input
 
-pub flag_named : (path : List ℕ) (t : Told) (e : files_refusal.Refusal) → t.refusal ≡ Load e → Says (NamesPath path) t.remark → is_want t.refusal ≡ false → Says (NamesRefused path t.refusal) t.remark
+pub flag_named : (path : List ℕ) (t : Told) (e : RolloutFault) → t.refusal ≡ Flag e → Says (NamesPath path) t.remark → is_want t.refusal ≡ false → Says (NamesRefused path t.refusal) t.remark
 flag_named path t e is says no_want = subst (λ (r : FilterRefusal). Says (NamesRefused path r) t.remark) (sym is) says
 
 -- a stream that was not tallied to its end
@@ -67,8 +67,3 @@ stream_named path (Err t) stops = λ no_want. subst (λ (r : FilterRefusal). Say
 pub stream_read : {X : Type 0} (r : Result X Told) → IfErr r IsStopped → is_file_fault r ≡ false
 stream_read (Ok x) stops = refl
 stream_read (Err t) stops = ap is_unread stops.0.1
-
--- ---- what is told beside
-
-pub noted_so : (b : Bool) (opening lines : List ℕ) → NotesIf b opening lines → b ≡ true → BeginsWith opening lines
-noted_so b opening lines notes is = subst (λ (x : Bool). NotesIf x opening lines) is notes

@@ -1,5 +1,5 @@
 -- What `record` came to, as the console shows it.
-use Rattle.std.proofs.Common.{◌≡◌, ◌≢◌, ◌⊎◌, true, false, ℕ, Bool, List, length, Option, None, Some, IfSome, Ok, Err, unwrap_or, refl, ap, ◌∙◌, subst, sym, inl, inr, arith}
+use Rattle.std.proofs.Common.{◌≡◌, ◌≢◌, true, false, ℕ, Bool, List, length, Option, None, Some, IfSome, Ok, Err, unwrap_or, refl, ap, ◌∙◌, subst, sym, inl, inr, arith}
 use Rattle.std.proofs.Math.Seq.{take-length}
 use Rattle.std.specs.Io.KnownBytes.{Appends}
 use Rattle.std.specs.Map.{lookup}
@@ -10,13 +10,13 @@ use Rattle.flag_defs.specs.Flags.{flags_view}
 use Rattle.flagops_files.specs.Documents.{IsDocumentAt}
 use Rattle.flagops_files.specs.Refusal as files
 use Rattle.flagops_files.specs.Refusal.{Refused}
-use Rattle.flagops_files.specs.declared.refusal.Refusal.TheVariants.{Plan}
 use Rattle.file_diagnostics.specs.Named.{Names}
 use Rattle.flagops_shell.specs.Console.{Shown}
 use Rattle.flagops_shell.specs.Diagnostic.{Says}
 use Rattle.flagops_shell.specs.Ending.{ShowsRefusal}
 use Rattle.flagops_shell.specs.Files.{Holding}
-use Rattle.note_streams.specs.Recorded.{RecordsStream, recorded_of}
+use Rattle.note_streams.specs.Recorded.{RecordsStream, TellsOf, recorded_of}
+use Rattle.note_streams.specs.Rest.{is_empty}
 use Rattle.note_streams.specs.declared.recording.Counted.{Counted}
 use Rattle.note_streams.specs.declared.stop.RecordStop.{RecordStop}
 use Rattle.note_streams.specs.declared.stop.RecordStop.TheVariants.{WantOfMemory, Line, Unreadable, TooLong, Broken}
@@ -26,13 +26,14 @@ use Rattle.record_lines.specs.declared.recorder.RecordFault.{RecordFault}
 use Rattle.record_lines.specs.declared.recorder.RecordFault.TheVariants as recording
 use Rattle.flagops_filters.specs.Record.{RecordAnswers, RecordEnds, RecordOver, of_record, record_call}
 use Rattle.flagops_filters.specs.Refusal.{is_unread, is_want, line_of}
-use Rattle.flagops_filters.specs.Remarks.{NamesInput, NamesPath, PutsNote, record_opening}
+use Rattle.flagops_filters.specs.Beside.{PutsIf, PutsNoted, is_noted, record_lines}
+use Rattle.flagops_filters.specs.Remarks.{NamesInput, NamesPath}
 use Rattle.flagops_filters.specs.Report.{Told}
 use Rattle.flagops_filters.specs.Stopping.{GivesUp, is_broken_off}
 use Rattle.flagops_filters.specs.Words.{Recording}
 use Rattle.flagops_filters.specs.Writing.{Refuses, RefusesOrWants, with_output}
 use Rattle.flagops_filters.specs.declared.refusal.FilterRefusal.{FilterRefusal}
-use Rattle.flagops_filters.specs.declared.refusal.FilterRefusal.TheVariants.{Load, Record}
+use Rattle.flagops_filters.specs.declared.refusal.FilterRefusal.TheVariants.{Load, Flag, Record}
 use Rattle.flagops_filters.proofs.Ending.{not_both, refused_so}
 use Rattle.flagops_filters.proofs.Naming.{loaded_named}
 
@@ -52,12 +53,21 @@ module _ (old new : Shown) (status : ℕ) where
 
   module _ (s : Scene) (is_cut : Bool) where
     abbrev Came : Option (List ℕ) → Type 0
-    Came given = IfSome given (λ bytes. RecordEnds old new status (recorded_of s bytes) (length bytes) is_cut)
+    Came given = IfSome given (λ bytes. RecordEnds old new status (recorded_of s bytes) bytes is_cut)
 
-    pub all_recorded : (given : Option (List ℕ)) (counted : Counted) → IfSome given (λ bytes. RecordsStream (recorded_of s bytes) (length bytes) is_cut old.printed new.printed (Ok counted)) → new.is_broken ≡ false → status ≡ 0
-        → PutsNote record_opening old.reported new.reported new.is_mute → Came given
-    all_recorded None counted records whole done notes = tt
-    all_recorded (Some bytes) counted records whole done notes = inl (records.0, (records.1, whole, done, notes))
+    -- the lines on what was counted are told
+    abbrev TellsCounted : Counted → Type 0
+    TellsCounted c = PutsIf (is_noted c.empty c.long c.torn) (record_lines c.empty c.long c.torn) old.reported new.reported new.is_mute
+
+    told_of : (bytes : List ℕ) (c : Counted) → TellsOf (recorded_of s bytes) bytes c → TellsCounted c → PutsNoted bytes c.long old.reported new.reported new.is_mute
+    told_of bytes c tells notes =
+        subst (λ (torn : Bool). PutsIf (is_noted (is_empty bytes) c.long torn) (record_lines (is_empty bytes) c.long torn) old.reported new.reported new.is_mute) tells.1
+        (subst (λ (empty : Bool). PutsIf (is_noted empty c.long c.torn) (record_lines empty c.long c.torn) old.reported new.reported new.is_mute) tells.2 notes)
+
+    pub all_recorded : (given : Option (List ℕ)) (counted : Counted) → IfSome given (λ bytes. RecordsStream (recorded_of s bytes) (length bytes) is_cut old.printed new.printed (Ok counted)) → IfSome given (λ bytes. TellsOf (recorded_of s bytes) bytes counted)
+        → new.is_broken ≡ false → status ≡ 0 → TellsCounted counted → Came given
+    all_recorded None counted records tells whole done notes = tt
+    all_recorded (Some bytes) counted records tells whole done notes = inl (records.0, (records.1, whole, done, (counted.long, tells.0, told_of bytes counted tells notes)))
 
     module _ (mid : Option (List ℕ)) where
       abbrev Then : FilterRefusal → Type 0
@@ -106,17 +116,17 @@ module _ (old new : Shown) (status : ℕ) where
     over_scene s (Some bytes) scene came = inl (s, scene, came)
 
     not_recorded : (bytes : List ℕ) (fault : RecordFault) → (fault ≢ recording.WantOfMemory → refusal_for (lookup (bytes_eq key) flags) ≡ Some fault)
-        → RefusesOrWants old new status record_call (NamesPath path) (Load (Plan (of_record fault))) → RecordOver old new status path flags key moment bytes is_cut
+        → RefusesOrWants old new status record_call (NamesPath path) (Flag (of_record fault)) → RecordOver old new status path flags key moment bytes is_cut
     not_recorded bytes fault refused (inl ends) =
-        let other : fault ≢ recording.WantOfMemory = λ want. not_both (is_want (Load (Plan (of_record fault)))) (ap (λ (f : RecordFault). is_want (Load (Plan (of_record f)))) want) ends.0 in
+        let other : fault ≢ recording.WantOfMemory = λ want. not_both (is_want (Flag (of_record fault))) (ap (λ (f : RecordFault). is_want (Flag (of_record f))) want) ends.0 in
         inr (inl (fault, refused other, ends.1))
     not_recorded bytes fault refused (inr ends) = inr (inr ends)
 
-    pub unrecorded : (given : Option (List ℕ)) (fault : RecordFault) (t : Told) → (fault ≢ recording.WantOfMemory → refusal_for (lookup (bytes_eq key) flags) ≡ Some fault) → t.refusal ≡ Load (Plan (of_record fault)) → Says (NamesPath path) t.remark
+    pub unrecorded : (given : Option (List ℕ)) (fault : RecordFault) (t : Told) → (fault ≢ recording.WantOfMemory → refusal_for (lookup (bytes_eq key) flags) ≡ Some fault) → t.refusal ≡ Flag (of_record fault) → Says (NamesPath path) t.remark
         → ShowsRefusal old new status is_want line_of record_call t.refusal t.remark → IfSome given (λ bytes. RecordOver old new status path flags key moment bytes is_cut)
     unrecorded None fault t refused is says shows = tt
     unrecorded (Some bytes) fault t refused is says shows =
-        not_recorded bytes fault refused (refused_so old new status record_call (NamesPath path) t.refusal (Load (Plan (of_record fault))) t.remark shows is (λ no_want. says))
+        not_recorded bytes fault refused (refused_so old new status record_call (NamesPath path) t.refusal (Flag (of_record fault)) t.remark shows is (λ no_want. says))
 
   -- ---- a document
 

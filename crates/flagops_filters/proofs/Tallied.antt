@@ -1,11 +1,12 @@
 -- What `tally` came to, of a site and a stream.
 use Rattle.std.proofs.Common.{◌≡◌, ◌≢◌, ℕ, Bool, List, Option, None, Some, Result, Ok, Err, unwrap_or, ap, ◌∙◌, subst, sym, inl, inr}
-use Rattle.std.specs.Prelude.{IfSome}
+use Rattle.std.specs.Prelude.{IfOk, IfSome}
 use Rattle.flag_defs.specs.Document.{Definitions}
+use Rattle.flagops_shell.specs.Diagnostic.{Says}
 use Rattle.flagops_shell.specs.Report.{Report}
 use Rattle.flagops_shell.specs.declared.outcome.Outcome.{Outcome}
-use Rattle.flagops_files.specs.declared.refusal.Refusal.TheVariants.{Plan}
-use Rattle.line_tally.specs.Lines.{untallied}
+use Rattle.line_tally.specs.Lines.{finished, untallied}
+use Rattle.note_streams.specs.Rest.{is_empty, is_torn}
 use Rattle.note_streams.specs.Tallied.{TalliesStream}
 use Rattle.note_streams.specs.declared.stop.TallyStop.{TallyStop}
 use Rattle.note_streams.specs.declared.stop.TallyStop.TheVariants.{Filter, Unreadable, TooLong}
@@ -16,12 +17,13 @@ use Rattle.tally_core.specs.Tally.{PageTally}
 use Rattle.tally_filters.specs.declared.fault.FilterFault.{FilterFault}
 use Rattle.tally_filters.specs.declared.fault.FilterFault.TheVariants.{WantOfMemory}
 use Rattle.tally_text.specs.File.{tally_text}
+use Rattle.flagops_filters.specs.Beside.{Reads, is_beside, tally_beside, tally_lines}
 use Rattle.flagops_filters.specs.Place.{PrintsTally}
 use Rattle.flagops_filters.specs.Refusal.{is_want}
 use Rattle.flagops_filters.specs.Report.{GivesOne, Told}
 use Rattle.flagops_filters.specs.Tally.{IsTallyAt, IsTallyIn, IsTallyOver, Target, target_of}
 use Rattle.flagops_filters.specs.Words.{Tallying}
-use Rattle.flagops_filters.specs.declared.refusal.FilterRefusal.TheVariants.{Load, Tally}
+use Rattle.flagops_filters.specs.declared.refusal.FilterRefusal.TheVariants.{Flag, Tally}
 use Rattle.flagops_filters.proofs.Ending.{not_both}
 
 -- ---- a stream
@@ -30,15 +32,26 @@ module _ (target : Target) (is_cut : Bool) where
   abbrev Came : List ℕ → Result StreamTally TallyStop → Type 0
   Came bytes r = TalliesStream (untallied target.page target.total) bytes is_cut r
 
-  printed_at : (bytes : List ℕ) (t : StreamTally) (r : Result Outcome Told) → Came bytes (Ok t) → PrintsTally t.tally r → GivesOne r (IsTallyOver target bytes is_cut)
+  printed_at : (bytes : List ℕ) (t : StreamTally) (r : Result Outcome Told) → Came bytes (Ok t) → PrintsTally t r → GivesOne r (IsTallyOver target bytes is_cut)
   printed_at bytes t (Ok o) tallies prints =
-      let made : PageTally → Report = λ p. record { text = tally_text p; status = 0; is_told = prints.0 } in
-      inl (tallies.0, prints.0, tallies.1, ap Ok (prints.1 ∙ ap made tallies.2))
+      let made : PageTally → Bool → Bool → Report = λ p empty torn. record { text = tally_text p; status = 0; is_told = is_beside empty torn } in
+      let last = finished tallies.0 in
+      let same = ap (λ (p : PageTally). made p t.empty t.torn) tallies.2 ∙ ap (λ (torn : Bool). made last t.empty torn) tallies.3 ∙ ap (λ (empty : Bool). made last empty (is_torn bytes)) tallies.4 in
+      inl (tallies.0, tallies.1, ap Ok (prints ∙ same))
   printed_at bytes t (Err told) tallies prints = λ no_want. absurd (not_both (is_want told.refusal) prints no_want)
 
-  pub printed : (given : Option (List ℕ)) (t : StreamTally) (r : Result Outcome Told) → IfSome given (λ bytes. Came bytes (Ok t)) → PrintsTally t.tally r → IfSome given (λ bytes. GivesOne r (IsTallyOver target bytes is_cut))
+  pub printed : (given : Option (List ℕ)) (t : StreamTally) (r : Result Outcome Told) → IfSome given (λ bytes. Came bytes (Ok t)) → PrintsTally t r → IfSome given (λ bytes. GivesOne r (IsTallyOver target bytes is_cut))
   printed None t r tallies prints = tt
   printed (Some bytes) t r tallies prints = printed_at bytes t r tallies prints
+
+  -- what is told is of these bytes
+  pub told_beside : (given : Option (List ℕ)) (t : StreamTally) (r : Result Outcome Told) → IfSome given (λ bytes. Came bytes (Ok t)) → IfOk r (λ o. IfSome o.remark (Says (Reads (tally_lines t.empty t.torn))))
+      → IfOk r (λ o. IfSome given (λ bytes. IfSome o.remark (Says (Reads (tally_beside bytes)))))
+  told_beside given t (Err e) tallies says = tt
+  told_beside None t (Ok o) tallies says = tt
+  told_beside (Some bytes) t (Ok o) tallies says =
+      subst (λ (torn : Bool). IfSome o.remark (Says (Reads (tally_lines (is_empty bytes) torn)))) tallies.3
+      (subst (λ (empty : Bool). IfSome o.remark (Says (Reads (tally_lines empty t.torn)))) tallies.4 says)
 
   stopped_at : (bytes : List ℕ) (stop : TallyStop) (told : Told) → Came bytes (Err stop) → told.refusal ≡ Tally stop → GivesOne (Err told) (IsTallyOver target bytes is_cut)
   stopped_at bytes (Filter fault) told tallies is = λ no_want.
@@ -62,12 +75,12 @@ module _ (flags : Definitions) (a : Tallying) (is_cut : Bool) (m : ℕ) (factor 
   at_target target given r is over =
       subst (λ (x : Result Target RolloutFault). IfSome given (λ bytes. GivesOne r (IsTallyAt x bytes is_cut))) (sym (by_factor (Ok target) is)) over
 
-  refused_at : (bytes : List ℕ) (fault : RolloutFault) (told : Told) → (fault ≢ rollout.WantOfMemory → target_of flags a.key a.site m ≡ Err fault) → told.refusal ≡ Load (Plan fault) → GivesOne (Err told) (IsTallyIn (Ok flags) a bytes is_cut)
+  refused_at : (bytes : List ℕ) (fault : RolloutFault) (told : Told) → (fault ≢ rollout.WantOfMemory → target_of flags a.key a.site m ≡ Err fault) → told.refusal ≡ Flag fault → GivesOne (Err told) (IsTallyIn (Ok flags) a bytes is_cut)
   refused_at bytes fault told wanted is = λ no_want.
-      let other : fault ≢ rollout.WantOfMemory = λ want. not_both (is_want told.refusal) (ap is_want is ∙ ap (λ (f : RolloutFault). is_want (Load (Plan f))) want) no_want in
+      let other : fault ≢ rollout.WantOfMemory = λ want. not_both (is_want told.refusal) (ap is_want is ∙ ap (λ (f : RolloutFault). is_want (Flag f)) want) no_want in
       subst (λ (x : Result Target RolloutFault). IsTallyAt x bytes is_cut (Err told.refusal)) (sym (by_factor (Err fault) (wanted other))) (ap Err is)
 
-  pub no_target : (given : Option (List ℕ)) (fault : RolloutFault) (told : Told) → (fault ≢ rollout.WantOfMemory → target_of flags a.key a.site m ≡ Err fault) → told.refusal ≡ Load (Plan fault)
+  pub no_target : (given : Option (List ℕ)) (fault : RolloutFault) (told : Told) → (fault ≢ rollout.WantOfMemory → target_of flags a.key a.site m ≡ Err fault) → told.refusal ≡ Flag fault
       → IfSome given (λ bytes. GivesOne (Err told) (IsTallyIn (Ok flags) a bytes is_cut))
   no_target None fault told wanted is = tt
   no_target (Some bytes) fault told wanted is = refused_at bytes fault told wanted is

@@ -1,7 +1,8 @@
 -- What the command `join` comes to.
 use Rattle.std.specs.Prelude.{◌≡◌, ◌⊎◌, ℕ, false, List, [], ◌∷◌, Result, Ok, Err}
 use Rattle.flagops_shell.specs.Files.{Holding, load_of}
-use Rattle.flagops_files.specs.Loading.{max_rule, refused_by}
+use Rattle.flagops_files.specs.Loading.{max_rule}
+use Rattle.flagops_shell.specs.Outcomes.{refused_by}
 use Rattle.flagops_files.specs.declared.refusal.Refusal.{Refusal}
 use Rattle.flagops_files.specs.declared.refusal.Refusal.TheVariants.{Load as Unread, ReadTally}
 use Rattle.tally_core.specs.Join.{Joins}

@@ -1,11 +1,12 @@
 -- The site that is tallied at, in private contracts alone.
-use Rattle.std.specs.Prelude.{◌≡◌, Bool, true, Result, Ok, Err}
+use Rattle.std.specs.Prelude.{◌≡◌, true, Result, Ok, Err}
 use Rattle.book_core.specs.Page.{PageName}
 use Rattle.bucket_core.specs.Rule.{Entries, entries_view}
 use Rattle.flagops_shell.specs.Report.{outcome_view}
 use Rattle.flagops_shell.specs.declared.outcome.Outcome.{Outcome}
-use Rattle.tally_core.specs.Tally.{PageTally}
+use Rattle.note_streams.specs.declared.tallying.StreamTally.{StreamTally}
 use Rattle.tally_text.specs.File.{tally_text}
+use Rattle.flagops_filters.specs.Beside.{is_beside}
 use Rattle.flagops_filters.specs.Refusal.{is_want}
 use Rattle.flagops_filters.specs.Tally.{Target}
 use Rattle.flagops_filters.specs.Report.{Told}
@@ -19,6 +20,6 @@ abbrev pub place_view : program.Place → Entries × PageName
 place_view p = (entries_view p.entries.items, p.page)
 
 -- the file of a tally is printed, unless memory ran out
-abbrev pub PrintsTally : PageTally → Result Outcome Told → Type 0
-PrintsTally t (Ok o) = (told : Bool) × (outcome_view o ≡ record { text = tally_text t; status = 0; is_told = told })
+abbrev pub PrintsTally : StreamTally → Result Outcome Told → Type 0
+PrintsTally t (Ok o) = outcome_view o ≡ record { text = tally_text t.tally; status = 0; is_told = is_beside t.empty t.torn }
 PrintsTally t (Err told) = is_want told.refusal ≡ true

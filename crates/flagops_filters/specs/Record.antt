@@ -1,5 +1,5 @@
 -- What the command `record` comes to.
-use Rattle.std.specs.Prelude.{◌≡◌, ◌<◌, ◌⊎◌, ℕ, Bool, true, false, List, length, unwrap_or, Option, Some, Result, Ok, Err, codes}
+use Rattle.std.specs.Prelude.{◌≡◌, ◌<◌, ◌⊎◌, ℕ, nat_lt, Bool, true, false, List, length, unwrap_or, Some, Result, Ok, Err, codes}
 use Rattle.std.specs.Io.KnownBytes.{Appends}
 use Rattle.std.specs.Map.{lookup}
 use Rattle.std.specs.Str.{bytes_eq}
@@ -9,7 +9,6 @@ use Rattle.flagops_files.specs.Documents.{IsDocumentAt}
 use Rattle.flagops_shell.specs.Console.{Shown}
 use Rattle.flagops_shell.specs.Files.{Holding}
 use Rattle.flagops_files.specs.declared.refusal.Refusal.{Refusal}
-use Rattle.flagops_files.specs.declared.refusal.Refusal.TheVariants.{Plan}
 use Rattle.note_streams.specs.Recorded.{most_bytes, recorded_of}
 use Rattle.note_streams.specs.declared.stop.RecordStop.TheVariants.{Line, Unreadable, TooLong}
 use Rattle.record_lines.specs.Record.{IsSceneOf, Recorded, Scene}
@@ -19,10 +18,11 @@ use Rattle.record_lines.specs.declared.recorder.RecordFault.TheVariants as recor
 use Rattle.rollout_checks.specs.declared.fault.RolloutFault.{RolloutFault}
 use Rattle.rollout_checks.specs.declared.fault.RolloutFault.TheVariants as rollout
 use Rattle.flagops_filters.specs.Refusal.{is_unread}
-use Rattle.flagops_filters.specs.Remarks.{NamesInput, NamesPath, PutsNote, record_opening}
+use Rattle.flagops_filters.specs.Beside.{PutsNoted}
+use Rattle.flagops_filters.specs.Remarks.{NamesInput, NamesPath}
 use Rattle.flagops_filters.specs.Words.{Recording}
 use Rattle.flagops_filters.specs.Writing.{After, AfterPart, Refuses, Wants}
-use Rattle.flagops_filters.specs.declared.refusal.FilterRefusal.TheVariants.{Load, Record}
+use Rattle.flagops_filters.specs.declared.refusal.FilterRefusal.TheVariants.{Load, Flag, Record}
 
 -- a flag that is not recorded is refused as `plan` refuses it: unknown, or without sites as it is broken
 abbrev pub of_record : RecordFault → RolloutFault
@@ -38,26 +38,28 @@ module _ (old new : Shown) (status : ℕ) where
   abbrev pub BreaksOff : List ℕ → Type 0
   BreaksOff text = AppendsPart old.printed new.printed text × (new.is_broken ≡ true) × (status ≡ 1) × (new.reported ≡ old.reported)
 
-  -- the whole text was written; a person may be told what was passed over
-  abbrev pub Ends : List ℕ → Type 0
-  Ends text = Appends old.printed new.printed text × (new.is_broken ≡ false) × (status ≡ 0) × PutsNote record_opening old.reported new.reported new.is_mute
+  -- the whole text was written, and a person is told what was passed over of these bytes: some inputs just where one is too long to be noted
+  abbrev pub Ends : Recorded → List ℕ → Type 0
+  Ends r bytes =
+      Appends old.printed new.printed r.text × (new.is_broken ≡ false) × (status ≡ 0)
+      × ((long : ℕ) × (nat_lt 0 long ≡ r.long) × PutsNoted bytes long old.reported new.reported new.is_mute)
 
-  -- Of what is recorded of a stream of so many bytes: all its lines; or those up to the line that is no context, whose number is told;
+  -- Of what is recorded of a stream of these bytes: all its lines; or those up to the line that is no context, whose number is told;
   -- or a front of them, where a write or a read failed, the stream is too long or memory ran out.
-  abbrev pub RecordEnds : Recorded → ℕ → Bool → Type 0
-  RecordEnds r size is_cut =
-      ((r.refused ≡ false) × Ends r.text)
+  abbrev pub RecordEnds : Recorded → List ℕ → Bool → Type 0
+  RecordEnds r bytes is_cut =
+      ((r.refused ≡ false) × Ends r bytes)
       ⊎ ((r.refused ≡ true) × After old r.text (λ mid. Refuses mid new status NamesInput (Record (Line r.lines))))
       ⊎ BreaksOff r.text
       ⊎ ((is_cut ≡ true) × AfterPart old r.text (λ mid. Refuses mid new status NamesInput (Record Unreadable)))
-      ⊎ ((most_bytes < size) × AfterPart old r.text (λ mid. Refuses mid new status NamesInput (Record TooLong)))
+      ⊎ ((most_bytes < length bytes) × AfterPart old r.text (λ mid. Refuses mid new status NamesInput (Record TooLong)))
       ⊎ AfterPart old r.text (λ mid. Wants mid new status record_call)
 
   -- of a flag of these flags, which a document at a path has, over a stream of these bytes
   abbrev pub RecordOver : List ℕ → Definitions → List ℕ → ℕ → List ℕ → Bool → Type 0
   RecordOver path flags key moment bytes is_cut =
-      ((s : Scene) × IsSceneOf flags key moment s × RecordEnds (recorded_of s bytes) (length bytes) is_cut)
-      ⊎ ((fault : RecordFault) × (refusal_for (lookup (bytes_eq key) flags) ≡ Some fault) × Refuses old new status (NamesPath path) (Load (Plan (of_record fault))))
+      ((s : Scene) × IsSceneOf flags key moment s × RecordEnds (recorded_of s bytes) bytes is_cut)
+      ⊎ ((fault : RecordFault) × (refusal_for (lookup (bytes_eq key) flags) ≡ Some fault) × Refuses old new status (NamesPath path) (Flag (of_record fault)))
       ⊎ Wants old new status record_call
 
   -- of what was read as a document; it cannot be read only where a call has failed

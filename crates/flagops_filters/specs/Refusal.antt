@@ -1,6 +1,6 @@
 -- The line that a refusal of a filter is written as.
-use Rattle.std.specs.Prelude.{ℕ, Bool, false, List, [], codes, decimal, nat_eq}
-use Rattle.flagops_files.specs.Payload.{number_item}
+use Rattle.std.specs.Prelude.{ℕ, Bool, true, false, List, [], codes, decimal}
+use Rattle.flagops_files.specs.Payload.{number_item, rollout_items}
 use Rattle.flagops_files.specs.Refusal as files
 use Rattle.flagops_files.specs.Refusal.{line_with}
 use Rattle.note_streams.specs.Stop.{record_number, tally_number}
@@ -8,27 +8,27 @@ use Rattle.note_streams.specs.declared.stop.RecordStop.{RecordStop}
 use Rattle.note_streams.specs.declared.stop.RecordStop.TheVariants as recording
 use Rattle.note_streams.specs.declared.stop.TallyStop.{TallyStop}
 use Rattle.note_streams.specs.declared.stop.TallyStop.TheVariants as tallying
+use Rattle.rollout_checks.specs.Fault as rollouts
+use Rattle.rollout_checks.specs.declared.fault.RolloutFault.TheVariants as rollout
 use Rattle.tally_core.specs.declared.joining.JoinFault.{JoinFault}
 use Rattle.tally_core.specs.declared.joining.JoinFault.TheVariants as joining
 use Rattle.tally_filters.specs.declared.fault.FilterFault.{FilterFault}
 use Rattle.tally_filters.specs.declared.fault.FilterFault.TheVariants as filter
 use Rattle.flagops_filters.specs.declared.refusal.FilterRefusal.{FilterRefusal}
-use Rattle.flagops_filters.specs.declared.refusal.FilterRefusal.TheVariants.{Load, Record, Tally, Join}
+use Rattle.flagops_filters.specs.declared.refusal.FilterRefusal.TheVariants.{Load, Flag, Record, Tally, Join}
 
 abbrev pub join_number : JoinFault → ℕ
 join_number joining.Page = 1
 join_number joining.Order = 2
 join_number joining.TooMany = 3
 
--- want of memory is 0, and each other number is that of the call which refused
-abbrev pub number_of : FilterRefusal → ℕ
-number_of (Load e) = files.number_of e
-number_of (Record e) = record_number e
-number_of (Tally e) = tally_number e
-number_of (Join e) = join_number e
-
+-- memory ran out: each fault but that of `join`, which takes none, has a variant for it
 abbrev pub is_want : FilterRefusal → Bool
-is_want r = nat_eq (number_of r) 0
+is_want (Load e) = files.is_want e
+is_want (Flag rollout.WantOfMemory) = true
+is_want (Record recording.WantOfMemory) = true
+is_want (Tally (tallying.Filter filter.WantOfMemory)) = true
+is_want e = false
 
 -- a file could not be read; the standard input is none
 abbrev pub is_unread : FilterRefusal → Bool
@@ -76,6 +76,7 @@ join_name joining.TooMany = codes "TooMany"
 -- `refused`, the call, the number, the name and what the fault says beyond it
 abbrev pub line_of : FilterRefusal → List ℕ
 line_of (Load e) = files.line_of e
+line_of (Flag e) = line_with (codes "plan") (decimal (rollouts.number_of e)) (rollouts.name_of e) (rollout_items e)
 line_of (Record e) = line_with (codes "record") (decimal (record_number e)) (record_name e) (record_items e)
 line_of (Tally e) = line_with (codes "tally") (decimal (tally_number e)) (tally_name e) (tally_items e)
 line_of (Join e) = line_with (codes "join") (decimal (join_number e)) (join_name e) []

@@ -1,14 +1,14 @@
 -- What a person is told of filters, beside the output.
-use Rattle.std.specs.Prelude.{◌≡◌, ◌⊎◌, ◌||◌, ◌++◌, ℕ, nat_lt, Bool, true, false, List, [], ◌∷◌, Option, Some, Result, Ok, Err, codes}
+use Rattle.std.specs.Prelude.{◌≡◌, ◌⊎◌, ℕ, false, List, [], ◌∷◌, Result, Ok, Err, codes}
 use Rattle.flagops_files.specs.Lines.{NamesFile}
 use Rattle.file_diagnostics.specs.Named.{Names, NamesWord}
-use Rattle.flagops_shell.specs.Diagnostic.{PutsRemark, Says}
+use Rattle.flagops_shell.specs.Diagnostic.{Says}
 use Rattle.flagops_shell.specs.declared.refused.Remark.{Remark}
-use Rattle.note_streams.specs.declared.recording.Counted.{Counted}
+use Rattle.flagops_filters.specs.Beside.{Reads, tally_beside}
 use Rattle.flagops_filters.specs.Refusal.{is_want}
 use Rattle.flagops_filters.specs.Report.{Came, Told}
 use Rattle.flagops_filters.specs.declared.refusal.FilterRefusal.{FilterRefusal}
-use Rattle.flagops_filters.specs.declared.refusal.FilterRefusal.TheVariants.{Load, Record, Tally, Join}
+use Rattle.flagops_filters.specs.declared.refusal.FilterRefusal.TheVariants.{Load, Flag, Record, Tally, Join}
 
 -- ---- of a refusal the name of what is refused
 
@@ -28,40 +28,17 @@ NamesInput lines = NamesWord (codes "the standard input") lines
 -- the document at a path is refused by its path, as is a flag of it, and a line of the standard input by its words
 abbrev pub NamesRefused : List ℕ → FilterRefusal → List ℕ → Type 0
 NamesRefused document (Load e) lines = NamesPath document lines
+NamesRefused document (Flag e) lines = NamesPath document lines
 NamesRefused document (Record e) lines = NamesInput lines
 NamesRefused document (Tally e) lines = NamesInput lines
 NamesRefused document (Join e) lines = ⊥
 
--- ---- beside what went well, what was passed over
-
--- lines begin so
-abbrev pub BeginsWith : List ℕ → List ℕ → Type 0
-BeginsWith opening lines = (rest : List ℕ) × (lines ≡ opening ++ rest)
-
--- there is something to tell of contexts that were all recorded
-abbrev pub is_noted : Counted → Bool → Bool
-is_noted counted is_empty = (is_empty || nat_lt 0 counted.long) || counted.torn
-
--- they do where there is something to tell
-abbrev pub NotesIf : Bool → List ℕ → List ℕ → Type 0
-NotesIf true opening lines = BeginsWith opening lines
-NotesIf false opening lines = lines ≡ []
-
--- nothing is told, or lines that begin so
-abbrev pub PutsNote : List ℕ → Option (List ℕ) → Option (List ℕ) → Bool → Type 0
-PutsNote opening old new is_broken = (new ≡ old) ⊎ ((remark : Remark) × Says (BeginsWith opening) remark × PutsRemark old new is_broken (Some remark))
-
-abbrev pub record_opening : List ℕ
-record_opening = codes "record: "
-
-abbrev pub tally_opening : List ℕ
-tally_opening = codes "tally: "
-
 -- ---- of what a command comes to
 
-abbrev pub tally_remark : List ℕ → Came → Remark → Type 0
-tally_remark document (Ok report) remark = Says (BeginsWith tally_opening) remark
-tally_remark document (Err e) remark = Says (NamesRefused document e) remark
+-- of `tally` over a standard input of these bytes
+abbrev pub tally_remark : List ℕ → List ℕ → Came → Remark → Type 0
+tally_remark bytes document (Ok report) remark = Says (Reads (tally_beside bytes)) remark
+tally_remark bytes document (Err e) remark = Says (NamesRefused document e) remark
 
 -- of one that went well nothing is told
 abbrev pub join_remark : List (List ℕ) → Came → Remark → Type 0

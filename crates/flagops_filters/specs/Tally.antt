@@ -6,10 +6,10 @@ use Rattle.flag_defs.specs.Document.{Definitions}
 use Rattle.flagops_files.specs.Documents.{IsDocumentAt}
 use Rattle.flagops_shell.specs.Files.{Holding}
 use Rattle.flagops_files.specs.declared.refusal.Refusal.{Refusal}
-use Rattle.flagops_files.specs.declared.refusal.Refusal.TheVariants.{Plan}
 use Rattle.line_batches.specs.Lines.{parts_of}
 use Rattle.line_tally.specs.Lines.{Tallied, finished, untallied}
 use Rattle.note_streams.specs.Recorded.{most_bytes}
+use Rattle.note_streams.specs.Rest.{is_empty, is_torn}
 use Rattle.note_streams.specs.Tallied.{Tallies}
 use Rattle.note_streams.specs.declared.stop.TallyStop.TheVariants.{Filter, Unreadable, TooLong}
 use Rattle.rollout_checks.specs.Lawful.{Place, and_then, max_planned, place_of}
@@ -18,9 +18,10 @@ use Rattle.rollout_checks.specs.declared.fault.RolloutFault.TheVariants.{NoWeigh
 use Rattle.tally_filters.specs.declared.fault.FilterFault.{FilterFault}
 use Rattle.tally_filters.specs.declared.fault.FilterFault.TheVariants.{WantOfMemory}
 use Rattle.tally_text.specs.File.{tally_text}
+use Rattle.flagops_filters.specs.Beside.{is_beside}
 use Rattle.flagops_filters.specs.Report.{Came}
 use Rattle.flagops_filters.specs.Words.{Tallying}
-use Rattle.flagops_filters.specs.declared.refusal.FilterRefusal.TheVariants.{Load, Tally}
+use Rattle.flagops_filters.specs.declared.refusal.FilterRefusal.TheVariants.{Load, Flag, Tally}
 
 abbrev pub tally_call : List ℕ
 tally_call = codes "tally"
@@ -46,16 +47,16 @@ target_at m (entries, page) = and_then (points_of (total_weight entries) m) (λ 
 abbrev pub target_of : Definitions → List ℕ → ℕ → ℕ → Result Target RolloutFault
 target_of flags key site m = and_then (site_of (place_of flags key site)) (target_at m)
 
--- the tally of all lines; or the first refusal of one; or a read failed, or the stream is too long
+-- the tally of all lines, with a line for a person where there were none or one was torn; or the first refusal of one; or a read failed, or the stream is too long
 abbrev pub IsTallyOver : Target → List ℕ → Bool → Came → Type 0
 IsTallyOver target bytes is_cut r =
-    ((last : Tallied) × (told : Bool) × Tallies (untallied target.page target.total) 0 (parts_of bytes) (Ok last) × (r ≡ Ok (record { text = tally_text (finished last); status = 0; is_told = told })))
+    ((last : Tallied) × Tallies (untallied target.page target.total) 0 (parts_of bytes) (Ok last) × (r ≡ Ok (record { text = tally_text (finished last); status = 0; is_told = is_beside (is_empty bytes) (is_torn bytes) })))
     ⊎ ((fault : FilterFault) × (fault ≢ WantOfMemory) × Tallies (untallied target.page target.total) 0 (parts_of bytes) (Err fault) × (r ≡ Err (Tally (Filter fault))))
     ⊎ ((is_cut ≡ true) × (r ≡ Err (Tally Unreadable)))
     ⊎ ((most_bytes < length bytes) × (r ≡ Err (Tally TooLong)))
 
 abbrev pub IsTallyAt : Result Target RolloutFault → List ℕ → Bool → Came → Type 0
-IsTallyAt (Err e) bytes is_cut r = r ≡ Err (Load (Plan e))
+IsTallyAt (Err e) bytes is_cut r = r ≡ Err (Flag e)
 IsTallyAt (Ok target) bytes is_cut r = IsTallyOver target bytes is_cut r
 
 abbrev pub IsTallyIn : Result Definitions Refusal → Tallying → List ℕ → Bool → Came → Type 0

@@ -1,15 +1,18 @@
 //! The command `join`.
-ghost use Rattle.std.specs.Prelude.{◌≡◌, ◌∷◌, ◌||◌, false, map, IfErr, IfOk, IfSome, None, Ok, string_bytes, ⊤};
+ghost use Rattle.std.specs.Prelude.{◌≡◌, ◌≢◌, ◌∷◌, ◌++◌, ◌||◌, ℕ, List, false, length, map, IfErr, IfOk, IfSome, None, Ok, string_bytes, ⊤};
+ghost use Rattle.book_core.specs.Printing.{line_text};
 ghost use Rattle.flagops_shell.specs.Diagnostic.{Says};
 ghost use Rattle.flagops_filters.specs.Command.{join_description};
 ghost use Rattle.flagops_filters.specs.Join.{IsJoinReport, IsTallyIn, IsTallyOf, JoinsAllFiles, JoinsFiles, report_joined};
 ghost use Rattle.flagops_filters.specs.Joined.{JoinsNext, JoinsTwo, JoinsUnless};
+ghost use Rattle.flagops_filters.specs.Refusal.{is_want};
 ghost use Rattle.flagops_filters.specs.Remarks.{NamesPath, RemarksOnePath, RemarksPath};
 ghost use Rattle.flagops_filters.specs.Report.{GivesOne, is_file_fault};
 ghost use Rattle.flagops_filters.specs.Words as words;
 ghost use Rattle.flagops_filters.specs.Words.{joining_view};
 ghost use Rattle.flagops_filters.specs.declared.refusal.FilterRefusal.TheVariants.{Join, Load};
 ghost use Rattle.flagops_files.specs.declared.refusal.Refusal.TheVariants.{ReadTally};
+ghost use Rattle.tally_text.specs.File.{header_shape};
 ghost use Rattle.tally_text.specs.declared.fault.TallyFileFault.TheVariants.{WantOfMemory};
 
 use crate::asked::Joining;
@@ -116,7 +119,7 @@ fn all_of<F: FileSet>(
     all_with(alloc, files, one, others)
 }
 
-/// The tally of the lines of one and of the files at these paths.
+/// The tally of the lines of one and of the files at these paths. Where there are none, it takes no memory.
 fn all_with<F: FileSet>(
     alloc: Global,
     files: &mut F,
@@ -124,6 +127,7 @@ fn all_with<F: FileSet>(
     paths: &[&str],
 ) -> Result<PageTally, Refused<FilterRefusal>>
     ensures exact { IfSome (F.holding files.old) (λ at. JoinsUnless result (JoinsFiles at one (map (λ p. p.now) paths.now))) }
+    ensures alone { length paths.now ≡ 0 → result ≡ Ok one }
     ensures failed { F.has_failed files.new ≡ (F.has_failed files.old || is_file_fault result) }
     ensures kept { F.holding files.new ≡ F.holding files.old }
     ensures names { RemarksOnePath (map (λ p. p.now) paths.now) result }
@@ -151,7 +155,7 @@ fn with_next<F: FileSet>(
     both_of(alloc, path, one, next)
 }
 
-/// The tally of two, of which the second one stands in the file at a path.
+/// The tally of two, of which the second one stands in the file at a path. It takes no memory.
 fn both_of(
     alloc: Global,
     path: &str,
@@ -159,6 +163,7 @@ fn both_of(
     next: PageTally,
 ) -> Result<PageTally, Refused<FilterRefusal>>
     ensures exact { JoinsUnless result (JoinsTwo one next) }
+    ensures no_want { IfErr result (λ told. is_want told.refusal ≡ false) }
     ensures read { is_file_fault result ≡ false }
     ensures names { RemarksPath path.now result }
 {
@@ -204,9 +209,10 @@ fn one_of<F: FileSet>(
     }
 }
 
-/// The tally that the bytes of a file are.
+/// The tally that the bytes of a file are. Where they don't begin as one, it takes no memory.
 fn read(alloc: Global, path: &str, bytes: &[u8]) -> Result<PageTally, Refused<FilterRefusal>>
     ensures exact { JoinsUnless result (IsTallyIn (Ok bytes.now)) }
+    ensures header { ((rest : List ℕ) → bytes.now ≢ line_text header_shape ++ rest) → IfErr result (λ told. is_want told.refusal ≡ false) }
     ensures read { is_file_fault result ≡ false }
     ensures names { RemarksPath path.now result }
 {

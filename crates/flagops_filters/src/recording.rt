@@ -6,11 +6,11 @@ ghost use Rattle.flagops_shell.specs.Diagnostic.{Says};
 ghost use Rattle.flagops_shell.specs.Ending.{ShowsUnread};
 ghost use Rattle.flagops_filters.specs.Ended.{AnswersRecord, TellsRecord, UnreadRecord};
 ghost use Rattle.flagops_filters.specs.Record.{RecordAnswers, RecordEnds, RecordOver, of_record, record_call};
-ghost use Rattle.flagops_filters.specs.Remarks.{NamesInput, NamesPath, PutsNote, is_noted, record_opening};
+ghost use Rattle.flagops_filters.specs.Beside.{PutsIf, is_noted, record_lines};
+ghost use Rattle.flagops_filters.specs.Remarks.{NamesInput, NamesPath};
 ghost use Rattle.flagops_filters.specs.Stopping.{GivesUp, is_broken_off};
-ghost use Rattle.flagops_filters.specs.declared.refusal.FilterRefusal.TheVariants.{Load, Record};
+ghost use Rattle.flagops_filters.specs.declared.refusal.FilterRefusal.TheVariants.{Flag, Record};
 ghost use Rattle.flagops_filters.specs.Words.{recording_view};
-ghost use Rattle.flagops_files.specs.declared.refusal.Refusal.TheVariants.{Plan};
 ghost use Rattle.note_streams.specs.Recorded.{recorded_of};
 ghost use Rattle.record_lines.specs.Scene.{scene_of};
 
@@ -22,7 +22,7 @@ use crate::words::read_record;
 use file_diagnostics::Ends as FileEnds;
 use flag_defs::Flags;
 use flag_text::Outlet;
-use flagops_files::{Refusal, load_flags};
+use flagops_files::load_flags;
 use flagops_shell::{Console, FileSet, Refused, Remark, refuse, report_usage, tell};
 use flagops_words::Moment;
 use line_batches::Inlet;
@@ -122,11 +122,11 @@ fn stream<R: Threads + Sync, I: Inlet + Opening, O: Outlet, E: Outlet>(
 ) -> u8
     requires in_whole { I.is_broken input.old ≡ false }
     requires open { IsOpen console.old }
-    ensures { IfSome (I.bytes input.old) (λ bytes. RecordEnds console.old console.new result (recorded_of (scene_of recorder.now) bytes) (length bytes) (I.is_broken input.new)) }
+    ensures { IfSome (I.bytes input.old) (λ bytes. RecordEnds console.old console.new result (recorded_of (scene_of recorder.now) bytes) bytes (I.is_broken input.new)) }
 {
     match record_stream(rt, alloc, recorder, workers, input, &mut console.out) {
         Ok(counted) => {
-            tell_counted(alloc, counted, input.opening(), &mut console.err);
+            tell_counted(alloc, counted, &mut console.err);
             0
         }
         Err(stop) => give_up(alloc, stop, input.opening(), console),
@@ -177,7 +177,7 @@ fn moment_of(moment: Option<Moment>) -> u64
 /// A flag that is not recorded, which is refused as `plan` refuses it.
 #[tactic(auto, using(flagops_files::proofs::Told::says))]
 fn unrecorded(alloc: Global, asked: &Recording<'_>, fault: RecordFault) -> Refused<FilterRefusal>
-    ensures refusal { result.refusal ≡ Load (Plan (of_record fault)) }
+    ensures refusal { result.refusal ≡ Flag (of_record fault) }
     ensures names { Says (NamesPath asked.now.document.now) result.remark }
 {
     let reason = match fault {
@@ -186,7 +186,7 @@ fn unrecorded(alloc: Global, asked: &Recording<'_>, fault: RecordFault) -> Refus
         RecordFault::Broken => "it is broken",
     };
     Refused {
-        refusal: FilterRefusal::Load(Refusal::Plan(fault_of(fault))),
+        refusal: FilterRefusal::Flag(fault_of(fault)),
         remark: Remark::of(unrecorded_line(alloc, asked, reason)),
     }
 }
@@ -231,23 +231,21 @@ fn stop_line(alloc: Global, stop: RecordStop, opening: FileEnds) -> Result<Strin
 }
 
 /// Tells what was not noted, where there is something to tell.
-fn tell_counted<E: Outlet>(alloc: Global, counted: Counted, opening: FileEnds, err: &mut E)
+fn tell_counted<E: Outlet>(alloc: Global, counted: Counted, err: &mut E)
     requires { E.is_broken err.old ≡ false }
-    ensures { PutsNote record_opening (E.bytes err.old) (E.bytes err.new) (E.is_broken err.new) }
+    ensures { PutsIf (is_noted counted.empty counted.long counted.torn) (record_lines counted.empty counted.long counted.torn) (E.bytes err.old) (E.bytes err.new) (E.is_broken err.new) }
 {
-    let is_empty = matches!(opening, FileEnds::Empty);
-    if is_noted(counted, is_empty) {
-        tell_noted(alloc, counted, is_empty, err);
+    if is_noted(counted) {
+        tell_noted(alloc, counted, err);
     }
 }
 
 /// Tells what was not noted.
-fn tell_noted<E: Outlet>(alloc: Global, counted: Counted, is_empty: bool, err: &mut E)
-    requires noted { is_noted counted is_empty ≡ true }
-    requires whole { E.is_broken err.old ≡ false }
-    ensures { PutsNote record_opening (E.bytes err.old) (E.bytes err.new) (E.is_broken err.new) }
+fn tell_noted<E: Outlet>(alloc: Global, counted: Counted, err: &mut E)
+    requires { E.is_broken err.old ≡ false }
+    ensures { PutsIf true (record_lines counted.empty counted.long counted.torn) (E.bytes err.old) (E.bytes err.new) (E.is_broken err.new) }
 {
-    match counted_lines(alloc, counted, is_empty) {
+    match counted_lines(alloc, counted) {
         Ok(lines) => tell(err, lines.as_str()),
         Err(AllocError) => tell(err, "error: out of memory\n"),
     }

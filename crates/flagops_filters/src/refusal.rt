@@ -3,12 +3,13 @@ ghost use Rattle.std.specs.Prelude.{◌≡◌, IfOk, codes, decimal, string_byte
 ghost use Rattle.flagops_files.specs.Refusal.{line_with};
 ghost use Rattle.tally_filters.specs.Fault as filters;
 ghost use Rattle.flagops_filters.specs.FileLines.{file_line};
-ghost use Rattle.flagops_filters.specs.Refusal.{filter_items, filter_name, is_unread, is_want, join_name, join_number, line_of, number_of, record_name};
-ghost use Rattle.flagops_filters.specs.declared.refusal.FilterRefusal.TheVariants.{Load, Record, Tally};
+ghost use Rattle.flagops_filters.specs.Refusal.{filter_items, filter_name, is_unread, is_want, join_name, join_number, line_of, record_name};
+ghost use Rattle.flagops_filters.specs.declared.refusal.FilterRefusal.TheVariants.{Load, Flag, Record, Tally};
 
-use flagops_files::{Refusal, fault_line, number_item};
+use flagops_files::{Refusal, fault_line, number_item, rollout_items};
 use flagops_shell::CommandRefusal;
 use note_streams::{RecordStop, TallyStop};
+use rollout_checks::RolloutFault;
 use std::alloc::{AllocError, Global};
 use tally_core::JoinFault;
 use tally_filters::FilterFault;
@@ -16,28 +17,16 @@ use tally_filters::FilterFault;
 /// Why a filter refuses.
 #[derive(Debug, Drop)]
 pub enum FilterRefusal {
-    /// A file or a flag is refused as every other command refuses it.
+    /// A file is refused as every other command refuses it.
     Load(Refusal),
+    /// A flag or a site of it is refused, as `plan` refuses it.
+    Flag(RolloutFault),
     /// A line of the standard input is no context, or the input is not read to its end.
     Record(RecordStop),
     /// A line of the standard input is not tallied, or the input is not read to its end.
     Tally(TallyStop),
     /// Tallies are not joined.
     Join(JoinFault),
-}
-
-impl FilterRefusal {
-    /// The number of the fault.
-    pub fn number(&self) -> u32
-        ensures { result ≡ number_of self.now }
-    {
-        match self {
-            FilterRefusal::Load(refusal) => refusal.number(),
-            FilterRefusal::Record(stop) => stop.number(),
-            FilterRefusal::Tally(stop) => stop.number(),
-            FilterRefusal::Join(fault) => join_number(fault),
-        }
-    }
 }
 
 impl From<Refusal> for FilterRefusal {
@@ -56,12 +45,22 @@ impl CommandRefusal for FilterRefusal {
     ghost line_of = { line_of };
 
     fn is_want(&self) -> bool {
-        self.number() == 0
+        match self {
+            FilterRefusal::Load(refusal) => refusal.is_want(),
+            FilterRefusal::Flag(fault) => matches!(fault, RolloutFault::WantOfMemory),
+            FilterRefusal::Record(stop) => matches!(stop, RecordStop::WantOfMemory),
+            FilterRefusal::Tally(TallyStop::Filter(fault)) => {
+                matches!(fault, FilterFault::WantOfMemory)
+            }
+            FilterRefusal::Tally(TallyStop::Unreadable | TallyStop::TooLong) => false,
+            FilterRefusal::Join(_) => false,
+        }
     }
 
     fn line(&self, alloc: Global) -> Result<String, AllocError> {
         match self {
             FilterRefusal::Load(refusal) => refusal.line(alloc),
+            FilterRefusal::Flag(fault) => flag_line(alloc, fault),
             FilterRefusal::Record(stop) => record_line(alloc, stop),
             FilterRefusal::Tally(stop) => tally_line(alloc, stop),
             FilterRefusal::Join(fault) => {
@@ -71,6 +70,14 @@ impl CommandRefusal for FilterRefusal {
     }
 
     ghost unread_lines = { file_line };
+}
+
+/// The line of a flag or a site that is refused, under the name of `plan`.
+fn flag_line(alloc: Global, fault: &RolloutFault) -> Result<String, AllocError>
+    ensures { IfOk result (λ s. string_bytes s ≡ line_of (Flag fault.now)) }
+{
+    let items = rollout_items(alloc, fault)?;
+    fault_line(alloc, "plan", fault.number(), fault.name(), items.as_str())
 }
 
 fn record_line(alloc: Global, stop: &RecordStop) -> Result<String, AllocError>

@@ -1,8 +1,9 @@
 //! What a person is told of a filter.
-ghost use Rattle.std.specs.Prelude.{◌≡◌, IfOk, nat_lt, string_bytes};
+ghost use Rattle.std.specs.Prelude.{◌≡◌, IfOk, string_bytes};
 ghost use Rattle.file_diagnostics.specs.Named.{NamesWord};
 ghost use Rattle.flagops_files.specs.Lines.{NamesFile};
-ghost use Rattle.flagops_filters.specs.Remarks.{NamesInput, NotesIf, is_noted, record_opening};
+ghost use Rattle.flagops_filters.specs.Beside.{is_noted, line_if, long_line, record_lines};
+ghost use Rattle.flagops_filters.specs.Remarks.{NamesInput};
 
 use flagops_files::quoted;
 use note_streams::Counted;
@@ -51,25 +52,20 @@ fn word_line(alloc: Global, word: &str, reason: &str) -> Result<String, AllocErr
 }
 
 /// Whether something is told of contexts that were all recorded.
-pub(crate) fn is_noted(counted: Counted, is_empty: bool) -> bool
-    ensures { result ≡ is_noted counted is_empty }
+pub(crate) fn is_noted(counted: Counted) -> bool
+    ensures { result ≡ is_noted counted.empty counted.long counted.torn }
 {
-    is_empty || counted.long > 0 || counted.torn
+    counted.empty || counted.long > 0 || counted.torn
 }
 
 /// What is told of contexts that were all recorded: that there were none, the inputs that were not noted, and the bytes that
 /// were passed over.
-#[tactic(auto, using(crate::proofs::Noted::three))]
-pub(crate) fn counted_lines(
-    alloc: Global,
-    counted: Counted,
-    is_empty: bool,
-) -> Result<String, AllocError>
-    ensures { IfOk result (λ s. NotesIf (is_noted counted is_empty) record_opening (string_bytes s)) }
+pub(crate) fn counted_lines(alloc: Global, counted: Counted) -> Result<String, AllocError>
+    ensures { IfOk result (λ s. string_bytes s ≡ record_lines counted.empty counted.long counted.torn) }
 {
     let empty = line_if(
         alloc,
-        is_empty,
+        counted.empty,
         "the standard input is empty, and nothing is recorded",
     )?;
     let long = long_line(alloc, counted.long)?;
@@ -83,7 +79,7 @@ pub(crate) fn counted_lines(
 
 /// A line of `record`, where it is so.
 fn line_if(alloc: Global, is_so: bool, words: &str) -> Result<String, AllocError>
-    ensures { IfOk result (λ s. NotesIf is_so record_opening (string_bytes s)) }
+    ensures { IfOk result (λ s. string_bytes s ≡ line_if is_so words.now) }
 {
     if is_so {
         format!(in alloc; "record: {words}\n")
@@ -94,7 +90,7 @@ fn line_if(alloc: Global, is_so: bool, words: &str) -> Result<String, AllocError
 
 /// A line on inputs that were not noted, where there are any.
 fn long_line(alloc: Global, long: u64) -> Result<String, AllocError>
-    ensures { IfOk result (λ s. NotesIf (nat_lt 0 long) record_opening (string_bytes s)) }
+    ensures { IfOk result (λ s. string_bytes s ≡ long_line long) }
 {
     if long > 0 {
         format!(in alloc; "record: {long} inputs have more than 1024 bytes and are not noted\n")

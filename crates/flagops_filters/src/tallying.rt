@@ -1,5 +1,5 @@
 //! The command `tally`.
-ghost use Rattle.std.specs.Prelude.{◌≡◌, ◌<◌, ◌≤◌, ◌||◌, false, true, map, option_map, IfErr, IfOk, IfSome, Ok, string_bytes};
+ghost use Rattle.std.specs.Prelude.{◌≡◌, ◌<◌, ◌≤◌, ◌||◌, false, true, is_some, map, option_map, IfErr, IfOk, IfSome, Ok, string_bytes};
 ghost use Rattle.flag_defs.specs.Flags.{flags_view};
 ghost use Rattle.flag_text.specs.Outcome.{GivesUnless};
 ghost use Rattle.rollout_checks.specs.Lawful.{place_of};
@@ -11,12 +11,12 @@ ghost use Rattle.flagops_filters.specs.Command.{tally_description};
 ghost use Rattle.flagops_filters.specs.Ended.{AnswersTally, TellsTally, UnreadTally};
 ghost use Rattle.flagops_filters.specs.Place.{PrintsTally, place_view, target_view};
 ghost use Rattle.flagops_filters.specs.Refusal.{is_unread, line_of};
-ghost use Rattle.flagops_filters.specs.Remarks.{BeginsWith, NamesInput, NamesPath, NamesRefused, RemarksBy, tally_opening, tally_remark};
+ghost use Rattle.flagops_filters.specs.Beside.{Reads, is_beside, tally_beside, tally_line, tally_lines};
+ghost use Rattle.flagops_filters.specs.Remarks.{NamesInput, NamesPath, NamesRefused, RemarksBy, tally_remark};
 ghost use Rattle.flagops_filters.specs.Report.{GivesOne, is_file_fault};
 ghost use Rattle.flagops_filters.specs.Stopping.{IsStopped};
 ghost use Rattle.flagops_filters.specs.Tally.{IsTallyIn, IsTallyOver, IsTallyReport, points_of, site_of, tally_call, target_of};
-ghost use Rattle.flagops_filters.specs.declared.refusal.FilterRefusal.TheVariants.{Load, Tally};
-ghost use Rattle.flagops_files.specs.declared.refusal.Refusal.TheVariants.{Plan};
+ghost use Rattle.flagops_filters.specs.declared.refusal.FilterRefusal.TheVariants.{Flag, Tally};
 ghost use Rattle.flagops_filters.specs.Words.{tallying_view};
 
 use crate::asked::Tallying;
@@ -30,7 +30,7 @@ use bucket_core::total_weight;
 use file_diagnostics::Ends as FileEnds;
 use flag_defs::Flags;
 use flag_text::Outlet;
-use flagops_files::{Refusal, load_flags};
+use flagops_files::load_flags;
 use flagops_shell::{
     Console, FileSet, Outcome, Refused, Remark, Status, refuse, report, report_usage,
 };
@@ -89,7 +89,7 @@ fn answered<I: Inlet + Opening, F: FileSet, O: Outlet, E: Outlet>(
 ) -> u8
     requires in_whole { I.is_broken input.old ≡ false }
     requires open { IsOpen console.old }
-    ensures answers { IfSome (F.holding files.old) (λ at. IfSome (I.bytes input.old) (λ bytes. Ends console.old console.new result line_of (λ name. name ≡ tally_call) (tally_remark asked.now.document.now)
+    ensures answers { IfSome (F.holding files.old) (λ at. IfSome (I.bytes input.old) (λ bytes. Ends console.old console.new result line_of (λ name. name ≡ tally_call) (tally_remark bytes asked.now.document.now)
         (MayRun (tally_description bytes (I.is_broken input.new)) is_unread (tallying_view asked.now) at (F.holding files.new) (F.has_failed files.new)))) }
     ensures unread { F.has_failed files.old ≡ false → F.has_failed files.new ≡ true → ShowsUnread console.old console.new result (λ name. name ≡ tally_call) }
     ensures kept { F.holding files.new ≡ F.holding files.old }
@@ -112,7 +112,7 @@ fn tallied<I: Inlet + Opening, F: FileSet>(
     ensures failed { F.has_failed files.new ≡ (F.has_failed files.old || is_file_fault result) }
     ensures kept { F.holding files.new ≡ F.holding files.old }
     ensures names { RemarksBy (NamesRefused asked.now.document.now) result }
-    ensures notes { IfOk result (λ o. IfSome o.remark (Says (BeginsWith tally_opening))) }
+    ensures notes { IfOk result (λ o. IfSome (I.bytes input.old) (λ bytes. IfSome o.remark (Says (Reads (tally_beside bytes))))) }
 {
     match load_flags(alloc, files, asked.document) {
         Ok(flags) => within(alloc, asked, &flags, input),
@@ -131,7 +131,7 @@ fn within<I: Inlet + Opening>(
     ensures exact { IfSome (I.bytes input.old) (λ bytes. GivesOne result (IsTallyIn (Ok (flags_view flags.now)) (tallying_view asked.now) bytes (I.is_broken input.new))) }
     ensures read { is_file_fault result ≡ false }
     ensures names { RemarksBy (NamesRefused asked.now.document.now) result }
-    ensures notes { IfOk result (λ o. IfSome o.remark (Says (BeginsWith tally_opening))) }
+    ensures notes { IfOk result (λ o. IfSome (I.bytes input.old) (λ bytes. IfSome o.remark (Says (Reads (tally_beside bytes))))) }
 {
     match target_of(alloc, flags, asked.key, asked.site, factor_of(asked.refine)) {
         Ok(target) => over(alloc, target, input),
@@ -148,7 +148,7 @@ fn over<I: Inlet + Opening>(
     requires { I.is_broken input.old ≡ false }
     ensures exact { IfSome (I.bytes input.old) (λ bytes. GivesOne result (IsTallyOver (target_view target) bytes (I.is_broken input.new))) }
     ensures stops { IfErr result (λ told. IsStopped told) }
-    ensures notes { IfOk result (λ o. IfSome o.remark (Says (BeginsWith tally_opening))) }
+    ensures notes { IfOk result (λ o. IfSome (I.bytes input.old) (λ bytes. IfSome o.remark (Says (Reads (tally_beside bytes))))) }
 {
     let Target { page, total, .. } = target;
     match tally_stream(alloc, page, total, input) {
@@ -163,15 +163,15 @@ fn printed(
     came: &StreamTally,
     opening: FileEnds,
 ) -> Result<Outcome, Refused<FilterRefusal>>
-    ensures prints { PrintsTally came.now.tally result }
+    ensures prints { PrintsTally came.now result }
     ensures stops { IfErr result (λ told. IsStopped told) }
-    ensures notes { IfOk result (λ o. IfSome o.remark (Says (BeginsWith tally_opening))) }
+    ensures notes { IfOk result (λ o. IfSome o.remark (Says (Reads (tally_lines came.now.empty came.now.torn)))) }
 {
     match print_tally(alloc, &came.tally) {
         Ok(text) => Ok(Outcome {
             text: text.into_bytes(),
             status: Status::Done,
-            remark: beside(alloc, came.torn, opening),
+            remark: beside(alloc, came.empty, came.torn),
         }),
         Err(AllocError) => {
             let stop = TallyStop::Filter(FilterFault::WantOfMemory);
@@ -180,27 +180,30 @@ fn printed(
     }
 }
 
-/// What is told where bytes stood behind the last line, and of an input without bytes.
-fn beside(alloc: Global, torn: bool, opening: FileEnds) -> Option<Remark>
-    ensures { IfSome result (Says (BeginsWith tally_opening)) }
+/// What is told where there was no line at all, or bytes stood behind the last one.
+fn beside(alloc: Global, empty: bool, torn: bool) -> Option<Remark>
+    ensures told { is_some result ≡ is_beside empty torn }
+    ensures says { IfSome result (Says (Reads (tally_lines empty torn))) }
 {
-    match opening {
-        FileEnds::Empty => Some(note(alloc, "the standard input is empty, and nothing is counted")),
-        _ if torn => Some(note(alloc, "the last line has no end and is passed over")),
-        _ => None,
+    if empty {
+        return Some(note(alloc, "the standard input is empty, and nothing is counted"));
     }
+    if torn {
+        return Some(note(alloc, "the last line has no end and is passed over"));
+    }
+    None
 }
 
 /// A line of `tally` beside its output.
 #[tactic(auto, using(flagops_files::proofs::Told::says))]
 fn note(alloc: Global, words: &str) -> Remark
-    ensures { Says (BeginsWith tally_opening) result }
+    ensures { Says (Reads (tally_line words.now)) result }
 {
     Remark::of(note_line(alloc, words))
 }
 
 fn note_line(alloc: Global, words: &str) -> Result<String, AllocError>
-    ensures { IfOk result (λ s. BeginsWith tally_opening (string_bytes s)) }
+    ensures { IfOk result (λ s. string_bytes s ≡ tally_line words.now) }
 {
     format!(in alloc; "tally: {words}\n")
 }
@@ -233,11 +236,11 @@ fn stop_line(alloc: Global, stop: TallyStop, opening: FileEnds) -> Result<String
 /// A site that is not tallied at.
 #[tactic(auto, using(flagops_files::proofs::Told::says))]
 fn untallied(alloc: Global, asked: &Tallying<'_>, fault: RolloutFault) -> Refused<FilterRefusal>
-    ensures refusal { result.refusal ≡ Load (Plan fault) }
+    ensures refusal { result.refusal ≡ Flag fault }
     ensures names { Says (NamesPath asked.now.document.now) result.remark }
 {
     Refused {
-        refusal: FilterRefusal::Load(Refusal::Plan(fault)),
+        refusal: FilterRefusal::Flag(fault),
         remark: Remark::of(refusal_line(alloc, asked, fault)),
     }
 }

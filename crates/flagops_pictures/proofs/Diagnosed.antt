@@ -1,12 +1,12 @@
 -- What a person is told of what a command that draws comes to.
 use Rattle.std.proofs.Common.{◌≡◌, ◌||◌, ◌++◌, ◌∙◌, ℕ, Bool, true, false, List, [], ◌∷◌, Option, Some, None, Result, Ok, Err, IfErr, IfOk, IfSome, inl, inr, refl, sym, ap, subst, option_map, is_some}
-use Rattle.flagops_files.specs.Question.{Question, book_question_subjects}
-use Rattle.flagops_files.specs.Refusal.{ComesFrom, Refused, call_name, call_of, is_want}
-use Rattle.flagops_files.specs.Report.{IsCallOf}
-use Rattle.flagops_files.specs.Told.{NamesOne, Subjects, TellsOf, TellsOfOne, file}
-use Rattle.flagops_files.specs.declared.refusal.Call.{Call}
-use Rattle.flagops_files.specs.declared.refusal.Doubt.{Doubt}
-use Rattle.flagops_files.specs.declared.refusal.Refusal.{Refusal}
+use Rattle.flagops_files.specs.Question.{Question}
+use Rattle.flagops_rollouts.specs.Loaded.{book_question_subjects}
+use Rattle.flagops_rollouts.specs.Refusal.{ComesFrom, Refused, call_name, call_of, is_want, Subjects, TellsOf, TellsOfOne}
+use Rattle.flagops_files.specs.Told.{NamesOne, file}
+use Rattle.flagops_shell.specs.Outcomes.{IsCallOf}
+use Rattle.flagops_rollouts.specs.declared.refusal.RolloutCall.{RolloutCall}
+use Rattle.flagops_rollouts.specs.declared.refusal.Doubt.{Doubt}
 use Rattle.flagops_files.proofs.Told.{told_left, told_right}
 use Rattle.flagops_rollouts.specs.Doubts.{NamesDoubt, NamesDoubted}
 use Rattle.flagops_rollouts.specs.declared.doubts.NotedDoubt.{NotedDoubt}
@@ -19,6 +19,7 @@ use Rattle.flagops_shell.specs.declared.refused.Remark.{Remark}
 use Rattle.flagops_shell.specs.declared.refused.Remark.TheVariants.{Short, Lines}
 use Rattle.flagops_pictures.specs.Diagnostics.{picture_subjects, picture_told, plan_subjects, plan_told}
 use Rattle.flagops_pictures.specs.Words.{Picturing, Planning}
+use Rattle.flagops_rollouts.specs.declared.refusal.RolloutRefusal.{RolloutRefusal}
 
 -- of a report its note, and of a refusal the name of what is refused
 pub picture_remarks : (a : Picturing) (files : Option Holding) (r : Result Outcome Refused) → TellsOfOne (picture_subjects a) r → IfOk r (λ o. IfSome o.remark (Says (NamesDoubted a.request a.book))) → IfSome files (λ at. Remarks is_want (picture_told a) r)
@@ -32,7 +33,7 @@ plan_remarks p (Some at) (Ok o) names notes = λ remark is. subst (λ (m : Optio
 plan_remarks p (Some at) (Err e) names notes = names
 
 -- a call of the command ran out of memory
-pub wants : (calls : Call → Bool) (r : Result Outcome Refused) → ComesFrom calls r → IfErr r (λ e. IsCallOf calls (call_name (call_of e.refusal)))
+pub wants : (calls : RolloutCall → Bool) (r : Result Outcome Refused) → ComesFrom calls r → IfErr r (λ e. IsCallOf call_name calls (call_name (call_of e.refusal)))
 wants calls (Ok o) comes = tt
 wants calls (Err e) comes = (call_of e.refusal, comes, refl)
 

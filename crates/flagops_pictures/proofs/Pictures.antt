@@ -3,15 +3,14 @@ use Rattle.std.proofs.Common.{◌≡◌, ◌⊎◌, ℕ, List, Bool, is_some, tr
 use Rattle.std.specs.Prelude.{Result, Ok, Err}
 use Rattle.flagops_rollouts.specs.Doubts.{doubt_of}
 use Rattle.flagops_shell.specs.Files.{Holding}
-use Rattle.flagops_files.specs.PlanFile.{plan_at}
-use Rattle.flagops_files.specs.Question.{BookQuestion, IsBookQuestionAt}
-use Rattle.flagops_files.specs.Refusal.{GivesOne, GivesUnlessWant, call_of, is_want}
-use Rattle.flagops_files.specs.Report.{beside}
+use Rattle.flagops_rollouts.specs.Loaded.{plan_at, IsBookQuestionAt}
+use Rattle.flagops_files.specs.Question.{BookQuestion}
+use Rattle.flagops_rollouts.specs.Refusal.{GivesOne, GivesUnlessWant, call_of, is_want, Refused}
+use Rattle.flagops_shell.specs.Outcomes.{beside}
 use Rattle.flagops_shell.specs.Report.{Report, outcome_view}
 use Rattle.flagops_shell.specs.declared.outcome.Outcome.{Outcome}
-use Rattle.flagops_files.specs.declared.refusal.Call.{Call}
-use Rattle.flagops_files.specs.declared.refusal.Refusal.{Refusal}
-use Rattle.flagops_files.specs.Refusal.{Refused}
+use Rattle.flagops_rollouts.specs.declared.refusal.RolloutCall.{RolloutCall}
+use Rattle.flagops_rollouts.specs.declared.refusal.RolloutRefusal.{RolloutRefusal}
 use Rattle.flagops_pictures.specs.Pictured.{IsDrawnOrDenied, IsPictureReport, IsPictured, as_question, asked_over, drawn_report}
 use Rattle.flagops_pictures.specs.Words.{Picturing}
 use Rattle.plan_text.specs.Answer.{Answer}

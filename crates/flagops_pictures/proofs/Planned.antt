@@ -5,19 +5,18 @@ use Rattle.book_core.specs.Book.{Contents}
 use Rattle.flagops_rollouts.specs.Doubts.{doubt_of, settle}
 use Rattle.flagops_rollouts.specs.Plan.{IsPlanOf, IsPlannedOn, plan_report, plan_status, report_planned}
 use Rattle.flagops_shell.specs.Files.{Holding, KeepsOthers, Stores}
-use Rattle.flagops_files.specs.Question.{BookQuestion, Question, IsBookQuestionAt, book_question_view}
-use Rattle.flagops_files.specs.Refusal.{GivesOne, is_want, unwritable}
+use Rattle.flagops_files.specs.Question.{BookQuestion, Question, book_question_view}
+use Rattle.flagops_rollouts.specs.Loaded.{IsBookQuestionAt}
 use Rattle.flagops_shell.specs.Report.{Report, outcome_view}
 use Rattle.flagops_files.specs.declared.evidence.Evidence.{Evidence}
 use Rattle.flagops_files.specs.declared.evidence.Evidence.TheVariants.{Book}
 use Rattle.flagops_shell.specs.declared.outcome.Outcome.{Outcome}
-use Rattle.flagops_files.specs.declared.refusal.Call.{Call}
-use Rattle.flagops_files.specs.declared.refusal.Refusal.{Refusal}
-use Rattle.flagops_files.specs.declared.refusal.Call.TheVariants as call
-use Rattle.flagops_files.specs.declared.refusal.Refusal.TheVariants.{PrintPlanned, WantOfMemory}
-use Rattle.flagops_files.specs.Loading.{◌>>=◌, refused_by}
-use Rattle.flagops_files.specs.Report.{beside}
-use Rattle.flagops_files.specs.Refusal.{Refused}
+use Rattle.flagops_rollouts.specs.Refusal.{GivesOne, is_want, unwritable, Refused}
+use Rattle.flagops_rollouts.specs.declared.refusal.RolloutCall.{RolloutCall}
+use Rattle.flagops_rollouts.specs.declared.refusal.RolloutCall.TheVariants as call
+use Rattle.flagops_rollouts.specs.declared.refusal.RolloutRefusal.{RolloutRefusal}
+use Rattle.flagops_rollouts.specs.declared.refusal.RolloutRefusal.TheVariants.{PrintPlanned, WantOfMemory}
+use Rattle.flagops_shell.specs.Outcomes.{◌>>=◌, refused_by, beside}
 use Rattle.plan_text.specs.Answer.{Answer, emit, none_exists, planned_view}
 use Rattle.plan_text.specs.PlanFile.{answer_of}
 use Rattle.plan_text.specs.PlanFile.{plan_line}
@@ -61,7 +60,7 @@ module _ (strict explain : Bool) (refine : Option ℕ) (q : Question) (book : Co
   drawn_on text bytes answer read drawn = (answer, read, subst (λ (e : Evidence). IsDrawnOn (unwrap_or refine 1) q.flags q.request e answer bytes) (sym on) drawn)
 
 -- a want of memory is told by no file
-pub want_alone : (refusal : Refusal) (c : Call) → refusal ≡ WantOfMemory c → is_want refusal ≡ false → refusal ≡ unwritable
+pub want_alone : (refusal : RolloutRefusal) (c : RolloutCall) → refusal ≡ WantOfMemory c → is_want refusal ≡ false → refusal ≡ unwritable
 want_alone refusal c is no_want = absurd (let both : true ≡ false = sym (ap is_want is) ∙ no_want in cc)
 
 module _ (p : Planning) (q : Question) where
@@ -113,7 +112,7 @@ kept_behind r old kept new same left = subst (λ (h : Option Holding). KeepsUnle
 
 -- ---- the status of a plan
 
-abbrev HasStatus : Result Report Refusal → Type 0
+abbrev HasStatus : Result Report RolloutRefusal → Type 0
 HasStatus r = IfOk r (λ report. (report.status ≡ 0) ⊎ (report.status ≡ 3))
 
 answer_status : (answer : Answer) → (plan_status answer ≡ 0) ⊎ (plan_status answer ≡ 3)
@@ -124,11 +123,11 @@ printed_status : (told : Bool) (answer : Answer) (text : Result (List ℕ) PlanF
 printed_status told answer (Ok t) = answer_status answer
 printed_status told answer (Err e) = tt
 
-settled_status : (explain : Bool) (settled : Result Bool Refusal) (answer : Answer) → HasStatus (settled >>= λ told. beside (explain || told) (plan_report answer))
+settled_status : (explain : Bool) (settled : Result Bool RolloutRefusal) (answer : Answer) → HasStatus (settled >>= λ told. beside (explain || told) (plan_report answer))
 settled_status explain (Ok told) answer = printed_status (explain || told) answer (plan_line answer)
 settled_status explain (Err e) answer = tt
 
-planned_status : (explain : Bool) (settled : Result Bool Refusal) (planned : Result Planned RolloutFault) → HasStatus (report_planned explain settled planned)
+planned_status : (explain : Bool) (settled : Result Bool RolloutRefusal) (planned : Result Planned RolloutFault) → HasStatus (report_planned explain settled planned)
 planned_status explain settled (Ok p) = settled_status explain settled (planned_view p)
 planned_status explain settled (Err f) = tt
 

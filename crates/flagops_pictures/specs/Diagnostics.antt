@@ -3,9 +3,9 @@
 use Rattle.std.specs.Prelude.{[], ◌∷◌, ◌++◌, List, ℕ, Ok, Err}
 use Rattle.flagops_rollouts.specs.Doubts.{NamesDoubted, doubt_subjects}
 use Rattle.flagops_rollouts.specs.Subjects.{is_of_answer, is_of_request, is_of_size, the_plan}
-use Rattle.flagops_files.specs.Question.{book_question_subjects}
-use Rattle.flagops_files.specs.Refusal.{stores_file}
-use Rattle.flagops_files.specs.Told.{NamesOne, Remarks, Subjects, by, file, word}
+use Rattle.flagops_rollouts.specs.Loaded.{book_question_subjects}
+use Rattle.flagops_rollouts.specs.Refusal.{stores_file, Remarks, Subjects, by}
+use Rattle.flagops_files.specs.Told.{NamesOne, file, word}
 use Rattle.flagops_shell.specs.Diagnostic.{Says}
 use Rattle.flagops_pictures.specs.Words.{Picturing, Planning}
 

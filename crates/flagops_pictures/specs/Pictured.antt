@@ -6,16 +6,19 @@ use Rattle.book_core.specs.Counts.{counts_of}
 use Rattle.bucket_core.specs.Rule.{Entries, total_weight}
 use Rattle.flagops_rollouts.specs.Doubts.{doubt_of}
 use Rattle.flagops_shell.specs.Files.{Holding}
-use Rattle.flagops_files.specs.PlanFile.{plan_at}
-use Rattle.flagops_files.specs.Question.{BookQuestion, Question, IsBookQuestionAt}
-use Rattle.flagops_files.specs.Refusal.{loads_book_question}
-use Rattle.flagops_files.specs.Report.{Outcomes, beside, done}
+use Rattle.flagops_rollouts.specs.Loaded.{plan_at, IsBookQuestionAt}
+use Rattle.flagops_files.specs.Question.{BookQuestion, Question}
+use Rattle.flagops_rollouts.specs.Refusal.{loads, Outcomes}
+use Rattle.flagops_shell.specs.Outcomes.{beside, done}
 use Rattle.flagops_shell.specs.Report.{Report}
 use Rattle.flagops_files.specs.declared.evidence.Evidence.TheVariants.{Book}
+use Rattle.flagops_rollouts.specs.declared.refusal.RolloutCall.{RolloutCall}
+use Rattle.flagops_files.specs.Refusal as files
 use Rattle.flagops_files.specs.declared.refusal.Call.{Call}
-use Rattle.flagops_files.specs.declared.refusal.Call.TheVariants as call
-use Rattle.flagops_files.specs.declared.refusal.Refusal.{Refusal}
-use Rattle.flagops_files.specs.declared.refusal.Refusal.TheVariants.{Verify}
+use Rattle.flagops_files.specs.declared.refusal.Call.TheVariants as file
+use Rattle.flagops_rollouts.specs.declared.refusal.RolloutCall.TheVariants as call
+use Rattle.flagops_rollouts.specs.declared.refusal.RolloutRefusal.{RolloutRefusal}
+use Rattle.flagops_rollouts.specs.declared.refusal.RolloutRefusal.TheVariants.{Verify}
 use Rattle.picture.specs.Changes.{change_height, change_told}
 use Rattle.picture.specs.Deficits.{none_height, none_told}
 use Rattle.picture.specs.Spelling.{Adds, IsPicture}
@@ -89,7 +92,7 @@ text_view (Ok text) = Ok (string_bytes text)
 text_view (Err e) = Err e
 
 -- its report
-abbrev pub drawn_report : Result (List ℕ) VerifyFault → Result Report Refusal
+abbrev pub drawn_report : Result (List ℕ) VerifyFault → Result Report RolloutRefusal
 drawn_report (Ok bytes) = done bytes
 drawn_report (Err e) = Err (Verify e)
 
@@ -98,7 +101,7 @@ abbrev pub as_question : BookQuestion → Question
 as_question q = record { flags = q.flags; request = q.request; evidence = Book q.book }
 
 -- the report of an answer to a question: its picture, where it is right, beside which a person is told of a doubt
-abbrev pub IsPictured : Option ℕ → Result BookQuestion Refusal → Result Answer Refusal → Outcomes
+abbrev pub IsPictured : Option ℕ → Result BookQuestion RolloutRefusal → Result Answer RolloutRefusal → Outcomes
 IsPictured refine (Err e) answer r = r ≡ Err e
 IsPictured refine (Ok q) (Err e) r = r ≡ Err e
 IsPictured refine (Ok q) (Ok answer) r =
@@ -106,10 +109,14 @@ IsPictured refine (Ok q) (Ok answer) r =
 
 unfoldable pub IsPictureReport : Holding → Picturing → Outcomes
 IsPictureReport at a r =
-    (question : Result BookQuestion Refusal) × IsBookQuestionAt at a.document a.request a.book question × IsPictured a.refine question (plan_at at a.plan) r
+    (question : Result BookQuestion RolloutRefusal) × IsBookQuestionAt at a.document a.request a.book question × IsPictured a.refine question (plan_at at a.plan) r
+
+-- the calls that loading a question over a book and a plan file makes
+abbrev pub loads_pictured : Call → Bool
+loads_pictured file.ReadPlanned = true
+loads_pictured c = files.loads_book_question c
 
 -- the calls that the command makes
-abbrev pub picture_calls : Call → Bool
+abbrev pub picture_calls : RolloutCall → Bool
 picture_calls call.Verify = true
-picture_calls call.ReadPlanned = true
-picture_calls c = loads_book_question c
+picture_calls c = loads loads_pictured c

@@ -6,16 +6,19 @@ use Rattle.plan_text.specs.PlanFile.{answer_of}
 use Rattle.rollout_checks.specs.Refined.{problem_refined}
 use Rattle.flagops_rollouts.specs.Plan.{IsPlanOf}
 use Rattle.flagops_shell.specs.Files.{Holding, KeepsOthers, Stores}
-use Rattle.flagops_files.specs.Question.{BookQuestion, Question, IsBookQuestionAt}
-use Rattle.flagops_files.specs.Refusal.{loads_book_question, unwritable}
-use Rattle.flagops_files.specs.Report.{Outcomes}
+use Rattle.flagops_files.specs.Question.{BookQuestion, Question}
+use Rattle.flagops_rollouts.specs.Loaded.{IsBookQuestionAt}
+use Rattle.flagops_rollouts.specs.Refusal.{loads, unwritable, Outcomes}
 use Rattle.flagops_shell.specs.Report.{Report, status_number}
 use Rattle.flagops_shell.specs.declared.outcome.Outcome.{Outcome}
 use Rattle.flagops_files.specs.declared.evidence.Evidence.{Evidence}
 use Rattle.flagops_files.specs.declared.evidence.Evidence.TheVariants.{Book, Tally}
+use Rattle.flagops_rollouts.specs.declared.refusal.RolloutCall.{RolloutCall}
+use Rattle.flagops_files.specs.Refusal as files
 use Rattle.flagops_files.specs.declared.refusal.Call.{Call}
-use Rattle.flagops_files.specs.declared.refusal.Call.TheVariants as call
-use Rattle.flagops_files.specs.declared.refusal.Refusal.{Refusal}
+use Rattle.flagops_files.specs.declared.refusal.Call.TheVariants as file
+use Rattle.flagops_rollouts.specs.declared.refusal.RolloutCall.TheVariants as call
+use Rattle.flagops_rollouts.specs.declared.refusal.RolloutRefusal.{RolloutRefusal}
 use Rattle.flagops_pictures.specs.Pictured.{IsDrawn, as_question}
 use Rattle.flagops_pictures.specs.Words.{Planning}
 
@@ -41,20 +44,24 @@ abbrev pub IsPlanWith : Holding → Option Holding → Planning → Question →
 IsPlanWith at after p q (Ok report) = IsPlanOf p.strict p.explain p.refine (Ok q) (Ok report) × HasPicture at after p.picture p.refine q report
 IsPlanWith at after p q (Err e) = (IsPlanOf p.strict p.explain p.refine (Ok q) (Err e) ⊎ (e ≡ unwritable)) × (after ≡ Some at)
 
-abbrev pub IsPlanPictured : Holding → Option Holding → Planning → Result BookQuestion Refusal → Outcomes
+abbrev pub IsPlanPictured : Holding → Option Holding → Planning → Result BookQuestion RolloutRefusal → Outcomes
 IsPlanPictured at after p (Err e) r = (r ≡ Err e) × (after ≡ Some at)
 IsPlanPictured at after p (Ok q) r = IsPlanWith at after p (as_question q) r
 
 unfoldable pub IsPlanPicture : Holding → Option Holding → Planning → Outcomes
-IsPlanPicture at after p r = (question : Result BookQuestion Refusal) × IsBookQuestionAt at p.document p.request p.book question × IsPlanPictured at after p question r
+IsPlanPicture at after p r = (question : Result BookQuestion RolloutRefusal) × IsBookQuestionAt at p.document p.request p.book question × IsPlanPictured at after p question r
 
 -- the files stay as they are, or a plan was printed, which has a rule or shows that none fits
 abbrev pub KeepsUnlessPlanned : {E : Type 0} → Option Holding → Option Holding → Result Outcome E → Type 0
 KeepsUnlessPlanned old new r = (new ≡ old) ⊎ IsOkAnd r (λ o. (status_number o.status ≡ 0) ⊎ (status_number o.status ≡ 3))
 
+-- the calls that loading a question over a book and writing a file makes
+abbrev pub loads_and_stores : Call → Bool
+loads_and_stores file.Store = true
+loads_and_stores c = files.loads_book_question c
+
 -- the calls that the command makes
-abbrev pub plan_calls : Call → Bool
-plan_calls call.Store = true
+abbrev pub plan_calls : RolloutCall → Bool
 plan_calls call.Plan = true
 plan_calls call.PrintPlanned = true
-plan_calls c = loads_book_question c
+plan_calls c = loads loads_and_stores c

@@ -3,11 +3,10 @@ ghost use denote.Param.Send.{IsSync};
 ghost use Rattle.std.specs.Prelude.{◌≡◌, ◌||◌, false, true, is_some, map, IfErr, IfOk, IfSome, Ok, option_map, string_bytes};
 ghost use Rattle.flagops_rollouts.specs.Doubts.{NamesDoubted, doubt_of};
 ghost use Rattle.flagops_rollouts.specs.Subjects.{NamesVerified};
-ghost use Rattle.flagops_files.specs.Refusal.{ComesFrom, GivesOne, GivesUnlessWant, is_file_fault, is_want};
-ghost use Rattle.flagops_files.specs.Told.{TellsOfOne};
+ghost use Rattle.flagops_rollouts.specs.Refusal.{ComesFrom, GivesOne, GivesUnlessWant, is_file_fault, is_want, TellsOfOne};
+ghost use Rattle.flagops_shell.specs.Outcomes.{beside};
 ghost use Rattle.flagops_shell.specs.Diagnostic.{Says};
 ghost use Rattle.flagops_files.specs.Question.{book_question_view};
-ghost use Rattle.flagops_files.specs.Report.{beside};
 ghost use Rattle.flagops_shell.specs.Report.{outcome_view};
 ghost use Rattle.flagops_pictures.specs.Commands.{picture_description};
 ghost use Rattle.flagops_pictures.specs.Diagnostics.{checked_subjects, picture_subjects};
@@ -21,8 +20,9 @@ use crate::checking::checked_picture;
 use crate::doubts::noted;
 use crate::words::read_picture;
 use clap::Error;
-use flagops_files::{
-    BookQuestion, Call, Refusal, Refused, load_book_question, load_planned, out_of_memory,
+use flagops_files::BookQuestion;
+use flagops_rollouts::{
+    Refused, RolloutCall, RolloutRefusal, load_book_question, load_planned, out_of_memory,
 };
 use flagops_shell::{Command, FileSet, Outcome, Remark, Status};
 use flagops_words::factor_of;
@@ -34,7 +34,7 @@ use std::convert::AsStr;
 use std::thread::Threads;
 
 impl<'w, R: Threads + Sync, F: FileSet> Command<'w, R, F> for Picturing<'w> {
-    type Refusal = Refusal;
+    type Refusal = RolloutRefusal;
 
     ghost Asked = { words.Picturing };
 
@@ -53,7 +53,7 @@ impl<'w, R: Threads + Sync, F: FileSet> Command<'w, R, F> for Picturing<'w> {
         outcome(rt, alloc, files, self)
     }
 
-    fn call_of(&self, refusal: &Refusal) -> &'static str {
+    fn call_of(&self, refusal: &RolloutRefusal) -> &'static str {
         refusal.call().name()
     }
 }
@@ -107,7 +107,7 @@ fn pictured(
         Err(fault) => {
             let lines = lines_on(alloc, asked, question, planned, &fault);
             Err(Refused {
-                refusal: Refusal::Verify(fault),
+                refusal: RolloutRefusal::Verify(fault),
                 remark: Remark::of(lines),
             })
         }
@@ -134,7 +134,7 @@ fn told(
             status: Status::Done,
             remark,
         }),
-        Err(AllocError) => Err(out_of_memory(Call::Verify)),
+        Err(AllocError) => Err(out_of_memory(RolloutCall::Verify)),
     }
 }
 

@@ -6,8 +6,7 @@ ghost use Rattle.flagops_rollouts.specs.Doubts.{NamesDoubted};
 ghost use Rattle.flagops_shell.specs.Diagnostic.{Says};
 ghost use Rattle.flagops_shell.specs.Files.{KeepsOthers};
 ghost use Rattle.flagops_files.specs.Question.{book_question_view, question_view};
-ghost use Rattle.flagops_files.specs.Refusal.{ComesFrom, GivesOne, is_file_fault};
-ghost use Rattle.flagops_files.specs.Told.{TellsOfOne};
+ghost use Rattle.flagops_rollouts.specs.Refusal.{ComesFrom, GivesOne, is_file_fault, TellsOfOne};
 ghost use Rattle.flagops_shell.specs.Report.{outcome_view};
 ghost use Rattle.flagops_pictures.specs.Commands.{plan_description};
 ghost use Rattle.flagops_pictures.specs.Diagnostics.{drawn_subjects, plan_subjects};
@@ -20,11 +19,10 @@ use crate::asked::Planning;
 use crate::drawing::{Asked, drawn};
 use crate::words::read_plan;
 use clap::Error;
-use flagops_files::{
-    BookQuestion, Call, Evidence, Question, Refusal, Refused, load_book_question, out_of_memory,
-    store,
+use flagops_files::{BookQuestion, Evidence, Question};
+use flagops_rollouts::{
+    Refused, RolloutCall, RolloutRefusal, load_book_question, out_of_memory, plan_answer, store,
 };
-use flagops_rollouts::plan_answer;
 use flagops_shell::{Command, FileSet, Outcome};
 use flagops_words::factor_of;
 use page_tally::BookFile;
@@ -34,7 +32,7 @@ use std::convert::AsStr;
 use std::thread::Threads;
 
 impl<'w, R: Threads + Sync, F: FileSet> Command<'w, R, F> for Planning<'w> {
-    type Refusal = Refusal;
+    type Refusal = RolloutRefusal;
 
     ghost Asked = { words.Planning };
 
@@ -53,7 +51,7 @@ impl<'w, R: Threads + Sync, F: FileSet> Command<'w, R, F> for Planning<'w> {
         outcome(rt, alloc, files, self)
     }
 
-    fn call_of(&self, refusal: &Refusal) -> &'static str {
+    fn call_of(&self, refusal: &RolloutRefusal) -> &'static str {
         refusal.call().name()
     }
 }
@@ -149,11 +147,11 @@ fn picture_of<R: Threads + Sync>(
     requires book { IsOfBook question.now.evidence }
     requires plan { IsPlanOf asked.now.strict asked.now.explain (option_map (λ m. m.number) asked.now.refine) (Ok (question_view question.now)) (Ok (outcome_view outcome.now)) }
     ensures exact { IfOk result (λ s. IsPictureOf (option_map (λ m. m.number) asked.now.refine) (question_view question.now) outcome.now.text.items (string_bytes s)) }
-    ensures wants { IfErr result (λ e. e.refusal ≡ Refusal.WantOfMemory Call.Plan) }
+    ensures wants { IfErr result (λ e. e.refusal ≡ RolloutRefusal.WantOfMemory RolloutCall.Plan) }
 {
     match picture_drawn(rt, alloc, asked, question, outcome) {
         Ok(text) => Ok(text),
-        Err(AllocError) => Err(out_of_memory(Call::Plan)),
+        Err(AllocError) => Err(out_of_memory(RolloutCall::Plan)),
     }
 }
 

@@ -8,10 +8,10 @@ use Rattle.flagops_files.specs.Lines.{NamesFile}
 use Rattle.flagops_rollouts.specs.declared.doubts.NotedDoubt.{NotedDoubt}
 use Rattle.flagops_files.specs.Question.{book_question_subjects}
 use Rattle.flagops_files.specs.Refusal as files
-use Rattle.flagops_files.specs.Refusal.{loads_file, loads_flags}
-use Rattle.flagops_files.specs.Told.{NamesOne, Subjects, TellsOf, TellsOfOne, by, file}
+use Rattle.flagops_files.specs.Refusal.{by, loads_file, loads_flags}
+use Rattle.flagops_files.specs.Told.{NamesOne, file}
 use Rattle.flagops_files.specs.declared.refusal.Call.{Call}
-use Rattle.flagops_files.specs.declared.refusal.Doubt.{Doubt}
+use Rattle.flagops_rollouts.specs.declared.refusal.Doubt.{Doubt}
 use Rattle.flagops_files.specs.declared.refusal.Refusal.{Refusal}
 use Rattle.flagops_files.proofs.Told.{told_left, told_right}
 use Rattle.file_diagnostics.specs.Named.{Names, opening_words, quoted}
@@ -112,6 +112,7 @@ of_answers v (refusal.Print f) remark named = absurd named
 of_answers v (refusal.Verify f) remark named = absurd named
 of_answers v refusal.Lines remark named = absurd named
 of_answers v refusal.NoStep remark named = absurd named
+of_answers v (refusal.Rollout e) remark named = absurd named
 of_answers v (refusal.Doubted c d) remark named = absurd named
 
 pub verify_answers : {X : Type 0} (v : Verifying) (t : Told) (r : Result X Told) → r ≡ Err t → (is_want t.refusal ≡ false → IsOfAnswers v.ramp t.refusal t.remark) → Diagnoses (IsOfVerify v) r
@@ -126,6 +127,7 @@ step_answers a (refusal.Print f) remark named = absurd named
 step_answers a (refusal.Verify f) remark named = absurd named
 step_answers a refusal.Lines remark named = absurd named
 step_answers a refusal.NoStep remark named = absurd named
+step_answers a (refusal.Rollout e) remark named = absurd named
 step_answers a (refusal.Doubted c d) remark named = absurd named
 
 -- answers that are doubted, or too large
@@ -138,6 +140,7 @@ ramp_doubted a (refusal.Read f) remark named = absurd named
 ramp_doubted a (refusal.Verify f) remark named = absurd named
 ramp_doubted a refusal.Lines remark named = absurd named
 ramp_doubted a refusal.NoStep remark named = absurd named
+ramp_doubted a (refusal.Rollout e) remark named = absurd named
 
 pub verify_doubted : (v : Verifying) (e : RampRefusal) (remark : Remark) → IsOfDoubted v.rollout.steps v.rollout.book e remark → IsOfVerify v e remark
 verify_doubted v (refusal.Doubted c d) remark named = named
@@ -148,6 +151,7 @@ verify_doubted v (refusal.Read f) remark named = absurd named
 verify_doubted v (refusal.Verify f) remark named = absurd named
 verify_doubted v refusal.Lines remark named = absurd named
 verify_doubted v refusal.NoStep remark named = absurd named
+verify_doubted v (refusal.Rollout e) remark named = absurd named
 
 pub ramp_large : (a : Ramping) (e : RampRefusal) (remark : Remark) → IsOfSize e remark → IsOfRamp a e remark
 ramp_large a (refusal.Print f) remark named = named
@@ -157,6 +161,7 @@ ramp_large a (refusal.Read f) remark named = absurd named
 ramp_large a (refusal.Verify f) remark named = absurd named
 ramp_large a refusal.Lines remark named = absurd named
 ramp_large a refusal.NoStep remark named = absurd named
+ramp_large a (refusal.Rollout e) remark named = absurd named
 ramp_large a (refusal.Doubted c d) remark named = absurd named
 
 -- a step that is refused

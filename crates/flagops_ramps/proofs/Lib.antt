@@ -4,3 +4,4 @@ pub mod Diagnosed
 mod Loaded
 pub mod Matched
 mod Stepped
+mod Valid

@@ -2,7 +2,8 @@
 use Rattle.std.proofs.Common.{◌≡◌, false, List, Vec, Global, Option, None, Some, Result, Ok, Err, ℕ, map, refl, ap, ◌∙◌, subst, sym}
 use Rattle.std.specs.Prelude.{IfSome}
 use Rattle.flagops_shell.specs.Files.{Holding, load_of}
-use Rattle.flagops_files.specs.Loading.{max_rule, refused_by}
+use Rattle.flagops_files.specs.Loading.{max_rule}
+use Rattle.flagops_shell.specs.Outcomes.{refused_by}
 use Rattle.flagops_files.specs.Question.{IsBookQuestionAt, book_question_view}
 use Rattle.flagops_files.specs.Refusal as files
 use Rattle.flagops_shell.specs.Report.{outcome_view}

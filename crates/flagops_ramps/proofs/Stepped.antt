@@ -1,5 +1,6 @@
 -- What is reported of steps.
 use Rattle.std.proofs.Common.{◌≡◌, ◌≢◌, ℕ, Bool, false, true, List, Option, Result, Ok, Err, unwrap_or, refl, sym, ap, ◌∙◌, subst, inl, inr}
+use Rattle.std.specs.Prelude.{IfOk}
 use Rattle.flag_defs.specs.Flags.{flags_view}
 use Rattle.flagops_files.specs.Question.{BookQuestion, book_question_view}
 use Rattle.flagops_shell.specs.Report.{outcome_view}
@@ -18,7 +19,7 @@ use Rattle.rollout_checks.specs.declared.fault.RolloutFault.TheVariants.{WantOfM
 use Rattle.rollout_checks.specs.declared.verify_fault.VerifyFault.TheVariants.{Request}
 use Rattle.flagops_ramps.specs.Doubts.{beside, doubt_of_steps, settle}
 use Rattle.flagops_ramps.specs.Judging.{Found, IsFoundOf, IsFoundOver, answered_view, refused_as}
-use Rattle.flagops_ramps.specs.Ramp.{IsRampOf, IsRampOver, of_steps, report_ramp}
+use Rattle.flagops_ramps.specs.Ramp.{Holds, IsRampOf, IsRampOver, of_steps, report_ramp}
 use Rattle.flagops_ramps.specs.Refusal.{is_want}
 use Rattle.flagops_ramps.specs.Report.{GivesOne, GivesUnlessWant, Told}
 use Rattle.flagops_ramps.specs.declared.judging.RightAnswers.{RightAnswers}
@@ -37,9 +38,10 @@ other_steps : (e : StepsFault) → of_steps e ≢ WantOfMemory → e ≢ steps.W
 other_steps e other = λ want. other (ap of_steps want)
 
 module _ (strict : Bool) (refine : Option ℕ) (q : BookQuestion) where
-  pub planned_report : (requests : List (List ℕ)) (answers : List Answer) (r : Result Outcome Told) → ArePlans (Ok q.flags) (unwrap_or refine 1) requests q.book answers → GivesUnlessWant outcome_view r (beside (settle call.Ramp strict (doubt_of_steps q requests)) (report_ramp answers)) → GivesOne outcome_view r (IsRampOver strict refine q (Ok requests))
-  planned_report requests answers (Ok o) plans gives = inl (answers, plans, sym gives)
-  planned_report requests answers (Err t) plans gives = λ no_want. inl (answers, plans, sym (gives no_want))
+  pub planned_report : (requests : List (List ℕ)) (answers : List Answer) (r : Result Outcome Told) → ArePlans (Ok q.flags) (unwrap_or refine 1) requests q.book answers → GivesUnlessWant outcome_view r (beside (settle call.Ramp strict (doubt_of_steps q requests)) (report_ramp answers))
+      → IfOk r (λ o. Holds answers o.text.items) → GivesOne outcome_view r (IsRampOver strict refine q (Ok requests))
+  planned_report requests answers (Ok o) plans gives back = inl (answers, plans, sym gives, back)
+  planned_report requests answers (Err t) plans gives back = λ no_want. inl (answers, plans, sym (gives no_want), tt)
 
   pub refused_report : (requests : List (List ℕ)) (e : StepFault) (t : Told) → t.refusal ≡ Ramp e.fault → (e.fault ≢ WantOfMemory → IsRefused (Ok q.flags) (unwrap_or refine 1) requests q.book e) → GivesOne outcome_view (Err t) (IsRampOver strict refine q (Ok requests))
   refused_report requests e t is refused = λ no_want. inr (e, refused (other_ramp t.refusal e.fault is no_want), ap Err is)

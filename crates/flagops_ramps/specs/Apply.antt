@@ -7,10 +7,11 @@ use Rattle.flagops_files.specs.Documents.{IsDocumentAt}
 use Rattle.flagops_shell.specs.Files.{Holding}
 use Rattle.flagops_shell.specs.Report.{Report}
 use Rattle.flagops_files.specs.declared.refusal.Refusal.{Refusal}
+use Rattle.flagops_rollouts.specs.declared.refusal.RolloutRefusal.{RolloutRefusal}
 use Rattle.flagops_ramps.specs.Report.{Came}
 use Rattle.flagops_ramps.specs.Judging.{answers_at}
 use Rattle.flagops_ramps.specs.declared.refusal.RampRefusal.{RampRefusal}
-use Rattle.flagops_ramps.specs.declared.refusal.RampRefusal.TheVariants.{Load, NoStep}
+use Rattle.flagops_ramps.specs.declared.refusal.RampRefusal.TheVariants.{Load, Rollout, NoStep}
 
 -- the answer to the step of a number, from 1
 abbrev pub answer_to : List Answer → ℕ → Option Answer
@@ -18,9 +19,9 @@ answer_to answers zero = None
 answer_to answers (suc n) = slice_get answers n
 
 -- a report of `apply`, as a command on steps has it
-abbrev pub as_came : Result Report Refusal → Came
+abbrev pub as_came : Result Report RolloutRefusal → Came
 as_came (Ok r) = Ok r
-as_came (Err e) = Err (Load e)
+as_came (Err e) = Err (Rollout e)
 
 -- `apply` of a report that is one of a document
 abbrev pub IsLocal : Definitions → List ℕ → ℕ → Answer → Came → Type 0

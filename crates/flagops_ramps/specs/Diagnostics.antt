@@ -6,10 +6,11 @@ use Rattle.flagops_rollouts.specs.Doubts.{NamesDoubt}
 use Rattle.flagops_files.specs.Lines.{NamesFile}
 use Rattle.flagops_rollouts.specs.Subjects.{the_plan}
 use Rattle.flagops_files.specs.Question.{book_question_subjects}
-use Rattle.flagops_files.specs.Refusal.{loads_file, loads_flags}
-use Rattle.flagops_files.specs.Told.{NamesOne, Subjects, by, file}
-use Rattle.flagops_files.specs.declared.refusal.Refusal.{Refusal}
-use Rattle.flagops_files.specs.declared.refusal.Refusal.TheVariants.{Apply}
+use Rattle.flagops_files.specs.Refusal as files
+use Rattle.flagops_files.specs.Refusal.{by, loads_file, loads_flags}
+use Rattle.flagops_files.specs.Told.{NamesOne, file}
+use Rattle.flagops_rollouts.specs.declared.refusal.RolloutRefusal.{RolloutRefusal}
+use Rattle.flagops_rollouts.specs.declared.refusal.RolloutRefusal.TheVariants.{Apply}
 use Rattle.file_diagnostics.specs.Named.{Names, NamesWord}
 use Rattle.flagops_shell.specs.Diagnostic.{RemarksOf, Says}
 use Rattle.flagops_shell.specs.declared.refused.Remark.{Remark}
@@ -19,7 +20,7 @@ use Rattle.flagops_ramps.specs.Refusal.{is_want}
 use Rattle.flagops_ramps.specs.Report.{Told}
 use Rattle.flagops_ramps.specs.Words.{Applying, Ramping, Verifying}
 use Rattle.flagops_ramps.specs.declared.refusal.RampRefusal.{RampRefusal}
-use Rattle.flagops_ramps.specs.declared.refusal.RampRefusal.TheVariants.{Load, Ramp, Print, Read, Verify, Lines, NoStep, Doubted}
+use Rattle.flagops_ramps.specs.declared.refusal.RampRefusal.TheVariants.{Load, Rollout, Ramp, Print, Read, Verify, Lines, NoStep, Doubted}
 
 -- lines begin with the path of a file as a JSON text, or with what is shown of a long one
 abbrev pub NamesPath : List ℕ → List ℕ → Type 0
@@ -65,7 +66,7 @@ IsOfRamp a (Doubted c d) remark = Says (NamesDoubt a.steps a.book d) remark
 IsOfRamp a e remark = ⊥
 
 -- the files of answers and of what they are judged by
-abbrev pub answered_subjects : Verifying → Subjects
+abbrev pub answered_subjects : Verifying → files.Subjects
 answered_subjects v = book_question_subjects v.rollout.document v.rollout.steps v.rollout.book ++ ((file v.ramp, by loads_file) ∷ [])
 
 -- answers are refused by the file of the steps, where a step is refused, and else by their own
@@ -83,13 +84,14 @@ IsOfVerify v (Doubted c d) remark = Says (NamesDoubt v.rollout.steps v.rollout.b
 IsOfVerify v e remark = ⊥
 
 -- a rule that cannot be put at the site
-abbrev pub is_of_rule : Refusal → Bool
+abbrev pub is_of_rule : RolloutRefusal → Bool
 is_of_rule (Apply e) = true
 is_of_rule e = false
 
 -- `apply --step` is refused by one of its files, or by the step that its answers lack
 abbrev pub IsOfStep : Applying → Diagnosis
-IsOfStep a (Load e) remark = NamesOne ((file a.document, by loads_flags) ∷ (file a.ramp, by loads_file) ∷ (file a.ramp, is_of_rule) ∷ []) e remark
+IsOfStep a (Load e) remark = NamesOne ((file a.document, by loads_flags) ∷ (file a.ramp, by loads_file) ∷ []) e remark
+IsOfStep a (Rollout e) remark = NamesOne ((file a.ramp, is_of_rule) ∷ []) e remark
 IsOfStep a (Read e) remark = Says (NamesPath a.ramp) remark
 IsOfStep a NoStep remark = Says (NamesStep a.ramp a.step) remark
 IsOfStep a e remark = ⊥

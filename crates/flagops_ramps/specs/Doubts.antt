@@ -12,7 +12,7 @@ use Rattle.flagops_rollouts.specs.Unrecorded.{is_unrecorded}
 use Rattle.flagops_files.specs.Loading.{max_text}
 use Rattle.flagops_files.specs.Question.{BookQuestion, Question}
 use Rattle.flagops_files.specs.declared.evidence.Evidence.TheVariants.{Book}
-use Rattle.flagops_files.specs.declared.refusal.Doubt.{Doubt}
+use Rattle.flagops_rollouts.specs.declared.refusal.Doubt.{Doubt}
 use Rattle.flagops_ramps.specs.Report.{Came}
 use Rattle.flagops_ramps.specs.declared.refusal.RampRefusal.{RampRefusal}
 use Rattle.flagops_ramps.specs.declared.refusal.RampRefusal.TheVariants.{Doubted}

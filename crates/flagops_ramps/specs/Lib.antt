@@ -7,5 +7,6 @@ pub mod Judging
 pub mod Ramp
 pub mod Refusal
 pub mod Report
+pub mod Valid
 pub mod Verify
 pub mod Words

@@ -8,7 +8,7 @@ use Rattle.plan_text.specs.declared.fault.PlanFileFault.{PlanFileFault}
 use Rattle.price_core.specs.declared.fault.PriceFault.TheVariants.{BadRequest}
 use Rattle.ramp.specs.Ramp.{ArePlans, IsRefused}
 use Rattle.ramp.specs.declared.fault.StepFault.{StepFault}
-use Rattle.ramp_steps.specs.Lines.{ramp_file}
+use Rattle.ramp_steps.specs.Lines.{ramp_file, ramp_of}
 use Rattle.ramp_steps.specs.Steps.{steps_of}
 use Rattle.ramp_steps.specs.declared.fault.StepsFault.{StepsFault}
 use Rattle.ramp_steps.specs.declared.fault.StepsFault.TheVariants as steps
@@ -41,11 +41,20 @@ report_file answers (Err e) = Err (Print e)
 abbrev pub report_ramp : List Answer → Came
 report_ramp answers = report_file answers (ramp_file answers)
 
+-- the whole text is a file that reads as the answers
+abbrev pub Holds : List Answer → List ℕ → Type 0
+Holds answers text = ramp_of text ≡ Ok answers
+
+-- what is printed of answers reads back as the answers
+abbrev pub ReadsBack : List Answer → Came → Type 0
+ReadsBack answers (Ok report) = Holds answers report.text
+ReadsBack answers (Err e) = Unit {0}
+
 -- The answers to the steps, each planned on the rule that the one before left, beside which a person is told of a doubt; or the first refusal.
 abbrev pub IsRampOver : Bool → Option ℕ → BookQuestion → Result (List (List ℕ)) StepsFault → Came → Type 0
 IsRampOver strict refine q (Err e) r = r ≡ Err (Ramp (of_steps e))
 IsRampOver strict refine q (Ok requests) r =
-    ((answers : List Answer) × ArePlans (Ok q.flags) (unwrap_or refine 1) requests q.book answers × (r ≡ beside (settle call.Ramp strict (doubt_of_steps q requests)) (report_ramp answers)))
+    ((answers : List Answer) × ArePlans (Ok q.flags) (unwrap_or refine 1) requests q.book answers × (r ≡ beside (settle call.Ramp strict (doubt_of_steps q requests)) (report_ramp answers)) × ReadsBack answers r)
     ⊎ ((e : StepFault) × IsRefused (Ok q.flags) (unwrap_or refine 1) requests q.book e × (r ≡ Err (Ramp e.fault)))
 
 abbrev pub IsRampOf : Bool → Option ℕ → Result BookQuestion Refusal → Came → Type 0

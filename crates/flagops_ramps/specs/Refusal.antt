@@ -1,16 +1,22 @@
 -- The line that a refusal of a command on steps is written as.
-use Rattle.std.specs.Prelude.{ℕ, Bool, false, List, [], codes, decimal, nat_eq}
-use Rattle.flagops_files.specs.Payload.{number_item, rollout_items, verify_items}
+use Rattle.std.specs.Prelude.{ℕ, Bool, true, false, List, [], codes, decimal}
+use Rattle.flagops_files.specs.Payload.{number_item, rollout_items}
 use Rattle.flagops_files.specs.Refusal as files
 use Rattle.flagops_files.specs.Refusal.{line_with}
+use Rattle.flagops_rollouts.specs.Payload.{verify_items}
+use Rattle.flagops_rollouts.specs.Refusal as rolling
+use Rattle.flagops_rollouts.specs.Refusal.{doubt_name, doubt_number, is_want_of_verify}
 use Rattle.plan_text.specs.Fault as plan_files
+use Rattle.plan_text.specs.declared.fault.PlanFileFault.TheVariants as plan
 use Rattle.ramp_steps.specs.Fault as ramp_files
 use Rattle.ramp_steps.specs.declared.fault.RampFileFault.{RampFileFault}
+use Rattle.ramp_steps.specs.declared.fault.RampFileFault.TheVariants as ramp_file
 use Rattle.ramp_steps.specs.declared.fault.RampFileFault.TheVariants.{Line}
 use Rattle.rollout_checks.specs.Fault as rollouts
 use Rattle.rollout_checks.specs.VerifyFault as verdicts
+use Rattle.rollout_checks.specs.declared.fault.RolloutFault.TheVariants as rollout
 use Rattle.flagops_ramps.specs.declared.refusal.RampRefusal.{RampRefusal}
-use Rattle.flagops_ramps.specs.declared.refusal.RampRefusal.TheVariants.{Load, Ramp, Print, Read, Verify, Lines, NoStep, Doubted}
+use Rattle.flagops_ramps.specs.declared.refusal.RampRefusal.TheVariants.{Load, Rollout, Ramp, Print, Read, Verify, Lines, NoStep, Doubted}
 use Rattle.flagops_ramps.specs.declared.refusal.StepCall.{StepCall}
 use Rattle.flagops_ramps.specs.declared.refusal.StepCall.TheVariants as call
 
@@ -18,23 +24,20 @@ abbrev pub call_name : StepCall → List ℕ
 call_name call.Ramp = codes "ramp"
 call_name call.VerifyRamp = codes "verify-ramp"
 
--- want of memory is 0, and each other number is that of the call which refused
-abbrev pub number_of : RampRefusal → ℕ
-number_of (Load e) = files.number_of e
-number_of (Ramp e) = rollouts.number_of e
-number_of (Print e) = plan_files.number_of e
-number_of (Read e) = ramp_files.number_of e
-number_of (Verify e) = verdicts.number_of e
-number_of Lines = 14
-number_of NoStep = 15
-number_of (Doubted c d) = files.doubt_number d
-
+-- memory ran out
 abbrev pub is_want : RampRefusal → Bool
-is_want r = nat_eq (number_of r) 0
+is_want (Load e) = files.is_want e
+is_want (Rollout e) = rolling.is_want e
+is_want (Ramp rollout.WantOfMemory) = true
+is_want (Print plan.WantOfMemory) = true
+is_want (Read ramp_file.WantOfMemory) = true
+is_want (Verify e) = is_want_of_verify e
+is_want r = false
 
 -- a file could not be read
 abbrev pub is_unread : RampRefusal → Bool
 is_unread (Load e) = files.is_unread e
+is_unread (Rollout e) = rolling.is_unread e
 is_unread r = false
 
 -- the line at fault
@@ -45,10 +48,11 @@ line_items e = []
 -- `refused`, the call, the number, the name and what the fault says beyond it
 abbrev pub line_of : RampRefusal → List ℕ
 line_of (Load e) = files.line_of e
+line_of (Rollout e) = rolling.line_of e
 line_of (Ramp e) = line_with (codes "ramp") (decimal (rollouts.number_of e)) (rollouts.name_of e) (rollout_items e)
 line_of (Print e) = line_with (codes "print_ramp") (decimal (plan_files.number_of e)) (plan_files.name_of e) []
 line_of (Read e) = line_with (codes "read_ramp") (decimal (ramp_files.number_of e)) (ramp_files.name_of e) (line_items e)
 line_of (Verify e) = line_with (codes "verify-ramp") (decimal (verdicts.number_of e)) (verdicts.name_of e) (verify_items e)
 line_of Lines = line_with (codes "verify-ramp") (decimal 14) (codes "Lines") []
 line_of NoStep = line_with (codes "apply") (decimal 15) (codes "NoStep") []
-line_of (Doubted c d) = line_with (call_name c) (decimal (files.doubt_number d)) (files.doubt_name d) []
+line_of (Doubted c d) = line_with (call_name c) (decimal (doubt_number d)) (doubt_name d) []

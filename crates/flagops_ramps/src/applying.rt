@@ -2,7 +2,7 @@
 ghost use Rattle.std.specs.Prelude.{◌≡◌, ◌||◌, false, true, map, option_map, string_bytes, IfErr, IfOk, IfSome, None, Ok, ⊤};
 ghost use Rattle.flag_defs.specs.Flags.{flags_view};
 ghost use Rattle.flagops_rollouts.specs.Apply.{IsLocalReport, applied_report, document_line, none_report};
-ghost use Rattle.flagops_files.specs.Report.{done};
+ghost use Rattle.flagops_shell.specs.Outcomes.{done};
 ghost use Rattle.flagops_shell.specs.Report.{outcome_view};
 ghost use Rattle.flagops_ramps.specs.Apply.{IsStepApplied, IsStepReport, answer_to, as_came};
 ghost use Rattle.flagops_ramps.specs.Commands.{step_description};
@@ -21,7 +21,8 @@ use crate::remarks::step_line;
 use crate::words::read_step;
 use clap::Error;
 use flag_defs::{Flags, print_flags};
-use flagops_files::{Refusal, load_flags};
+use flagops_files::load_flags;
+use flagops_rollouts::RolloutRefusal;
 use flagops_shell::{Command, FileSet, Outcome, Refused, Remark, Status};
 use plan_text::Planned;
 use rollout_diagnostics::of_applied;
@@ -160,7 +161,7 @@ fn answer_put(
                     let (key, site) = (asked.key, asked.site);
                     let lines = of_applied(alloc, asked.ramp, flags, key, site, rule, fault);
                     Err(Refused::of(Refused {
-                        refusal: Refusal::Apply(fault),
+                        refusal: RolloutRefusal::Apply(fault),
                         remark: Remark::of(lines),
                     }))
                 }

@@ -18,7 +18,8 @@
 //!
 //! Proved of each command (`specs/Commands.antt`): over files whose bytes are known it comes to what the files at the paths make
 //! (`Ramp`, `Judging`, `Verify`, `Apply`), unless memory ran out; a file that could not be read is what it is refused for; files
-//! are only read; and a person is told of a refusal by the file or the step that was refused, and beside a report of what is doubted
+//! are only read; what `ramp` prints reads back as the answers, and `verify-ramp` tells of it that they are valid
+//! ([`printed_ramps_are_valid`]); and a person is told of a refusal by the file or the step that was refused, and beside a report of what is doubted
 //! of the answers to steps (`Diagnostics`, `Doubts`). `flagops_shell` has what is then written.
 #![tactic(auto)]
 
@@ -26,6 +27,7 @@ mod applying;
 mod asked;
 mod doubts;
 mod judging;
+mod laws;
 mod ramping;
 mod refusal;
 mod remarks;
@@ -36,6 +38,7 @@ mod words;
 pub use asked::{Applying, Ramping, Verifying};
 pub use doubts::{doubted, first_of};
 pub use judging::{RightAnswers, load_answers, out_of_memory};
+pub use laws::printed_ramps_are_valid;
 pub use refusal::{RampRefusal, StepCall};
 pub use usage::with_steps;
 pub use words::verifying_in;

@@ -10,11 +10,11 @@ ghost use Rattle.flagops_shell.specs.Report.{outcome_view, status_number};
 ghost use Rattle.flagops_ramps.specs.Doubts.{beside, doubt_of_steps, settle};
 ghost use Rattle.flagops_ramps.specs.Commands.{ramp_description};
 ghost use Rattle.flagops_ramps.specs.Diagnostics.{Diagnoses, IsOfRamp, IsOfSize, NamesPath};
-ghost use Rattle.flagops_ramps.specs.Ramp.{IsRampOf, IsRampReport, of_steps, ramp_status, report_ramp};
+ghost use Rattle.flagops_ramps.specs.Ramp.{Holds, IsRampOf, IsRampReport, of_steps, ramp_status, report_ramp};
 ghost use Rattle.flagops_ramps.specs.Report.{GivesOne, GivesUnlessWant, is_file_fault};
 ghost use Rattle.flagops_ramps.specs.Words as words;
 ghost use Rattle.flagops_ramps.specs.Words.{ramping_view};
-ghost use Rattle.plan_text.specs.Answer.{planned_view};
+ghost use Rattle.plan_text.specs.Answer.{IsOrdered, planned_view};
 ghost use Rattle.plan_text.specs.PlanFile.{IsWhole};
 ghost use Rattle.ramp_steps.specs.Steps.{requests_view};
 
@@ -126,7 +126,7 @@ fn answer<R: Threads + Sync>(
     }
 }
 
-/// The lines of the answers, beside which a person is told what is doubted of them.
+/// The lines of the answers, which read back as these, beside which a person is told what is doubted of them.
 #[tactic(auto, using(crate::proofs::Diagnosed::ramp_doubted, crate::proofs::Diagnosed::ramp_large))]
 fn told<R: Threads>(
     rt: &R,
@@ -136,7 +136,9 @@ fn told<R: Threads>(
     steps: &[Vec<u8>],
     answers: &[Planned],
 ) -> Result<Outcome, Refused<RampRefusal>>
-    requires { All (λ p. IsWhole (planned_view p)) answers.now }
+    requires whole { All (λ p. IsWhole (planned_view p)) answers.now }
+    requires ordered { All (λ p. IsOrdered (planned_view p)) answers.now }
+    ensures reads_back { IfOk result (λ o. Holds (map planned_view answers.now) o.text.items) }
     ensures exact { GivesUnlessWant outcome_view result (beside (settle StepCall.Ramp asked.now.strict (doubt_of_steps (book_question_view question.now) (requests_view steps.now))) (report_ramp (map planned_view answers.now))) }
     ensures read { is_file_fault result ≡ false }
     ensures names { Diagnoses (IsOfRamp (ramping_view asked.now)) result }
@@ -203,7 +205,9 @@ fn printed(
     answers: &[Planned],
     remark: Option<Remark>,
 ) -> Result<Outcome, Refused<RampRefusal>>
-    requires { All (λ p. IsWhole (planned_view p)) answers.now }
+    requires whole { All (λ p. IsWhole (planned_view p)) answers.now }
+    requires ordered { All (λ p. IsOrdered (planned_view p)) answers.now }
+    ensures reads_back { IfOk result (λ o. Holds (map planned_view answers.now) o.text.items) }
     ensures exact { GivesUnlessWant outcome_view result (beside (Ok (is_some remark)) (report_ramp (map planned_view answers.now))) }
     ensures read { is_file_fault result ≡ false }
     ensures names { IfErr result (λ t. IsOfSize t.refusal t.remark) }

@@ -1,10 +1,11 @@
 //! Why the commands on steps refuse.
 ghost use Rattle.std.specs.Prelude.{◌≡◌, IfOk, string_bytes};
 ghost use Rattle.flagops_ramps.specs.FileLines.{file_line};
-ghost use Rattle.flagops_ramps.specs.Refusal.{call_name, is_unread, is_want, line_of, number_of};
-ghost use Rattle.flagops_ramps.specs.declared.refusal.RampRefusal.TheVariants.{Load, Ramp, Read, Verify};
+ghost use Rattle.flagops_ramps.specs.Refusal.{call_name, is_unread, is_want, line_of};
+ghost use Rattle.flagops_ramps.specs.declared.refusal.RampRefusal.TheVariants.{Load, Ramp, Read, Rollout, Verify};
 
-use flagops_files::{Doubt, Refusal, fault_line, number_item, rollout_items, verify_items};
+use flagops_files::{Refusal, fault_line, number_item, rollout_items};
+use flagops_rollouts::{Doubt, RolloutRefusal, is_want_of_verify, verify_items};
 use flagops_shell::CommandRefusal;
 use plan_text::PlanFileFault;
 use ramp_steps::RampFileFault;
@@ -37,6 +38,8 @@ impl StepCall {
 pub enum RampRefusal {
     /// A file is refused as every other command refuses it.
     Load(Refusal),
+    /// The rule of an answer is refused as `apply` refuses it.
+    Rollout(RolloutRefusal),
     /// The steps are refused, or one of them.
     Ramp(RolloutFault),
     /// The answers are too large for a file.
@@ -53,21 +56,11 @@ pub enum RampRefusal {
     Doubted(StepCall, Doubt),
 }
 
-impl RampRefusal {
-    /// The number of the fault.
-    pub fn number(&self) -> u32
-        ensures { result ≡ number_of self.now }
-    {
-        match self {
-            RampRefusal::Load(refusal) => refusal.number(),
-            RampRefusal::Ramp(fault) => fault.number(),
-            RampRefusal::Print(fault) => fault.number(),
-            RampRefusal::Read(fault) => fault.number(),
-            RampRefusal::Verify(fault) => fault.number(),
-            RampRefusal::Lines => 14,
-            RampRefusal::NoStep => 15,
-            RampRefusal::Doubted(_, doubt) => doubt.number(),
-        }
+impl From<RolloutRefusal> for RampRefusal {
+    ghost from_gives = { λ r e. e ≡ Rollout r };
+
+    fn from(refusal: RolloutRefusal) -> RampRefusal {
+        RampRefusal::Rollout(refusal)
     }
 }
 
@@ -87,12 +80,21 @@ impl CommandRefusal for RampRefusal {
     ghost line_of = { line_of };
 
     fn is_want(&self) -> bool {
-        self.number() == 0
+        match self {
+            RampRefusal::Load(refusal) => refusal.is_want(),
+            RampRefusal::Rollout(refusal) => refusal.is_want(),
+            RampRefusal::Verify(fault) => is_want_of_verify(fault),
+            RampRefusal::Ramp(RolloutFault::WantOfMemory)
+            | RampRefusal::Print(PlanFileFault::WantOfMemory)
+            | RampRefusal::Read(RampFileFault::WantOfMemory) => true,
+            _ => false,
+        }
     }
 
     fn line(&self, alloc: Global) -> Result<String, AllocError> {
         match self {
             RampRefusal::Load(refusal) => refusal.line(alloc),
+            RampRefusal::Rollout(refusal) => refusal.line(alloc),
             RampRefusal::Ramp(fault) => ramp_line(alloc, fault),
             RampRefusal::Print(fault) => {
                 fault_line(alloc, "print_ramp", fault.number(), fault.name(), "")

@@ -9,21 +9,20 @@ use Rattle.flagops_rollouts.specs.Doubts.{NamesDoubt, NamesDoubted, doubt_of, do
 use Rattle.flagops_rollouts.specs.Plan.{Holds, IsPlanOf, MayBePlanned, plan_report}
 use Rattle.flagops_rollouts.specs.Verify.{IsVerdict, MayBeTold, valid_as}
 use Rattle.flagops_rollouts.proofs.Telling.{told_among}
-use Rattle.flagops_files.proofs.Told.{told_left}
+use Rattle.flagops_files.proofs.Told.{told_left, told_right}
 use Rattle.flagops_files.specs.Question.{Question}
-use Rattle.flagops_files.specs.Refusal.{GivesOne, GivesUnlessWant, is_want}
-use Rattle.flagops_files.specs.Report.{beside, done}
+use Rattle.flagops_rollouts.specs.Refusal.{GivesOne, GivesUnlessWant, is_want, Subjects, TellsOfOne, Refused}
+use Rattle.flagops_shell.specs.Outcomes.{beside, done}
 use Rattle.flagops_shell.specs.Report.{outcome_view}
-use Rattle.flagops_files.specs.Told.{NamesOne, Subject, Subjects, TellsOfOne}
+use Rattle.flagops_files.specs.Told.{NamesOne, Subject}
 use Rattle.flagops_shell.specs.Diagnostic.{Says}
 use Rattle.flagops_shell.specs.declared.outcome.Outcome.{Outcome}
-use Rattle.flagops_files.specs.declared.refusal.Call.{Call}
-use Rattle.flagops_files.specs.declared.refusal.Call.TheVariants as call
-use Rattle.flagops_files.specs.declared.refusal.Doubt.{Doubt}
-use Rattle.flagops_files.specs.declared.refusal.Doubt.TheVariants as doubt
-use Rattle.flagops_files.specs.declared.refusal.Refusal.{Refusal}
-use Rattle.flagops_files.specs.declared.refusal.Refusal.TheVariants.{Doubted}
-use Rattle.flagops_files.specs.Refusal.{Refused}
+use Rattle.flagops_rollouts.specs.declared.refusal.RolloutCall.{RolloutCall}
+use Rattle.flagops_rollouts.specs.declared.refusal.RolloutCall.TheVariants as call
+use Rattle.flagops_rollouts.specs.declared.refusal.Doubt.{Doubt}
+use Rattle.flagops_rollouts.specs.declared.refusal.Doubt.TheVariants as doubt
+use Rattle.flagops_rollouts.specs.declared.refusal.RolloutRefusal.{RolloutRefusal}
+use Rattle.flagops_rollouts.specs.declared.refusal.RolloutRefusal.TheVariants.{Doubted}
 use Rattle.flagops_shell.specs.declared.refused.Remark.{Remark}
 use Rattle.flagops_shell.specs.declared.refused.Remark.TheVariants.{Short, Lines}
 use Rattle.file_diagnostics.specs.Named.{Names, opening_words, quoted}
@@ -39,7 +38,7 @@ of_request request book Short told = tt
 of_request request book (Lines lines) told = (doubt.Unread, told)
 
 -- a doubt that is refused is told by what it is of
-pub named : (request book : List ℕ) (c : Call) (d : Doubt) (remark : Remark) → Says (NamesDoubt request book d) remark → NamesOne (doubt_subjects request book) (Doubted c d) remark
+pub named : (request book : List ℕ) (c : RolloutCall) (d : Doubt) (remark : Remark) → Says (NamesDoubt request book d) remark → NamesOne (doubt_subjects request book) (Doubted c d) remark
 named request book c doubt.Unread Short told = inl (refl, tt)
 named request book c doubt.Unread (Lines lines) told = inl (refl, told)
 named request book c doubt.Unrecorded Short told = inr (inl (refl, tt))
@@ -93,6 +92,10 @@ module _ (strict : Bool) (refine : Option ℕ) (q : Question) where
 pub tells_left : {X : Type 0} (xs ys : Subjects) (e : Refused) (r : Result X Refused) → r ≡ Err e → (is_want e.refusal ≡ false → NamesOne xs e.refusal e.remark) → TellsOfOne (xs ++ ys) r
 tells_left {X} xs ys e r is told = subst (λ (s : Result X Refused). TellsOfOne (xs ++ ys) s) (sym is) (λ wanted. told_left xs ys e.refusal e.remark (told wanted))
 
-pub tells_among : {X : Type 0} (xs : Subjects) (s : Subject × (Refusal → Bool)) (ys : Subjects) (r : Result X Refused) → TellsOfOne (s ∷ []) r → TellsOfOne (xs ++ (s ∷ ys)) r
+pub tells_among : {X : Type 0} (xs : Subjects) (s : Subject × (RolloutRefusal → Bool)) (ys : Subjects) (r : Result X Refused) → TellsOfOne (s ∷ []) r → TellsOfOne (xs ++ (s ∷ ys)) r
 tells_among xs s ys (Ok x) told = tt
 tells_among xs s ys (Err e) told = λ wanted. told_among xs s ys e.refusal e.remark (told wanted)
+
+pub tells_right : {X : Type 0} (xs ys : Subjects) (r : Result X Refused) → TellsOfOne ys r → TellsOfOne (xs ++ ys) r
+tells_right xs ys (Ok x) told = tt
+tells_right xs ys (Err e) told = λ wanted. told_right xs ys e.refusal e.remark (told wanted)

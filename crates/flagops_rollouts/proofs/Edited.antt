@@ -30,18 +30,22 @@ use Rattle.transport_instance.specs.Certificate.{DualPrices}
 use Rattle.transport_instance.specs.declared.certificate.CutKind.{CutKind}
 use Rattle.flagops_shell.specs.Files.{Holding, load_of}
 use Rattle.flagops_files.specs.Loading.{max_text}
-use Rattle.flagops_files.specs.PlanFile.{plan_at}
-use Rattle.flagops_files.specs.Question.{Question, IsQuestionAt}
-use Rattle.flagops_files.specs.Refusal.{GivesOne, is_want}
+use Rattle.flagops_rollouts.specs.Loaded.{plan_at, IsQuestionAt}
+use Rattle.flagops_files.specs.Question.{Question}
+use Rattle.flagops_rollouts.specs.Refusal.{ComesFrom, GivesOne, Refused, call_of, is_want}
+use Rattle.flagops_files.specs.Refusal as files
+use Rattle.flagops_files.specs.declared.refusal.Call.{Call}
+use Rattle.flagops_files.specs.declared.refusal.Call.TheVariants as file
+use Rattle.flagops_rollouts.specs.declared.refusal.RolloutCall.{RolloutCall}
+use Rattle.flagops_rollouts.specs.Calls.{keep_calls, loads_kept, puts_document}
 use Rattle.flagops_shell.specs.Report.{outcome_view}
 use Rattle.flagops_files.specs.declared.evidence.Evidence.{Evidence}
 use Rattle.flagops_files.specs.declared.evidence.Evidence.TheVariants.{Book, Tally}
 use Rattle.flagops_shell.specs.declared.outcome.Outcome.{Outcome}
-use Rattle.flagops_files.specs.Refusal.{Refused}
-use Rattle.flagops_files.specs.declared.refusal.Refusal.{Refusal}
+use Rattle.flagops_rollouts.specs.declared.refusal.RolloutRefusal.{RolloutRefusal}
 use Rattle.flagops_rollouts.specs.Keep.{IsEdited, IsEditedTo, IsKeepReport, IsKeepWith, IsKeptAt, IsKeptFor, IsKeptPut, IsKeptWith, IsPut, Kept, LeavesDocument, MayBeKept, some_view}
 use Rattle.flagops_rollouts.specs.Doubts.{doubt_of, settle}
-use Rattle.flagops_files.specs.declared.refusal.Call.TheVariants as call
+use Rattle.flagops_rollouts.specs.declared.refusal.RolloutCall.TheVariants as call
 use Rattle.flagops_rollouts.specs.Verify.{IsToldOn, MayBeTold}
 use Rattle.flagops_shell.proofs.Kept.{others_after}
 
@@ -94,7 +98,7 @@ not_unread (Err f) e there is = cc
 
 -- what a right answer makes of the document
 module _ (refine : Option ℕ) (document : List ℕ) (q : Question) (answer : Answer) where
-  pub kept_rule : (rule : Entries) (c : DualPrices) (kept : Result Kept Refusal) → answer ≡ emit rule c → MayBeTold refine q answer (Ok tt) → IsKeptFor document q rule kept → MayBeKept refine document q answer kept
+  pub kept_rule : (rule : Entries) (c : DualPrices) (kept : Result Kept RolloutRefusal) → answer ≡ emit rule c → MayBeTold refine q answer (Ok tt) → IsKeptFor document q rule kept → MayBeKept refine document q answer kept
   kept_rule rule c kept is told made = (Ok tt, told, subst (λ (a : Answer). IsKeptWith document q a kept) (sym is) made)
 
   pub kept_none : (kind : CutKind) (names : List (List ℕ)) → answer ≡ none_exists kind names → MayBeTold refine q answer (Ok tt) → MayBeKept refine document q answer (Ok None)
@@ -112,7 +116,7 @@ module _ (path : List ℕ) (write strict : Bool) (refine : Option ℕ) (document
       → IfSome old (λ at. GivesOne outcome_view r (IsKeepWith at after path write strict refine document q answer))
   not_kept old after e r is same kept = subst (λ (x : Result Outcome Refused). IfSome old (λ at. GivesOne outcome_view x (IsKeepWith at after path write strict refine document q answer))) (sym is) (none_kept old after e same kept)
 
-  abbrev settled : Result Bool Refusal
+  abbrev settled : Result Bool RolloutRefusal
   settled = settle call.Apply strict (doubt_of q)
 
   -- a doubt that is refused puts nothing
@@ -120,11 +124,11 @@ module _ (path : List ℕ) (write strict : Bool) (refine : Option ℕ) (document
       → IfSome old (λ at. GivesOne outcome_view (Err e) (IsKeepWith at after path write strict refine document q answer))
   not_settled None after kept e same refused may = tt
   not_settled (Some at) after kept e same refused may = λ wanted.
-      (Ok kept, may, subst (λ (s : Result Bool Refusal). IsPut at after path write s (Ok kept) (Err e.refusal)) (sym (refused wanted)) (refl, same))
+      (Ok kept, may, subst (λ (s : Result Bool RolloutRefusal). IsPut at after path write s (Ok kept) (Err e.refusal)) (sym (refused wanted)) (refl, same))
 
   pub kept_put : (old after : Option Holding) (kept : Kept) (told : Bool) (r : Result Outcome Refused) → settled ≡ Ok told → MayBeKept refine document q answer (Ok kept)
       → IfSome old (λ at. GivesOne outcome_view r (IsKeptPut at after path write told kept)) → IfSome old (λ at. GivesOne outcome_view r (IsKeepWith at after path write strict refine document q answer))
-  kept_put old after kept told r is may put = go old (subst (λ (s : Result Bool Refusal). IfSome old (λ at. GivesOne outcome_view r (IsPut at after path write s (Ok kept)))) (sym is) put)
+  kept_put old after kept told r is may put = go old (subst (λ (s : Result Bool RolloutRefusal). IfSome old (λ at. GivesOne outcome_view r (IsPut at after path write s (Ok kept)))) (sym is) put)
     where
       ends : (at : Holding) (s : Result Outcome Refused) → GivesOne outcome_view s (IsPut at after path write settled (Ok kept)) → GivesOne outcome_view s (IsKeepWith at after path write strict refine document q answer)
       ends at (Ok o) put = (Ok kept, may, put)
@@ -153,6 +157,10 @@ module _ (path plan request book : List ℕ) (write strict : Bool) (refine : Opt
         go None asked planned same = tt
         go (Some at) asked planned same = λ wanted. (Ok q, asked, rw (planned wanted) (refl, same))
 
+    pub no_plan_so : (old mid after : Option Holding) (e : Refused) (r : Result Outcome Refused) → r ≡ Err e → mid ≡ old → after ≡ mid → IfSome old (λ at. IsQuestionAt at path request book (Ok q))
+        → IfSome mid (λ at. is_want e.refusal ≡ false → plan_at at plan ≡ Err e.refusal) → Is old after r
+    no_plan_so old mid after e r is first second asked planned = subst (Is old after) (sym is) (no_plan old mid after e first second asked planned)
+
     module _ (document : List ℕ) (answer : Answer) where
       pub kept_whole : (old mid last after : Option Holding) (r : Result Outcome Refused) → mid ≡ old → last ≡ mid → IfSome old (λ at. IsQuestionAt at path request book (Ok q)) → IfSome old (λ at. load_of at path max_text ≡ Ok document)
           → IfSome mid (λ at. plan_at at plan ≡ Ok answer) → IfSome last (λ at. GivesOne outcome_view r (IsKeepWith at after path write strict refine document q answer)) → Is old after r
@@ -180,6 +188,30 @@ or_false false = refl
 -- no file failed until the last of three steps
 pub failed_after : (start first second last fault : Bool) → first ≡ (start || false) → second ≡ (first || false) → last ≡ (second || fault) → last ≡ (start || fault)
 failed_after start first second last fault a b c = c ∙ ap (λ (x : Bool). x || fault) (b ∙ (or_false first ∙ (a ∙ or_false start)))
+
+-- ---- what is refused
+
+-- what is refused where the document is put is refused by the command
+stored : (c : Call) → files.stores_file c ≡ true → loads_kept c ≡ true
+stored file.Store is = refl
+stored file.Load is = cc
+stored file.ReadTree is = cc
+stored file.ReadRule is = cc
+stored file.ReadFlags is = cc
+stored file.ReadBook is = cc
+stored file.ReadTally is = cc
+stored file.ReadPlanned is = cc
+
+put_by : (c : RolloutCall) → puts_document c ≡ true → keep_calls c ≡ true
+put_by call.Apply is = refl
+put_by (call.Load c) is = stored c is
+put_by call.Verify is = cc
+put_by call.Plan is = cc
+put_by call.PrintPlanned is = cc
+
+pub comes_so : {X : Type 0} (r : Result X Refused) → ComesFrom puts_document r → ComesFrom keep_calls r
+comes_so (Ok x) comes = tt
+comes_so (Err e) comes = put_by (call_of e.refusal) comes
 
 -- ---- what is left
 

@@ -1,6 +1,7 @@
 mod Asked
-mod Doubting
+pub mod Doubting
 mod Edited
+mod Loaded
 mod Passed
 mod Tallies
 pub mod Telling

@@ -43,11 +43,11 @@ use Rattle.flagops_rollouts.specs.Plan.{IsPlanOf, ReadsBack, plan_report, report
 use Rattle.flagops_rollouts.specs.Tallies.{TalliesPlanAsAnyBooks, TalliesPlanAsBooks, TalliesTellAsAnyBooks, TalliesTellAsBooks, over}
 use Rattle.flagops_rollouts.specs.Unrecorded.{is_bare, is_unrecorded, page_asked, page_in}
 use Rattle.flagops_rollouts.specs.Verify.{told}
-use Rattle.flagops_files.specs.Report.{beside}
+use Rattle.flagops_shell.specs.Outcomes.{beside}
 use Rattle.flagops_shell.specs.Report.{Report}
-use Rattle.flagops_files.specs.declared.refusal.Call.TheVariants as call
-use Rattle.flagops_files.specs.declared.refusal.Doubt.{Doubt}
-use Rattle.flagops_files.specs.declared.refusal.Refusal.{Refusal}
+use Rattle.flagops_rollouts.specs.declared.refusal.RolloutCall.TheVariants as call
+use Rattle.flagops_rollouts.specs.declared.refusal.Doubt.{Doubt}
+use Rattle.flagops_rollouts.specs.declared.refusal.RolloutRefusal.{RolloutRefusal}
 use Rattle.flagops_files.specs.declared.evidence.Evidence.TheVariants.{Book, Tally}
 
 refused : {X E : Type 0} {e : E} {x : X} → Err e ≡ Ok x → ⊥
@@ -222,7 +222,7 @@ tells_alike asks strict json (Some m) flags request book t answer r of apart own
 
 -- ---- where no doubt is refused they differ in what is told
 
-told_again : (b c : Bool) (r : Result Report Refusal) → beside b r ≡ beside b (beside c r)
+told_again : (b c : Bool) (r : Result Report RolloutRefusal) → beside b r ≡ beside b (beside c r)
 told_again b c (Ok report) = refl
 told_again b c (Err e) = refl
 
@@ -234,7 +234,7 @@ noted_told : (json : Bool) (d e : Option Doubt) (answer : Answer) (verdict : Res
 noted_told json d e answer (Err f) = refl
 noted_told json d e answer (Ok u) = refl
 
-reads_beside : (it : Result Planned RolloutFault) (b : Bool) (r : Result Report Refusal) → ReadsBack it r → ReadsBack it (beside b r)
+reads_beside : (it : Result Planned RolloutFault) (b : Bool) (r : Result Report RolloutRefusal) → ReadsBack it r → ReadsBack it (beside b r)
 reads_beside (Err e) b r back = tt
 reads_beside (Ok p) b (Err e) back = tt
 reads_beside (Ok p) b (Ok report) back = back

@@ -38,16 +38,19 @@ use Rattle.flagops_rollouts.specs.Plan.{Holds, IsPlanOf, IsPlannedOn, MayBePlann
 use Rattle.flagops_rollouts.specs.Valid.{IsOfInputs, IsValid, IsValidPlan}
 use Rattle.flagops_rollouts.specs.Verify.{IsToldOn, IsVerdict, tally_problem_checked, told}
 use Rattle.flagops_shell.specs.Files.{Holding, front_of}
-use Rattle.flagops_files.specs.Loading.{◌>>=◌, max_rule, refused_by}
-use Rattle.flagops_files.specs.PlanFile.{plan_at}
+use Rattle.flagops_files.specs.Loading.{max_rule}
+use Rattle.flagops_shell.specs.Outcomes.{◌>>=◌, refused_by}
 use Rattle.flagops_files.specs.declared.evidence.Evidence.{Evidence}
 use Rattle.flagops_files.specs.declared.evidence.Evidence.TheVariants.{Book, Tally}
-use Rattle.flagops_files.specs.declared.refusal.Refusal.{Refusal}
-use Rattle.flagops_files.specs.declared.refusal.Refusal.TheVariants.{Load, ReadPlanned}
+use Rattle.flagops_rollouts.specs.Loaded.{plan_at}
+use Rattle.flagops_rollouts.specs.declared.refusal.RolloutRefusal.{RolloutRefusal}
 use Rattle.flagops_files.specs.Question.{Question}
 use Rattle.flagops_shell.specs.Report.{Report}
 use Rattle.flagops_rollouts.specs.Doubts.{doubt_of, settle}
-use Rattle.flagops_files.specs.declared.refusal.Call.TheVariants as call
+use Rattle.flagops_rollouts.specs.declared.refusal.RolloutCall.TheVariants as call
+use Rattle.flagops_rollouts.specs.declared.refusal.RolloutRefusal.TheVariants.{Load}
+use Rattle.flagops_files.specs.PlanFile as plans
+use Rattle.flagops_files.specs.declared.refusal.Refusal.TheVariants as file
 
 -- ---- a rule of the refined total tells its factor
 
@@ -178,11 +181,15 @@ fits_by false r answer h = refl
 loaded : (at : Holding) (path text : List ℕ) → at path ≡ Some text → length text ≤ max_rule → front_of max_rule (at path) ≡ Ok text
 loaded at path text is fits = ap (front_of max_rule) is ∙ ap Ok (take_all (max_rule + 1) text (omega (arith, fits)))
 
+saved_file : (at : Holding) (path text : List ℕ) (answer : Answer) → at path ≡ Some text → Holds answer text → plans.plan_at at path ≡ Ok answer
+unfolding plans.plan_at
+saved_file at path text answer is holds =
+    let fits : length text ≤ max_rule = ltb-false max_rule (length text) (fits_by _ _ answer holds) in
+    ap (λ (it : Result (List ℕ) LoadFault). refused_by file.Load it >>= λ bytes. refused_by file.ReadPlanned (answer_of bytes)) (loaded at path text is fits) ∙ ap (refused_by file.ReadPlanned) holds
+
 saved_plan : (at : Holding) (path text : List ℕ) (answer : Answer) → at path ≡ Some text → Holds answer text → plan_at at path ≡ Ok answer
 unfolding plan_at
-saved_plan at path text answer is holds =
-    let fits : length text ≤ max_rule = ltb-false max_rule (length text) (fits_by _ _ answer holds) in
-    ap (λ (it : Result (List ℕ) LoadFault). refused_by Load it >>= λ bytes. refused_by ReadPlanned (answer_of bytes)) (loaded at path text is fits) ∙ ap (refused_by ReadPlanned) holds
+saved_plan at path text answer is holds = ap (refused_by Load) (saved_file at path text answer is holds)
 
 module _ (refine : Option ℕ) (q : Question) (report : Report) (p : Planned) where
   planned_valid : IsOfInputs q.evidence → MayBePlanned refine q (Ok p) → Holds (planned_view p) report.text → IsValidPlan refine q report.text
@@ -190,7 +197,7 @@ module _ (refine : Option ℕ) (q : Question) (report : Report) (p : Planned) wh
     answer = planned_view p;
     holds = holds;
     valid = λ json at path r is told_of.
-        let verdict : IsVerdict false json refine (Ok q) (Ok (planned_view p)) r = subst (λ (it : Result Answer Refusal). IsVerdict false json refine (Ok q) it r) (saved_plan at path report.text (planned_view p) is holds) told_of in
+        let verdict : IsVerdict false json refine (Ok q) (Ok (planned_view p)) r = subst (λ (it : Result Answer RolloutRefusal). IsVerdict false json refine (Ok q) it r) (saved_plan at path report.text (planned_view p) is holds) told_of in
         subst (IsValid json (planned_view p)) (sym verdict.2) (right_on refine q.flags q.request p json (is_some (doubt_of q)) verdict.0 q.evidence of may.answers verdict.1.told);
   }
 

@@ -1,19 +1,17 @@
 -- What was loaded in turn and then told, as one report.
-use Rattle.std.proofs.Common.{◌≡◌, ℕ, Bool, List, Option, Some, None, IfOk, IfSome, subst, sym}
+use Rattle.std.proofs.Common.{◌≡◌, ◌∙◌, ◌||◌, ap, refl, true, false, ℕ, Bool, List, Option, Some, None, IfOk, IfSome, subst, sym}
 use Rattle.std.specs.Prelude.{Result, Ok, Err}
 use Rattle.flag_defs.specs.Document.{Definitions}
 use Rattle.plan_text.specs.Answer.{Answer}
 use Rattle.flagops_rollouts.specs.Apply.{IsApplyReport, IsLocalReport, applied_report}
-use Rattle.flagops_files.specs.Documents.{IsDocumentAt}
+use Rattle.flagops_rollouts.specs.Loaded.{IsDocumentAt, plan_at, IsQuestionAt}
 use Rattle.flagops_shell.specs.Files.{Holding}
 use Rattle.flagops_rollouts.specs.Plan.{IsPlanOf, IsPlanReport}
-use Rattle.flagops_files.specs.PlanFile.{plan_at}
-use Rattle.flagops_files.specs.Question.{Question, IsQuestionAt}
-use Rattle.flagops_files.specs.Refusal.{GivesOne, GivesUnlessWant}
+use Rattle.flagops_rollouts.specs.Refusal.{GivesOne, GivesUnlessWant, Refused, is_file_fault, is_unread, is_want}
+use Rattle.flagops_files.specs.Question.{Question}
 use Rattle.flagops_shell.specs.Report.{outcome_view}
 use Rattle.flagops_rollouts.specs.Verify.{IsVerdict, IsVerifyReport}
 use Rattle.flagops_shell.specs.declared.outcome.Outcome.{Outcome}
-use Rattle.flagops_files.specs.Refusal.{Refused}
 
 -- two loads in turn, of which the first leaves the files as they are
 joined : {P Q R : Holding → Type 0} (old kept : Option Holding) → kept ≡ old → IfSome old P → IfSome kept Q → ((at : Holding) → P at → Q at → R at) → IfSome old R
@@ -34,6 +32,29 @@ module _ (document request book plan : List ℕ) (refine : Option ℕ) (strict j
       → IfSome kept (λ at. plan_at at plan ≡ Ok answer) → GivesOne outcome_view r (IsVerdict strict json refine (Ok q) (Ok answer))
       → IfSome old (λ at. GivesOne outcome_view r (IsVerifyReport at document request book plan refine strict json))
   verified old kept r same asked answered told = joined old kept same asked answered (λ at a b. verified_over at r a b told)
+
+-- a plan file that is refused
+module _ (document request book plan : List ℕ) (refine : Option ℕ) (strict json : Bool) (q : Question) (e : Refused) where
+  unanswered_over : (at : Holding) → IsQuestionAt at document request book (Ok q) → (is_want e.refusal ≡ false → plan_at at plan ≡ Err e.refusal) → is_want e.refusal ≡ false
+      → IsVerifyReport at document request book plan refine strict json (Err e.refusal)
+  unfolding IsVerifyReport
+  unanswered_over at asked refused no_want = (Ok q, asked, rw (refused no_want) refl)
+
+  pub unanswered : (old kept : Option Holding) (r : Result Outcome Refused) → r ≡ Err e → kept ≡ old → IfSome old (λ at. IsQuestionAt at document request book (Ok q))
+      → IfSome kept (λ at. is_want e.refusal ≡ false → plan_at at plan ≡ Err e.refusal) → IfSome old (λ at. GivesOne outcome_view r (IsVerifyReport at document request book plan refine strict json))
+  unanswered old kept r is same asked refused =
+      subst (λ (s : Result Outcome Refused). IfSome old (λ at. GivesOne outcome_view s (IsVerifyReport at document request book plan refine strict json))) (sym is)
+      (joined old kept same asked refused unanswered_over)
+
+-- no file failed until the last of two steps
+or_false : (b : Bool) → (b || false) ≡ b
+or_false true = refl
+or_false false = refl
+
+pub failed_second : {X : Type 0} (start first last : Bool) (e : Refused) (r : Result X Refused) → r ≡ Err e → first ≡ (start || false) → last ≡ (first || is_unread e.refusal) → last ≡ (start || is_file_fault r)
+failed_second {X} start first last e r is a b =
+    let failed : last ≡ (start || is_unread e.refusal) = b ∙ ap (λ (x : Bool). x || is_unread e.refusal) (a ∙ or_false start) in
+    subst (λ (s : Result X Refused). last ≡ (start || is_file_fault s)) (sym is) failed
 
 module _ (document request book : List ℕ) (refine : Option ℕ) (strict explain : Bool) (q : Question) where
   planned_over : (at : Holding) (r : Result Outcome Refused) → IsQuestionAt at document request book (Ok q) → GivesOne outcome_view r (IsPlanOf strict explain refine (Ok q))

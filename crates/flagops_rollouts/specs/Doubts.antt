@@ -11,14 +11,15 @@ use Rattle.flagops_rollouts.specs.Foreign.{is_foreign, is_mixed}
 use Rattle.flagops_rollouts.specs.Unrecorded.{is_bare, is_unrecorded}
 use Rattle.flagops_files.specs.Loading.{max_text}
 use Rattle.flagops_files.specs.Question.{Question}
-use Rattle.flagops_files.specs.Told.{Subjects, file}
+use Rattle.flagops_files.specs.Told.{file}
 use Rattle.flagops_files.specs.declared.evidence.Evidence.TheVariants.{Book}
-use Rattle.flagops_files.specs.declared.refusal.Call.{Call}
-use Rattle.flagops_files.specs.declared.refusal.Doubt.{Doubt}
-use Rattle.flagops_files.specs.declared.refusal.Doubt.TheVariants as doubt
-use Rattle.flagops_files.specs.declared.refusal.Refusal.{Refusal}
-use Rattle.flagops_files.specs.declared.refusal.Refusal.TheVariants.{Doubted}
+use Rattle.flagops_rollouts.specs.Refusal.{Subjects}
+use Rattle.flagops_rollouts.specs.declared.refusal.Doubt.{Doubt}
+use Rattle.flagops_rollouts.specs.declared.refusal.Doubt.TheVariants as doubt
+use Rattle.flagops_rollouts.specs.declared.refusal.RolloutCall.{RolloutCall}
+use Rattle.flagops_rollouts.specs.declared.refusal.RolloutRefusal.{RolloutRefusal}
 use Rattle.file_diagnostics.specs.Named.{Names}
+use Rattle.flagops_rollouts.specs.declared.refusal.RolloutRefusal.TheVariants.{Doubted}
 
 -- a tree has a member that the reader of requests passes over
 abbrev pub has_unread : Result Shape TextFault → Bool
@@ -45,7 +46,7 @@ abbrev pub doubt_of : Question → Option Doubt
 doubt_of q = first_doubt (is_unread q.request) (recorded_doubt (is_unrecorded q) (is_foreign q))
 
 -- whether a person is told of a doubt; with `--strict` the call refuses it
-abbrev pub settle : Call → Bool → Option Doubt → Result Bool Refusal
+abbrev pub settle : RolloutCall → Bool → Option Doubt → Result Bool RolloutRefusal
 settle c false d = Ok (is_some d)
 settle c true None = Ok false
 settle c true (Some d) = Err (Doubted c d)
@@ -60,11 +61,11 @@ NamesDoubt request book doubt.Foreign lines = Names book lines
 abbrev pub NamesDoubted : List ℕ → List ℕ → List ℕ → Type 0
 NamesDoubted request book lines = (d : Doubt) × NamesDoubt request book d lines
 
-abbrev pub is_of_unread : Refusal → Bool
+abbrev pub is_of_unread : RolloutRefusal → Bool
 is_of_unread (Doubted c doubt.Unread) = true
 is_of_unread e = false
 
-abbrev pub is_of_recorded : Refusal → Bool
+abbrev pub is_of_recorded : RolloutRefusal → Bool
 is_of_recorded (Doubted c doubt.Unrecorded) = true
 is_of_recorded (Doubted c doubt.Foreign) = true
 is_of_recorded e = false

@@ -16,14 +16,14 @@ use Rattle.flagops_rollouts.specs.Doubts.{doubt_of, settle}
 use Rattle.flagops_rollouts.specs.Verify.{MayBeTold}
 use Rattle.flagops_shell.specs.Files.{Holding, KeepsOthers, Stores, load_of}
 use Rattle.flagops_files.specs.Loading.{max_text}
-use Rattle.flagops_files.specs.PlanFile.{plan_at}
-use Rattle.flagops_files.specs.Question.{Question, IsQuestionAt}
-use Rattle.flagops_files.specs.Refusal.{unwritable}
-use Rattle.flagops_files.specs.Report.{Outcomes, beside, done}
-use Rattle.flagops_files.specs.declared.keeping.KeepRefusal.TheVariants.{Verify, Document}
-use Rattle.flagops_files.specs.declared.refusal.Call.TheVariants as call
-use Rattle.flagops_files.specs.declared.refusal.Refusal.{Refusal}
-use Rattle.flagops_files.specs.declared.refusal.Refusal.TheVariants.{Apply, Keep}
+use Rattle.flagops_rollouts.specs.Loaded.{plan_at, IsQuestionAt}
+use Rattle.flagops_files.specs.Question.{Question}
+use Rattle.flagops_rollouts.specs.Refusal.{unwritable, Outcomes}
+use Rattle.flagops_shell.specs.Outcomes.{beside, done}
+use Rattle.flagops_rollouts.specs.declared.keep_refusal.KeepRefusal.TheVariants.{Verify, Document}
+use Rattle.flagops_rollouts.specs.declared.refusal.RolloutCall.TheVariants as call
+use Rattle.flagops_rollouts.specs.declared.refusal.RolloutRefusal.{RolloutRefusal}
+use Rattle.flagops_rollouts.specs.declared.refusal.RolloutRefusal.TheVariants.{Apply, Keep}
 
 -- ---- the document
 
@@ -39,36 +39,36 @@ abbrev pub some_view : Vec ℕ Global → Kept
 some_view v = Some v.items
 
 -- The document with the rule in place of the buckets at a place and all else as it was, which means these flags; or a refusal.
-abbrev pub IsEdited : List ℕ → SitePlace → Entries → Definitions → Result Kept Refusal → Type 0
+abbrev pub IsEdited : List ℕ → SitePlace → Entries → Definitions → Result Kept RolloutRefusal → Type 0
 IsEdited document place rule wanted (Ok None) = ⊥
 IsEdited document place rule wanted (Ok (Some text)) = KeptAt document place rule text × DocumentMeans text (Ok wanted)
 IsEdited document place rule wanted (Err e) = (fault : KeepFault) × IsRefused document place rule wanted fault × (e ≡ Keep (Document fault))
 
 -- the flags that are wanted are those that `apply` gives
-abbrev pub IsEditedTo : List ℕ → SitePlace → Entries → Result Definitions RolloutFault → Result Kept Refusal → Type 0
+abbrev pub IsEditedTo : List ℕ → SitePlace → Entries → Result Definitions RolloutFault → Result Kept RolloutRefusal → Type 0
 IsEditedTo document place rule (Err e) r = r ≡ Err (Apply e)
 IsEditedTo document place rule (Ok wanted) r = IsEdited document place rule wanted r
 
 -- the document with the rule at a site
-abbrev pub IsKeptAt : List ℕ → Definitions → List ℕ → ℕ → Entries → Result Kept Refusal → Type 0
+abbrev pub IsKeptAt : List ℕ → Definitions → List ℕ → ℕ → Entries → Result Kept RolloutRefusal → Type 0
 IsKeptAt document flags key site rule r = IsEditedTo document (place_in document flags key site) rule (applied flags key site rule) r
 
 -- at the site of a request
-abbrev pub IsKeptFor : List ℕ → Question → Entries → Result Kept Refusal → Type 0
+abbrev pub IsKeptFor : List ℕ → Question → Entries → Result Kept RolloutRefusal → Type 0
 IsKeptFor document q rule r = (asked : Asked) × (asked_of q.request ≡ Ok asked) × IsKeptAt document q.flags asked.flag asked.site rule r
 
 -- by a right answer
-abbrev pub IsKeptWith : List ℕ → Question → Answer → Result Kept Refusal → Type 0
+abbrev pub IsKeptWith : List ℕ → Question → Answer → Result Kept RolloutRefusal → Type 0
 IsKeptWith document q (emit rule c) r = IsKeptFor document q rule r
 IsKeptWith document q (none_exists kind names) r = r ≡ Ok None
 
 -- An answer that is not right changes nothing.
-abbrev pub IsKeptBy : List ℕ → Question → Answer → Result (Unit {0}) VerifyFault → Result Kept Refusal → Type 0
+abbrev pub IsKeptBy : List ℕ → Question → Answer → Result (Unit {0}) VerifyFault → Result Kept RolloutRefusal → Type 0
 IsKeptBy document q answer (Err e) r = r ≡ Err (Keep (Verify e))
 IsKeptBy document q answer (Ok u) r = IsKeptWith document q answer r
 
 -- What may become of the document by an answer. Where it is right its rule costs the recorded inputs the least of all that fit.
-abbrev pub MayBeKept : Option ℕ → List ℕ → Question → Answer → Result Kept Refusal → Type 0
+abbrev pub MayBeKept : Option ℕ → List ℕ → Question → Answer → Result Kept RolloutRefusal → Type 0
 MayBeKept refine document q answer r = (verdict : Result (Unit {0}) VerifyFault) × MayBeTold refine q answer verdict × IsKeptBy document q answer verdict r
 
 -- ---- the report
@@ -93,7 +93,7 @@ IsKeptPut at after path write told None r = (r ≡ beside told (Ok none_report))
 IsKeptPut at after path write told (Some text) r = IsTextPut at after path write told text r
 
 -- Nor where it is refused, or doubted and `--strict` refuses that.
-abbrev pub IsPut : Holding → Option Holding → List ℕ → Bool → Result Bool Refusal → Result Kept Refusal → Outcomes
+abbrev pub IsPut : Holding → Option Holding → List ℕ → Bool → Result Bool RolloutRefusal → Result Kept RolloutRefusal → Outcomes
 IsPut at after path write settled (Err e) r = (r ≡ Err e) × (after ≡ Some at)
 IsPut at after path write (Err e) (Ok kept) r = (r ≡ Err e) × (after ≡ Some at)
 IsPut at after path write (Ok told) (Ok kept) r = IsKeptPut at after path write told kept r
@@ -101,10 +101,10 @@ IsPut at after path write (Ok told) (Ok kept) r = IsKeptPut at after path write 
 -- The same, of what becomes of the document. A person is told of a doubt.
 abbrev pub IsKeepWith : Holding → Option Holding → List ℕ → Bool → Bool → Option ℕ → List ℕ → Question → Answer → Outcomes
 IsKeepWith at after path write strict refine document q answer r =
-    (kept : Result Kept Refusal) × MayBeKept refine document q answer kept × IsPut at after path write (settle call.Apply strict (doubt_of q)) kept r
+    (kept : Result Kept RolloutRefusal) × MayBeKept refine document q answer kept × IsPut at after path write (settle call.Apply strict (doubt_of q)) kept r
 
 -- The same over what was read.
-abbrev pub IsKeepOf : Holding → Option Holding → List ℕ → Bool → Bool → Option ℕ → Result Question Refusal → Result Answer Refusal → Outcomes
+abbrev pub IsKeepOf : Holding → Option Holding → List ℕ → Bool → Bool → Option ℕ → Result Question RolloutRefusal → Result Answer RolloutRefusal → Outcomes
 IsKeepOf at after path write strict refine (Err e) answer r = (r ≡ Err e) × (after ≡ Some at)
 IsKeepOf at after path write strict refine (Ok q) (Err e) r = (r ≡ Err e) × (after ≡ Some at)
 IsKeepOf at after path write strict refine (Ok q) (Ok answer) r =
@@ -112,7 +112,7 @@ IsKeepOf at after path write strict refine (Ok q) (Ok answer) r =
 
 unfoldable pub IsKeepReport : Holding → Option Holding → List ℕ → List ℕ → List ℕ → List ℕ → Bool → Option ℕ → Bool → Outcomes
 IsKeepReport at after document plan request book write refine strict r =
-    (question : Result Question Refusal) × IsQuestionAt at document request book question × IsKeepOf at after document write strict refine question (plan_at at plan) r
+    (question : Result Question RolloutRefusal) × IsQuestionAt at document request book question × IsKeepOf at after document write strict refine question (plan_at at plan) r
 
 -- The files stay as they are; or they are to be written, and the document alone changes.
 abbrev pub LeavesDocument : Option Holding → Option Holding → List ℕ → Bool → Type 0

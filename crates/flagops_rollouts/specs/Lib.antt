@@ -1,10 +1,15 @@
 pub mod Apply
 pub mod Calls
 pub mod Doubts
+pub mod FileLines
 pub mod Foreign
 pub mod Keep
+pub mod Keeping
+pub mod Loaded
 pub mod Passed
+pub mod Payload
 pub mod Plan
+pub mod Refusal
 pub mod Subjects
 pub mod Tallies
 pub mod Unrecorded

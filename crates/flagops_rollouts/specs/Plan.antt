@@ -11,16 +11,17 @@ use Rattle.rollout_checks.specs.declared.fault.RolloutFault.{RolloutFault}
 use Rattle.rollout_checks.specs.declared.refining.Refining.TheVariants.{Times}
 use Rattle.plan_text.specs.declared.planned.Planned.{Planned}
 use Rattle.flagops_shell.specs.Files.{Holding}
-use Rattle.flagops_files.specs.Loading.{◌>>=◌, refused_by}
-use Rattle.flagops_files.specs.Question.{Question, IsQuestionAt}
-use Rattle.flagops_files.specs.Report.{Outcomes, beside}
+use Rattle.flagops_shell.specs.Outcomes.{◌>>=◌, refused_by, beside}
+use Rattle.flagops_files.specs.Question.{Question}
+use Rattle.flagops_rollouts.specs.Loaded.{IsQuestionAt}
 use Rattle.flagops_shell.specs.Report.{Report}
 use Rattle.flagops_rollouts.specs.Doubts.{doubt_of, settle}
-use Rattle.flagops_files.specs.declared.refusal.Call.TheVariants as call
+use Rattle.flagops_rollouts.specs.declared.refusal.RolloutCall.TheVariants as call
 use Rattle.flagops_files.specs.declared.evidence.Evidence.{Evidence}
 use Rattle.flagops_files.specs.declared.evidence.Evidence.TheVariants.{Book, Tally}
-use Rattle.flagops_files.specs.declared.refusal.Refusal.{Refusal}
-use Rattle.flagops_files.specs.declared.refusal.Refusal.TheVariants.{Plan, PrintPlanned}
+use Rattle.flagops_rollouts.specs.Refusal.{Outcomes}
+use Rattle.flagops_rollouts.specs.declared.refusal.RolloutRefusal.{RolloutRefusal}
+use Rattle.flagops_rollouts.specs.declared.refusal.RolloutRefusal.TheVariants.{Plan, PrintPlanned}
 
 -- 3 where no rule fits
 abbrev pub plan_status : Answer → ℕ
@@ -28,11 +29,11 @@ plan_status (emit rule c) = 0
 plan_status (none_exists kind names) = 3
 
 -- the plan file of the answer, as a line
-abbrev pub plan_report : Answer → Result Report Refusal
+abbrev pub plan_report : Answer → Result Report RolloutRefusal
 plan_report answer = refused_by PrintPlanned (plan_line answer) >>= λ text. Ok (record { text = text; status = plan_status answer; is_told = false })
 
 -- the report of what was planned, beside which a person is told of a doubt, or of the plan in words where that is asked for
-abbrev pub report_planned : Bool → Result Bool Refusal → Result Planned RolloutFault → Result Report Refusal
+abbrev pub report_planned : Bool → Result Bool RolloutRefusal → Result Planned RolloutFault → Result Report RolloutRefusal
 report_planned explain settled planned = refused_by Plan planned >>= λ p. settled >>= λ told. beside (explain || told) (plan_report (planned_view p))
 
 -- What is planned on the rule refined by a factor, least over the recorded inputs: over those of a book, or over all inputs of
@@ -55,17 +56,17 @@ abbrev pub Holds : Answer → List ℕ → Type 0
 Holds answer text = answer_of text ≡ Ok answer
 
 -- what is printed of an answer reads back as the answer
-abbrev pub ReadsBack : Result Planned RolloutFault → Result Report Refusal → Type 0
+abbrev pub ReadsBack : Result Planned RolloutFault → Result Report RolloutRefusal → Type 0
 ReadsBack (Err e) r = Unit {0}
 ReadsBack (Ok p) (Err e) = Unit {0}
 ReadsBack (Ok p) (Ok report) = Holds (planned_view p) report.text
 
 -- what was planned, unless it is doubted and `--strict` refuses that
-abbrev pub IsPlanOf : Bool → Bool → Option ℕ → Result Question Refusal → Outcomes
+abbrev pub IsPlanOf : Bool → Bool → Option ℕ → Result Question RolloutRefusal → Outcomes
 IsPlanOf strict explain refine (Err e) r = r ≡ Err e
 IsPlanOf strict explain refine (Ok q) r =
     (planned : Result Planned RolloutFault) × MayBePlanned refine q planned × (r ≡ report_planned explain (settle call.Plan strict (doubt_of q)) planned) × ReadsBack planned r
 
 unfoldable pub IsPlanReport : Holding → List ℕ → List ℕ → List ℕ → Option ℕ → Bool → Bool → Outcomes
 IsPlanReport at document request book refine strict explain r =
-    (question : Result Question Refusal) × IsQuestionAt at document request book question × IsPlanOf strict explain refine question r
+    (question : Result Question RolloutRefusal) × IsQuestionAt at document request book question × IsPlanOf strict explain refine question r

@@ -1,24 +1,24 @@
 -- What a person is told of a refusal of a command on rollouts: the files at its paths and its words stand here, each with the
 -- refusals that are of it.
 use Rattle.std.specs.Prelude.{ℕ, Bool, true, false, List, [], ◌∷◌, ◌++◌, codes}
-use Rattle.flagops_files.specs.Question.{question_subjects}
-use Rattle.flagops_files.specs.Refusal.{loads_flags, loads_plan, stores_file}
-use Rattle.flagops_files.specs.Told.{Subjects, by, file, word}
-use Rattle.flagops_files.specs.declared.keeping.KeepRefusal.TheVariants as keeping
-use Rattle.flagops_files.specs.declared.refusal.Refusal.{Refusal}
-use Rattle.flagops_files.specs.declared.refusal.Refusal.TheVariants.{Plan, PrintPlanned, Verify, Apply, Keep}
+use Rattle.flagops_rollouts.specs.Loaded.{question_subjects}
+use Rattle.flagops_rollouts.specs.Refusal.{loads_flags, loads_plan, stores_file, Subjects, by}
+use Rattle.flagops_files.specs.Told.{file, word}
+use Rattle.flagops_rollouts.specs.declared.keep_refusal.KeepRefusal.TheVariants as keeping
+use Rattle.flagops_rollouts.specs.declared.refusal.RolloutRefusal.{RolloutRefusal}
+use Rattle.flagops_rollouts.specs.declared.refusal.RolloutRefusal.TheVariants.{Plan, PrintPlanned, Verify, Apply, Keep}
 use Rattle.file_diagnostics.specs.Named.{Names}
 use Rattle.flagops_rollouts.specs.Doubts.{doubt_subjects}
 use Rattle.rollout_checks.specs.declared.verify_fault.VerifyFault.{VerifyFault}
 use Rattle.rollout_checks.specs.declared.verify_fault.VerifyFault.TheVariants as verdict
 
 -- a plan is refused as no answer to its request, or the request itself
-abbrev pub is_of_request : Refusal → Bool
+abbrev pub is_of_request : RolloutRefusal → Bool
 is_of_request (Verify (verdict.Request e)) = true
 is_of_request (Plan e) = true
 is_of_request e = false
 
-abbrev pub is_of_answer : Refusal → Bool
+abbrev pub is_of_answer : RolloutRefusal → Bool
 is_of_answer (Verify (verdict.Check e)) = true
 is_of_answer e = by loads_plan e
 
@@ -31,7 +31,7 @@ NamesVerified request answer (verdict.Request e) lines = Names request lines
 NamesVerified request answer (verdict.Check e) lines = Names answer lines
 
 -- a plan is refused as a file, or where its rule is put
-abbrev pub is_of_plan : Refusal → Bool
+abbrev pub is_of_plan : RolloutRefusal → Bool
 is_of_plan (Apply e) = true
 is_of_plan e = by loads_plan e
 
@@ -39,15 +39,15 @@ abbrev pub apply_subjects : List ℕ → List ℕ → Subjects
 apply_subjects document answer = (file document, by loads_flags) ∷ (file answer, is_of_plan) ∷ []
 
 -- a document that is to keep what else it has is refused with its request, with its plan, or by itself
-abbrev pub is_of_kept_request : Refusal → Bool
+abbrev pub is_of_kept_request : RolloutRefusal → Bool
 is_of_kept_request (Keep (keeping.Verify (verdict.Request e))) = true
 is_of_kept_request e = false
 
-abbrev pub is_of_kept_answer : Refusal → Bool
+abbrev pub is_of_kept_answer : RolloutRefusal → Bool
 is_of_kept_answer (Keep (keeping.Verify (verdict.Check e))) = true
 is_of_kept_answer e = is_of_plan e
 
-abbrev pub is_of_kept_document : Refusal → Bool
+abbrev pub is_of_kept_document : RolloutRefusal → Bool
 is_of_kept_document (Keep (keeping.Document e)) = true
 is_of_kept_document e = by stores_file e
 
@@ -56,7 +56,7 @@ keep_subjects document answer request book =
     question_subjects document request book ++ (file request, is_of_kept_request) ∷ (file answer, is_of_kept_answer) ∷ (file document, is_of_kept_document) ∷ doubt_subjects request book
 
 -- a plan that is too large to be printed
-abbrev pub is_of_size : Refusal → Bool
+abbrev pub is_of_size : RolloutRefusal → Bool
 is_of_size (PrintPlanned e) = true
 is_of_size e = false
 

@@ -6,14 +6,13 @@ use Rattle.plan_text.specs.Answer.{Answer}
 use Rattle.flagops_rollouts.specs.Plan.{Holds, IsPlanOf}
 use Rattle.flagops_rollouts.specs.Verify.{IsVerdict, valid_as}
 use Rattle.flagops_shell.specs.Files.{Holding}
-use Rattle.flagops_files.specs.PlanFile.{plan_at}
+use Rattle.flagops_rollouts.specs.Loaded.{plan_at}
 use Rattle.flagops_files.specs.Question.{Question}
 use Rattle.flagops_files.specs.declared.evidence.Evidence.{Evidence}
 use Rattle.flagops_files.specs.declared.evidence.Evidence.TheVariants.{Book, Tally}
-use Rattle.flagops_files.specs.Refusal.{is_want}
-use Rattle.flagops_files.specs.Report.{Outcomes}
+use Rattle.flagops_rollouts.specs.Refusal.{is_want, Outcomes}
+use Rattle.flagops_rollouts.specs.declared.refusal.RolloutRefusal.{RolloutRefusal}
 use Rattle.flagops_shell.specs.Report.{Report}
-use Rattle.flagops_files.specs.declared.refusal.Refusal.{Refusal}
 
 -- what is printed of a valid answer, unless memory ran out
 abbrev pub IsValid : Bool → Answer → Outcomes
@@ -24,7 +23,7 @@ IsValid json answer (Err e) = is_want e ≡ true
 pub record IsValidPlan (refine : Option ℕ) (q : Question) (text : List ℕ) : Type 0 where
   pub answer : Answer
   pub holds : Holds answer text
-  pub valid : (json : Bool) (at : Holding) (path : List ℕ) (told : Result Report Refusal) → at path ≡ Some text → IsVerdict false json refine (Ok q) (plan_at at path) told → IsValid json answer told
+  pub valid : (json : Bool) (at : Holding) (path : List ℕ) (told : Result Report RolloutRefusal) → at path ≡ Some text → IsVerdict false json refine (Ok q) (plan_at at path) told → IsValid json answer told
 
 -- it is the evidence of some inputs: a book is that of its own, and of a tally there are inputs of which so many fall on each point
 abbrev pub IsOfInputs : Evidence → Type 0

@@ -10,17 +10,17 @@ use Rattle.rollout_checks.specs.declared.refining.Refining.TheVariants.{Times}
 use Rattle.rollout_checks.specs.declared.verify_fault.VerifyFault.{VerifyFault}
 use Rattle.tally_core.specs.Tally.{PageTally}
 use Rattle.flagops_shell.specs.Files.{Holding}
-use Rattle.flagops_files.specs.Loading.{◌>>=◌, refused_by}
-use Rattle.flagops_files.specs.PlanFile.{plan_at}
-use Rattle.flagops_files.specs.Question.{Question, IsQuestionAt}
-use Rattle.flagops_files.specs.Report.{Outcomes, beside, done}
+use Rattle.flagops_shell.specs.Outcomes.{◌>>=◌, refused_by, beside, done}
+use Rattle.flagops_rollouts.specs.Loaded.{plan_at, IsQuestionAt}
+use Rattle.flagops_files.specs.Question.{Question}
+use Rattle.flagops_rollouts.specs.Refusal.{Outcomes}
 use Rattle.flagops_shell.specs.Report.{Report}
 use Rattle.flagops_rollouts.specs.Doubts.{doubt_of, settle}
-use Rattle.flagops_files.specs.declared.refusal.Call.TheVariants as call
+use Rattle.flagops_rollouts.specs.declared.refusal.RolloutCall.TheVariants as call
 use Rattle.flagops_files.specs.declared.evidence.Evidence.{Evidence}
 use Rattle.flagops_files.specs.declared.evidence.Evidence.TheVariants.{Book, Tally}
-use Rattle.flagops_files.specs.declared.refusal.Refusal.{Refusal}
-use Rattle.flagops_files.specs.declared.refusal.Refusal.TheVariants.{Verify}
+use Rattle.flagops_rollouts.specs.declared.refusal.RolloutRefusal.{RolloutRefusal}
+use Rattle.flagops_rollouts.specs.declared.refusal.RolloutRefusal.TheVariants.{Verify}
 
 -- what a valid answer proves: the cost of its rule, or that there is none
 unfoldable pub valid_text : Answer → List ℕ
@@ -37,7 +37,7 @@ abbrev pub valid_as : Bool → Answer → List ℕ
 valid_as json answer = if json then valid_json answer else valid_text answer
 
 -- the report of what is told of an answer, beside which a person is told more, or not
-abbrev pub told : Bool → Result Bool Refusal → Answer → Result (Unit {0}) VerifyFault → Result Report Refusal
+abbrev pub told : Bool → Result Bool RolloutRefusal → Answer → Result (Unit {0}) VerifyFault → Result Report RolloutRefusal
 told json settled answer verdict = refused_by Verify verdict >>= λ _. settled >>= λ noted. beside noted (done (valid_as json answer))
 
 -- what an answer is checked against on a tally: the rule refined as on a book
@@ -62,7 +62,7 @@ pub record MayBeTold (refine : Option ℕ) (q : Question) (answer : Answer) (ver
   pub shown : OnOk verdict (IsShownOn refine answer q.flags q.request q.evidence)
 
 -- its report, unless it is doubted and `--strict` refuses that; the answer is asked for where there is a question
-abbrev pub IsVerdict : Bool → Bool → Option ℕ → Result Question Refusal → Result Answer Refusal → Outcomes
+abbrev pub IsVerdict : Bool → Bool → Option ℕ → Result Question RolloutRefusal → Result Answer RolloutRefusal → Outcomes
 IsVerdict strict json refine (Err e) answer r = r ≡ Err e
 IsVerdict strict json refine (Ok q) (Err e) r = r ≡ Err e
 IsVerdict strict json refine (Ok q) (Ok answer) r =
@@ -70,4 +70,4 @@ IsVerdict strict json refine (Ok q) (Ok answer) r =
 
 unfoldable pub IsVerifyReport : Holding → List ℕ → List ℕ → List ℕ → List ℕ → Option ℕ → Bool → Bool → Outcomes
 IsVerifyReport at document request book plan refine strict json r =
-    (question : Result Question Refusal) × IsQuestionAt at document request book question × IsVerdict strict json refine question (plan_at at plan) r
+    (question : Result Question RolloutRefusal) × IsQuestionAt at document request book question × IsVerdict strict json refine question (plan_at at plan) r

@@ -4,14 +4,15 @@ ghost use Rattle.flag_defs.specs.Flags.{flags_view};
 ghost use Rattle.plan_text.specs.Answer.{planned_view};
 ghost use Rattle.flagops_rollouts.specs.Apply.{IsApplyReport, IsLocalReport, applied_report, document_line, none_report};
 ghost use Rattle.flagops_rollouts.specs.Calls.{apply_calls, apply_itself};
-ghost use Rattle.flagops_files.specs.Refusal.{ComesFrom, GivesOne, GivesUnlessWant, is_file_fault};
-ghost use Rattle.flagops_files.specs.Report.{done};
+ghost use Rattle.flagops_rollouts.specs.Refusal.{ComesFrom, GivesOne, GivesUnlessWant, is_file_fault, TellsOfOne};
+ghost use Rattle.flagops_shell.specs.Outcomes.{done};
 ghost use Rattle.flagops_shell.specs.Report.{outcome_view};
-ghost use Rattle.flagops_files.specs.Told.{TellsOfOne, file};
+ghost use Rattle.flagops_files.specs.Told.{file};
 ghost use Rattle.flagops_rollouts.specs.Subjects.{apply_subjects, is_of_plan};
 
+use crate::loading::{load_flags, load_planned};
+use crate::refusal::{Refused, RolloutCall, RolloutRefusal, out_of_memory};
 use flag_defs::{Flags, print_flags};
-use flagops_files::{Call, Refusal, Refused, load_flags, load_planned, out_of_memory};
 use flagops_shell::{FileSet, Outcome, Remark, Status};
 use plan_text::Planned;
 use rollout_diagnostics::of_applied;
@@ -59,7 +60,7 @@ fn applied(
             match rollout::apply(alloc, flags, key, site, rule) {
                 Ok(changed) => document(alloc, &changed),
                 Err(fault) => Err(Refused {
-                    refusal: Refusal::Apply(fault),
+                    refusal: RolloutRefusal::Apply(fault),
                     remark: Remark::of(of_applied(alloc, path, flags, key, site, rule, fault)),
                 }),
             }
@@ -76,7 +77,7 @@ fn document(alloc: Global, flags: &Flags) -> Result<Outcome, Refused>
 {
     match document_line(alloc, flags) {
         Ok(text) => Ok(Outcome::plain(text, Status::Done)),
-        Err(AllocError) => Err(out_of_memory(Call::Apply)),
+        Err(AllocError) => Err(out_of_memory(RolloutCall::Apply)),
     }
 }
 
@@ -88,7 +89,7 @@ fn none(alloc: Global) -> Result<Outcome, Refused>
 {
     match Vec::from_slice(alloc, b"none\n") {
         Ok(text) => Ok(Outcome::plain(text, Status::NoneExists)),
-        Err(AllocError) => Err(out_of_memory(Call::Apply)),
+        Err(AllocError) => Err(out_of_memory(RolloutCall::Apply)),
     }
 }
 

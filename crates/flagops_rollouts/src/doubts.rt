@@ -3,15 +3,15 @@ ghost use Rattle.std.specs.Prelude.{◌≡◌, false, is_some, IfErr, IfOk, IfSo
 ghost use Rattle.flagops_rollouts.specs.Doubts.{NamesDoubt, NamesDoubted, doubt_of, doubt_subjects, first_doubt, has_unread, is_unread, settle};
 ghost use Rattle.flag_text.specs.View.{view};
 ghost use Rattle.flagops_files.specs.Question.{question_view};
-ghost use Rattle.flagops_files.specs.Refusal.{GivesUnlessWant, call_of, is_file_fault};
-ghost use Rattle.flagops_files.specs.Told.{TellsOfOne};
+ghost use Rattle.flagops_rollouts.specs.Refusal.{GivesUnlessWant, call_of, is_file_fault, TellsOfOne};
 ghost use Rattle.flagops_shell.specs.Diagnostic.{Says};
 ghost use Rattle.file_diagnostics.specs.Named.{Names};
 
 use crate::recorded::doubt_of_recorded;
+use crate::refusal::{Doubt, Refused, RolloutCall, RolloutRefusal, out_of_memory};
 use file_diagnostics::of_unread;
 use flag_text::{TextFault, Tree, read_tree};
-use flagops_files::{Call, Doubt, Question, Refusal, Refused, TEXT_LIMIT, out_of_memory};
+use flagops_files::{Question, TEXT_LIMIT};
 use flagops_shell::Remark;
 use rollout_checks::RequestFile;
 use std::alloc::{AllocError, Global};
@@ -30,7 +30,7 @@ pub struct NotedDoubt {
 pub fn settled<R: Threads>(
     rt: &R,
     alloc: Global,
-    call: Call,
+    call: RolloutCall,
     request: &str,
     book: &str,
     question: &Question,
@@ -51,7 +51,7 @@ pub fn settled<R: Threads>(
 /// The remark on a doubt, or its refusal.
 #[tactic(auto, using(crate::proofs::Doubting::said, crate::proofs::Doubting::named))]
 fn settle(
-    call: Call,
+    call: RolloutCall,
     request: &str,
     book: &str,
     doubted: Option<NotedDoubt>,
@@ -67,7 +67,7 @@ fn settle(
     match doubted {
         Some(NotedDoubt { doubt, remark }) => if strict {
             Err(Refused {
-                refusal: Refusal::Doubted(call, doubt),
+                refusal: RolloutRefusal::Doubted(call, doubt),
                 remark,
             })
         } else {

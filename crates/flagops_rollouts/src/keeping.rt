@@ -9,18 +9,20 @@ ghost use Rattle.flagops_rollouts.specs.Subjects.{is_of_kept_answer, is_of_kept_
 ghost use Rattle.flagops_rollouts.specs.Doubts.{NamesDoubted, doubt_subjects};
 ghost use Rattle.flagops_shell.specs.Files.{KeepsOthers};
 ghost use Rattle.flagops_files.specs.Question.{question_view};
-ghost use Rattle.flagops_files.specs.Refusal.{ComesFrom, GivesOne, GivesUnlessWant, is_file_fault};
-ghost use Rattle.flagops_files.specs.Report.{beside};
+ghost use Rattle.flagops_rollouts.specs.Refusal.{ComesFrom, GivesOne, GivesUnlessWant, is_file_fault, TellsOfOne};
+ghost use Rattle.flagops_shell.specs.Outcomes.{beside};
 ghost use Rattle.flagops_shell.specs.Report.{outcome_view};
-ghost use Rattle.flagops_files.specs.Told.{TellsOfOne, file};
+ghost use Rattle.flagops_files.specs.Told.{file};
 ghost use Rattle.flagops_shell.specs.Diagnostic.{Says};
-ghost use Rattle.flagops_files.specs.declared.refusal.Call.TheVariants.{Apply};
-ghost use Rattle.flagops_files.specs.declared.refusal.Refusal.TheVariants.{WantOfMemory};
+ghost use Rattle.flagops_rollouts.specs.declared.refusal.RolloutCall.TheVariants.{Apply};
+ghost use Rattle.flagops_rollouts.specs.declared.refusal.RolloutRefusal.TheVariants.{WantOfMemory};
 
 use crate::doubts::settled;
 use crate::kept::kept;
+use crate::loading::{load_planned, load_question, store};
+use crate::refusal::{Refused, RolloutCall, out_of_memory};
 use crate::verifying::Paths;
-use flagops_files::{Call, Question, Refused, load_planned, load_question, out_of_memory, store};
+use flagops_files::Question;
 use flagops_shell::{FileSet, Outcome, Remark, Status};
 use flagops_words::{Factor, factor_of};
 use plan_text::Planned;
@@ -85,7 +87,15 @@ fn answer<F: FileSet>(
 {
     let text = kept(rt, alloc, document, paths, question, planned, refine)?;
     let (request, book) = (paths.request, paths.book);
-    let remark = settled(rt, alloc, Call::Apply, request, book, question, strict)?;
+    let remark = settled(
+        rt,
+        alloc,
+        RolloutCall::Apply,
+        request,
+        book,
+        question,
+        strict,
+    )?;
     put(alloc, files, document, write, text, remark)
 }
 
@@ -134,7 +144,7 @@ fn none(alloc: Global, remark: Option<Remark>) -> Result<Outcome, Refused>
             status: Status::NoneExists,
             remark,
         }),
-        Err(AllocError) => Err(out_of_memory(Call::Apply)),
+        Err(AllocError) => Err(out_of_memory(RolloutCall::Apply)),
     }
 }
 
@@ -170,7 +180,7 @@ fn written_line(alloc: Global, count: usize) -> Result<String, Refused>
 {
     match written_text(alloc, count) {
         Ok(line) => Ok(line),
-        Err(AllocError) => Err(out_of_memory(Call::Apply)),
+        Err(AllocError) => Err(out_of_memory(RolloutCall::Apply)),
     }
 }
 

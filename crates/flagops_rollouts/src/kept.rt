@@ -9,13 +9,15 @@ ghost use Rattle.flagops_rollouts.specs.Calls.{apply_itself};
 ghost use Rattle.flagops_rollouts.specs.Keep.{IsEdited, IsKeptAt, IsKeptFor, MayBeKept, kept_view, some_view};
 ghost use Rattle.flagops_rollouts.specs.Subjects.{is_of_kept_answer, is_of_kept_document, is_of_kept_request};
 ghost use Rattle.flagops_files.specs.Question.{question_view};
-ghost use Rattle.flagops_files.specs.Refusal.{ComesFrom, GivesOne, is_file_fault};
-ghost use Rattle.flagops_files.specs.Told.{TellsOf, TellsOfOne, file};
+ghost use Rattle.flagops_rollouts.specs.Refusal.{ComesFrom, GivesOne, is_file_fault, TellsOf, TellsOfOne};
+ghost use Rattle.flagops_files.specs.Told.{file};
 
+use crate::keep_refusal::KeepRefusal;
+use crate::refusal::{Refused, RolloutRefusal};
 use crate::verifying::{Paths, lines_on, verified};
 use bucket_core::Rule;
 use flag_defs::Flags;
-use flagops_files::{KeepRefusal, Question, Refusal, Refused};
+use flagops_files::Question;
 use flagops_shell::Remark;
 use flagops_words::Factor;
 use kept_document::{KeepFault, keep};
@@ -52,7 +54,7 @@ pub fn kept(
         Err(fault) => {
             let lines = lines_on(alloc, paths, question, planned, refine, &fault);
             Err(Refused {
-                refusal: Refusal::Keep(KeepRefusal::Verify(fault)),
+                refusal: RolloutRefusal::Keep(KeepRefusal::Verify(fault)),
                 remark: Remark::of(lines),
             })
         }
@@ -112,7 +114,7 @@ fn kept_at(
     match rollout::apply(alloc, flags, key, site, rule) {
         Ok(wanted) => edited(alloc, document, bytes, flags, key, site, rule, &wanted),
         Err(fault) => Err(Refused {
-            refusal: Refusal::Apply(fault),
+            refusal: RolloutRefusal::Apply(fault),
             remark: Remark::of(of_applied(alloc, plan, flags, key, site, rule, fault)),
         }),
     }
@@ -138,7 +140,7 @@ fn edited(
     match kept_text(alloc, bytes, flags, key, site, rule, wanted) {
         Ok(text) => Ok(text),
         Err(fault) => Err(Refused {
-            refusal: Refusal::Keep(KeepRefusal::Document(fault)),
+            refusal: RolloutRefusal::Keep(KeepRefusal::Document(fault)),
             remark: Remark::of(of_kept(alloc, document, bytes, flags, key, site, fault)),
         }),
     }

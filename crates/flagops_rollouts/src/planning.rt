@@ -6,10 +6,10 @@ ghost use Rattle.flagops_rollouts.specs.Plan.{Holds, IsPlanOf, IsPlanReport, IsP
 ghost use Rattle.flag_defs.specs.Flags.{flags_view};
 ghost use Rattle.flagops_files.specs.Question.{question_view};
 ghost use Rattle.flagops_rollouts.specs.Calls.{plan_calls, prints_plan};
-ghost use Rattle.flagops_files.specs.Refusal.{ComesFrom, GivesOne, GivesUnlessWant, is_file_fault};
-ghost use Rattle.flagops_files.specs.Report.{beside};
+ghost use Rattle.flagops_rollouts.specs.Refusal.{ComesFrom, GivesOne, GivesUnlessWant, is_file_fault, TellsOfOne};
+ghost use Rattle.flagops_shell.specs.Outcomes.{beside};
 ghost use Rattle.flagops_shell.specs.Report.{outcome_view, status_number};
-ghost use Rattle.flagops_files.specs.Told.{TellsOfOne, file, word};
+ghost use Rattle.flagops_files.specs.Told.{file, word};
 ghost use Rattle.flagops_shell.specs.Diagnostic.{Says};
 ghost use Rattle.flagops_rollouts.specs.Subjects.{is_of_request, is_of_size, plan_subjects, the_plan};
 ghost use Rattle.flagops_rollouts.specs.Doubts.{NamesDoubted, doubt_subjects};
@@ -17,8 +17,10 @@ ghost use Rattle.file_diagnostics.specs.Named.{Names};
 
 use crate::doubts::settled;
 use crate::explained::told;
+use crate::loading::load_question;
+use crate::refusal::{Refused, RolloutCall, RolloutRefusal};
 use flag_defs::Flags;
-use flagops_files::{Call, Evidence, Question, Refusal, Refused, load_question};
+use flagops_files::{Evidence, Question};
 use flagops_shell::{FileSet, Outcome, Remark, Status};
 use flagops_words::{Factor, factor_of};
 use plan_text::{Planned, print_planned_line};
@@ -80,12 +82,20 @@ pub fn answer(
         Err(fault) => {
             let lines = lines_on_request(alloc, request, book, question, refine, fault);
             return Err(Refused {
-                refusal: Refusal::Plan(fault),
+                refusal: RolloutRefusal::Plan(fault),
                 remark: Remark::of(lines),
             });
         }
     };
-    let noted = settled(rt, alloc, Call::Plan, request, book, question, strict)?;
+    let noted = settled(
+        rt,
+        alloc,
+        RolloutCall::Plan,
+        request,
+        book,
+        question,
+        strict,
+    )?;
     let remark = told(
         rt, alloc, request, book, question, &planned, refine, explain, noted,
     );
@@ -173,7 +183,7 @@ fn printed(alloc: Global, planned: &Planned, remark: Option<Remark>) -> Result<O
             remark,
         }),
         Err(fault) => Err(Refused {
-            refusal: Refusal::PrintPlanned(fault),
+            refusal: RolloutRefusal::PrintPlanned(fault),
             remark: Remark::of(of_large_plan(alloc)),
         }),
     }

@@ -16,9 +16,10 @@ ghost use Rattle.flagops_shell.specs.Diagnostic.{Says};
 ghost use Rattle.file_diagnostics.specs.Named.{Names};
 
 use crate::doubts::NotedDoubt;
+use crate::refusal::Doubt;
 use book_core::{Book, BookFileFault, Page, read_book};
 use flag_defs::{Flag, Flags};
-use flagops_files::{Doubt, Evidence, Question};
+use flagops_files::{Evidence, Question};
 use flagops_shell::Remark;
 use logic_ast::LogicFault;
 use page_tally::BookFile;

@@ -4,22 +4,22 @@ ghost use Rattle.flag_defs.specs.Flags.{flags_view};
 ghost use Rattle.plan_text.specs.Answer.{planned_view};
 ghost use Rattle.flagops_files.specs.Question.{question_view};
 ghost use Rattle.flagops_rollouts.specs.Calls.{verify_calls, verify_itself};
-ghost use Rattle.flagops_files.specs.Refusal.{ComesFrom, GivesOne, GivesUnlessWant, is_file_fault};
-ghost use Rattle.flagops_files.specs.Report.{beside, done};
+ghost use Rattle.flagops_rollouts.specs.Refusal.{ComesFrom, GivesOne, GivesUnlessWant, is_file_fault, TellsOfOne};
+ghost use Rattle.flagops_shell.specs.Outcomes.{beside, done};
 ghost use Rattle.flagops_shell.specs.Report.{outcome_view};
 ghost use Rattle.flagops_rollouts.specs.Verify.{IsShownOn, IsToldOn, IsVerdict, IsVerifyReport, MayBeTold, valid_as, valid_json, valid_text};
-ghost use Rattle.flagops_files.specs.Told.{TellsOfOne, file};
+ghost use Rattle.flagops_files.specs.Told.{file};
 ghost use Rattle.flagops_shell.specs.Diagnostic.{Says};
 ghost use Rattle.flagops_rollouts.specs.Subjects.{NamesVerified, is_of_answer, is_of_request, verify_subjects};
 ghost use Rattle.flagops_rollouts.specs.Doubts.{NamesDoubted, doubt_subjects};
 ghost use Rattle.file_diagnostics.specs.Named.{Names};
 
 use crate::doubts::settled;
+use crate::loading::{load_planned, load_question};
 use crate::planning::lines_on_request;
+use crate::refusal::{Refused, RolloutCall, RolloutRefusal, out_of_memory};
 use flag_defs::Flags;
-use flagops_files::{
-    Call, Evidence, Question, Refusal, Refused, load_planned, load_question, out_of_memory,
-};
+use flagops_files::{Evidence, Question};
 use flagops_shell::{FileSet, Outcome, Remark, Status};
 use flagops_words::{Factor, factor_of};
 use plan_text::Planned;
@@ -92,12 +92,20 @@ fn verdict(
     if let Err(fault) = verified(rt, alloc, question, planned, refine) {
         let lines = lines_on(alloc, paths, question, planned, refine, &fault);
         return Err(Refused {
-            refusal: Refusal::Verify(fault),
+            refusal: RolloutRefusal::Verify(fault),
             remark: Remark::of(lines),
         });
     }
     let (request, book) = (paths.request, paths.book);
-    let remark = settled(rt, alloc, Call::Verify, request, book, question, strict)?;
+    let remark = settled(
+        rt,
+        alloc,
+        RolloutCall::Verify,
+        request,
+        book,
+        question,
+        strict,
+    )?;
     valid(alloc, planned, json, remark)
 }
 
@@ -119,7 +127,7 @@ fn valid(
             status: Status::Done,
             remark,
         }),
-        Err(AllocError) => Err(out_of_memory(Call::Verify)),
+        Err(AllocError) => Err(out_of_memory(RolloutCall::Verify)),
     }
 }
 

@@ -1,10 +1,12 @@
 pub mod Apart
 pub mod Beginning
 pub mod Console
+pub mod Described
 pub mod Diagnostic
 pub mod Ending
 pub mod Files
 pub mod Given
+pub mod Outcomes
 pub mod Report
 pub mod Running
 pub mod Usage

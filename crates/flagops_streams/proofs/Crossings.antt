@@ -14,7 +14,7 @@ use Rattle.snap_share.specs.declared.history.ShareName as ShareName
 use Rattle.snap_share.specs.contracts.seat.ReadSeat as ReadSeat
 use Rattle.snap_share.proofs.Crossings.{ReadSeat-send, Told-send}
 use Rattle.flagops_streams.specs.contracts.board.Board as Board
-use Rattle.flagops_streams.specs.contracts.board.News as News
+use Rattle.flagops_streams.specs.contracts.news.News as News
 
 -- five captures that may go may be captured by one closure
 captured_send : (ν : Sym) (A B C D E : RattleType) → IsSend A → IsSend B → IsSend C → IsSend D → IsSend E → IsSend (TupleAt ν (A ∷ B ∷ C ∷ D ∷ E ∷ []))

@@ -1,5 +1,5 @@
 -- Documents that are published one after the other.
-use Rattle.std.proofs.Common.{◌≡◌, ◌≢◌, ◌↔◌, ◌⊎◌, ◌+◌, ◌-◌, ◌<◌, ◌≤◌, ◌∙◌, ℕ, suc, List, [], ◌∷◌, ◌++◌, Bool, true, false, if◌then◌else◌, is_ok, nat_eq, Option, Result, Ok, Err, inl, inr, refl, add-one, ap, arith, drop, get_or, length, length-append, length-drop, map, subst, sym, take}
+use Rattle.std.proofs.Common.{◌≡◌, ◌≢◌, ◌↔◌, ◌⊎◌, ◌+◌, ◌-◌, ◌<◌, ◌∙◌, ℕ, suc, List, [], ◌∷◌, ◌++◌, Bool, true, false, if◌then◌else◌, is_ok, nat_eq, Option, Result, Ok, Err, inl, inr, refl, add-one, ap, arith, drop, get_or, length, length-append, length-drop, map, subst, sym, take, zero-add}
 use Rattle.std.proofs.Math.Seq.{drop-cons}
 use Rattle.std.proofs.lemmas.List.{take_all}
 use Rattle.std.proofs.lemmas.Bool.{true≢false}
@@ -9,8 +9,9 @@ use Rattle.snap_share.specs.Fault.{is_of_publish, is_of_share}
 use Rattle.snap_share.specs.declared.fault.ShareFault.{ShareFault}
 use Rattle.snap_share.specs.declared.fault.ShareFault.TheVariants as share
 use Rattle.source_merge.specs.Sources.{SourceList}
-use Rattle.flagops_streams.specs.Documents.{Answer, Gives, GivesSome, IsAccepted, MayFail, MayRefuse, Merges, ServesTo, count_of, less_missed, told_view}
+use Rattle.flagops_streams.specs.Documents.{Answer, Gives, GivesSome, IsAccepted, MayFail, MayRefuse, Merges, ServesTo, count_of, less_missed, missed_of, published_in, told_view}
 use Rattle.flagops_streams.specs.Report.{Publishes, Reports, Serves}
+use Rattle.flagops_streams.specs.declared.disconnected.Disconnected.{Disconnected}
 use Rattle.flagops_streams.specs.declared.refusal.Refusal.{Refusal}
 use Rattle.flagops_streams.specs.declared.refusal.Refusal.TheVariants.{NoThread, Publish, Share, Unserved, WantOfMemory}
 
@@ -49,7 +50,7 @@ not_published number sources text share.NoReader is other accepted = absurd (cc 
 pub first_served : (subscribers : ℕ) (sources next : SourceList) (flags : Definitions) (text : List ℕ) (texts : List (List ℕ)) (answer : Answer)
     → Merges 1 sources text next flags → ServesTo subscribers next texts (flags ∷ []) answer → ServesTo subscribers sources (text ∷ texts) [] answer
 first_served subscribers sources next flags text texts answer merges (inl fails) = inl fails
-first_served subscribers sources next flags text texts answer merges (inr (missed, whole, few, gives, is)) = inr (missed, whole, few, inr (next, flags, merges, gives), is)
+first_served subscribers sources next flags text texts answer merges (inr (ends, absent, whole, all, gives, is)) = inr (ends, absent, whole, all, inr (next, flags, merges, gives), is)
 
 -- why flags were not shared among so many seats
 pub not_shared : {X : Type 0} (seats : ℕ) (fault : ShareFault) (result : Result X ShareFault) → result ≡ Err fault
@@ -81,10 +82,12 @@ no_thread missed (Ok told) is = absurd (cc (is))
 no_thread missed (Err refusal) is = cc (is)
 
 -- the same, where some of the subscribers were missed
-pub unless_beside : (subscribers missed : ℕ) (IsAnswer : Answer → Type 0) (outcome result : Result (List Flags) Refusal) → missed ≤ subscribers
-    → (outcome ≡ Err NoThread) ⊎ IsAnswer (told_view outcome) → told_view result ≡ less_missed missed (told_view outcome) → (result ≡ Err NoThread) ⊎ GivesSome subscribers IsAnswer (told_view result)
-unless_beside subscribers missed IsAnswer outcome result few (inl is) less = inl (no_thread missed result (less ∙ ap (λ o. less_missed missed (told_view o)) is))
-unless_beside subscribers missed IsAnswer outcome result few (inr gives) less = inr (missed, told_view outcome, few, gives, less)
+pub unless_beside : (subscribers absent unserved : ℕ) (ends : List (Option Disconnected)) (IsAnswer : Answer → Type 0) (outcome result : Result (List Flags) Refusal) → length ends + absent ≡ subscribers
+    → unserved ≡ missed_of (published_in (told_view outcome)) ends → (outcome ≡ Err NoThread) ⊎ IsAnswer (told_view outcome) → told_view result ≡ less_missed (unserved + absent) (told_view outcome)
+    → (result ≡ Err NoThread) ⊎ GivesSome subscribers IsAnswer (told_view result)
+unless_beside subscribers absent unserved ends IsAnswer outcome result all counts (inl is) less = inl (no_thread (unserved + absent) result (less ∙ ap (λ o. less_missed (unserved + absent) (told_view o)) is))
+unless_beside subscribers absent unserved ends IsAnswer outcome result all counts (inr gives) less =
+    inr (ends, absent, told_view outcome, all, gives, less ∙ ap (λ (n : ℕ). less_missed (n + absent) (told_view outcome)) counts)
 
 -- what is published behind some flags are as many as there are documents
 pub counted : (sources : SourceList) (texts : List (List ℕ)) (published all : List Definitions) → Gives sources texts published (Ok all) → length all ≡ length published + length texts
@@ -118,18 +121,15 @@ pub told_ok : (told : Result (List Flags) Refusal) → is_ok (told_view told) �
 told_ok (Ok told) = refl
 told_ok (Err refusal) = refl
 
--- where every subscriber was served
-none_at_zero : (answer : Answer) → answer ≡ less_missed 0 answer
-none_at_zero (Ok published) = refl
-none_at_zero (Err refusal) = refl
-
-pub none_missed : (subscribers : ℕ) (IsAnswer : Answer → Type 0) (answer : Answer) → IsAnswer answer → GivesSome subscribers IsAnswer answer
-none_missed subscribers IsAnswer answer gives = (0, answer, omega arith, gives, none_at_zero answer)
+-- a refusal counts, whoever has not come
+pub refused_alone : (subscribers : ℕ) (IsAnswer : Answer → Type 0) (refusal : Refusal) → IsAnswer (Err refusal) → GivesSome subscribers IsAnswer (Err refusal)
+refused_alone subscribers IsAnswer refusal gives = ([], subscribers, Err refusal, zero-add subscribers, gives, refl)
 
 -- where documents were served, there are as many of what was published
 pub count_served : (subscribers : ℕ) (sources : SourceList) (texts : List (List ℕ)) (all : List Definitions) → ServesTo subscribers sources texts [] (Ok all) → length all ≡ length texts
 count_served subscribers sources texts all (inl (refusal, is, may)) = absurd (cc (is))
-count_served subscribers sources texts all (inr (missed, whole, few, gives, is)) = omega (arith, counted sources texts [] all (subst (Gives sources texts []) (all_sent missed whole all is) gives))
+count_served subscribers sources texts all (inr (ends, absent, whole, some, gives, is)) =
+    omega (arith, counted sources texts [] all (subst (Gives sources texts []) (all_sent (missed_of (published_in whole) ends + absent) whole all is) gives))
 
 -- what is reported of an answer is one line: the number of the documents, or a refusal
 pub reported : (Is : Bool → List ℕ → Type 0) (subscribers : ℕ) (sources : SourceList) (texts : List (List ℕ)) (answer : Answer) (old new : Option (List ℕ)) (broken : Bool) (err err_after : Option (List ℕ)) (is_mute : Bool) (status count : ℕ)

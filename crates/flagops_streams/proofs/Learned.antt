@@ -1,7 +1,6 @@
 -- What a seat knows only grows.
-use Rattle.std.proofs.Common.{◌≡◌, ◌∙◌, ◌+◌, ℕ, None, Some, Option, Result, Ok, Err, MatchResult, ap}
+use Rattle.std.proofs.Common.{◌≡◌, ◌∙◌, ◌+◌, ℕ, None, Some, Result, Ok, Err, MatchResult, ap}
 use mathlib.Core.List.{IsPrefix}
-use Rattle.snap_core.specs.Hub.{Numbered}
 use Rattle.snap_core.specs.HubView.{snapshot_view}
 use Rattle.snap_core.specs.declared.snapshot.Snapshot.{Snapshot}
 use Rattle.snap_share.specs.Known.{IsReadOnce, Seat, WasRead}

@@ -1,5 +1,5 @@
 -- Documents that are published one after the other, each merged over those before it.
-use Rattle.std.specs.Prelude.{◌≡◌, ◌≢◌, ◌⊎◌, ◌<◌, ◌≤◌, ℕ, ◌+◌, List, [], ◌∷◌, ◌++◌, length, map, decimal, if◌then◌else◌, nat_eq, nat_lt, vec_len, Vec, Result, Ok, Err}
+use Rattle.std.specs.Prelude.{◌≡◌, ◌≢◌, ◌⊎◌, ◌<◌, ℕ, ◌+◌, List, [], ◌∷◌, ◌++◌, Bool, false, ◌&&◌, length, map, decimal, if◌then◌else◌, nat_eq, nat_le, nat_lt, vec_len, Vec, Option, Some, None, Result, Ok, Err}
 use Rattle.std.specs.declared.alloc.Global.{Global}
 use Rattle.flag_defs.specs.Flags.{flags_view}
 use Rattle.flag_defs.specs.declared.flags.Flags.{Flags}
@@ -10,7 +10,9 @@ use Rattle.source_merge.specs.Sources.{Sets, SourceList, added, most_sources}
 use Rattle.source_merge.specs.View.{sources_view}
 use Rattle.source_merge.specs.declared.fault.SourceFault.{SourceFault}
 use Rattle.source_merge.specs.declared.fault.SourceFault.TheVariants as source
+use Rattle.sync_server.specs.End.{is_closed_end}
 use Rattle.flagops_streams.specs.declared.documents.Documents.{Documents}
+use Rattle.flagops_streams.specs.declared.disconnected.Disconnected.{Disconnected}
 use Rattle.flagops_streams.specs.declared.refusal.Refusal.{Refusal}
 use Rattle.flagops_streams.specs.declared.refusal.Refusal.TheVariants.{Add, Set, Merged, Share, Publish, Unbound, NoConnection, NoThread, Unserved, WantOfMemory}
 
@@ -79,9 +81,27 @@ abbrev pub less_missed : ℕ → Answer → Answer
 less_missed missed (Ok published) = if nat_eq missed 0 then Ok published else Err (Unserved missed)
 less_missed missed (Err refusal) = Err refusal
 
--- some of so many subscribers were not served, or none, by an answer of these
+-- how many were published
+abbrev pub published_in : Answer → ℕ
+published_in (Ok published) = length published
+published_in (Err refusal) = 0
+
+-- A subscriber was sent so many publications: its stream ended as its numbers were closed, and the last frame had that number.
+abbrev pub is_served : ℕ → Option Disconnected → Bool
+is_served count None = false
+is_served count (Some d) = is_closed_end d.end && nat_le count d.number
+
+-- how many of those whose streams ended so were not
+abbrev pub missed_of : ℕ → List (Option Disconnected) → ℕ
+missed_of count [] = 0
+missed_of count (end ∷ ends) = missed_of count ends + (if is_served count end then 0 else 1)
+
+-- Of so many subscribers, some have not come, and the streams of the others ended so. An answer of these counts, but where some
+-- were not sent all that it has, or have not come.
 abbrev pub GivesSome : ℕ → (Answer → Type 0) → Answer → Type 0
-GivesSome subscribers IsAnswer answer = (missed : ℕ) × (whole : Answer) × (missed ≤ subscribers) × IsAnswer whole × (answer ≡ less_missed missed whole)
+GivesSome subscribers IsAnswer answer =
+    (ends : List (Option Disconnected)) × (absent : ℕ) × (whole : Answer) × (length ends + absent ≡ subscribers) × IsAnswer whole
+    × (answer ≡ less_missed (missed_of (published_in whole) ends + absent) whole)
 
 -- what serving documents behind these flags gives: one of these refusals, or what publishing them gives
 abbrev pub ServesTo : ℕ → SourceList → List (List ℕ) → List Definitions → Answer → Type 0

@@ -5,5 +5,6 @@ pub mod Loading
 pub mod Printed
 pub mod Refusal
 pub mod Report
+pub mod Sent
 pub mod Told
 pub mod Words

@@ -3,9 +3,10 @@ use Rattle.std.specs.Prelude.{◌≡◌, ℕ, ◌+◌, Bool, false, List, [], �
 use Rattle.source_merge.specs.Sources.{SourceList}
 use Rattle.source_merge.specs.View.{sources_view}
 use Rattle.flagops_shell.specs.Files.{Holding, load_of}
-use Rattle.flagops_files.specs.Loading.{◌>>=◌, max_text}
+use Rattle.flagops_shell.specs.Outcomes.{◌>>=◌}
 use Rattle.flagops_shell.specs.declared.files.LoadFault.{LoadFault}
 use Rattle.flagops_shell.specs.declared.files.LoadFault.TheVariants as load
+use Rattle.limits.specs.Limits.{text_bytes}
 use Rattle.flagops_streams.specs.Documents.{Answer, ServesTo, source_added, texts_of}
 use Rattle.flagops_streams.specs.Refusal.{is_unreadable, is_want}
 use Rattle.flagops_streams.specs.declared.documents.Documents.{Documents}
@@ -32,7 +33,7 @@ text_of (Err load.WantOfMemory) = Err Unloaded
 abbrev pub loaded_next : Holding → Loaded → List ℕ → Result Loaded Refusal
 loaded_next at d path = do
   sources ← source_added d.sources (length d.texts + 1)
-  text ← text_of (load_of at path max_text)
+  text ← text_of (load_of at path text_bytes)
   Ok (record { sources = sources; texts = d.texts ++ text ∷ [] })
 
 -- one more document for each path, in their order; the first refusal is the answer

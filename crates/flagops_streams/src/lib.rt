@@ -36,10 +36,13 @@
 mod arrivals;
 mod asked;
 mod board;
+mod disconnected;
 mod documents;
 mod follow_command;
 mod following;
 mod loading;
+mod news;
+mod numbers;
 mod parting;
 mod refusal;
 mod remark;

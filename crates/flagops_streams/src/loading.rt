@@ -6,8 +6,8 @@ ghost use Rattle.flagops_streams.specs.Refusal.{GivesUnlessWant};
 
 use crate::documents::Documents;
 use crate::refusal::Refusal;
-use flagops_files::TEXT_LIMIT;
 use flagops_shell::{FileSet, LoadFault};
+use limits::TEXT_BYTES;
 use std::alloc::Global;
 
 /// Why the documents were not loaded, and the path of the one where that was seen.
@@ -51,7 +51,7 @@ fn load_next<F: FileSet>(
     ensures kept { F.holding files.new ≡ F.holding files.old }
 {
     documents.add_source(alloc)?;
-    let text = match files.read(alloc, path, u64::from(TEXT_LIMIT)) {
+    let text = match files.read(alloc, path, TEXT_BYTES as u64) {
         Ok(text) => text,
         Err(LoadFault::Unreadable) => return Err(Refusal::Unreadable),
         Err(LoadFault::WantOfMemory) => return Err(Refusal::Unloaded),

@@ -1,15 +1,16 @@
 //! The command `serve`: documents published to subscribers.
-ghost use Rattle.std.specs.Prelude.{◌≡◌, ◌⊎◌, ◌+◌, ◌^◌, ◌<◌, ◌≤◌, ◌∷◌, [], Err, false, is_ok, length, map, nat_eq, vec_len, IfOk};
+ghost use Rattle.std.specs.Prelude.{◌≡◌, ◌⊎◌, ◌+◌, ◌^◌, ◌<◌, ◌≤◌, ◌∷◌, [], List, Option, Err, false, true, if◌then◌else◌, is_ok, length, map, nat_eq, vec_len, IfOk, IfSome};
 ghost use denote.Param.Send.{IsSend, IsSync};
 ghost use Rattle.flag_defs.specs.Flags.{flags_view};
 ghost use Rattle.source_merge.specs.View.{sources_view};
-ghost use Rattle.flagops_streams.specs.Documents.{Answer, Counts, Gives, GivesSome, ServesAll, ServesTo, count_of, documents_in, less_missed, texts_of, told_view};
+ghost use Rattle.flagops_streams.specs.Documents.{Answer, Counts, Gives, GivesSome, ServesAll, ServesTo, count_of, documents_in, is_served, less_missed, missed_of, published_in, texts_of, told_view};
 ghost use Rattle.flagops_streams.specs.Report.{Reports, Serves};
 ghost use Rattle.sync_server.specs.End.{is_closed_end};
 ghost use Rattle.flagops_streams.specs.Told.{IsForewarning, IsGone, IsServeLine, TellsLines};
 
 use crate::arrivals::{Arrived, arrivals};
 use crate::board::Board;
+use crate::disconnected::Disconnected;
 use crate::documents::{Documents, merge_next};
 use crate::refusal::Refusal;
 use crate::remark::{Remarks, say_forewarning, say_gone};
@@ -277,7 +278,7 @@ fn publish_others<J: ShareName, R: Wait>(
             Ok(number) => number,
             Err(fault) => return Err(Refusal::Publish(fault)),
         };
-        board.tell(rt, publisher.tell());
+        board.publish(rt, publisher.tell());
     }
     Ok(publisher.tell())
 }
@@ -359,8 +360,9 @@ fn serve_in_scope<
             }
             let outcome = publish_if(all, publishing);
             board.close(rt);
+            let published = published_in(&outcome);
             let mut err = err;
-            let unserved = tell_gone(rt, alloc, board, count, &mut err);
+            let unserved = tell_gone(rt, alloc, board, count, published, &mut err);
             let missed = unserved + absent;
             (err, unless_missed(outcome, missed))
         },
@@ -381,50 +383,68 @@ fn publish_if<J: ShareName, P: Publishing<J> + Drop>(
     }
 }
 
-/// Tells a person of each subscriber that goes, as it goes, and answers how many were not sent the last snapshot.
+/// How many were published.
+fn published_in<J: ShareName>(outcome: &Result<Told<J>, Refusal>) -> u64
+    ensures { result ≡ published_in (told_view outcome.now) }
+{
+    match outcome {
+        Ok(told) => told.number(),
+        Err(_) => 0,
+    }
+}
+
+/// Tells a person of each subscriber that goes, as it goes, and answers how many were not sent so many publications.
 fn tell_gone<J: ShareName, R: Wait, E: Outlet>(
     rt: &R,
     alloc: Global,
     board: &Board<J>,
     count: usize,
+    published: u64,
     err: &mut E,
 ) -> usize
     ensures few { result ≤ count }
+    ensures ends { (ends : List (Option Disconnected)) × (length ends ≡ count) × (result ≡ missed_of published ends) }
     ensures lines { TellsLines (IsGone (nat_eq result 0)) (E.bytes err.old) (E.bytes err.new) (E.is_broken err.new) }
     ensures stays { E.is_broken err.new ≡ false → E.is_broken err.old ≡ false }
 {
     let mut missed = 0;
     for _subscriber in 0..count {
-        missed += tell_next(rt, alloc, board, err);
+        missed += tell_next(rt, alloc, board, published, err);
     }
     missed
 }
 
-/// Tells a person of the next subscriber that goes, where there is one, and counts it if it was not sent the last snapshot.
+/// Tells a person of the next subscriber that goes, and counts it if it was not sent so many publications, or if there is none.
 fn tell_next<J: ShareName, R: Wait, E: Outlet>(
     rt: &R,
     alloc: Global,
     board: &Board<J>,
+    published: u64,
     err: &mut E,
 ) -> usize
-    ensures few { result ≤ 1 }
+    ensures end { (end : Option Disconnected) × (result ≡ (if is_served published end then 0 else 1)) }
     ensures lines { TellsLines (IsGone (nat_eq result 0)) (E.bytes err.old) (E.bytes err.new) (E.is_broken err.new) }
     ensures stays { E.is_broken err.new ≡ false → E.is_broken err.old ≡ false }
 {
-    let Some((place, gone)) = board.next_gone(rt) else {
-        return 0;
-    };
-    say_gone(alloc, err, place.saturating_add(1), gone.end, gone.frames);
-    missed_by(gone.end)
+    match board.next_end(rt) {
+        Some((place, gone)) => {
+            say_gone(alloc, err, place.saturating_add(1), gone.end, gone.frames);
+            missed_by(Some(gone), published)
+        }
+        None => missed_by(None, published),
+    }
 }
 
-/// 1 where a stream ended before the last snapshot.
-fn missed_by(end: StreamEnd) -> usize
-    ensures few { result ≤ 1 }
-    ensures closed { nat_eq result 0 ≡ is_closed_end end }
+/// 1 where a stream ended before so many publications were sent, or no end of it is known.
+fn missed_by(end: Option<Disconnected>, published: u64) -> usize
+    ensures exact { result ≡ (if is_served published end then 0 else 1) }
+    ensures closed { nat_eq result 0 ≡ true → IfSome end (λ gone. is_closed_end gone.end ≡ true) }
 {
-    match end {
-        StreamEnd::Closed => 0,
+    let Some(gone) = end else {
+        return 1;
+    };
+    match gone.end {
+        StreamEnd::Closed => usize::from(gone.number < published),
         StreamEnd::Limit
         | StreamEnd::WriteFault
         | StreamEnd::ReadSeatFault

@@ -1,11 +1,15 @@
 //! One subscriber: its seat, its numbers and its connection.
-ghost use Rattle.std.specs.Prelude.{◌≡◌};
+ghost use Rattle.std.specs.Prelude.{◌≡◌, false};
 ghost use mathlib.Core.List.{IsPrefix};
+ghost use Rattle.sync_server.specs.End.{is_closed_end};
+ghost use Rattle.flagops_streams.specs.Sent.{WasAttended, WasSent, WasServed};
 
-use crate::board::{Board, Disconnected, Numbers};
+use crate::board::Board;
+use crate::disconnected::{Disconnected, MOST_TURNS};
+use crate::numbers::Numbers;
 use crate::parting::part;
 use crate::timed::Timed;
-use flag_text::WriteOutlet;
+use flag_text::{Outlet, WriteOutlet};
 use persistent_io::PersistentOutput;
 use snap_share::{Current, ReadSeat, ShareFault, ShareName, Told};
 use std::cell::Cell;
@@ -15,9 +19,6 @@ use std::sync::Wait;
 use std::time::Clock;
 use sync_frames::SharedSnapshot;
 use sync_server::{StreamEnd, serve_stream};
-
-/// The most turns of one stream.
-const MOST_TURNS: u64 = 1_000;
 
 /// A seat that first learns what was told with the last number.
 #[derive(Drop)]
@@ -53,8 +54,7 @@ impl<J: ShareName> Learning<'_, J> {
     }
 }
 
-/// Serves a subscriber over its connection until its stream ends or its time is over, closes the connection, and says so on
-/// the board.
+/// Serves a subscriber over its connection, and says on the board how that ended.
 pub(crate) fn attend<J: ShareName, R: Wait + Clock>(
     rt: &R,
     board: &Board<J>,
@@ -62,24 +62,83 @@ pub(crate) fn attend<J: ShareName, R: Wait + Clock>(
     seat: ReadSeat<J>,
     stream: TcpStream,
 ) {
-    let (end, frames) = match Timed::new(rt, &stream, board.wait()) {
-        Ok(timed) => send(rt, board, seat, timed),
-        Err(_) => (StreamEnd::WriteFault, 0),
-    };
-    let end = part(rt, stream, end);
-    board.leave(rt, place, Some(Disconnected { end, frames }));
+    let disconnected = attended(rt, board, seat, stream);
+    board.leave(rt, place, Some(disconnected));
 }
 
-/// Sends a subscriber its stream, and answers why it ended and how many frames are whole.
-fn send<J: ShareName, R: Wait, W: Write + Drop>(
+/// Serves a subscriber over its connection until its stream ends or its time is over, closes the connection, and says how
+/// its stream ended.
+fn attended<J: ShareName, R: Wait + Clock>(
     rt: &R,
     board: &Board<J>,
     seat: ReadSeat<J>,
-    stream: W,
-) -> (StreamEnd, u64) {
+    stream: TcpStream,
+) -> Disconnected
+    ensures { WasAttended MOST_TURNS seat result.end result.frames result.number }
+{
+    let sent = send_in_time(rt, board, seat, &stream);
+    let end = part(rt, stream, sent.end);
+    Disconnected {
+        end,
+        frames: sent.frames,
+        number: sent.number,
+    }
+}
+
+/// Sends a subscriber its stream over its connection, while its time lasts, and says how it ended.
+#[tactic(auto, using(crate::proofs::Sending::failed))]
+fn send_in_time<J: ShareName, R: Wait + Clock>(
+    rt: &R,
+    board: &Board<J>,
+    seat: ReadSeat<J>,
+    stream: &TcpStream,
+) -> Disconnected
+    ensures { WasAttended MOST_TURNS seat result.end result.frames result.number }
+{
+    let Ok(timed) = Timed::new(rt, stream, board.wait()) else {
+        return Disconnected {
+            end: StreamEnd::WriteFault,
+            frames: 0,
+            number: 0,
+        };
+    };
+    send_over(rt, board, seat, timed)
+}
+
+/// Sends a subscriber its stream to a writer, and says how it ended.
+fn send_over<J: ShareName, R: Wait, W: Write + Drop>(
+    rt: &R,
+    board: &Board<J>,
+    seat: ReadSeat<J>,
+    writer: W,
+) -> Disconnected
+    ensures { WasSent MOST_TURNS seat result.end result.frames result.number }
+{
     let told = Cell::new(None);
     let mut current = Learning { seat, told: &told };
     let mut numbers = Numbers::new(rt, board, &told);
-    let mut out = WriteOutlet::new(PersistentOutput::new(stream));
-    serve_stream(&mut current, &mut numbers, &mut out, MOST_TURNS)
+    let mut out = WriteOutlet::new(PersistentOutput::new(writer));
+    send(&mut current, &mut numbers, &mut out)
+}
+
+/// Sends a subscriber its stream, and says how it ended.
+fn send<J: ShareName, R: Wait, O: Outlet>(
+    current: &mut Learning<'_, J>,
+    numbers: &mut Numbers<'_, J, R>,
+    out: &mut O,
+) -> Disconnected
+    requires open { numbers.old.closed ≡ false }
+    requires first { numbers.old.after ≡ 0 }
+    requires whole { O.is_broken out.old ≡ false }
+    ensures served { WasServed MOST_TURNS current.old.seat current.new.seat (O.bytes out.old) (O.bytes out.new) result.end result.frames result.number }
+    ensures sent { WasSent MOST_TURNS current.old.seat result.end result.frames result.number }
+    ensures number { result.number ≡ numbers.new.after }
+    ensures closed { numbers.new.closed ≡ is_closed_end result.end }
+{
+    let (end, frames) = serve_stream(current, numbers, out, MOST_TURNS);
+    Disconnected {
+        end,
+        frames,
+        number: numbers.after,
+    }
 }

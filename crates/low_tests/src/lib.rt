@@ -1,4 +1,4 @@
-//! Tests of the libraries from `murmur_core` to `line_tally` by what no command shows, in a crate of their own, so that each of those
+//! Tests of the libraries from `xml_text` and `murmur_core` to `tally_filters` by what no command shows, in a crate of their own, so that each of those
 //! is proved once. `tests/` shows all else on the built program.
 #![tactic(auto)]
 
@@ -11,6 +11,8 @@ mod expression_tests;
 #[cfg(test)]
 mod kept_tests;
 #[cfg(test)]
+mod line_tests;
+#[cfg(test)]
 mod murmur_tests;
 #[cfg(test)]
 mod note_tests;
@@ -20,5 +22,7 @@ mod resolution_tests;
 mod rows;
 #[cfg(test)]
 mod rule_tests;
+#[cfg(test)]
+mod text_tests;
 #[cfg(test)]
 mod tree_tests;

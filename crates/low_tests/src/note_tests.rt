@@ -5,6 +5,7 @@ use line_tally::{LineTally, PageTally, join};
 use note_lines::{note_line, read_note};
 use std::alloc::{AllocError, Global};
 use std::test::Fail;
+use tally_filters::join_all;
 
 /// A line without its line feed, with it.
 fn ended(alloc: Global, line: &str) -> Result<Vec<u8>, AllocError> {
@@ -63,14 +64,17 @@ fn tallied(alloc: Global, lines: &str) -> Option<PageTally> {
     Some(tally.finish())
 }
 
-/// Inputs on the points 1, 4, 4 and 0, after one of another page.
+/// Inputs on the points 4, 6, 4 and 0, after one of another page.
 const FRONT: &str = r#"["",0,"x","!"]
 ["",0,null,"!"]
 ["",0,null,"!C"]
 ["",0,null,"!Ce"]
 ["",0,null,""]"#;
 
-/// Inputs on the points 6, 7 and 7, before one of another page.
+/// An input on the point 9.
+const MIDDLE: &str = r#"["",0,null,"=a"]"#;
+
+/// Inputs on the points 7, 1 and 7, before one of another page.
 const BACK: &str = r#"["",0,null,"Hello, world!"]
 ["",0,null,"The quick brown fox jumps over the lazy dog"]
 ["",0,null,"test"]
@@ -89,5 +93,45 @@ fn parts_are_joined(rt: HostRuntime) -> Result<(), Fail> {
         return Err("the parts are joined")?;
     };
     assert!(rt; counts.as_slice() == [1, 1, 0, 0, 2, 0, 1, 2, 0, 0].as_slice());
+    Ok(())
+}
+
+/// The counts of lines in parts, joined at once; none where a line or the join is refused.
+fn counts_of_all(alloc: Global, first: &str, others: &[&str]) -> Option<Vec<u32>> {
+    let mut tallies = Vec::new(alloc);
+    for lines in others {
+        tallies.push(tallied(alloc, lines)?).ok()?;
+    }
+    Some(join_all(tallied(alloc, first)?, tallies).ok()?.counts)
+}
+
+/// Whether the parts, joined at once, have these counts.
+fn all_count(alloc: Global, first: &str, others: &[&str], want: &[u32]) -> bool {
+    match counts_of_all(alloc, first, others) {
+        Some(counts) => counts.as_slice() == want,
+        None => want.is_empty(),
+    }
+}
+
+/// The first part, the others, and their counts; none where they don't follow one another.
+const PARTS: &[(&str, &[&str], &[u32])] = &[
+    (FRONT, &[], &[1, 0, 0, 0, 2, 0, 1, 0, 0, 0]),
+    (
+        "",
+        &["", FRONT, "", MIDDLE, BACK],
+        &[1, 1, 0, 0, 2, 0, 1, 2, 0, 1],
+    ),
+    (FRONT, &[BACK, MIDDLE], &[]),
+    (MIDDLE, &[MIDDLE], &[]),
+];
+
+#[test]
+fn any_number_of_parts_is_joined(rt: HostRuntime) -> Result<(), Fail> {
+    let alloc = rt.alloc();
+    let mut all = true;
+    for (first, others, want) in PARTS {
+        all &= all_count(alloc, first, others, want);
+    }
+    assert!(rt; all);
     Ok(())
 }

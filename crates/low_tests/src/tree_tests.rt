@@ -88,7 +88,7 @@ fn unlike_trees(rt: HostRuntime) {
     assert!(rt; are_unlike(rt.alloc(), text, 12));
 }
 
-// As deep as a value that an evaluation makes can be.
+// As deep as a value that an evaluation makes can be. The build of `rt try` takes more stack for it than the usual 8 MB.
 const DEEP: usize = 5000;
 
 /// A list of the tree alone.

@@ -73,13 +73,13 @@ pub open_refused : (one other : Recorded) → one.refused ≡ false → (joined 
 unfolding joined
 open_refused one other good = rw good refl
 
-begins_parts : (t : List ℕ) (n : ℕ) (b : Bool) (r : Recorded) → (u : List ℕ) × ((joined (record { text = t; lines = n; refused = b }) r).text ≡ t ++ u)
+begins_parts : (t : List ℕ) (n : ℕ) (b l : Bool) (r : Recorded) → (u : List ℕ) × ((joined (record { text = t; lines = n; refused = b; long = l }) r).text ≡ t ++ u)
 unfolding joined
-begins_parts t n true r = ([], sym (append-nil t))
-begins_parts t n false r = (r.text, refl)
+begins_parts t n true l r = ([], sym (append-nil t))
+begins_parts t n false l r = (r.text, refl)
 
 pub begins_with : (one other : Recorded) → (t : List ℕ) × ((joined one other).text ≡ one.text ++ t)
-begins_with one other = begins_parts one.text one.lines one.refused other
+begins_with one other = begins_parts one.text one.lines one.refused one.long other
 
 -- ---- fronts
 

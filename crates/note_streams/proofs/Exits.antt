@@ -1,5 +1,5 @@
 -- How the recording of a stream ends, by how each of its parts ends.
-use Rattle.std.proofs.Common.{◌≡◌, ◌≤◌, ◌<◌, ◌+◌, ◌-◌, ℕ, Bool, true, false, List, [], length, Option, IfSome, Result, Err, nat_eq, nat_lt, refl, sym, ◌∙◌, subst, arith}
+use Rattle.std.proofs.Common.{◌≡◌, ◌≤◌, ◌<◌, ◌+◌, ◌-◌, ℕ, Bool, true, false, List, [], length, Option, None, Some, IfSome, Result, Err, nat_eq, nat_lt, refl, sym, ◌∙◌, subst, arith}
 use Rattle.std.specs.Io.KnownBytes.{Appends, IsAtEnd}
 use Rattle.flag_text.specs.Outlet.{AppendsPart}
 use Rattle.line_batches.specs.Fill.{Grows}
@@ -9,6 +9,7 @@ use Rattle.line_batches.specs.declared.filling.FillFault.TheVariants as fill
 use Rattle.record_lines.specs.Record.{Scene, most_line}
 use Rattle.note_streams.specs.Batch.{Leaves, RecordsBatch, Stands}
 use Rattle.note_streams.specs.Recorded.{RecordsStream, TellsOf, most_bytes, recorded_of}
+use Rattle.note_streams.specs.Rest.{is_empty, is_torn}
 use Rattle.note_streams.specs.Stop.{is_output_fault, of_fill}
 use Rattle.note_streams.specs.declared.recording.Counted.{Counted}
 use Rattle.note_streams.specs.declared.stop.RecordStop.{RecordStop}
@@ -19,6 +20,11 @@ use Rattle.note_streams.proofs.Batches.{Known, all_at, begun, cut_at, ended_at, 
 pub no_output_fault : (fault : FillFault) → is_output_fault {X = Counted} (Err (of_fill fault)) ≡ false
 no_output_fault fill.WantOfMemory = refl
 no_output_fault fill.Read = refl
+
+-- all three are so
+when_all : {X : Type 0} (P Q R : X → Type 0) (o : Option X) → IfSome o P → IfSome o (λ x. Q x × R x) → IfSome o (λ x. P x × Q x × R x)
+when_all P Q R None p both = tt
+when_all P Q R (Some x) p (q, r) = (p, q, r)
 
 module _ (s : Scene) (is_cut : Bool) where
   -- what a stream comes to, where its bytes are known
@@ -73,10 +79,12 @@ module _ (s : Scene) (is_cut : Bool) where
         (λ bytes stands. ended_at s bytes rest lines taken now old new none short end stands)
 
     -- what a person is told then
-    pub told : (rest : List ℕ) (lines taken : ℕ) (now new : Option (List ℕ)) (c : Counted) → HasNoFeed rest → IsAtEnd now → c.torn ≡ nat_lt 0 (length rest) → c.empty ≡ nat_eq taken 0 → Known s rest lines taken start now old new → IfSome start (λ bytes. TellsOf bytes c)
-    told rest lines taken now new c none end torn empty known =
-        when_known s (λ bytes. TellsOf bytes c) rest lines taken start now old new known
-        (λ bytes stands. (let behind = rest_at s bytes rest lines taken now old new none end stands in (torn ∙ behind.0, empty ∙ behind.1)))
+    pub told : (rest : List ℕ) (lines taken : ℕ) (now new : Option (List ℕ)) (c : Counted) → HasNoFeed rest → IsAtEnd now → c.torn ≡ nat_lt 0 (length rest) → c.empty ≡ nat_eq taken 0 → IfSome start (λ bytes. nat_lt 0 c.long ≡ (recorded_of s bytes).long) → Known s rest lines taken start now old new
+        → IfSome start (λ bytes. TellsOf (recorded_of s bytes) bytes c)
+    told rest lines taken now new c none end torn empty long known =
+        when_all (λ bytes. nat_lt 0 c.long ≡ (recorded_of s bytes).long) (λ bytes. c.torn ≡ is_torn bytes) (λ bytes. c.empty ≡ is_empty bytes) start long
+        (when_known s (λ bytes. (c.torn ≡ is_torn bytes) × (c.empty ≡ is_empty bytes)) rest lines taken start now old new known
+        (λ bytes stands. (let behind = rest_at s bytes rest lines taken now old new none end stands in (torn ∙ behind.0, empty ∙ behind.1))))
 
     -- the stream is too long
     pub too_long : (held : List ℕ) (lines taken : ℕ) (now new : Option (List ℕ)) → most_bytes < taken → Known s held lines taken start now old new → Comes start old new (Err TooLong)

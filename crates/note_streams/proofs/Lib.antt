@@ -4,5 +4,6 @@ pub mod Counting
 pub mod Crossings
 pub mod Ends
 pub mod Exits
+mod Long
 pub mod Parts
 pub mod Running

@@ -33,13 +33,13 @@ first_run runs i d within =
 pub no_run : (runs : List code.Recorded) (i : ℕ) → length runs ≤ i → runs_view (drop i runs) ≡ nothing
 no_run runs i past = ap runs_view (drop_all i runs past)
 
-more : (t : List ℕ) (n : ℕ) (b : Bool) (r : Recorded) → n ≤ (joined (record { text = t; lines = n; refused = b }) r).lines
+more : (t : List ℕ) (n : ℕ) (b l : Bool) (r : Recorded) → n ≤ (joined (record { text = t; lines = n; refused = b; long = l }) r).lines
 unfolding joined
-more t n true r = omega arith
-more t n false r = omega arith
+more t n true l r = omega arith
+more t n false l r = omega arith
 
 more_lines : (run left : Recorded) → run.lines ≤ (joined run left).lines
-more_lines run left = more run.text run.lines run.refused left
+more_lines run left = more run.text run.lines run.refused run.long left
 
 -- so many lines are written, of which none was refused, and what is left makes the whole of them
 pub record Underway (old now : Option (List ℕ)) (lines : ℕ) (left whole : Recorded) : Type 0 where

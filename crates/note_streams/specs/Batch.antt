@@ -1,6 +1,6 @@
 -- What is made of one batch of bytes, in private contracts alone.
 use denote.Ref.{Bor}
-use Rattle.std.specs.Prelude.{◌≡◌, ◌≢◌, ◌<◌, ◌≤◌, ◌⊎◌, ℕ, ◌+◌, true, false, List, ◌++◌, length, Option, Some, None, Result, Ok, Err}
+use Rattle.std.specs.Prelude.{◌≡◌, ◌≢◌, ◌<◌, ◌≤◌, ◌⊎◌, ◌||◌, ℕ, ◌+◌, nat_lt, true, false, List, ◌++◌, length, Option, Some, None, Result, Ok, Err}
 use Rattle.std.specs.Io.KnownBytes.{Appends}
 use Rattle.flag_text.specs.Outlet.{AppendsPart}
 use Rattle.line_batches.specs.Lines.{HasNoFeed, IsCut, parts_of}
@@ -66,6 +66,16 @@ pub record Stands (s : Scene) (bytes held : List ℕ) (lines taken : ℕ) (now o
   pub number : acc.lines ≡ lines
   pub text : Appends old new acc.text
   pub follows : Follows s bytes held taken acc now
+
+-- An input that is too long is counted before a batch or stands in it and behind it, just where one is counted behind it or stands in the rest
+-- and behind that.
+abbrev pub CountsBatch : Scene → List ℕ → List ℕ → ℕ → ℕ → Type 0
+CountsBatch s bytes rest before after = (more : List ℕ) → (nat_lt 0 after || (recorded_of s (rest ++ more)).long) ≡ (nat_lt 0 before || (recorded_of s (bytes ++ more)).long)
+
+-- the same of a stream of known bytes, of which these are held and these are left
+abbrev pub CountsLong : Scene → List ℕ → List ℕ → ℕ → Option (List ℕ) → Type 0
+CountsLong s bytes held long None = ⊥
+CountsLong s bytes held long (Some left) = (nat_lt 0 long || (recorded_of s (held ++ left)).long) ≡ (recorded_of s bytes).long
 
 -- ---- tallies
 

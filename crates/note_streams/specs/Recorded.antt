@@ -36,6 +36,6 @@ RecordsStream r size is_cut old new (Err TooLong) = (most_bytes < size) × Appen
 RecordsStream r size is_cut old new (Err Broken) = AppendsPart old new r.text
 RecordsStream r size is_cut old new (Err WantOfMemory) = AppendsPart old new r.text
 
--- what a person is told beside it: that the last line of these bytes has no end, and that there are none
-abbrev pub TellsOf : List ℕ → Counted → Type 0
-TellsOf bytes c = (c.torn ≡ is_torn bytes) × (c.empty ≡ is_empty bytes)
+-- what a person is told beside it: that an input is too long to be noted, that the last line of these bytes has no end, and that there are none
+abbrev pub TellsOf : Recorded → List ℕ → Counted → Type 0
+TellsOf r bytes c = (nat_lt 0 c.long ≡ r.long) × (c.torn ≡ is_torn bytes) × (c.empty ≡ is_empty bytes)

@@ -1,7 +1,7 @@
 //! From a stream of contexts to note lines.
 ghost use Rattle.std.specs.Prelude.{nat_eq, nat_lt, ◌≡◌, ◌<◌, ◌+◌, ◌^◌, length, false, IfOk, IfSome};
 ghost use Rattle.record_lines.specs.Scene.{scene_of};
-ghost use Rattle.note_streams.specs.Batch.{RecordsBatch};
+ghost use Rattle.note_streams.specs.Batch.{CountsBatch, RecordsBatch};
 ghost use Rattle.note_streams.specs.Recorded.{RecordsStream, TellsOf, recorded_of};
 ghost use Rattle.note_streams.specs.Stop.{is_output_fault};
 
@@ -10,7 +10,7 @@ use crate::stop::RecordStop;
 use flag_text::Outlet;
 use limits::TEXT_BYTES;
 use line_batches::{Inlet, cut_lines, fill};
-use record_lines::Recorder;
+use record_lines::{Recorder, counted_both};
 use std::alloc::Global;
 use std::thread::Threads;
 
@@ -61,7 +61,7 @@ pub fn record_stream<R: Threads + Sync, I: Inlet, O: Outlet>(
     requires unbroken { I.is_broken input.old ≡ false }
     requires whole { O.is_broken out.old ≡ false }
     ensures exact { IfSome (I.bytes input.old) (λ bytes. RecordsStream (recorded_of (scene_of recorder.now) bytes) (length bytes) (I.is_broken input.new) (O.bytes out.old) (O.bytes out.new) result) }
-    ensures told { IfOk result (λ c. IfSome (I.bytes input.old) (λ bytes. TellsOf bytes c)) }
+    ensures told { IfOk result (λ c. IfSome (I.bytes input.old) (λ bytes. TellsOf (recorded_of (scene_of recorder.now) bytes) bytes c)) }
     ensures broken { O.is_broken out.new ≡ is_output_fault result }
 {
     let mut piece = vec![in alloc; 0u8; PIECE]?;
@@ -91,6 +91,7 @@ pub fn record_stream<R: Threads + Sync, I: Inlet, O: Outlet>(
 
 /// What a person is told of a stream of so many bytes, where these stand behind its last line.
 fn passed_over(long: u64, rest: &[u8], taken: u64) -> Counted
+    ensures long { result.long ≡ long }
     ensures torn { result.torn ≡ nat_lt 0 (length rest.now) }
     ensures empty { result.empty ≡ nat_eq taken 0 }
 {
@@ -114,6 +115,7 @@ fn record_batch<'a, R: Threads + Sync, O: Outlet>(
     requires whole { O.is_broken out.old ≡ false }
     requires room { totals.old.lines + length bytes.now + 1 < 2 ^ 64 }
     ensures exact { RecordsBatch (scene_of recorder.now) bytes.entry.now totals.old.lines totals.new.lines (O.bytes out.old) (O.bytes out.new) result }
+    ensures long { IfOk result (λ rest. CountsBatch (scene_of recorder.now) bytes.entry.now rest.now totals.old.long totals.new.long) }
     ensures broken { O.is_broken out.new ≡ is_output_fault result }
 {
     let (lines, rest) = cut_lines(alloc, bytes)?;
@@ -123,7 +125,7 @@ fn record_batch<'a, R: Threads + Sync, O: Outlet>(
         return Err(RecordStop::Broken);
     };
     totals.lines += written.lines;
-    totals.long = totals.long.saturating_add(written.long);
+    totals.long = counted_both(totals.long, written.long);
     if written.refused {
         return Err(RecordStop::Line(totals.lines));
     }

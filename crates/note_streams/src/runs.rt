@@ -1,5 +1,5 @@
 //! The lines of a batch, in runs that are recorded side by side.
-ghost use Rattle.std.specs.Prelude.{◌≡◌, ◌++◌, ◌<◌, ◌^◌, IfOk, is_none, false};
+ghost use Rattle.std.specs.Prelude.{◌≡◌, ◌++◌, ◌<◌, ◌^◌, IfOk, IfSome, is_none, false, nat_lt};
 ghost use Rattle.record_lines.specs.Lines.{lines_view};
 ghost use Rattle.record_lines.specs.Record.{record_of};
 ghost use Rattle.record_lines.specs.Scene.{scene_of};
@@ -7,7 +7,7 @@ ghost use Rattle.note_streams.specs.Runs.{WritesRuns, runs_view};
 ghost use denote.Param.Send.{IsSync};
 
 use flag_text::{Outlet, write_whole};
-use record_lines::{Recorded, Recorder, record_lines};
+use record_lines::{Recorded, Recorder, counted_both, record_lines};
 use std::alloc::{AllocError, Global};
 use std::thread::{Threads, join};
 
@@ -68,6 +68,7 @@ pub(crate) fn write_runs<O: Outlet>(runs: &[Recorded], out: &mut O) -> Option<Wr
     requires whole { O.is_broken out.old ≡ false }
     requires room { (runs_view runs.now).lines < 2 ^ 64 }
     ensures exact { WritesRuns (runs_view runs.now) (O.bytes out.old) (O.bytes out.new) result }
+    ensures long { IfSome result (λ w. nat_lt 0 w.long ≡ (runs_view runs.now).long) }
     ensures broken { O.is_broken out.new ≡ is_none result }
 {
     let mut lines = 0;
@@ -77,7 +78,7 @@ pub(crate) fn write_runs<O: Outlet>(runs: &[Recorded], out: &mut O) -> Option<Wr
             return None;
         }
         lines += run.lines;
-        long = long.saturating_add(run.long);
+        long = counted_both(long, run.long);
         if run.refused {
             return Some(Written {
                 lines,

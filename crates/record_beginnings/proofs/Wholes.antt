@@ -6,7 +6,7 @@ use Rattle.book_core.specs.Reading.{book_of}
 use Rattle.flagops_shell.specs.Beginning.{may_begin_record}
 use Rattle.flagops_files.specs.Evidence.{IsEvidenceOf, IsReadAs, begins_tally, of_book}
 use Rattle.flagops_shell.specs.Files.{Holding, first_piece, front_of_book}
-use Rattle.flagops_files.specs.Loading.{◌>>=◌, refused_by}
+use Rattle.flagops_shell.specs.Outcomes.{◌>>=◌, refused_by}
 use Rattle.flagops_files.specs.Question.{IsEvidenceAt, book_at, book_bytes_at, if_readable, max_book}
 use Rattle.flagops_files.specs.declared.evidence.Evidence.{Evidence}
 use Rattle.flagops_files.specs.declared.refusal.Refusal.{Refusal}

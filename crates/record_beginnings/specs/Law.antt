@@ -6,7 +6,7 @@ use Rattle.book_core.specs.declared.fault.BookFileFault.TheVariants.{Header}
 use Rattle.flagops_shell.specs.Beginning.{may_begin_record}
 use Rattle.flagops_files.specs.Evidence.{IsReadAs, begins_tally}
 use Rattle.flagops_shell.specs.Files.{Holding, first_piece}
-use Rattle.flagops_files.specs.Loading.{refused_by}
+use Rattle.flagops_shell.specs.Outcomes.{refused_by}
 use Rattle.flagops_files.specs.Question.{IsEvidenceAt, book_at, max_book}
 use Rattle.flagops_files.specs.declared.evidence.Evidence.{Evidence}
 use Rattle.flagops_files.specs.declared.refusal.Refusal.{Refusal}

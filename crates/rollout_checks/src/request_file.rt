@@ -1,10 +1,11 @@
 //! The file of a rollout request, read once.
-ghost use Rattle.std.specs.Prelude.{◌≡◌, ◌<◌, ◌≤◌, false, length, IfOk, IsErrOf, IsOk};
+ghost use Rattle.std.specs.Prelude.{◌≡◌, ◌<◌, ◌≤◌, false, length, true, IfOk, IsErrOf, IsOk};
 ghost use Rattle.std.specs.Str.{is_utf8};
 ghost use Rattle.flag_text.specs.Outcome.{seen_as};
 ghost use Rattle.flag_text.specs.Reading.{tree_of};
+ghost use Rattle.flag_text.specs.Shape.{is_whole};
 ghost use Rattle.flag_text.specs.View.{view};
-ghost use Rattle.price_core.specs.Request.{asked_of, max_request};
+ghost use Rattle.price_core.specs.Request.{asked_of, max_request, request_of};
 ghost use Rattle.price_core.specs.declared.fault.PriceFault.TheVariants.{BadRequest};
 
 use flag_text::{TextFault, Tree, read_tree};
@@ -41,9 +42,22 @@ impl RequestFile {
         ensures large { max_request < length bytes.items → IsOk result }
         ensures no_text { length bytes.items ≤ max_request → is_utf8 bytes.items ≡ false → IsOk result }
     {
-        let tree = tree_in(alloc, bytes.as_slice())?;
-        let asked = asked_in(alloc, bytes.as_slice())?;
-        Ok(RequestFile { bytes, tree, asked })
+        match read_tree(alloc, bytes.as_slice(), TEXT_BYTES) {
+            Ok(tree) => {
+                let asked = asked_in(alloc, &tree)?;
+                Ok(RequestFile {
+                    bytes,
+                    tree: Ok(tree),
+                    asked,
+                })
+            }
+            Err(TextFault::WantOfMemory) => Err(AllocError),
+            Err(fault) => Ok(RequestFile {
+                bytes,
+                tree: Err(fault),
+                asked: Err(PriceFault::BadRequest),
+            }),
+        }
     }
 
     /// The bytes of the file.
@@ -77,26 +91,12 @@ impl RequestFile {
     }
 }
 
-/// The tree that bytes stand for, or why they stand for none.
-fn tree_in(alloc: Global, bytes: &[u8]) -> Result<Result<Tree, TextFault>, AllocError>
-    ensures value { IfOk result (λ tree. seen_as view tree ≡ tree_of bytes.now max_request) }
-    ensures large { max_request < length bytes.now → IsOk result }
-    ensures no_text { length bytes.now ≤ max_request → is_utf8 bytes.now ≡ false → IsOk result }
+/// What is asked by the tree of a text, or the first refusal of a request.
+fn asked_in(alloc: Global, tree: &Tree) -> Result<Result<Request, PriceFault>, AllocError>
+    requires { is_whole (view tree.now) ≡ true }
+    ensures { IfOk result (λ asked. asked ≡ request_of (view tree.now)) }
 {
-    match read_tree(alloc, bytes, TEXT_BYTES) {
-        Ok(tree) => Ok(Ok(tree)),
-        Err(TextFault::WantOfMemory) => Err(AllocError),
-        Err(fault) => Ok(Err(fault)),
-    }
-}
-
-/// What is asked by bytes, or the first refusal of a request.
-fn asked_in(alloc: Global, bytes: &[u8]) -> Result<Result<Request, PriceFault>, AllocError>
-    ensures value { IfOk result (λ asked. asked ≡ asked_of bytes.now) }
-    ensures large { max_request < length bytes.now → IsOk result }
-    ensures no_text { length bytes.now ≤ max_request → is_utf8 bytes.now ≡ false → IsOk result }
-{
-    match Request::read(alloc, bytes) {
+    match Request::of_tree(alloc, tree) {
         Ok(request) => Ok(Ok(request)),
         Err(PriceFault::WantOfMemory) => Err(AllocError),
         Err(fault) => Ok(Err(fault)),

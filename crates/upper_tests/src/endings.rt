@@ -1,6 +1,6 @@
 //! Outputs that fail midway, and want of memory.
 use super::memory::{MemoryFiles, MemoryOutlet};
-use flagops_commands::Listed;
+use flagops_commands::{Listed, ListedCall};
 use flagops_files::Call;
 use flagops_shell::{Console, FileSet, run, want};
 use std::alloc::Global;
@@ -51,7 +51,7 @@ fn failing_outputs(rt: HostRuntime) {
 }
 
 /// Whether the line on want of memory is cut after so many bytes, and the status is 1.
-fn is_wanting(alloc: Global, call: Call, line: &[u8], count: usize) -> bool {
+fn is_wanting(alloc: Global, call: ListedCall, line: &[u8], count: usize) -> bool {
     let (out, err) = (
         MemoryOutlet::new(alloc, count),
         MemoryOutlet::new(alloc, count),
@@ -63,12 +63,21 @@ fn is_wanting(alloc: Global, call: Call, line: &[u8], count: usize) -> bool {
 }
 
 /// A call, and the line on its want of memory.
-const WANTS: &[(Call, &[u8])] = &[
-    (Call::Flagops, b"refused flagops 0 WantOfMemory\n"),
-    (Call::Load, b"refused load 0 WantOfMemory\n"),
-    (Call::ReadTree, b"refused read_tree 0 WantOfMemory\n"),
-    (Call::ReadRule, b"refused read_rule 0 WantOfMemory\n"),
-    (Call::Bucket, b"refused bucket 0 WantOfMemory\n"),
+const WANTS: &[(ListedCall, &[u8])] = &[
+    (ListedCall::Flagops, b"refused flagops 0 WantOfMemory\n"),
+    (
+        ListedCall::Load(Call::Load),
+        b"refused load 0 WantOfMemory\n",
+    ),
+    (
+        ListedCall::Load(Call::ReadTree),
+        b"refused read_tree 0 WantOfMemory\n",
+    ),
+    (
+        ListedCall::Load(Call::ReadRule),
+        b"refused read_rule 0 WantOfMemory\n",
+    ),
+    (ListedCall::Bucket, b"refused bucket 0 WantOfMemory\n"),
 ];
 
 #[test]

@@ -20,3 +20,7 @@ mod prices;
 mod problems;
 #[cfg(test)]
 mod rows;
+#[cfg(test)]
+mod sealed;
+#[cfg(test)]
+mod seats;

@@ -59,12 +59,16 @@ fn totals(alloc: Global, request: &Request) -> Option<Totals> {
     }
 }
 
-/// The problem of a request.
+/// The problem of a request on the seven inputs.
 pub(crate) fn posed(alloc: Global, request: &[u8]) -> Option<Problem> {
+    posed_on(alloc, request, inputs(alloc)?)
+}
+
+/// The problem of a request.
+pub(crate) fn posed_on(alloc: Global, request: &[u8], inputs: Exposure) -> Option<Problem> {
     let old = rule_of(alloc, r#"[["red",5],["blue",5]]"#)?;
     let request = Request::read(alloc, request).ok()?;
     let totals = totals(alloc, &request)?;
-    let inputs = inputs(alloc)?;
     Some(Problem {
         old,
         request,

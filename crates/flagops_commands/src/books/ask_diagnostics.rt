@@ -1,13 +1,13 @@
 //! Diagnostics of an asks file, and what became of the asks in words.
-ghost use Rattle.std.specs.Prelude.{IfOk, codes, string_bytes};
+ghost use Rattle.std.specs.Prelude.{◌≡◌, ◌<◌, ◌==◌, IfOk, codes, if◌then◌else◌, map, string_bytes};
 ghost use Rattle.file_diagnostics.specs.Named.{Names, NamesWord};
+ghost use Rattle.flagops_commands.specs.DriveSummary.{asks_text, book_text, ending_text, ending_texts, endings_told, nothing_text, plural, sharing_text, summary_text, unrecorded_text};
 
-use file_diagnostics::{Lines, Opening, put_meant};
+use file_diagnostics::{Lines, Opening, put_meant, quoted_name};
 use flag_text::Tree;
-use flagops_drive::{DriveRefusal, Misfit};
+use flagops_drive::{DriveRefusal, Endings, Misfit, Tally};
 use limits::SEATS;
 use std::alloc::{AllocError, Global};
-use std::fmt;
 use unread_members::Reader;
 
 /// The asks for each input from which on a line says how many there are.
@@ -65,9 +65,12 @@ pub fn of_unread_asks(alloc: Global, path: &str, tree: &Tree) -> Result<String, 
         .iter()
         .filter(|ask| Reader::Ask.unread(ask).is_some())
         .count();
-    let unread = Count(unread as u128, "ask");
+    let ending = plural(unread as u128);
     let mut lines = Lines::new(alloc);
-    write!(lines, ": {unread} with a member that is not read\n");
+    write!(
+        lines,
+        ": {unread} ask{ending} with a member that is not read\n"
+    );
     for (place, ask) in asks.iter().enumerate() {
         if let Some(name) = Reader::Ask.unread(ask) {
             let number = place.saturating_add(1);
@@ -98,90 +101,124 @@ pub fn of_workers(alloc: Global, workers: usize, fault: &str) -> Result<String, 
     lines.after_word("WORKERS")
 }
 
-/// What became of the asks of a file, and of the book that they are noted in.
-#[derive(Clone, Copy)]
-pub struct DriveSummary<'a> {
-    /// How many asks ended so, by OpenFeature's word for the reason or for what went wrong.
-    pub endings: &'a [(&'static str, usize)],
-    /// The inputs that were noted of what the asks reached, each once.
-    pub reached: u128,
-    /// The inputs of the book before, and as it is written.
-    pub had: u128,
-    pub has: u128,
+/// Says what the asks of the file at `path` came to.
+#[tactic(auto, unfolding(crate::specs::DriveSummary::summary_text), using(crate::proofs::Summary::note_names))]
+pub fn of_driven(alloc: Global, path: &str, tally: &Tally) -> Result<String, AllocError>
+    ensures names { IfOk result (λ s. Names path.now (string_bytes s)) }
+    ensures text { IfOk result (λ s. string_bytes s ≡ summary_text path.now tally.now) }
+{
+    let name = quoted_name(alloc, path)?;
+    let asks = asks_text(alloc, tally)?;
+    let book = book_text(alloc, tally)?;
+    let advice = advice(alloc, tally)?;
+    format!(in alloc; "note: {name}{asks}{book}{advice}")
 }
 
-/// Says what the asks of the file at `path` came to.
-pub fn of_driven(alloc: Global, path: &str, drive: DriveSummary<'_>) -> Result<String, AllocError>
+/// Explains why a book is left as it was: the asks reached no input.
+#[tactic(auto, unfolding(crate::specs::DriveSummary::unrecorded_text, crate::specs::DriveSummary::nothing_text), using(crate::proofs::Summary::note_names))]
+pub fn of_unrecorded_asks(alloc: Global, path: &str, tally: &Tally) -> Result<String, AllocError>
     ensures names { IfOk result (λ s. Names path.now (string_bytes s)) }
+    ensures text { IfOk result (λ s. string_bytes s ≡ unrecorded_text path.now tally.now) }
 {
-    let mut lines = Lines::new(alloc);
-    put_endings(&mut lines, drive.endings);
-    write!(
-        lines,
-        "\n  they reached {}, {} of them new; the book has {}\n",
-        Count(drive.reached, "input"),
-        drive.has.saturating_sub(drive.had),
-        drive.has,
-    );
-    if drive.reached == 0 {
-        write!(lines, "{NOTHING}");
-    } else {
-        put_sharing(&mut lines, drive);
+    let name = quoted_name(alloc, path)?;
+    let asks = asks_text(alloc, tally)?;
+    format!(in alloc; "note: {name}{asks}\n{NOTHING}")
+}
+
+/// How many asks there are, and how many of them ended in what.
+#[tactic(auto, unfolding(crate::specs::DriveSummary::asks_text))]
+fn asks_text(alloc: Global, tally: &Tally) -> Result<String, AllocError>
+    ensures { IfOk result (λ s. string_bytes s ≡ asks_text tally.now) }
+{
+    let endings = endings_told(&tally.endings);
+    let endings = ending_texts(alloc, &endings)?;
+    let (asks, ending) = (tally.asks, plural(tally.asks as u128));
+    format!(in alloc; ": {asks} ask{ending}{endings}")
+}
+
+/// How many asks ended in what, by OpenFeature's words.
+#[tactic(auto, unfolding(crate::specs::DriveSummary::endings_told))]
+fn endings_told(endings: &Endings) -> [(&'static str, usize); 10]
+    ensures { map (λ e. (e.0.now, e.1)) result ≡ endings_told endings.now }
+{
+    [
+        ("TARGETING_MATCH", endings.targeting_match),
+        ("DEFAULT", endings.defaults),
+        ("STATIC", endings.fixed),
+        ("DISABLED", endings.disabled),
+        ("PROVIDER_NOT_READY", endings.not_ready),
+        ("INVALID_CONTEXT", endings.invalid_context),
+        ("FLAG_NOT_FOUND", endings.not_found),
+        ("PARSE_ERROR", endings.parse_error),
+        ("GENERAL", endings.general),
+        ("TYPE_MISMATCH", endings.type_mismatch),
+    ]
+}
+
+/// The words with their numbers, but those of which there is none.
+fn ending_texts(alloc: Global, endings: &[(&str, usize)]) -> Result<String, AllocError>
+    ensures { IfOk result (λ s. string_bytes s ≡ ending_texts (map (λ e. (e.0.now, e.1)) endings.now)) }
+{
+    let mut text = String::new(alloc);
+    for (word, count) in endings {
+        let ending = ending_text(alloc, word, *count)?;
+        text.push_str(ending.as_str())?;
     }
-    lines.headed(Opening::Note, path)
+    Ok(text)
+}
+
+fn ending_text(alloc: Global, word: &str, count: usize) -> Result<String, AllocError>
+    ensures { IfOk result (λ s. string_bytes s ≡ ending_text (word.now, count)) }
+{
+    if count == 0 {
+        return Ok(String::new(alloc));
+    }
+    format!(in alloc; ", {word} {count}")
+}
+
+/// How many inputs the asks reached, and what became of the book.
+#[tactic(auto, unfolding(crate::specs::DriveSummary::book_text))]
+fn book_text(alloc: Global, tally: &Tally) -> Result<String, AllocError>
+    ensures { IfOk result (λ s. string_bytes s ≡ book_text tally.now) }
+{
+    let (reached, ending) = (tally.reached, plural(tally.reached));
+    let (new, has) = (tally.inputs.saturating_sub(tally.had), tally.inputs);
+    format!(in alloc;
+        "\n  they reached {reached} input{ending}, {new} of them new; the book has {has}\n"
+    )
+}
+
+/// What to look at where the asks reached nothing, or few inputs.
+#[tactic(auto, unfolding(crate::specs::DriveSummary::nothing_text))]
+fn advice(alloc: Global, tally: &Tally) -> Result<String, AllocError>
+    ensures { IfOk result (λ s. string_bytes s ≡ (if tally.now.reached == 0 then nothing_text else sharing_text tally.now.endings.targeting_match tally.now.reached)) }
+{
+    if tally.reached == 0 {
+        String::from_str(alloc, NOTHING)
+    } else {
+        sharing_text(alloc, tally.endings.targeting_match as u128, tally.reached)
+    }
 }
 
 /// That many asks matched a targeting for each input that they reached, where they did: so it is where the contexts lack what
 /// the bucketing expression reads.
-fn put_sharing(lines: &mut Lines, drive: DriveSummary<'_>) {
-    for (word, count) in drive.endings {
-        let asks = *count as u128;
-        if *word == "TARGETING_MATCH" && drive.reached > 0 && asks / MANY >= drive.reached {
-            write!(
-                lines,
-                "  there are {} asks for each input: the same users asked again, or every context lacks what the bucketing expression reads\n",
-                asks / drive.reached,
-            );
-        }
-    }
-}
-
-/// Explains why a book is left as it was: the asks reached no input.
-pub fn of_unrecorded_asks(
-    alloc: Global,
-    path: &str,
-    endings: &[(&'static str, usize)],
-) -> Result<String, AllocError>
-    ensures names { IfOk result (λ s. Names path.now (string_bytes s)) }
+#[tactic(auto, unfolding(crate::specs::DriveSummary::sharing_text))]
+fn sharing_text(alloc: Global, matched: u128, reached: u128) -> Result<String, AllocError>
+    requires { 0 < reached }
+    ensures { IfOk result (λ s. string_bytes s ≡ sharing_text matched reached) }
 {
-    let mut lines = Lines::new(alloc);
-    put_endings(&mut lines, endings);
-    write!(lines, "\n{NOTHING}");
-    lines.headed(Opening::Note, path)
+    if reached > matched / MANY {
+        return Ok(String::new(alloc));
+    }
+    let asks = matched / reached;
+    format!(in alloc;
+        "  there are {asks} asks for each input: the same users asked again, or every context lacks what the bucketing expression reads\n"
+    )
 }
 
-/// How many asks there are, and how many of them ended in what.
-fn put_endings(lines: &mut Lines, endings: &[(&'static str, usize)]) {
-    let mut asks: u128 = 0;
-    for (_, count) in endings {
-        asks = asks.saturating_add(*count as u128);
-    }
-    write!(lines, ": {}", Count(asks, "ask"));
-    for (word, count) in endings {
-        if *count > 0 {
-            write!(lines, ", {word} {count}");
-        }
-    }
-}
-
-/// A number of things.
-#[derive(Clone, Copy)]
-struct Count(u128, &'static str);
-
-impl fmt::Display for Count {
-    fn fmt<W: fmt::Write>(&self, f: &mut fmt::Formatter<W>) -> fmt::Result {
-        let Count(count, thing) = self;
-        let ending = if *count == 1 { "" } else { "s" };
-        write!(f, "{count} {thing}{ending}")
-    }
+/// What makes a name that of one thing, or of another number of them.
+fn plural(count: u128) -> &'static str
+    ensures { result.now ≡ plural count }
+{
+    if count == 1 { "" } else { "s" }
 }

@@ -6,18 +6,20 @@ ghost use Rattle.flagops_commands.specs.Calls.{drive_calls};
 ghost use Rattle.flagops_commands.specs.Drive.{HasNoAsks, HasUnreadAsk, IsDriveReport, IsRefusedByName, IsWritten, LeavesBook, before_at};
 ghost use Rattle.flagops_shell.specs.Ending.{KeepsUnlessDone};
 ghost use Rattle.flagops_shell.specs.Files.{KeepsOthers};
-ghost use Rattle.flagops_files.specs.Refusal.{ComesFrom, GivesOne, GivesUnlessWant, is_file_fault, loads_book, stores_file};
+ghost use Rattle.flagops_commands.specs.Refusal.{ComesFrom, GivesOne, GivesUnlessWant, is_file_fault, loads_book, stores_file, TellsOf, TellsOfOne, by};
 ghost use Rattle.flagops_shell.specs.Report.{outcome_view};
-ghost use Rattle.flagops_files.specs.Told.{TellsOf, TellsOfOne, by, file};
+ghost use Rattle.flagops_files.specs.Told.{file};
 ghost use Rattle.flagops_shell.specs.Diagnostic.{Says};
 ghost use Rattle.file_diagnostics.specs.Named.{Names};
+ghost use Rattle.flagops_commands.specs.DriveSummary.{TellsPrinted};
 ghost use Rattle.flagops_commands.specs.Subjects.{drive_subjects};
 
 use crate::books::asks::load_asks;
 use crate::books::driving::{drive_output, remark_on};
+use crate::loading::{check_replaceable, load_book, load_flags, store};
+use crate::refusal::Refused;
 use book_core::Book;
 use flagops_drive::DriveOutput;
-use flagops_files::{Refused, check_replaceable, load_book, load_flags, store};
 use flagops_shell::{FileSet, Outcome, Remark, Status};
 use json::Scratch;
 use std::alloc::Global;
@@ -52,6 +54,7 @@ pub fn drive<R: Threads + Wait + Sync, F: FileSet>(
     ensures unread { IfSome (F.holding files.old) (λ at. strict ≡ true → HasUnreadAsk at asks.now → IsRefusedByName result) }
     ensures names { TellsOfOne (drive_subjects document.now asks.now book.now) result }
     ensures notes { IfOk result (λ o. IfSome o.remark (Says (Names asks.now))) }
+    ensures numbers { IfOk result (λ o. IfSome (F.holding files.old) (λ at. IfSome o.remark (Says (TellsPrinted at asks.now book.now add json o.text.items)))) }
 {
     let flags = load_flags(alloc, files, document)?;
     let mut bytes = Vec::new(alloc);
@@ -71,7 +74,7 @@ pub fn drive<R: Threads + Wait + Sync, F: FileSet>(
         json,
         files.meter(),
     )?;
-    let remark = remark_on(alloc, asks, &loaded, drive_output.tally);
+    let remark = remark_on(alloc, asks, &loaded, &drive_output.tally);
     // The program ends soon, and its memory with it.
     mem::forget((flags, loaded));
     written(alloc, files, book, drive_output, remark)
@@ -114,7 +117,7 @@ fn written<F: FileSet>(
     ensures others { KeepsOthers (F.holding files.old) (F.holding files.new) book.now }
     ensures kept { KeepsUnlessDone (F.holding files.old) (F.holding files.new) result }
     ensures names { TellsOfOne ((file book.now, by stores_file) ∷ []) result }
-    ensures remark { IfOk result (λ o. o.remark ≡ Some remark) }
+    ensures remark { IfOk result (λ o. (o.remark ≡ Some remark) × (o.text.items ≡ drive_output.text.items)) }
 {
     store(alloc, files, book, drive_output.book.as_slice())?;
     let DriveOutput { text, rest, .. } = drive_output;

@@ -5,28 +5,29 @@ ghost use Rattle.flag_text.specs.Shape.{is_whole};
 ghost use Rattle.flagops_drive.specs.Asks.{asks_of};
 ghost use Rattle.flagops_drive.specs.Driven.{drive_output_view, refusal_of};
 ghost use Rattle.flagops_drive.specs.File.{file_view};
+ghost use Rattle.flagops_drive.specs.Tally.{IsTallied};
 ghost use Rattle.flagops_commands.specs.Calls.{drive_itself};
-ghost use Rattle.flagops_rollouts.specs.Doubts.{settle};
-ghost use Rattle.flagops_commands.specs.Drive.{IsDriveOutputOf, admitted, doubt_of_asks, recorded};
+ghost use Rattle.flagops_commands.specs.Refusal.{ComesFrom, GivesOne, GivesUnlessWant, is_file_fault, TellsOfOne};
+ghost use Rattle.flagops_commands.specs.Drive.{IsDriveOutputOf, admitted, doubt_of_asks, recorded, settle};
+ghost use Rattle.flagops_commands.specs.DriveSummary.{TellsDriven};
 ghost use Rattle.flagops_commands.specs.Subjects.{NamesDriven, driven_subjects, is_of_asks};
-ghost use Rattle.flagops_files.specs.Refusal.{ComesFrom, GivesOne, GivesUnlessWant, is_file_fault};
-ghost use Rattle.flagops_files.specs.Told.{TellsOfOne, file};
+ghost use Rattle.flagops_commands.specs.declared.refusal.ListedRefusal.{ListedRefusal as Reason};
+ghost use Rattle.flagops_files.specs.Told.{file};
 ghost use Rattle.flagops_shell.specs.Diagnostic.{Says};
-ghost use Rattle.flagops_files.specs.declared.refusal.Call.TheVariants as call;
-ghost use Rattle.flagops_files.specs.declared.refusal.Refusal.{Refusal as Reason};
-ghost use Rattle.flagops_files.specs.declared.refusal.Refusal.TheVariants.{Doubted, Drive};
+ghost use Rattle.flagops_commands.specs.declared.refusal.ListedCall.TheVariants as call;
+ghost use Rattle.flagops_commands.specs.declared.refusal.ListedRefusal.TheVariants.{Doubted, Drive};
 ghost use Rattle.file_diagnostics.specs.Named.{Names};
 
-use crate::books::ask_diagnostics::{DriveSummary, of_driven, of_unrecorded_asks, of_workers};
+use crate::books::ask_diagnostics::{of_driven, of_unrecorded_asks, of_workers};
 use crate::books::asks::{of_no_asks, of_unread};
+use crate::refusal::{ListedRefusal, Refused};
 use book_core::Book;
 use file_diagnostics::of_full_book;
 use flag_defs::Flags;
 use flagops_drive::{
-    AsksFile, DriveOutput, DriveRefusal, Endings, Tally, drive_asks, has_unread_ask, refusal_of,
+    AsksFile, DriveOutput, DriveRefusal, Tally, drive_asks, has_unread_ask, refusal_of,
 };
-use flagops_files::{Call, Doubt, Refusal, Refused};
-use flagops_rollouts::joined;
+use flagops_rollouts::Doubt;
 use flagops_shell::Remark;
 use progress::Meter;
 use std::alloc::{AllocError, Global};
@@ -54,6 +55,7 @@ pub fn drive_output<R: Threads + Wait + Sync>(
     ensures read { is_file_fault result ≡ false }
     ensures refused { (e : Reason) → admitted strict (refusal_of (asks_of (file_view asks.now)) workers) (file_view asks.now) ≡ Err e → IsErrAnd result (λ r. r.refusal ≡ e) }
     ensures names { TellsOfOne (driven_subjects path.now book.now) result }
+    ensures tally { IfOk result (IsTallied before json) }
 {
     let workers = usize::from(workers);
     check_members(alloc, path, asks, workers, book, strict)?;
@@ -75,7 +77,7 @@ fn check_members(
     strict: bool,
 ) -> Result<(), Refused>
     requires { is_whole (file_view asks.now) ≡ true }
-    ensures ok { OnOk result (IsOk (settle call.Drive strict (doubt_of_asks (file_view asks.now)))) }
+    ensures ok { OnOk result (IsOk (settle strict (doubt_of_asks (file_view asks.now)))) }
     ensures refused { IfErr result (λ r. admitted strict (refusal_of (asks_of (file_view asks.now)) workers) (file_view asks.now) ≡ Err r.refusal) }
     ensures calls { ComesFrom drive_itself result }
     ensures read { is_file_fault result ≡ false }
@@ -87,7 +89,7 @@ fn check_members(
     Err(match refusal_of(asks, workers) {
         Some(refusal) => undriven(alloc, path, asks, workers, book, refusal),
         None => Refused {
-            refusal: Refusal::Doubted(Call::Drive, Doubt::Unread),
+            refusal: ListedRefusal::Doubted(Doubt::Unread),
             remark: Remark::of(of_unread(alloc, path, asks)),
         },
     })
@@ -105,12 +107,12 @@ fn recorded(
     ensures calls { ComesFrom drive_itself result }
     ensures read { is_file_fault result ≡ false }
     ensures names { TellsOfOne ((file path.now, is_of_asks) ∷ []) result }
+    ensures same { IfOk result (λ d. d ≡ drive_output) }
 {
     if strict && drive_output.tally.reached == 0 {
-        let endings = words_of(&drive_output.tally.endings);
         return Err(Refused {
-            refusal: Refusal::Doubted(Call::Drive, Doubt::Unrecorded),
-            remark: Remark::of(of_unrecorded_asks(alloc, path, &endings)),
+            refusal: ListedRefusal::Doubted(Doubt::Unrecorded),
+            remark: Remark::of(of_unrecorded_asks(alloc, path, &drive_output.tally)),
         });
     }
     Ok(drive_output)
@@ -130,7 +132,7 @@ fn undriven(
     ensures names { Says (NamesDriven path.now book.now refusal) result.remark }
 {
     Refused {
-        refusal: Refusal::Drive(refusal),
+        refusal: ListedRefusal::Drive(refusal),
         remark: Remark::of(of_refusal(alloc, path, asks, workers, book, refusal)),
     }
 }
@@ -155,43 +157,29 @@ fn of_refusal(
 /// What a person is told of asks that were driven, by the path of their file: of members that are not read, and of what the
 /// asks came to.
 #[tactic(auto, using(flagops_files::proofs::Told::says))]
-pub fn remark_on(alloc: Global, path: &str, asks: &AsksFile<'_>, tally: Tally) -> Remark
-    ensures { Says (Names path.now) result }
+pub fn remark_on(alloc: Global, path: &str, asks: &AsksFile<'_>, tally: &Tally) -> Remark
+    ensures names { Says (Names path.now) result }
+    ensures numbers { Says (TellsDriven path.now (file_view asks.now) tally.now) result }
 {
-    let remark = Remark::of(lines_on(alloc, path, tally));
+    Remark::of(lines_on(alloc, path, asks, tally))
+}
+
+#[tactic(auto, using(flagops_rollouts::proofs::Doubting::named_still, crate::proofs::Summary::alone, crate::proofs::Summary::behind))]
+fn lines_on(
+    alloc: Global,
+    path: &str,
+    asks: &AsksFile<'_>,
+    tally: &Tally,
+) -> Result<String, AllocError>
+    ensures names { IfOk result (λ s. Names path.now (string_bytes s)) }
+    ensures numbers { IfOk result (λ s. TellsDriven path.now (file_view asks.now) tally.now (string_bytes s)) }
+{
+    let summary = of_driven(alloc, path, tally)?;
     if has_unread_ask(asks) {
-        let unread = Remark::of(of_unread(alloc, path, asks));
-        joined(path, unread, Some(remark))
+        let mut lines = of_unread(alloc, path, asks)?;
+        lines.push_str(summary.as_str())?;
+        Ok(lines)
     } else {
-        remark
+        Ok(summary)
     }
-}
-
-fn lines_on(alloc: Global, path: &str, tally: Tally) -> Result<String, AllocError>
-    ensures { IfOk result (λ s. Names path.now (string_bytes s)) }
-{
-    let endings = words_of(&tally.endings);
-    let drive = DriveSummary {
-        endings: &endings,
-        reached: tally.reached,
-        had: tally.had,
-        has: tally.inputs,
-    };
-    of_driven(alloc, path, drive)
-}
-
-/// The counts, each with OpenFeature's word.
-fn words_of(endings: &Endings) -> [(&'static str, usize); 10] {
-    [
-        ("TARGETING_MATCH", endings.targeting_match),
-        ("DEFAULT", endings.defaults),
-        ("STATIC", endings.fixed),
-        ("DISABLED", endings.disabled),
-        ("PROVIDER_NOT_READY", endings.not_ready),
-        ("INVALID_CONTEXT", endings.invalid_context),
-        ("FLAG_NOT_FOUND", endings.not_found),
-        ("PARSE_ERROR", endings.parse_error),
-        ("GENERAL", endings.general),
-        ("TYPE_MISMATCH", endings.type_mismatch),
-    ]
 }

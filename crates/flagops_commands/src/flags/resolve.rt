@@ -4,20 +4,22 @@ ghost use Rattle.flag_defs.specs.Flags.{flags_view};
 ghost use Rattle.flag_text.specs.Shape.{is_whole};
 ghost use Rattle.flag_text.specs.View.{view};
 ghost use Rattle.flag_text.specs.Reading.{tree_of};
-ghost use Rattle.flagops_files.specs.Loading.{max_text, refused_by};
+ghost use Rattle.flagops_files.specs.Loading.{max_text};
 ghost use Rattle.flagops_commands.specs.Resolve.{IsResolveReport, resolve_text};
 ghost use Rattle.flagops_commands.specs.Calls.{resolve_calls};
-ghost use Rattle.flagops_files.specs.Refusal.{ComesFrom, GivesOne, GivesUnlessWant, is_file_fault, loads_tree};
+ghost use Rattle.flagops_shell.specs.Outcomes.{refused_by};
 ghost use Rattle.flagops_shell.specs.Report.{outcome_view};
-ghost use Rattle.flagops_files.specs.declared.refusal.Refusal.TheVariants.{ReadTree};
-ghost use Rattle.flagops_files.specs.Told.{TellsOf, TellsOfOne, word};
+ghost use Rattle.flagops_commands.specs.Refusal.{ComesFrom, GivesOne, GivesUnlessWant, is_file_fault, loads_tree, no_tree, TellsOf, TellsOfOne};
+ghost use Rattle.flagops_files.specs.Told.{word};
 ghost use Rattle.flagops_commands.specs.Subjects.{resolve_subjects};
 
+use crate::loading::{load_flags, load_tree};
+use crate::refusal::{ListedCall, ListedRefusal, Refused, out_of_memory};
 use file_diagnostics::of_word;
 use flag_defs::Flags;
 use flag_resolve::{Kind, print_resolution};
 use flag_text::{Tree, read_tree};
-use flagops_files::{Call, Refusal, Refused, TEXT_LIMIT, load_flags, load_tree, out_of_memory};
+use flagops_files::{Refusal, TEXT_LIMIT};
 use flagops_shell::{FileSet, Outcome, Remark, Status};
 use flagops_words::Moment;
 use std::alloc::{AllocError, Global};
@@ -45,14 +47,14 @@ pub fn resolve<F: FileSet>(
     let context = load_tree(alloc, files, context, TEXT_LIMIT)?;
     match line(alloc, &flags, key, kind, &default, &context, moment) {
         Ok(text) => Ok(Outcome::plain(text.into_bytes(), Status::Done)),
-        Err(AllocError) => Err(out_of_memory(Call::Resolve)),
+        Err(AllocError) => Err(out_of_memory(ListedCall::Resolve)),
     }
 }
 
 /// The tree that the word DEFAULT spells.
 #[tactic(auto, using(flagops_files::proofs::Told::says))]
 fn default_in(alloc: Global, text: &str) -> Result<Tree, Refused>
-    ensures exact { GivesUnlessWant view result (refused_by ReadTree (tree_of text.now max_text)) }
+    ensures exact { GivesUnlessWant view result (refused_by no_tree (tree_of text.now max_text)) }
     ensures whole { IfOk result (λ t. is_whole (view t) ≡ true) }
     ensures calls { ComesFrom loads_tree result }
     ensures read { is_file_fault result ≡ false }
@@ -61,7 +63,7 @@ fn default_in(alloc: Global, text: &str) -> Result<Tree, Refused>
     match read_tree(alloc, text.as_bytes(), TEXT_LIMIT as usize) {
         Ok(tree) => Ok(tree),
         Err(fault) => Err(Refused {
-            refusal: Refusal::ReadTree(fault),
+            refusal: ListedRefusal::Load(Refusal::ReadTree(fault)),
             remark: Remark::of(of_word(
                 alloc,
                 "DEFAULT",

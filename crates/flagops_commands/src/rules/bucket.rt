@@ -2,13 +2,14 @@
 ghost use Rattle.std.specs.Prelude.{◌≡◌, ◌||◌, if◌then◌else◌, IfOk, IfSome, decimal, string_bytes};
 ghost use Rattle.flagops_commands.specs.Bucket.{bucket_json, bucket_report, bucket_text, eight_hex_digits, three_lines, three_members};
 ghost use Rattle.flagops_commands.specs.Calls.{bucket_calls};
-ghost use Rattle.flagops_files.specs.Refusal.{ComesFrom, GivesUnlessWant, is_file_fault};
+ghost use Rattle.flagops_commands.specs.Refusal.{ComesFrom, GivesUnlessWant, is_file_fault, TellsOfOne};
 ghost use Rattle.flagops_shell.specs.Report.{outcome_view};
-ghost use Rattle.flagops_files.specs.Told.{TellsOfOne};
 ghost use Rattle.flagops_commands.specs.Subjects.{bucket_subjects};
 ghost use Rattle.rule_text.specs.Choosing.{choice_view};
 
-use flagops_files::{Call, Refused, load_choice, out_of_memory, quoted};
+use crate::loading::load_choice;
+use crate::refusal::{ListedCall, Refused, out_of_memory};
+use flagops_files::quoted;
 use flagops_shell::{FileSet, Outcome, Status};
 use murmur_core::hash;
 use rule_text::Choice;
@@ -32,7 +33,7 @@ pub fn bucket<F: FileSet>(
     let choice = load_choice(alloc, files, rule, key)?;
     match answer(alloc, &choice, key, json) {
         Ok(text) => Ok(Outcome::plain(text.into_bytes(), Status::Done)),
-        Err(AllocError) => Err(out_of_memory(Call::Bucket)),
+        Err(AllocError) => Err(out_of_memory(ListedCall::Bucket)),
     }
 }
 

@@ -5,14 +5,14 @@ ghost use Rattle.bucket_core.specs.Rule.{Entries, total_weight};
 ghost use Rattle.flag_text.specs.Shape.{members_are_whole, object, whole};
 ghost use Rattle.flag_text.specs.View.{view};
 ghost use Rattle.flagops_commands.specs.Price.{request_at, are_short, are_taken, exposed, price_report, weighed, weighed_bytes, weighed_keys, with_doubt, price_json, price_lines, price_members, price_text, number_or_null, total_lines, total_members, forbidden_line, cost_line};
+ghost use Rattle.flagops_commands.specs.Loaded.{bytes_at};
 ghost use Rattle.flagops_commands.specs.Calls.{loads_keys, loads_request, notes_keys, price_calls, price_itself, weighs_keys};
-ghost use Rattle.flagops_shell.specs.Files.{load_of};
-ghost use Rattle.flagops_files.specs.Loading.{refused_by, max_text};
-ghost use Rattle.flagops_files.specs.Refusal.{ComesFrom, GivesUnlessWant, is_file_fault};
+ghost use Rattle.flagops_files.specs.Loading.{max_text};
+ghost use Rattle.flagops_shell.specs.Outcomes.{refused_by};
 ghost use Rattle.flagops_shell.specs.Report.{outcome_view};
-ghost use Rattle.flagops_files.specs.declared.refusal.PriceMismatch.TheVariants.{BadKeys};
-ghost use Rattle.flagops_files.specs.declared.refusal.Refusal.TheVariants.{Load, Price, ReadRequest};
-ghost use Rattle.flagops_files.specs.Told.{NamesSubject, TellsOf, TellsOfOne, file, word};
+ghost use Rattle.flagops_commands.specs.Refusal.{ComesFrom, GivesUnlessWant, is_file_fault, TellsOf, TellsOfOne};
+ghost use Rattle.flagops_commands.specs.declared.refusal.PriceMismatch.TheVariants.{BadKeys};
+ghost use Rattle.flagops_files.specs.Told.{NamesSubject, file, word};
 ghost use Rattle.flagops_shell.specs.Diagnostic.{Says};
 ghost use Rattle.flagops_commands.specs.Subjects.{is_of_keys, is_of_rules, old_weights, price_subjects};
 ghost use Rattle.file_diagnostics.specs.Named.{Names};
@@ -20,16 +20,17 @@ ghost use Rattle.book_core.specs.Page.{bytes_cmp};
 ghost use Rattle.price_core.specs.Pricing.{Pricing};
 ghost use Rattle.price_core.specs.Request.{asked_of};
 ghost use Rattle.rule_text.specs.Texts.{AreTexts, texts_view};
+ghost use Rattle.flagops_commands.specs.declared.refusal.ListedRefusal.TheVariants.{Price, ReadRequest};
 
+use crate::loading::{load_bytes, load_rule};
+use crate::refusal::{ListedCall, ListedRefusal, PriceMismatch, Refused, out_of_memory};
 use crate::rules::price_diagnostics::{of_keys, of_noted, of_weights};
 use crate::rules::totals::totals_by_name;
 use book_core::{Book, Exposure, Page};
 use bucket_core::Rule;
 use file_diagnostics::of_text;
 use flag_text::{Tree, print_tree, read_tree};
-use flagops_files::{
-    Call, PriceMismatch, Refusal, Refused, TEXT_LIMIT, load, load_rule, out_of_memory, quoted,
-};
+use flagops_files::{Refusal, TEXT_LIMIT, quoted};
 use flagops_rollouts::unread;
 use flagops_shell::{FileSet, Outcome, Remark, Status};
 use json::Scratch;
@@ -105,7 +106,7 @@ fn load_request<F: FileSet>(
     ensures names { TellsOf (file path.now) result }
     ensures notes { IfOk result (λ r. IfSome r.remark (Says (Names path.now))) }
 {
-    let bytes = load(alloc, files, path, u64::from(TEXT_LIMIT))?;
+    let bytes = load_bytes(alloc, files, path)?;
     request_in(alloc, path, bytes.as_slice())
 }
 
@@ -121,10 +122,10 @@ fn request_in(alloc: Global, path: &str, bytes: &[u8]) -> Result<NotedRequest, R
     match Request::read(alloc, bytes) {
         Ok(request) => match unread(alloc, path, bytes) {
             Ok(remark) => Ok(NotedRequest { request, remark }),
-            Err(AllocError) => Err(out_of_memory(Call::ReadRequest)),
+            Err(AllocError) => Err(out_of_memory(ListedCall::ReadRequest)),
         },
         Err(fault) => Err(Refused {
-            refusal: Refusal::ReadRequest(fault),
+            refusal: ListedRefusal::ReadRequest(fault),
             remark: Remark::of(of_request(alloc, path, bytes, fault)),
         }),
     }
@@ -132,13 +133,13 @@ fn request_in(alloc: Global, path: &str, bytes: &[u8]) -> Result<NotedRequest, R
 
 /// The bytes of the key file at a path.
 fn load_keys<F: FileSet>(alloc: Global, files: &mut F, path: &str) -> Result<Vec<u8>, Refused>
-    ensures exact { IfSome (F.holding files.old) (λ at. GivesUnlessWant (λ v. v.items) result (refused_by Load (load_of at path.now max_text))) }
+    ensures exact { IfSome (F.holding files.old) (λ at. GivesUnlessWant (λ v. v.items) result (bytes_at at path.now)) }
     ensures calls { ComesFrom loads_keys result }
     ensures failed { F.has_failed files.new ≡ (F.has_failed files.old || is_file_fault result) }
     ensures kept { F.holding files.new ≡ F.holding files.old }
     ensures names { TellsOfOne ((file path.now, is_of_keys) ∷ []) result }
 {
-    load(alloc, files, path, u64::from(TEXT_LIMIT))
+    load_bytes(alloc, files, path)
 }
 
 /// What the change costs the keys that the bytes of a file stand for. A tree is made of them only where they are no list of
@@ -163,7 +164,7 @@ fn weigh_file<R: Threads + Sync>(
     match read_texts(alloc, bytes, TEXT_LIMIT as usize, &mut scratch) {
         Ok(Some(keys)) => weigh_keys(rt, alloc, path, keys, old, new, prices, json),
         Ok(None) => refuse_keys(alloc, path, bytes),
-        Err(AllocError) => Err(out_of_memory(Call::Price)),
+        Err(AllocError) => Err(out_of_memory(ListedCall::Price)),
     }
 }
 
@@ -180,7 +181,7 @@ fn refuse_keys(alloc: Global, path: &str, bytes: &[u8]) -> Result<Outcome, Refus
     match read_tree(alloc, bytes, limit) {
         Ok(tree) => Err(no_keys(alloc, path, &tree)),
         Err(fault) => Err(Refused {
-            refusal: Refusal::ReadTree(fault),
+            refusal: ListedRefusal::Load(Refusal::ReadTree(fault)),
             remark: Remark::of(of_text(alloc, path, bytes, limit, fault)),
         }),
     }
@@ -194,7 +195,7 @@ fn no_keys(alloc: Global, path: &str, tree: &Tree) -> Refused
 {
     let (place, value) = other_than_text(tree);
     Refused {
-        refusal: Refusal::Price(PriceMismatch::BadKeys),
+        refusal: ListedRefusal::Price(PriceMismatch::BadKeys),
         remark: Remark::of(of_keys(alloc, path, place, value)),
     }
 }
@@ -248,7 +249,7 @@ fn weigh_keys<R: Threads + Sync>(
     let exposure = noted(alloc, path, keys.as_slice())?;
     match lent(alloc, exposure.inputs()) {
         Ok(inputs) => priced(rt, alloc, old, new, prices, inputs.as_slice(), json),
-        Err(AllocError) => Err(out_of_memory(Call::Price)),
+        Err(AllocError) => Err(out_of_memory(ListedCall::Price)),
     }
 }
 
@@ -297,14 +298,14 @@ fn noted(alloc: Global, path: &str, keys: &[&str]) -> Result<Exposure, Refused>
         if let Err(fault) = book.note(alloc, &page, key) {
             let lines = of_noted(alloc, path, key, fault);
             return Err(Refused {
-                refusal: Refusal::Note(fault),
+                refusal: ListedRefusal::Note(fault),
                 remark: Remark::of(lines),
             });
         }
     }
     match book.exposure(alloc, &page) {
         Ok(exposure) => Ok(exposure),
-        Err(AllocError) => Err(out_of_memory(Call::Price)),
+        Err(AllocError) => Err(out_of_memory(ListedCall::Price)),
     }
 }
 
@@ -327,13 +328,13 @@ fn priced(
     if old.total() != new.total() {
         let lines = of_weights(alloc, old.total(), new.total());
         return Err(Refused {
-            refusal: Refusal::Price(PriceMismatch::Weight),
+            refusal: ListedRefusal::Price(PriceMismatch::Weight),
             remark: Remark::of(lines),
         });
     }
     match answer(rt, alloc, old, new, prices, inputs, json) {
         Ok(text) => Ok(Outcome::plain(text.into_bytes(), Status::Done)),
-        Err(AllocError) => Err(out_of_memory(Call::Price)),
+        Err(AllocError) => Err(out_of_memory(ListedCall::Price)),
     }
 }
 

@@ -5,11 +5,10 @@ use Rattle.flagops_books.specs.Report.{IsBookReport, IsUnitedFor}
 use Rattle.flagops_books.specs.Step.{GivesUnited}
 use Rattle.flagops_books.specs.Words.{uniting_view}
 use Rattle.flagops_books.specs.declared.uniting.Step.{Step}
-use Rattle.flagops_files.specs.Refusal.{GivesOne}
+use Rattle.flagops_books.specs.Refusal.{GivesOne, Refused}
 use Rattle.flagops_shell.specs.Report.{outcome_view}
 use Rattle.flagops_shell.specs.declared.outcome.Outcome.{Outcome}
-use Rattle.flagops_files.specs.Refusal.{Refused}
-use Rattle.flagops_books.proofs.Ending.{as_many, left, no_union, said_of, stored_reported, stray_reported, told_ok}
+use Rattle.flagops_books.proofs.Ending.{as_many, left, no_union, stored_reported, stray_reported, told_noted, told_stopped}
 use Rattle.flagops_books.proofs.command.outcome.Goals as goal
 
 pub returns-in_err-came-clause-exact : goal.returns-in_err-came-clause-exact
@@ -35,8 +34,14 @@ returns-in-Noted-clause-exact g c =
 pub returns-in-Noted-clause-notes : goal.returns-in-Noted-clause-notes
 returns-in-Noted-clause-notes g c =
     let u = uniting_view c.args.asked.now in
-    let says = c.in_ok-came.ensures.says in
-    told_ok u.files c.in-Noted.all.told c.stored.result (said_of u.files c.in_ok-came.came c.in-Noted.all c.in-Noted.is says) c.stored.ensures.told
+    let old = g.F.FileSet.holding c.args.files.now in
+    told_noted u old c.in-Noted.all c.stored.result (subst (λ (s : Step). IfSome old (λ at. GivesUnited (Ok s) (IsUnitedFor u at))) c.in-Noted.is c.in_ok-came.ensures.exact) c.stored.ensures.told
+
+pub returns-in-Stopped-clause-notes : goal.returns-in-Stopped-clause-notes
+returns-in-Stopped-clause-notes g c =
+    let u = uniting_view c.args.asked.now in
+    let old = g.F.FileSet.holding c.args.files.now in
+    told_stopped u old c.in-Stopped.outcome (subst (λ (s : Step). IfSome old (λ at. GivesUnited (Ok s) (IsUnitedFor u at))) c.in-Stopped.is c.in_ok-came.ensures.exact)
 
 pub returns-in-Stopped-clause-exact : goal.returns-in-Stopped-clause-exact
 returns-in-Stopped-clause-exact g c =

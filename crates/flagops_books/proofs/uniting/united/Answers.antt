@@ -1,4 +1,4 @@
-use Rattle.std.proofs.Common.{arith, rules, ◌+◌, ◌≡◌, ◌∙◌, [], Err, Ok, ap, drop, false, IfSome, inl, length, map, refl, string_bytes, subst, sym}
+use Rattle.std.proofs.Common.{arith, rules, ◌+◌, ◌≡◌, ◌∙◌, [], Err, Ok, ap, drop, IfSome, map, refl, string_bytes, subst, sym}
 use Rattle.std.proofs.lemmas.List.{drop_all}
 use Rattle.std.proofs.lemmas.Result.{err_from_is_err_and}
 use Rattle.std.specs.Prelude.{Result}
@@ -6,9 +6,9 @@ use Rattle.flagops_books.specs.Step.{GivesUnited}
 use Rattle.flagops_books.specs.Union.{IsUnited}
 use Rattle.flagops_books.specs.declared.uniting.Step.{Step}
 use Rattle.flagops_books.specs.declared.uniting.Step.TheVariants.{Noted, Stopped}
-use Rattle.flagops_files.specs.Refusal.{Refused}
+use Rattle.flagops_books.specs.Refusal.{Refused}
 use Rattle.flagops_books.proofs.Following.{Goes, both_known, everywhere, first_left, goes_all, goes_on, goes_refused, goes_stopped, starts, where_known}
-use Rattle.flagops_books.proofs.Naming.{noted_said, stopped_said, told_of_one}
+use Rattle.flagops_books.proofs.Naming.{told_of_one}
 use Rattle.note_books.specs.Notes.{no_notes}
 use Rattle.flagops_books.proofs.uniting.united.Goals as goal
 
@@ -21,7 +21,6 @@ loop-path-init g c =
           (λ at. starts at c.args.passing paths (record { book = c.new.result; told = c.new-2.result }) c.new.ensures quiet);
       failed = refl;
       kept = refl;
-      said = inl (ap length quiet);
     }
 
 pub returns-in_err-step-clause-exact : goal.returns-in_err-step-clause-exact
@@ -35,12 +34,12 @@ returns-in_err-step-clause-exact g c =
     let told =
     both_known (g.F.FileSet.holding c.args.files.now) (g.F.FileSet.holding before.files)
     (λ at. Goes at c.args.passing all (map (λ p. p.now) (drop before.path-index paths)) before.all)
-    (λ at. GivesUnited (Err refused) (IsUnited at c.args.passing all no_notes false))
+    (λ at. GivesUnited (Err refused) (IsUnited at c.args.passing all no_notes []))
     before.invariant.kept before.invariant.goes c.in_err-step.ensures.exact
     (λ at goes gives.
     goes_refused at c.args.passing all (map (λ p. p.now) (drop before.path-index paths)) (map (λ p. p.now) (drop (before.path-index + 1) paths)) _ before.all goes
     (first_left (λ p. p.now) paths before.path-index _ (omega arith)) refused gives) in
-    subst (λ (r : Result Step Refused). IfSome (g.F.FileSet.holding c.args.files.now) (λ at. GivesUnited r (IsUnited at c.args.passing all no_notes false))) (sym is) told
+    subst (λ (r : Result Step Refused). IfSome (g.F.FileSet.holding c.args.files.now) (λ at. GivesUnited r (IsUnited at c.args.passing all no_notes []))) (sym is) told
 
 pub returns-in_err-step-clause-names : goal.returns-in_err-step-clause-names
 returns-in_err-step-clause-names g c =
@@ -54,15 +53,11 @@ returns-in-Stopped-clause-exact g c =
     let all = map (λ p. p.now) paths in
     both_known (g.F.FileSet.holding c.args.files.now) (g.F.FileSet.holding before.files)
     (λ at. Goes at c.args.passing all (map (λ p. p.now) (drop before.path-index paths)) before.all)
-    (λ at. GivesUnited (Ok (Stopped c.in-Stopped.outcome)) (IsUnited at c.args.passing all no_notes false))
+    (λ at. GivesUnited (Ok (Stopped c.in-Stopped.outcome)) (IsUnited at c.args.passing all no_notes []))
     before.invariant.kept before.invariant.goes c.in_ok-step.ensures.exact
     (λ at goes gives.
     goes_stopped at c.args.passing all (map (λ p. p.now) (drop before.path-index paths)) (map (λ p. p.now) (drop (before.path-index + 1) paths)) _ before.all goes
     (first_left (λ p. p.now) paths before.path-index _ (omega arith)) c.in_ok-step.step c.in-Stopped.outcome c.in-Stopped.is gives)
-
-pub returns-in-Stopped-clause-says : goal.returns-in-Stopped-clause-says
-returns-in-Stopped-clause-says g c =
-    stopped_said (λ p. p.now) c.args.paths.now c.loop-path.path-index _ (string_bytes c.loop-path.all.told) c.in_ok-step.step c.in-Stopped.outcome (omega arith) c.in-Stopped.is c.in_ok-step.ensures.says
 
 pub loop-path-preserved : goal.loop-path-preserved
 loop-path-preserved g c =
@@ -80,7 +75,6 @@ loop-path-preserved g c =
           (first_left (λ p. p.now) paths before.path-index _ (omega arith)) c.in_ok-step.step c.in-Noted.next c.in-Noted.is gives);
       failed = search rules;
       kept = search rules;
-      said = noted_said (λ p. p.now) paths before.path-index _ (string_bytes before.all.told) c.in_ok-step.step c.in-Noted.next (omega arith) c.in-Noted.is before.invariant.said c.in_ok-step.ensures.says;
     }
 
 pub returns-clause-exact : goal.returns-clause-exact
@@ -90,5 +84,5 @@ returns-clause-exact g c =
     let all = map (λ p. p.now) paths in
     where_known (g.F.FileSet.holding c.args.files.now)
     (λ at. Goes at c.args.passing all (map (λ p. p.now) (drop l.path-index paths)) l.all)
-    (λ at. GivesUnited (Ok (Noted l.all)) (IsUnited at c.args.passing all no_notes false))
+    (λ at. GivesUnited (Ok (Noted l.all)) (IsUnited at c.args.passing all no_notes []))
     (λ at goes. goes_all at c.args.passing all (map (λ p. p.now) (drop l.path-index paths)) l.all goes (ap (map (λ p. p.now)) (drop_all l.path-index paths c.loop-path-test.false))) l.invariant.goes

@@ -1,5 +1,4 @@
-use Rattle.std.proofs.Common.{◌≡◌, drop, map, IfSome, string_bytes}
-use Rattle.flagops_books.specs.Step.{Said}
+use Rattle.std.proofs.Common.{◌≡◌, drop, map, IfSome}
 use Rattle.flagops_books.proofs.Following.{Goes}
 use Rattle.flagops_books.proofs.uniting.united.Given as goal
 
@@ -9,5 +8,4 @@ invariant-loop-path g l = record {
   goes : IfSome (g.F.FileSet.holding l.fn.files) (λ at. Goes at l.passing (map (λ p. p.now) l.paths) (map (λ p. p.now) (drop l.path-index l.paths)) l.all);
   failed : g.F.FileSet.has_failed l.files ≡ g.F.FileSet.has_failed l.fn.files;
   kept : g.F.FileSet.holding l.files ≡ g.F.FileSet.holding l.fn.files;
-  said : Said (map (λ p. p.now) l.paths) (string_bytes l.all.told);
 }

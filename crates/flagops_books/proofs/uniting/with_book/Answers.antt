@@ -1,6 +1,5 @@
 use Rattle.std.proofs.Common.{string_bytes}
 use Rattle.book_core.specs.Reading.{book_of}
-use Rattle.flagops_books.specs.Told.{is_told}
 use Rattle.flagops_books.proofs.Unions.{full_book, united_book}
 use Rattle.flagops_books.proofs.uniting.with_book.Goals as goal
 
@@ -10,4 +9,4 @@ returns-in-Ok-clause-exact c = λ now is_of.
 
 pub returns-clause-exact : goal.returns-clause-exact
 returns-clause-exact c = λ now is_of.
-    full_book now c.args.all.book c.in_ok-other.other (book_of c.args.bytes.now) is_of c.in_ok-other.ensures.exact (is_told (string_bytes c.args.all.told)) c.in-Err.fault c.not_united.result c.in-Err.ensures c.not_united.ensures.refusal
+    full_book now c.args.all.book c.in_ok-other.other (book_of c.args.bytes.now) is_of c.in_ok-other.ensures.exact (string_bytes c.args.all.told) c.in-Err.fault c.not_united.result c.in-Err.ensures c.not_united.ensures.refusal

@@ -3,10 +3,9 @@ use Rattle.std.proofs.lemmas.Result.{err_from_is_err_and}
 use Rattle.std.specs.Prelude.{Result}
 use Rattle.flagops_checks.specs.Report.{IsCheckReport}
 use Rattle.flagops_checks.specs.Words.{checking_view}
-use Rattle.flagops_files.specs.Refusal.{GivesOne}
+use Rattle.flagops_checks.specs.Refusal.{GivesOne, Refused}
 use Rattle.flagops_shell.specs.Report.{outcome_view}
 use Rattle.flagops_shell.specs.declared.outcome.Outcome.{Outcome}
-use Rattle.flagops_files.specs.Refusal.{Refused}
 use Rattle.flagops_checks.proofs.Ending.{a_remark, a_report, given, no_report}
 use Rattle.flagops_checks.proofs.command.outcome.Goals as goal
 

@@ -6,7 +6,7 @@ use Rattle.flagops_checks.specs.Documents.{AreChecked}
 use Rattle.flagops_checks.specs.Step.{GivesAll}
 use Rattle.flagops_checks.specs.declared.gathering.Gathered.{Gathered}
 use Rattle.flagops_checks.proofs.Following.{Goes, both_known, everywhere, first_left, goes_all, goes_on, goes_refused, starts, told_of_one, where_known}
-use Rattle.flagops_files.specs.Refusal.{Refused}
+use Rattle.flagops_checks.specs.Refusal.{Refused}
 use Rattle.flagops_checks.proofs.gathering.gather.Goals as goal
 
 pub loop-path-init : goal.loop-path-init

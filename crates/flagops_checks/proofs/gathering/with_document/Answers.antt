@@ -7,7 +7,7 @@ use Rattle.flagops_checks.specs.Judged.{checked}
 use Rattle.flagops_checks.specs.Step.{Adds, GivesNext}
 use Rattle.flagops_checks.specs.declared.gathering.Gathered.{Gathered}
 use Rattle.flagops_checks.proofs.Following.{next_found, next_refused}
-use Rattle.flagops_files.specs.Refusal.{Refused}
+use Rattle.flagops_checks.specs.Refusal.{Refused}
 use Rattle.flagops_checks.proofs.gathering.with_document.Goals as goal
 
 pub returns-in_err-bytes-clause-exact : goal.returns-in_err-bytes-clause-exact

@@ -1,4 +1,4 @@
-use Rattle.std.proofs.Common.{rules, arith, ◌+◌, ◌≡◌, ◌∙◌, IfSome, Result, Err, ap, drop, map, refl, sym, subst}
+use Rattle.std.proofs.Common.{rules, arith, ◌+◌, ◌≡◌, ◌∙◌, IfSome, Result, Ok, Err, ap, drop, map, refl, sym, subst}
 use Rattle.std.proofs.lemmas.List.{drop_all}
 use Rattle.std.proofs.lemmas.Result.{err_from_is_err_and}
 use Rattle.tally_core.specs.Tally.{PageTally}
@@ -12,6 +12,7 @@ use Rattle.flagops_filters.proofs.joining.all_with.Goals as goal
 pub loop-path-init : goal.loop-path-init
 loop-path-init g c = record {
   leads = leads_all (g.F.FileSet.holding c.args.files.now) c.args.one (map (λ p. p.now) c.args.paths.now);
+  first = λ start. refl;
   failed = refl;
   kept = refl;
 }
@@ -23,6 +24,7 @@ loop-path-preserved g c =
     record {
       leads = next_file c.args.one (map (λ p. p.now) paths) (g.F.FileSet.holding c.args.files.now) (g.F.FileSet.holding before.files) before.all c.in_ok-all.all _ (map (λ p. p.now) (drop (before.path-index + 1) paths)) (map (λ p. p.now) (drop before.path-index paths))
           before.invariant.kept before.invariant.leads c.in_ok-all.ensures.exact (first_left (λ p. p.now) paths before.path-index _ (omega arith));
+      first = λ start. absurd (omega (arith, start));
       failed = search rules;
       kept = c.with_next.ensures.kept ∙ before.invariant.kept;
     }
@@ -49,3 +51,9 @@ pub returns-in_err-all-clause-names : goal.returns-in_err-all-clause-names
 returns-in_err-all-clause-names g c =
     let told = c.in_err-all.field-0.0 in
     let named = one_named (λ p. p.now) c.args.paths.now c.loop-path.path-index _ told (omega arith) c.in_err-all.ensures.names in search rules
+
+pub returns-in_err-all-clause-alone : goal.returns-in_err-all-clause-alone
+returns-in_err-all-clause-alone g c = λ none. absurd (omega (arith, none))
+
+pub returns-clause-alone : goal.returns-clause-alone
+returns-clause-alone g c = λ none. ap Ok (c.loop-path.invariant.first (omega (arith, none)))

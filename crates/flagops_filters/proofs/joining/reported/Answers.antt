@@ -1,6 +1,6 @@
 use Rattle.std.proofs.Common.{Bor, ◌∷◌, ℕ, List, IfSome, Ok, Err, map, subst}
 use Rattle.tally_core.specs.Tally.{PageTally}
-use Rattle.flagops_filters.specs.Join.{IsJoinReport, JoinsAllFiles}
+use Rattle.flagops_filters.specs.Join.{JoinsAllFiles}
 use Rattle.flagops_filters.specs.Joined.{JoinsUnless}
 use Rattle.flagops_filters.specs.Remarks.{RemarksOnePath}
 use Rattle.flagops_filters.specs.Words.{joining_view}

@@ -1,4 +1,3 @@
-use Rattle.std.proofs.Common.{◌∙◌}
 use Rattle.flagops_filters.specs.Refusal.{is_unread}
 use Rattle.flagops_filters.specs.Tally.{tally_call}
 use Rattle.flagops_filters.specs.Words.{tallying_view}

@@ -18,7 +18,7 @@ returns-in-Ok-clause-answers g c =
     let holding = g.F.FileSet.holding c.args.files.now in
     let given = g.I.Inlet.bytes c.args.input.now in
     let W : Type 0 = ShowsWordsWant c.args.console.now c.answered.new.console c.answered.result in
-    let P : Tallying → Holding → List ℕ → Type 0 = λ a at bytes. Ends c.args.console.now c.answered.new.console c.answered.result line_of (λ n. n ≡ tally_call) (tally_remark a.document)
+    let P : Tallying → Holding → List ℕ → Type 0 = λ a at bytes. Ends c.args.console.now c.answered.new.console c.answered.result line_of (λ n. n ≡ tally_call) (tally_remark bytes a.document)
     (MayRun (tally_description bytes (g.I.Inlet.is_broken c.answered.new.input)) is_unread a at (g.F.FileSet.holding c.answered.new.files) (g.F.FileSet.has_failed c.answered.new.files)) in
     turned asked holding given (λ a at bytes. P a at bytes ⊎ W) (answered asked (tallying_view c.in-Ok.asked) holding given P W c.in-Ok.ensures.ok c.answered.ensures.answers)
 
@@ -28,7 +28,7 @@ returns-in-Err-clause-answers g c =
     let holding = g.F.FileSet.holding c.args.files.now in
     let given = g.I.Inlet.bytes c.args.input.now in
     let W : Type 0 = ShowsWordsWant c.args.console.now c.report_usage.new.console c.report_usage.result in
-    let P : Tallying → Holding → List ℕ → Type 0 = λ a at bytes. Ends c.args.console.now c.report_usage.new.console c.report_usage.result line_of (λ n. n ≡ tally_call) (tally_remark a.document)
+    let P : Tallying → Holding → List ℕ → Type 0 = λ a at bytes. Ends c.args.console.now c.report_usage.new.console c.report_usage.result line_of (λ n. n ≡ tally_call) (tally_remark bytes a.document)
     (MayRun (tally_description bytes (g.I.Inlet.is_broken c.args.input.now)) is_unread a at holding (g.F.FileSet.has_failed c.args.files.now)) in
     turned (tally_by words) holding given (λ a at bytes. P a at bytes ⊎ W)
     (unasked c.args.console.now c.report_usage.new.console c.report_usage.result (tally_by words) holding given P (tally_faults words) (kind_of c.in-Err.error) c.in-Err.ensures.err c.report_usage.ensures)

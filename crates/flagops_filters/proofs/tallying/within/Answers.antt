@@ -1,5 +1,4 @@
 use Rattle.flag_defs.specs.Flags.{flags_view}
-use Rattle.flagops_files.specs.declared.refusal.Refusal.TheVariants.{Plan}
 use Rattle.flagops_filters.specs.Place.{target_view}
 use Rattle.flagops_filters.specs.Words.{tallying_view}
 use Rattle.flagops_filters.proofs.Tallied.{at_target, no_target}
@@ -21,4 +20,4 @@ pub returns-in-Ok-clause-names : goal.returns-in-Ok-clause-names
 returns-in-Ok-clause-names g c = stream_named c.args.asked.now.document.now c.over.result c.over.ensures.stops
 
 pub returns-in-Err-clause-names : goal.returns-in-Err-clause-names
-returns-in-Err-clause-names g c = flag_named c.args.asked.now.document.now c.untallied.result (Plan c.in-Err.fault) c.untallied.ensures.refusal c.untallied.ensures.names
+returns-in-Err-clause-names g c = flag_named c.args.asked.now.document.now c.untallied.result c.in-Err.fault c.untallied.ensures.refusal c.untallied.ensures.names

@@ -1,6 +1,6 @@
 use Rattle.std.proofs.Common.{◌≡◌, Err, IfSome, inl, rules, subst}
 use Rattle.flagops_files.specs.Question.{Question, book_question_view}
-use Rattle.flagops_files.specs.Refusal.{GivesOne, is_file_fault}
+use Rattle.flagops_rollouts.specs.Refusal.{GivesOne, is_file_fault}
 use Rattle.flagops_shell.specs.Report.{outcome_view}
 use Rattle.flagops_pictures.specs.Planning.{IsPlanWith}
 use Rattle.flagops_pictures.specs.Words.{planning_view}

@@ -2,7 +2,7 @@ use Rattle.std.proofs.Common.{◌≡◌, Err, List, ℕ, inr, option_map, refl, 
 use Rattle.flagops_shell.specs.Files.{Stores}
 use Rattle.flagops_files.specs.Question.{question_view}
 use Rattle.flagops_shell.specs.Report.{outcome_view}
-use Rattle.flagops_files.specs.declared.refusal.Call.TheVariants as call
+use Rattle.flagops_rollouts.specs.declared.refusal.RolloutCall.TheVariants as call
 use Rattle.flagops_pictures.specs.Words.{planning_view}
 use Rattle.flagops_pictures.proofs.Planned.{planned_with, status_of, unplanned, unwritten, want_alone}
 use Rattle.flagops_pictures.proofs.planning.planned.Goals as goal

@@ -5,10 +5,11 @@ use Rattle.flagops_rollouts.specs.Keep.{kept_view}
 use Rattle.flagops_files.specs.Question.{question_view}
 use Rattle.flagops_rollouts.specs.Doubts.{doubt_subjects}
 use Rattle.flagops_rollouts.specs.Subjects.{is_of_kept_answer, is_of_kept_document, is_of_kept_request}
-use Rattle.flagops_files.specs.Told.{Subjects, file}
+use Rattle.flagops_files.specs.Told.{file}
 use Rattle.flagops_rollouts.proofs.Doubting.{tells_among, tells_left}
 use Rattle.flagops_rollouts.proofs.Edited.{kept_put, not_kept, not_settled}
 use Rattle.flagops_rollouts.proofs.keeping.answer.Goals as goal
+use Rattle.flagops_rollouts.specs.Refusal.{Subjects}
 
 pub returns-in_err-text-clause-exact : goal.returns-in_err-text-clause-exact
 returns-in_err-text-clause-exact g c =

@@ -1,8 +1,17 @@
-use Rattle.std.proofs.Common.{◌∙◌, inl, option_map, rules}
+use Rattle.std.proofs.Common.{◌≡◌, ◌∙◌, Err, ap, inl, option_map, rules}
+use Rattle.std.specs.Prelude.{◌∷◌}
+use Rattle.std.proofs.lemmas.Result.{err_from_is_err_and}
+use Rattle.flagops_files.specs.Told.{file}
+use Rattle.flagops_rollouts.specs.Doubts.{doubt_subjects}
+use Rattle.flagops_rollouts.specs.Refusal.{Subjects}
+use Rattle.flagops_rollouts.specs.Subjects.{is_of_kept_answer, is_of_kept_document, is_of_kept_request}
+use Rattle.flagops_rollouts.specs.Loaded.{question_subjects}
+use Rattle.flagops_rollouts.proofs.Doubting.{tells_right}
+use Rattle.flagops_rollouts.proofs.Verdicts.{failed_second}
 use Rattle.plan_text.specs.Answer.{planned_view}
 use Rattle.flagops_files.specs.Question.{question_view}
 use Rattle.flagops_shell.proofs.Kept.{kept_after}
-use Rattle.flagops_rollouts.proofs.Edited.{failed_after, kept_whole, left_after, no_plan, no_question}
+use Rattle.flagops_rollouts.proofs.Edited.{comes_so, failed_after, kept_whole, left_after, no_plan_so, no_question}
 use Rattle.flagops_rollouts.proofs.keeping.keep.Goals as goal
 
 pub returns-in_err-question-clause-exact : goal.returns-in_err-question-clause-exact
@@ -20,10 +29,27 @@ returns-in_err-question-clause-kept g c = inl c.load_question.ensures.kept
 
 pub returns-in_err-planned-clause-exact : goal.returns-in_err-planned-clause-exact
 returns-in_err-planned-clause-exact g c =
-    let told =
-    no_plan c.args.document.now c.args.plan.now c.args.request.now c.args.book.now c.args.write c.args.strict (option_map (λ m. m.number) c.args.refine) (question_view c.in_ok-question.question) _ _ _
-    c.in_err-planned.field-0.0 c.load_question.ensures.kept c.load_planned.ensures.kept c.in_ok-question.ensures.exact c.in_err-planned.ensures.exact in
-    search rules
+    let p = err_from_is_err_and c.from_residual-in_err-planned.result c.from_residual-in_err-planned.ensures.1 in
+    let is : c.from_residual-in_err-planned.result ≡ Err c.in_err-planned.field-0.0 = p.1 ∙ ap Err p.2 in
+    no_plan_so c.args.document.now c.args.plan.now c.args.request.now c.args.book.now c.args.write c.args.strict (option_map (λ m. m.number) c.args.refine) (question_view c.in_ok-question.question) _ _ _
+    c.in_err-planned.field-0.0 c.from_residual-in_err-planned.result is c.load_question.ensures.kept c.load_planned.ensures.kept c.in_ok-question.ensures.exact c.in_err-planned.ensures.exact
+
+pub returns-in_err-planned-clause-failed : goal.returns-in_err-planned-clause-failed
+returns-in_err-planned-clause-failed g c =
+    let p = err_from_is_err_and c.from_residual-in_err-planned.result c.from_residual-in_err-planned.ensures.1 in
+    let is : c.from_residual-in_err-planned.result ≡ Err c.in_err-planned.field-0.0 = p.1 ∙ ap Err p.2 in
+    failed_second _ _ _ c.in_err-planned.field-0.0 c.from_residual-in_err-planned.result is c.in_ok-question.ensures.failed c.in_err-planned.ensures.failed
+
+pub returns-clause-calls : goal.returns-clause-calls
+returns-clause-calls g c = comes_so c.answer.result c.answer.ensures.calls
+
+pub returns-clause-names : goal.returns-clause-names
+returns-clause-names g c =
+    let document = c.args.document.now in
+    let request = c.args.request.now in
+    let book = c.args.book.now in
+    let behind : Subjects = (file request, is_of_kept_request) ∷ (file c.args.plan.now, is_of_kept_answer) ∷ (file document, is_of_kept_document) ∷ doubt_subjects request book in
+    tells_right (question_subjects document request book) behind c.answer.result c.answer.ensures.names
 
 pub returns-in_err-planned-clause-left : goal.returns-in_err-planned-clause-left
 returns-in_err-planned-clause-left g c = inl (c.load_planned.ensures.kept ∙ c.load_question.ensures.kept)

@@ -4,7 +4,7 @@ use Rattle.flag_defs.specs.Flags.{flags_view}
 use Rattle.source_merge.specs.View.{sources_view}
 use Rattle.flagops_streams.specs.Documents.{Gives, MayRefuse, Merges, ServesTo, texts_of}
 use Rattle.flagops_streams.specs.Told.{IsArrival, IsGone, IsServeLine}
-use Rattle.flagops_streams.proofs.Gives.{first_of, first_served, none_missed}
+use Rattle.flagops_streams.proofs.Gives.{first_of, first_served, refused_alone}
 use Rattle.flagops_streams.proofs.Told.{lines_as, lines_behind}
 use Rattle.flagops_streams.proofs.serving.publish_in_turn.Goals as goal
 
@@ -22,7 +22,7 @@ returns-in_err-flags-clause-serves g c =
     let p = err_from_is_err_and c.from_residual.result c.from_residual.ensures.1 in
     let may = subst (λ (t : List ℕ). MayRefuse 1 sources t refusal) c.as_slice.ensures.value c.in_err-flags.ensures.refused in
     let gives = subst (λ (ts : List (Vec ℕ Global)). Gives sources (texts_of ts) [] (Err refusal)) (sym (first_of c.args.texts.now first c.requires c.first-item.is)) (inl (refusal, refl, may)) in
-    (Err refusal, inr (none_missed c.args.subscribers (Gives sources (texts_of c.args.texts.now) []) (Err refusal) gives), rw (p.1, p.2) refl)
+    (Err refusal, inr (refused_alone c.args.subscribers (Gives sources (texts_of c.args.texts.now) []) refusal gives), rw (p.1, p.2) refl)
 
 pub returns-clause-serves : goal.returns-clause-serves
 returns-clause-serves g c =

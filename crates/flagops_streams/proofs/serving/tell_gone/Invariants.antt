@@ -1,5 +1,7 @@
-use Rattle.std.proofs.Common.{◌≡◌, ◌≤◌, false, nat_eq}
+use Rattle.std.proofs.Common.{◌≡◌, ◌≤◌, List, Option, false, length, nat_eq}
+use Rattle.flagops_streams.specs.Documents.{missed_of}
 use Rattle.flagops_streams.specs.Told.{IsGone, TellsLines}
+use Rattle.flagops_streams.specs.declared.disconnected.Disconnected.{Disconnected}
 use Rattle.flagops_streams.proofs.serving.tell_gone.Given as goal
 
 -- so far nothing was told but that subscribers have gone, and those that were not served are counted
@@ -8,3 +10,4 @@ invariant-loop-subscriber g l =
     (l.missed ≤ l._subscriber)
     × TellsLines (IsGone (nat_eq l.missed 0)) (g.E.Outlet.bytes l.fn.err) (g.E.Outlet.bytes l.err) (g.E.Outlet.is_broken l.err)
     × (g.E.Outlet.is_broken l.err ≡ false → g.E.Outlet.is_broken l.fn.err ≡ false)
+    × ((ends : List (Option Disconnected)) × (length ends ≡ l._subscriber) × (l.missed ≡ missed_of l.published ends))

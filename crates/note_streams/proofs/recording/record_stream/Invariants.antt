@@ -2,6 +2,7 @@ use Rattle.std.proofs.Common.{◌≡◌, ◌≤◌, ◌+◌, ◌-◌, false, len
 use Rattle.record_lines.specs.Record.{most_line}
 use Rattle.record_lines.specs.Scene.{scene_of}
 use Rattle.note_streams.proofs.Batches.{Known}
+use Rattle.note_streams.proofs.Long.{KnownLong}
 use Rattle.note_streams.proofs.recording.record_stream.Given as goal
 
 abbrev pub invariant-batches : goal.invariant-batches
@@ -11,6 +12,7 @@ invariant-batches g l = record {
   room : length l.piece.items ≡ 1048576;
   short : length l.held.items ≤ most_line;
   few : l.totals.lines + length l.held.items ≤ l.taken;
+  long : KnownLong (scene_of l.recorder) l.held.items l.totals.long (g.I.Inlet.bytes l.initial.input) (g.I.Inlet.bytes l.input);
   stands : Known (scene_of l.recorder) l.held.items l.totals.lines l.taken (g.I.Inlet.bytes l.initial.input) (g.I.Inlet.bytes l.input) (g.O.Outlet.bytes l.initial.out) (g.O.Outlet.bytes l.out);
 }
 

@@ -1,11 +1,12 @@
-use Rattle.std.proofs.Common.{◌+◌, drop, arith, rules}
+use Rattle.std.proofs.Common.{◌+◌, drop, refl, arith, rules}
 use Rattle.record_lines.specs.View.{recorded_view}
 use Rattle.note_streams.specs.Runs.{runs_view}
+use Rattle.note_streams.proofs.Long.{end_long, next_long, stop_long}
 use Rattle.note_streams.proofs.Running.{at_run, begun, breaks, ended, fits, next, no_run, stops}
 use Rattle.note_streams.proofs.runs.write_runs.Goals as goal
 
 pub loop-run-init : goal.loop-run-init
-loop-run-init g c = record { whole = c.requires.whole; under = begun (g.O.Outlet.bytes c.args.out.now) (runs_view c.args.runs.now) }
+loop-run-init g c = record { whole = c.requires.whole; long = refl; under = begun (g.O.Outlet.bytes c.args.out.now) (runs_view c.args.runs.now) }
 
 pub returns-then-not-write_whole-clause-exact : goal.returns-then-not-write_whole-clause-exact
 returns-then-not-write_whole-clause-exact g c =
@@ -45,6 +46,7 @@ loop-run-preserved g c =
     let under = at_run old mid c.loop-run.lines runs i c.run-item.result (omega arith) c.run-item.is c.loop-run.invariant.under in
     record {
       whole = search rules;
+      long = next_long runs i c.run-item.result (omega arith) c.run-item.is c.loop-run.long c.counted_both-long.result (runs_view runs).long c.counted_both-long.ensures c.loop-run.invariant.long c.if-run.false;
       under = next old mid (g.O.Outlet.bytes c.write_whole.new.out) c.loop-run.lines (recorded_view c.run-item.result) (runs_view (drop (i + 1) runs)) (runs_view runs) under c.if-run.false (search rules);
     }
 
@@ -53,3 +55,13 @@ returns-clause-exact g c =
     let runs = c.args.runs.now in
     let i = c.loop-run.run-index in
     ended (g.O.Outlet.bytes c.args.out.now) (g.O.Outlet.bytes c.loop-run.out) c.loop-run.lines (runs_view (drop i runs)) (runs_view runs) (no_run runs i (omega arith)) c.loop-run.invariant.under
+
+pub returns-then-run-clause-long : goal.returns-then-run-clause-long
+returns-then-run-clause-long g c =
+    let runs = c.args.runs.now in
+    stop_long runs c.loop-run.run-index c.run-item.result (omega arith) c.run-item.is c.loop-run.long c.counted_both-long.result (runs_view runs).long c.counted_both-long.ensures c.loop-run.invariant.long c.if-run.true
+
+pub returns-clause-long : goal.returns-clause-long
+returns-clause-long g c =
+    let runs = c.args.runs.now in
+    end_long runs c.loop-run.run-index c.loop-run.long (runs_view runs).long (omega arith) c.loop-run.invariant.long

@@ -1,6 +1,6 @@
 use Rattle.std.proofs.Common.{◌≡◌, [], ◌∷◌, false, rules}
-use Rattle.flagops_files.specs.Refusal.{is_want, loads_rule}
-use Rattle.flagops_files.specs.Told.{NamesOne, by, file, word}
+use Rattle.flagops_commands.specs.Refusal.{is_want, loads_rule, by}
+use Rattle.flagops_files.specs.Told.{NamesOne, file, word}
 use Rattle.flagops_commands.specs.Calls.{loads_request}
 use Rattle.flagops_commands.specs.Subjects.{is_of_keys, is_of_rules, old_weights, price_subjects}
 use Rattle.flagops_rollouts.proofs.Telling.{told_among}

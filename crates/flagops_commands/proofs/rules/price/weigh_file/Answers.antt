@@ -1,11 +1,12 @@
 use Rattle.std.proofs.Common.{sym, ap, ◌∙◌, subst, rules}
 use Rattle.rule_text.specs.Texts.{AreTexts, texts_view}
-use Rattle.flagops_files.specs.Loading.{◌>>=◌, max_text}
-use Rattle.flagops_files.specs.Refusal.{GivesUnlessWant}
+use Rattle.flagops_files.specs.Loading.{max_text}
+use Rattle.flagops_shell.specs.Outcomes.{◌>>=◌}
 use Rattle.flagops_shell.specs.Report.{outcome_view}
 use Rattle.flagops_commands.specs.Price.{keys_of, weighed_bytes, weighed_keys}
 use Rattle.flagops_commands.proofs.Keys.{keys_read}
 use Rattle.flagops_commands.proofs.rules.price.weigh_file.Goals as goal
+use Rattle.flagops_commands.specs.Refusal.{GivesUnlessWant}
 
 pub returns-in-Ok-Some-clause-exact : goal.returns-in-Ok-Some-clause-exact
 unfolding weighed_bytes

@@ -2,8 +2,8 @@
 use Rattle.std.proofs.Common.{◌≡◌, [], ◌∷◌, false, sym, ap, ◌∙◌, subst, arith, rules}
 use Rattle.std.specs.Str.{bytes_eq}
 use Rattle.std.proofs.lemmas.List.Filters.{dedup_is}
-use Rattle.flagops_files.specs.Loading.{◌>>=◌}
-use Rattle.flagops_files.specs.Refusal.{GivesUnlessWant, is_want}
+use Rattle.flagops_shell.specs.Outcomes.{◌>>=◌}
+use Rattle.flagops_commands.specs.Refusal.{GivesUnlessWant, is_want}
 use Rattle.flagops_shell.specs.Report.{outcome_view}
 use Rattle.rule_text.specs.Texts.{texts_view}
 use Rattle.flagops_commands.specs.Price.{are_taken, weighed}

@@ -3,8 +3,8 @@ use base.Fml.{Lft}
 use denote.Param.{param}
 use denote.Param.Send.{param_send}
 use denote.Ref.{NamedLft}
-use Rattle.std.proofs.Common.{◌≡◌, ◌∙◌, ◌+◌, [], arith, is_ok, nat_eq, true, vec_len}
-use Rattle.flagops_streams.specs.Documents.{told_view}
+use Rattle.std.proofs.Common.{◌≡◌, ◌∙◌, ◌+◌, ℕ, [], ap, arith, is_ok, nat_eq, true, vec_len}
+use Rattle.flagops_streams.specs.Documents.{missed_of, published_in, told_view}
 use Rattle.flagops_streams.specs.Told.{IsGone}
 use Rattle.flagops_streams.proofs.Gives.{none_missed_at, told_ok, unless_beside}
 use Rattle.flagops_streams.proofs.Told.{gone_as, left_zero, lines_as}
@@ -33,10 +33,12 @@ returns g c =
     let missed = unserved + absent in
     let outcome = c.publish_if-outcome.result in
     let result = c.unless_missed.result in
+    let ends = c.tell_gone-unserved.ensures.ends in
+    let counts : unserved ≡ missed_of (published_in (told_view outcome)) ends.0 = ends.2 ∙ ap (λ (n : ℕ). missed_of n ends.0) c.published_in-published.ensures in
     let sent : is_ok result ≡ true → nat_eq unserved 0 ≡ true =
     λ ok. left_zero unserved absent (none_missed_at missed (told_view outcome) (told_view result) c.unless_missed.ensures (told_ok result ∙ ok)) in
     record {
-      gives = unless_beside (vec_len c.captures.arrived-streams + absent) missed (g.P.Publishing.gives c.captures.publishing) outcome result (omega (arith, c.tell_gone-unserved.ensures.few, c.len-count.ensures)) c.publish_if-outcome.ensures c.unless_missed.ensures;
+      gives = unless_beside (vec_len c.captures.arrived-streams + absent) absent unserved ends.0 (g.P.Publishing.gives c.captures.publishing) outcome result (omega (arith, ends.1, c.len-count.ensures)) counts c.publish_if-outcome.ensures c.unless_missed.ensures;
       lines = lines_as (IsGone (nat_eq unserved 0)) (IsGone (is_ok result)) (gone_as (nat_eq unserved 0) (is_ok result) sent) _ _ _ c.tell_gone-unserved.ensures.lines;
       stays = c.tell_gone-unserved.ensures.stays;
     }

@@ -1,0 +1,10 @@
+use Rattle.std.proofs.Common.{option_map}
+use Rattle.flagops_rollouts.specs.Verify.{IsVerifyReport}
+use Rattle.flagops_commands.proofs.Loaded.{not_rolled, rolled_there}
+use Rattle.flagops_commands.proofs.rollouts.verify.Goals as goal
+
+pub returns-in-Ok-clause-exact : goal.returns-in-Ok-clause-exact
+returns-in-Ok-clause-exact g c = rolled_there (λ at. IsVerifyReport at c.args.document.now c.args.request.now c.args.book.now c.args.plan.now (option_map (λ m. m.number) c.args.refine) c.args.strict c.args.json) (g.F.FileSet.holding c.args.files.now) c.in-Ok.outcome c.in-Ok.ensures.exact
+
+pub returns-in-Err-clause-exact : goal.returns-in-Err-clause-exact
+returns-in-Err-clause-exact g c = not_rolled (λ at. IsVerifyReport at c.args.document.now c.args.request.now c.args.book.now c.args.plan.now (option_map (λ m. m.number) c.args.refine) c.args.strict c.args.json) (g.F.FileSet.holding c.args.files.now) c.in-Err.refused c.of.result c.of.ensures.refusal c.in-Err.ensures.exact

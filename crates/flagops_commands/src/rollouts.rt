@@ -1,0 +1,130 @@
+//! The commands on rollouts, where each refusal is one of the listed commands.
+ghost use Rattle.std.specs.Prelude.{◌≡◌, ◌||◌, IfOk, IfSome, option_map};
+ghost use Rattle.flagops_commands.specs.Refusal.{ComesFrom, GivesOne, TellsOfOne, is_file_fault, rolled, rolls};
+ghost use Rattle.flagops_commands.specs.declared.refusal.ListedRefusal.TheVariants.{Rollout};
+ghost use Rattle.flagops_rollouts.specs.Apply.{IsApplyReport};
+ghost use Rattle.flagops_rollouts.specs.Calls.{apply_calls, keep_calls, plan_calls, verify_calls};
+ghost use Rattle.flagops_rollouts.specs.Doubts.{NamesDoubted};
+ghost use Rattle.flagops_rollouts.specs.Keep.{IsKeepReport, LeavesDocument};
+ghost use Rattle.flagops_rollouts.specs.Plan.{IsPlanReport};
+ghost use Rattle.flagops_rollouts.specs.Subjects.{apply_subjects, keep_subjects, plan_subjects, verify_subjects};
+ghost use Rattle.flagops_rollouts.specs.Verify.{IsVerifyReport};
+ghost use Rattle.flagops_shell.specs.Diagnostic.{Says};
+ghost use Rattle.flagops_shell.specs.Ending.{KeepsUnlessDone};
+ghost use Rattle.flagops_shell.specs.Outcomes.{Lifts};
+ghost use Rattle.flagops_shell.specs.Report.{outcome_view};
+
+use crate::refusal::Refused;
+use flagops_shell::{FileSet, Outcome};
+use flagops_words::Factor;
+use std::alloc::Global;
+use std::thread::Threads;
+
+/// What `plan` answers.
+#[tactic(auto, using(crate::proofs::Loaded::rolled_told, crate::proofs::Loaded::rolls_from, crate::proofs::Loaded::failed_rollout))]
+pub(crate) fn plan<R: Threads + Sync, F: FileSet>(
+    rt: &R,
+    alloc: Global,
+    files: &mut F,
+    document: &str,
+    request: &str,
+    book: &str,
+    refine: Option<Factor>,
+    strict: bool,
+    explain: bool,
+) -> Result<Outcome, Refused>
+    ensures exact { IfSome (F.holding files.old) (λ at. GivesOne outcome_view result (Lifts Rollout (IsPlanReport at document.now request.now book.now (option_map (λ m. m.number) refine) strict explain))) }
+    ensures calls { ComesFrom (rolls plan_calls) result }
+    ensures failed { F.has_failed files.new ≡ (F.has_failed files.old || is_file_fault result) }
+    ensures kept { F.holding files.new ≡ F.holding files.old }
+    ensures names { TellsOfOne (rolled (plan_subjects document.now request.now book.now)) result }
+    ensures notes { IfOk result (λ o. IfSome o.remark (Says (NamesDoubted request.now book.now))) }
+{
+    match flagops_rollouts::plan(
+        rt, alloc, files, document, request, book, refine, strict, explain,
+    ) {
+        Ok(outcome) => Ok(outcome),
+        Err(refused) => Err(Refused::of(refused)),
+    }
+}
+
+/// What `verify` answers.
+#[tactic(auto, using(crate::proofs::Loaded::rolled_told, crate::proofs::Loaded::rolls_from, crate::proofs::Loaded::failed_rollout))]
+pub(crate) fn verify<R: Threads + Sync, F: FileSet>(
+    rt: &R,
+    alloc: Global,
+    files: &mut F,
+    document: &str,
+    request: &str,
+    book: &str,
+    plan: &str,
+    refine: Option<Factor>,
+    strict: bool,
+    json: bool,
+) -> Result<Outcome, Refused>
+    ensures exact { IfSome (F.holding files.old) (λ at. GivesOne outcome_view result (Lifts Rollout (IsVerifyReport at document.now request.now book.now plan.now (option_map (λ m. m.number) refine) strict json))) }
+    ensures calls { ComesFrom (rolls verify_calls) result }
+    ensures failed { F.has_failed files.new ≡ (F.has_failed files.old || is_file_fault result) }
+    ensures kept { F.holding files.new ≡ F.holding files.old }
+    ensures names { TellsOfOne (rolled (verify_subjects document.now request.now book.now plan.now)) result }
+    ensures notes { IfOk result (λ o. IfSome o.remark (Says (NamesDoubted request.now book.now))) }
+{
+    match flagops_rollouts::verify(
+        rt, alloc, files, document, request, book, plan, refine, strict, json,
+    ) {
+        Ok(outcome) => Ok(outcome),
+        Err(refused) => Err(Refused::of(refused)),
+    }
+}
+
+/// What `apply` answers.
+#[tactic(auto, using(crate::proofs::Loaded::rolled_told, crate::proofs::Loaded::rolls_from, crate::proofs::Loaded::failed_rollout))]
+pub(crate) fn apply<F: FileSet>(
+    alloc: Global,
+    files: &mut F,
+    document: &str,
+    plan: &str,
+    key: &str,
+    site: u32,
+) -> Result<Outcome, Refused>
+    ensures exact { IfSome (F.holding files.old) (λ at. GivesOne outcome_view result (Lifts Rollout (IsApplyReport at document.now plan.now key.now site))) }
+    ensures calls { ComesFrom (rolls apply_calls) result }
+    ensures failed { F.has_failed files.new ≡ (F.has_failed files.old || is_file_fault result) }
+    ensures kept { F.holding files.new ≡ F.holding files.old }
+    ensures names { TellsOfOne (rolled (apply_subjects document.now plan.now)) result }
+{
+    match flagops_rollouts::apply(alloc, files, document, plan, key, site) {
+        Ok(outcome) => Ok(outcome),
+        Err(refused) => Err(Refused::of(refused)),
+    }
+}
+
+/// What `apply --keep` answers.
+#[tactic(auto, using(crate::proofs::Loaded::rolled_told, crate::proofs::Loaded::rolls_from, crate::proofs::Loaded::failed_rollout))]
+pub(crate) fn keep<R: Threads + Sync, F: FileSet>(
+    rt: &R,
+    alloc: Global,
+    files: &mut F,
+    document: &str,
+    plan: &str,
+    request: &str,
+    book: &str,
+    write: bool,
+    refine: Option<Factor>,
+    strict: bool,
+) -> Result<Outcome, Refused>
+    ensures exact { IfSome (F.holding files.old) (λ at. GivesOne outcome_view result (Lifts Rollout (IsKeepReport at (F.holding files.new) document.now plan.now request.now book.now write (option_map (λ m. m.number) refine) strict))) }
+    ensures calls { ComesFrom (rolls keep_calls) result }
+    ensures failed { F.has_failed files.new ≡ (F.has_failed files.old || is_file_fault result) }
+    ensures left { LeavesDocument (F.holding files.old) (F.holding files.new) document.now write }
+    ensures kept { KeepsUnlessDone (F.holding files.old) (F.holding files.new) result }
+    ensures names { TellsOfOne (rolled (keep_subjects document.now plan.now request.now book.now)) result }
+    ensures notes { IfOk result (λ o. IfSome o.remark (Says (NamesDoubted request.now book.now))) }
+{
+    match flagops_rollouts::keep(
+        rt, alloc, files, document, plan, request, book, write, refine, strict,
+    ) {
+        Ok(outcome) => Ok(outcome),
+        Err(refused) => Err(Refused::of(refused)),
+    }
+}
