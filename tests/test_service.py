@@ -418,6 +418,39 @@ class Turns(ServiceTest):
         self.assertTrue(any(min(each) >= 4 and sum(each) == 32 for each in shares))
 
 
+class Many(ServiceTest):
+    """As many connections as a worker has at most."""
+
+    MOST = 1024
+
+    def is_healthy(self, stream):
+        """Whether the service says on this connection that it is alive."""
+        stream.sendall(b"GET /healthz HTTP/1.1\r\nHost: h\r\n\r\n")
+        told = b""
+        while not told.endswith(b"ok"):
+            more = stream.recv(4096)
+            if not more:
+                return False
+            told += more
+        return told.startswith(b"HTTP/1.1 200 ")
+
+    def test_the_one_that_was_idle_for_the_longest_time_makes_room(self):
+        soft, hard = resource.getrlimit(resource.RLIMIT_NOFILE)
+        wanted = 2 * self.MOST
+        if hard < wanted:
+            self.skipTest("too few descriptors")
+        resource.setrlimit(resource.RLIMIT_NOFILE, (wanted, hard))
+        self.addCleanup(resource.setrlimit, resource.RLIMIT_NOFILE, (soft, hard))
+        self.start("--workers", "1")
+        streams = []
+        for _ in range(self.MOST + 1):
+            streams.append(self.connect())
+            self.addCleanup(streams[-1].close)
+            self.assertTrue(self.is_healthy(streams[-1]))
+        self.assertEqual(streams[0].recv(1), b"")
+        self.assertTrue(self.is_healthy(streams[1]))
+
+
 class Logs(ServiceTest):
     """What stands in the logs once something is told."""
 
@@ -579,6 +612,52 @@ class Logs(ServiceTest):
         self.assertNotEqual(ran.stderr, "")
         self.assertEqual(self.notes(), [self.note("early")])
 
+    def failing(self, *words):
+        """A service with one worker whose log can't be written."""
+        if not os.path.exists("/dev/full"):
+            self.skipTest("no /dev/full")
+        os.mkdir(os.path.join(self.folder, "log"))
+        os.symlink("/dev/full", os.path.join(self.folder, "log", "worker-1.log"))
+        return self.start("--log", "log", "--workers", "1", *words)
+
+    def test_answers_without_a_record(self):
+        """With `--without-record answer` a log that can't be written keeps no answer back; it is told, and each such answer counts."""
+        child = self.failing("--without-record", "answer")
+        for key in ("mallory", "alice"):
+            self.assertEqual(self.flag("color", context(key)), (200, color_of(key)))
+        self.assertEqual(self.ready(), (503, "a log can't be written"))
+        self.assertEqual(self.metrics("ofrep_notes_total", "ofrep_unrecorded_total"), [0, 2])
+        self.told(child, "is answered all the same")
+        os.remove(os.path.join(self.folder, "log", "worker-1.log"))
+        wait_until(self.is_ready, "a log of its own")
+        self.told(child, "all logs can be written again")
+        self.assertEqual(self.flag("color", context("bob")), (200, color_of("bob")))
+        self.assertEqual(self.notes(), [self.note("bob")])
+        self.assertEqual(self.metrics("ofrep_unrecorded_total"), [2])
+
+    def test_it_is_told_when_a_log_fails_and_when_it_is_written_again(self):
+        child = self.failing("--without-record", "refuse")
+        self.assertEqual(self.flag("color", context("mallory"))[0], 500)
+        self.told(child, "is answered with status 500")
+        os.remove(os.path.join(self.folder, "log", "worker-1.log"))
+        self.told(child, "all logs can be written again")
+
+    def told_again(self, *words):
+        """The notes of one worker that is asked for three users in turn, and then for them again, the last one twice."""
+        self.start("--log", "log", "--workers", "1", *words)
+        for key in ("a", "b", "c", "a", "b", "c", "c"):
+            self.assertEqual(self.flag("color", context(key))[0], 200)
+        return [json.loads(line)[3].removeprefix("color") for line in self.notes()]
+
+    def test_what_is_remembered_is_not_written_again(self):
+        self.assertEqual(self.told_again(), ["a", "b", "c"])
+
+    def test_the_least_recently_used_is_forgotten(self):
+        self.assertEqual(self.told_again("--remember", "2"), ["a", "b", "c", "a", "b", "c"])
+
+    def test_nothing_is_remembered(self):
+        self.assertEqual(self.told_again("--remember", "0"), ["a", "b", "c", "a", "b", "c", "c"])
+
     def test_without_a_log(self):
         child = self.start()
         self.assertEqual(self.flag("color", context("mallory")), (200, color_of("mallory")))
@@ -649,6 +728,116 @@ class Publishing(Changing):
         new = {name.lower(): value for name, value in headers.items()}["etag"]
         self.assertEqual(status, 304 if new == tag else 200)
         return new, json.loads(body)["flags"] if body else None
+
+
+class BadEdits(Changing):
+    """Edits that break a flag, or take one away."""
+
+    GOOD = DOCUMENT["flags"]
+
+    def refused(self):
+        """Whether the document is refused, by what the service counts."""
+        _, _, text = self.ask("GET", "/metrics")
+        lines = dict(line.rsplit(" ", 1) for line in text.decode().splitlines() if line[0] != "#")
+        return lines['flagops_documents_refused{place="1"}'] == "1"
+
+    def put_flags(self, **flags):
+        self.put("d", compact({"flags": {**self.GOOD, **flags}}))
+
+    def edited(self, edit, part):
+        """A service whose document is edited so that it is refused, which is told with this; what it has told by then."""
+        child = self.start("--poll", "1")
+        self.assertFalse(self.refused())
+        edit()
+        told = self.told(child, KEPT)
+        self.assertIn(part, told)
+        wait_until(self.refused, "the document is refused")
+        for key in ("mallory", "alice"):
+            self.assertEqual(self.flag("color", context(key)), (200, color_of(key)))
+        self.assertEqual(self.ask("GET", "/readyz")[0], 200)
+        return child
+
+    def test_a_flag_that_is_good_is_not_broken(self):
+        """Nor is anything else of that text taken; once it is mended all of it is."""
+        size = {**self.GOOD["size"], "defaultVariant": "one"}
+        wrong = {**self.GOOD["color"], "defaultVariant": "green"}
+        child = self.edited(lambda: self.put_flags(color=wrong, size=size), 'it breaks the flag "color"')
+        self.assertEqual(self.size(), 2)
+        self.put_flags(size=size)
+        self.until(1)
+        wait_until(lambda: not self.refused(), "the document is accepted")
+        self.assertEqual(self.flag("color", context("bob")), (200, color_of("bob")))
+        child.kill()
+        self.assertIn("answers from snapshot 2", child.stderr.read())
+
+    def test_the_member_and_the_rule_are_told(self):
+        wrong = {**self.GOOD["color"], "defaultVariant": "green"}
+        self.edited(lambda: self.put_flags(color=wrong), "broken: flags.color.defaultVariant")
+
+    def test_a_flag_that_the_text_has_still_is_not_lost(self):
+        """It moved into its neighbour, where nobody reads it."""
+        flags = {key: flag for key, flag in self.GOOD.items() if key != "color"}
+        flags["size"] = {**flags["size"], "color": self.GOOD["color"]}
+        self.edited(lambda: self.put("d", compact({"flags": flags})), 'it has "color" still')
+
+    def test_a_flag_is_not_lost_behind_a_second_member_of_flags(self):
+        first = compact({"flags": self.GOOD})
+        text = first[:-1] + "," + compact({"flags": {"size": self.GOOD["size"]}})[1:]
+        self.edited(lambda: self.put("d", text), "still, and no flag of this key")
+
+    def test_the_text_of_before_mends_it(self):
+        wrong = {**self.GOOD["color"], "state": "ON"}
+        child = self.edited(lambda: self.put_flags(color=wrong), 'it breaks the flag "color"')
+        self.put("d", compact(DOCUMENT))
+        wait_until(lambda: not self.refused(), "the text of before")
+        child.kill()
+        self.assertEqual(re.findall(r"answers from snapshot (\d+)", child.stderr.read()), [])
+
+    def test_a_flag_that_is_taken_away_is_gone(self):
+        self.start("--poll", "1")
+        self.put("d", compact({"flags": {key: flag for key, flag in self.GOOD.items() if key != "color"}}))
+        wait_until(lambda: self.flag("color", context("mallory"))[0] == 404, "the flag is gone")
+        self.assertFalse(self.refused())
+
+    def test_a_broken_flag_may_stay_or_come(self):
+        """One that is broken now, and one that is new, harm nobody."""
+        self.start("--poll", "1")
+        self.put_flags(size={**self.GOOD["size"], "defaultVariant": "one"}, new={"state": "ENABLED"})
+        self.until(1)
+        self.assertEqual([self.flag(key)[0] for key in ("broken", "new")], [400, 400])
+        self.assertFalse(self.refused())
+
+    def test_what_breaks_is_served_where_that_is_asked_for(self):
+        self.start("--poll", "1", "--broken", "serve")
+        self.put_flags(color={**self.GOOD["color"], "state": "ON"})
+        wait_until(lambda: self.flag("color", context("mallory"))[0] == 400, "the flag is broken")
+        self.assertFalse(self.refused())
+
+    def test_broken_flags_are_told_and_counted_at_the_start(self):
+        child = self.start()
+        self.told(child, "broken: flags.broken.variants")
+        _, _, text = self.ask("GET", "/metrics")
+        self.assertIn("\nflagops_flags_broken 1\n", text.decode())
+
+    def test_no_start_with_a_broken_flag(self):
+        good = {key: flag for key, flag in self.GOOD.items() if key != "broken"}
+        words = ["ofrep", "--listen", "127.0.0.1:0", "--broken", "refuse", "d"]
+        ran = run(words, {"d": compact(DOCUMENT)})
+        self.assertEqual((ran.out, ran.status), ("refused flags 1 Broken\n", 1))
+        self.assertNotEqual(ran.err, "")
+        self.put("d", compact({"flags": good}))
+        self.start("--poll", "1", "--broken", "refuse")
+        self.assertEqual(self.flag("color", context("mallory")), (200, color_of("mallory")))
+
+    def test_a_pipe_does_not_stop_the_reading(self):
+        """In the place of one document, while another changes."""
+        self.put("over", '{"flags":{}}')
+        child = self.start("--poll", "1", documents=("d", "over"))
+        os.remove(os.path.join(self.folder, "over"))
+        os.mkfifo(os.path.join(self.folder, "over"))
+        self.told(child, "is no plain file")
+        self.put("d", self.changed("one"))
+        self.until(1)
 
 
 class Streaming(Changing):
@@ -753,7 +942,7 @@ class Refusals(ServiceTest):
                 self.assertNotEqual(ran.err, "")
 
     def test_mistakes(self):
-        for words in ([], ["--workers", "0", "d"], ["--workers", "33", "d"], ["--poll", "3601", "d"], ["--stream", "0", "d"], ["--stream", "65536", "d"], ["--fast", "d"], ["--log"]):
+        for words in ([], ["--workers", "0", "d"], ["--workers", "33", "d"], ["--poll", "3601", "d"], ["--stream", "0", "d"], ["--stream", "65536", "d"], ["--fast", "d"], ["--log"], ["--remember", "16777217", "d"], ["--broken", "keep", "d"], ["--without-record", "yes", "d"]):
             with self.subTest(words):
                 ran = self.refused(*words)
                 self.assertEqual((ran.out, ran.status), ("", 2))

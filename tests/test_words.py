@@ -51,7 +51,7 @@ HELP = [
 
 # All commands, in the order of the help.
 COMMANDS = (
-    "bucket price resolve plan verify apply drive completions check book ramp verify-ramp picture record tally join ofrep serve follow help"
+    "bucket price resolve plan verify apply drive completions check compare book ramp verify-ramp picture record tally join ofrep serve follow help"
 ).split()
 
 # A word that begins with `-` and is longer follows `--`; `-` alone is a plain word.
@@ -106,6 +106,7 @@ class Words(ProgramTest):
             (["flagops", "plan", "--re"], ["--refine"]),
             (["flagops", "apply", "--ke"], ["--keep"]),
             (["flagops", "check", "--st"], ["--strict"]),
+            (["flagops", "compare", "--f"], ["--flag"]),
             (["flagops", "ramp", "--st"], ["--strict"]),
             (["flagops", "verify-ramp", "--"], ["--refine", "--strict", "--help"]),
             (["flagops", "help", "res"], ["resolve"]),

@@ -6,8 +6,10 @@ use Rattle.flagops_books.specs.Command as books
 use Rattle.flagops_checks.specs.Command as checks
 use Rattle.flagops_commands.specs.Commands as commands
 use Rattle.flagops_commands.specs.Refusal as listed
+use Rattle.flagops_compare.specs.Command as compares
 use Rattle.flagops_books.specs.Refusal as book_refusals
 use Rattle.flagops_checks.specs.Refusal as check_refusals
+use Rattle.flagops_compare.specs.Refusal as compare_refusals
 use Rattle.flagops_rollouts.specs.Refusal as rollouts
 use Rattle.flagops_rollouts.specs.declared.refusal.RolloutRefusal.{RolloutRefusal}
 use Rattle.flagops_filters.specs.Ended.{AnswersRecord, AnswersTally, TellsRecord, TellsTally, UnreadRecord, UnreadTally}
@@ -23,7 +25,7 @@ use Rattle.flagops_shell.specs.Files.{Holding}
 use Rattle.flagops_shell.specs.Running.{Description, Runs}
 use Rattle.flagops_streams.specs.Ended.{AnswersServe, FollowsAsked, RefusesUnread, ServesAsked, TellsFollow, TellsServe}
 use Rattle.flagops.specs.declared.family.Family.{Family}
-use Rattle.flagops.specs.declared.family.Family.TheVariants.{Files, Serve, Follow, Ramp, VerifyRamp, Picture, PictureRamp, PlanPicture, ApplyStep, Ofrep, Record, Tally, Join, Book, Check}
+use Rattle.flagops.specs.declared.family.Family.TheVariants.{Files, Serve, Follow, Ramp, VerifyRamp, Picture, PictureRamp, PlanPicture, ApplyStep, Ofrep, Record, Tally, Join, Book, Check, Compare}
 
 module _ (old new : Shown) (held holds : Option Holding) (had_failed has_failed : Bool) (status : ℕ) (given : Option (List ℕ)) (is_cut : Bool) where
   -- of a command, by which of its refusals are of a file that could not be read or written, and by their lines
@@ -89,3 +91,4 @@ module _ (old new : Shown) (held holds : Option Holding) (had_failed has_failed 
   Comes Join words = Answers joins.join_description filters.is_unread filters.line_of words
   Comes Book words = Answers books.description book_refusals.is_unread book_refusals.line_of words
   Comes Check words = Answers checks.description check_refusals.is_unread check_refusals.line_of words
+  Comes Compare words = Answers compares.description compare_refusals.is_unread compare_refusals.line_of words

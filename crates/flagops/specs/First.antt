@@ -4,7 +4,7 @@ use Rattle.std.specs.List.{insert, starts_with}
 use Rattle.std.specs.Str.{bytes_eq}
 use Rattle.clap.specs.Walk.{Text}
 use Rattle.flagops.specs.declared.family.Family.{Family}
-use Rattle.flagops.specs.declared.family.Family.TheVariants.{Files, Serve, Follow, Ramp, VerifyRamp, Picture, PictureRamp, PlanPicture, ApplyStep, Ofrep, Record, Tally, Join, Book, Check}
+use Rattle.flagops.specs.declared.family.Family.TheVariants.{Files, Serve, Follow, Ramp, VerifyRamp, Picture, PictureRamp, PlanPicture, ApplyStep, Ofrep, Record, Tally, Join, Book, Check, Compare}
 
 -- the family that a word names: a command over files alone where it names none of the others
 abbrev pub family_named : Text → Family
@@ -19,7 +19,8 @@ family_named word =
     (if bytes_eq word (codes "tally") then Tally else
     (if bytes_eq word (codes "join") then Join else
     (if bytes_eq word (codes "book") then Book else
-    (if bytes_eq word (codes "check") then Check else Files))))))))))
+    (if bytes_eq word (codes "check") then Check else
+    (if bytes_eq word (codes "compare") then Compare else Files)))))))))))
 
 -- one of the words begins with the name of an option
 abbrev pub has_option : Text → List Text → Bool
@@ -59,6 +60,7 @@ reads_its_words Tally = true
 reads_its_words Join = true
 reads_its_words Book = true
 reads_its_words Check = true
+reads_its_words Compare = true
 
 -- the name of such a command, where the words ask for its help by `help NAME`
 abbrev pub help_for : List Text → Option Text

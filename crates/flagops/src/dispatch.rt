@@ -11,6 +11,7 @@ use flag_text::Outlet;
 use flagops_books::Uniting;
 use flagops_checks::Checking;
 use flagops_commands::Listed;
+use flagops_compare::Comparing;
 use flagops_filters::{Joining, Opening, record, tally};
 use flagops_pictures::{Picturing, PicturingRamp, Planning};
 use flagops_ramps::{Applying, Ramping, Verifying};
@@ -91,5 +92,6 @@ where
         Family::Join => run::<R, S, F, Joining<'_>, O, E>(rt, words, files, console),
         Family::Book => run::<R, S, F, Uniting<'_>, O, E>(rt, words, files, console),
         Family::Check => run::<R, S, F, Checking<'_>, O, E>(rt, words, files, console),
+        Family::Compare => run::<R, S, F, Comparing<'_>, O, E>(rt, words, files, console),
     }
 }

@@ -37,6 +37,8 @@ pub enum Family {
     Book,
     /// `check`.
     Check,
+    /// `compare`.
+    Compare,
 }
 
 /// The family of the command that the first of the words names, and for some an option among the others.
@@ -104,6 +106,7 @@ pub fn family_named(word: &str) -> Family
         "join" => Family::Join,
         "book" => Family::Book,
         "check" => Family::Check,
+        "compare" => Family::Compare,
         _ => Family::Files,
     }
 }

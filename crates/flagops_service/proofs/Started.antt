@@ -2,21 +2,24 @@
 use Rattle.clap.specs.Walk.{Text}
 use Rattle.flagops_shell.specs.Console.{Shown}
 use Rattle.flagops_shell.specs.Usage.{ShowsWordsWant}
-use Rattle.flagops_service.specs.Ended.{AnswersOfrep, Reports, Serves, ServesOfrep}
-use Rattle.std.proofs.Common.{◌≡◌, ◌⊎◌, ◌∙◌, ℕ, false, List, [], ◌∷◌, Option, Some, Result, Ok, Err, IfSome, inl, inr, refl, ap, arith, length, map, subst, sym}
+use Rattle.flagops_service.specs.Ended.{AnswersOfrep, Begins, Fails, Reports, Serves, ServesOfrep, ServesOn, stop_line}
+use Rattle.std.proofs.Common.{◌≡◌, ◌⊎◌, ◌∙◌, ℕ, Bool, true, false, List, [], ◌∷◌, ◌++◌, Option, Some, Result, Ok, Err, IfSome, inl, inr, refl, ap, arith, length, map, subst, sym}
 use Rattle.flag_defs.specs.Document.{Definitions}
 use Rattle.flag_defs.specs.declared.flags.Flags.{Flags}
 use Rattle.source_merge.specs.Sources.{SourceList}
 use Rattle.flagops_shell.specs.Files.{Holding}
 use Rattle.flagops_streams.specs.Loading.{Loaded, loaded_at}
 use Rattle.flagops_streams.proofs.DocumentsLoaded.{where_known}
-use Rattle.flagops_streams.specs.Documents.{Answer, Gives, MayFail, Merges, count_of}
+use Rattle.flagops_streams.specs.Documents.{Answer, Gives, Merges, count_of}
 use Rattle.flagops_streams.specs.Refusal.{is_want}
 use Rattle.flagops_streams.specs.declared.refusal.Refusal.{Refusal}
 use Rattle.flagops_streams.proofs.Gives.{counted}
 use Rattle.flagops_service.specs.Merging.{GivesMore}
-use Rattle.flagops_service.specs.Starting.{StartsLoaded, StartsOn, StartsTo}
+use Rattle.flagops_service.specs.Starting.{MayNotStart, StartsLoaded, StartsOn, StartsTo, last_of, stops_in, stops_on}
 use Rattle.flagops_service.specs.Words.{Answering, ofrep_by, seats_of}
+use Rattle.flagops_service.specs.declared.asked.OnBroken.{OnBroken}
+use Rattle.flagops_service.specs.declared.asked.OnBroken.TheVariants.{Keep, Refuse, Serve}
+use Rattle.flagops_service.specs.declared.stop.Stop.TheVariants.{BrokenFlags}
 
 -- the first document is merged, and those behind it give the rest
 pub first_merged : (sources next last : SourceList) (flags : Definitions) (text : List ℕ) (texts : List (List ℕ)) (r : Result Flags Refusal)
@@ -24,28 +27,57 @@ pub first_merged : (sources next last : SourceList) (flags : Definitions) (text 
 first_merged sources next last flags text texts (Ok f) merges gives = (gives.0, inr (next, flags, merges, gives.1), gives.2)
 first_merged sources next last flags text texts (Err refusal) merges gives = inr (next, flags, merges, gives)
 
+-- the last merge
+last_is : (front : List Definitions) (flags : Definitions) → last_of (front ++ flags ∷ []) ≡ flags
+last_is [] flags = refl
+last_is (f ∷ []) flags = refl
+last_is (f ∷ next ∷ more) flags = last_is (next ∷ more) flags
+
+-- only where no broken flag is to be does one stop it
+stopped : (mode : OnBroken) (flags : Definitions) → stops_on mode flags ≡ true → mode ≡ Refuse
+stopped Refuse flags is = refl
+stopped Keep flags is = absurd (cc is)
+stopped Serve flags is = absurd (cc is)
+
 -- what the report of an answer is of: as many documents as were loaded, or a refusal
-pub serves_as : (seats : ℕ) (d : Loaded) (answer : Answer) (Reported : Result ℕ Refusal → Type 0) → StartsOn seats d answer → Reported (count_of answer)
-    → Reported (Ok (length d.texts)) ⊎ ((refusal : Refusal) × Reported (Err refusal))
-serves_as seats d (Ok all) Reported (inl fails) p = absurd (cc (fails.1))
-serves_as seats d (Ok all) Reported (inr gives) p =
-    let count : length all ≡ length d.texts = omega (arith, counted d.sources d.texts [] all gives) in
-    inl (subst (λ (k : ℕ). Reported (Ok k)) count p)
-serves_as seats d (Err refusal) Reported starts p = inr (refusal, p)
+module _ (mode : OnBroken) (Reported : Bool → Result ℕ Refusal → Type 0) where
+  -- a number of documents, whose flags stop it or not
+  abbrev pub Counted : ℕ → Type 0
+  Counted n = (stops : Bool) × (stops ≡ true → mode ≡ Refuse) × Reported stops (Ok n)
 
--- the same, of as many documents as are asked for
-pub served : (a : Answering) (d : Loaded) (answer : Answer) (Reported : Result ℕ Refusal → Type 0) (n : ℕ)
-    → length d.texts ≡ n → StartsOn (seats_of a) d answer → Reported (count_of answer) → Reported (Ok n) ⊎ ((refusal : Refusal) × Reported (Err refusal))
-served a d answer Reported n count starts report =
-    subst (λ (k : ℕ). Reported (Ok k) ⊎ ((refusal : Refusal) × Reported (Err refusal))) count (serves_as (seats_of a) d answer Reported starts report)
+  -- of a refusal nothing is asked of flags
+  abbrev pub IsRefused : Type 0
+  IsRefused = (refusal : Refusal) × Reported false (Err refusal)
 
--- documents that were merged are answered from, or not
-pub begun : (seats n : ℕ) (d : Loaded) (all : List Definitions) (Reported : Result ℕ Refusal → Type 0) → n ≡ length d.texts → Gives d.sources d.texts [] (Ok all)
-    → Reported (Ok n) ⊎ ((refusal : Refusal) × MayFail seats refusal × Reported (Err refusal)) → (answer : Answer) × StartsOn seats d answer × Reported (count_of answer)
-begun seats n d all Reported same gives (inl p) =
-    let count : n ≡ length all = omega (arith, same, counted d.sources d.texts [] all gives) in
-    (Ok all, inr gives, subst (λ (k : ℕ). Reported (Ok k)) count p)
-begun seats n d all Reported same gives (inr fails) = (Err fails.0, inl (fails.0, refl, fails.1), fails.2)
+  pub serves_as : (seats : ℕ) (d : Loaded) (answer : Answer) → StartsOn seats d answer → Reported (stops_in mode answer) (count_of answer) → Counted (length d.texts) ⊎ IsRefused
+  serves_as seats d (Ok all) (inl fails) p = absurd (cc (fails.1))
+  serves_as seats d (Ok all) (inr gives) p =
+      let count : length all ≡ length d.texts = omega (arith, counted d.sources d.texts [] all gives) in
+      inl (stops_on mode (last_of all), stopped mode (last_of all), subst (λ (k : ℕ). Reported (stops_on mode (last_of all)) (Ok k)) count p)
+  serves_as seats d (Err refusal) starts p = inr (refusal, p)
+
+  -- the same, of as many documents as are asked for
+  pub served : (a : Answering) (d : Loaded) (answer : Answer) (n : ℕ) → length d.texts ≡ n → StartsOn (seats_of a) d answer → Reported (stops_in mode answer) (count_of answer) → Counted n ⊎ IsRefused
+  served a d answer n count starts report = subst (λ (k : ℕ). Counted k ⊎ IsRefused) count (serves_as (seats_of a) d answer starts report)
+
+  -- documents that were merged are answered from, or not
+  pub begun : (seats n : ℕ) (d : Loaded) (front : List Definitions) (flags : Definitions) → n ≡ length d.texts → Gives d.sources d.texts [] (Ok (front ++ flags ∷ []))
+      → Reported (stops_on mode flags) (Ok n) ⊎ ((refusal : Refusal) × MayNotStart seats refusal × Reported false (Err refusal))
+      → (answer : Answer) × StartsOn seats d answer × Reported (stops_in mode answer) (count_of answer)
+  begun seats n d front flags same gives (inl p) =
+      let all = front ++ flags ∷ [] in
+      let count : n ≡ length all = omega (arith, same, counted d.sources d.texts [] all gives) in
+      let here = subst (λ (k : ℕ). Reported (stops_on mode flags) (Ok k)) count p in
+      (Ok all, inr gives, subst (λ (fs : Definitions). Reported (stops_on mode fs) (Ok (length all))) (sym (last_is front flags)) here)
+  begun seats n d front flags same gives (inr fails) = (Err fails.0, inl (fails.0, refl, fails.1), fails.2)
+
+-- it begins so, or not, as the flags stop it or do not
+module _ (out out' : Option (List ℕ)) (broken : Bool) (told told' : Option (List ℕ)) (mute : Bool) (status : ℕ) (a : Answering) (stops : Bool) (n : ℕ) where
+  pub not_begun : stops ≡ true → Fails out out' broken told told' mute status (stop_line BrokenFlags) → Begins out out' broken told told' mute status a stops n
+  not_begun is fails = inl (subst (λ (b : Bool). ServesOn out out' broken told told' mute status a b n) (sym is) fails)
+
+  pub not_stopped : stops ≡ false → Begins out out' broken told told' mute status a false n → Begins out out' broken told told' mute status a stops n
+  not_stopped is begins = subst (λ (b : Bool). Begins out out' broken told told' mute status a b n) (sym is) begins
 
 -- what documents that were loaded come to is what the words and the files come to
 loaded_started : (at : Holding) (a : Answering) (d : Loaded) (answer : Answer) → loaded_at at a.documents ≡ Ok d → StartsOn (seats_of a) d answer → StartsTo at a answer
@@ -80,18 +112,18 @@ module _ {X : Type 0} (now : X → List ℕ) (slice items : List X) (same : slic
 
 -- over a console of which the two outlets were taken
 pub answers_asked : (old inside new : Shown) (status : ℕ) (words : List Text) (a : Answering) (files : Option Holding) → inside ≡ old → ofrep_by words ≡ Some a
-    → IfSome files (λ at. (answer : Answer) × StartsTo at a answer × Reports inside.printed new.printed new.is_broken inside.reported new.reported new.is_mute status a.log (count_of answer))
+    → IfSome files (λ at. (answer : Answer) × StartsTo at a answer × Reports inside.printed new.printed new.is_broken inside.reported new.reported new.is_mute status a (stops_in a.broken answer) (count_of answer))
     → AnswersOfrep old new status files words
 answers_asked old inside new status words a files same is answers =
     subst (λ (o : Shown). AnswersOfrep o new status files words) same
-    (subst (λ (o : Option Answering). IfSome o (λ t. IfSome files (λ at. ((answer : Answer) × StartsTo at t answer × Reports inside.printed new.printed new.is_broken inside.reported new.reported new.is_mute status t.log (count_of answer)) ⊎ ShowsWordsWant inside new status))) (sym is)
-    (where_known files (λ at. (answer : Answer) × StartsTo at a answer × Reports inside.printed new.printed new.is_broken inside.reported new.reported new.is_mute status a.log (count_of answer))
-    (λ at. ((answer : Answer) × StartsTo at a answer × Reports inside.printed new.printed new.is_broken inside.reported new.reported new.is_mute status a.log (count_of answer)) ⊎ ShowsWordsWant inside new status)
+    (subst (λ (o : Option Answering). IfSome o (λ t. IfSome files (λ at. ((answer : Answer) × StartsTo at t answer × Reports inside.printed new.printed new.is_broken inside.reported new.reported new.is_mute status t (stops_in t.broken answer) (count_of answer)) ⊎ ShowsWordsWant inside new status))) (sym is)
+    (where_known files (λ at. (answer : Answer) × StartsTo at a answer × Reports inside.printed new.printed new.is_broken inside.reported new.reported new.is_mute status a (stops_in a.broken answer) (count_of answer))
+    (λ at. ((answer : Answer) × StartsTo at a answer × Reports inside.printed new.printed new.is_broken inside.reported new.reported new.is_mute status a (stops_in a.broken answer) (count_of answer)) ⊎ ShowsWordsWant inside new status)
     (λ at h. inl h) answers))
 
 pub serves_asked : (old inside new : Shown) (status : ℕ) (words : List Text) (a : Answering) (n : ℕ) → inside ≡ old → ofrep_by words ≡ Some a → n ≡ length a.documents
-    → Serves inside.printed new.printed new.is_broken inside.reported new.reported new.is_mute status a.log n → ServesOfrep old new status words
+    → Serves inside.printed new.printed new.is_broken inside.reported new.reported new.is_mute status a n → ServesOfrep old new status words
 serves_asked old inside new status words a n same is count serves =
     subst (λ (o : Shown). ServesOfrep o new status words) same
-    (subst (λ (o : Option Answering). IfSome o (λ t. Serves inside.printed new.printed new.is_broken inside.reported new.reported new.is_mute status t.log (length t.documents) ⊎ ShowsWordsWant inside new status)) (sym is)
-    (inl (subst (λ (k : ℕ). Serves inside.printed new.printed new.is_broken inside.reported new.reported new.is_mute status a.log k) count serves)))
+    (subst (λ (o : Option Answering). IfSome o (λ t. Serves inside.printed new.printed new.is_broken inside.reported new.reported new.is_mute status t (length t.documents) ⊎ ShowsWordsWant inside new status)) (sym is)
+    (inl (subst (λ (k : ℕ). Serves inside.printed new.printed new.is_broken inside.reported new.reported new.is_mute status a k) count serves)))

@@ -1,12 +1,16 @@
 -- What `ofrep` comes to, by what the two outlets show before and after, what the files show, and the status.
 use Rattle.std.specs.Prelude.{◌≡◌, ◌≢◌, ◌⊎◌, ℕ, Bool, true, List, ◌++◌, codes, decimal, is_some, length, Option, None, IfSome, Result, Ok, Err}
+use Rattle.std.specs.Bool.{MatchBool}
 use Rattle.clap.specs.Walk.{Text}
 use Rattle.flagops_shell.specs.Console.{Shown}
 use Rattle.flagops_shell.specs.Files.{Holding}
 use Rattle.flagops_shell.specs.Usage.{ShowsOneUsage, ShowsWordsWant}
-use Rattle.flagops_service.specs.Starting.{StartsTo}
-use Rattle.flagops_service.specs.Words.{ofrep_by, ofrep_faults}
-use Rattle.flagops_streams.specs.Documents.{Answer, MayFail, count_of}
+use Rattle.flagops_service.specs.Starting.{MayNotStart, StartsTo, stops_in}
+use Rattle.flagops_service.specs.Words.{Answering, ofrep_by, ofrep_faults, seats_of}
+use Rattle.flagops_service.specs.declared.asked.OnBroken.TheVariants.{Refuse}
+use Rattle.flagops_service.specs.declared.stop.Stop.{Stop}
+use Rattle.flagops_service.specs.declared.stop.Stop.TheVariants.{NoLog, Unseeded, BrokenFlags}
+use Rattle.flagops_streams.specs.Documents.{Answer, count_of}
 use Rattle.flagops_streams.specs.Report.{RefusesBy, Writes}
 use Rattle.flagops_streams.specs.Told.{TellsText}
 use Rattle.flagops_streams.specs.declared.refusal.Refusal.{Refusal}
@@ -23,9 +27,21 @@ log_line log.WantOfMemory = codes "refused log 0 WantOfMemory\n"
 log_line log.Unopened = codes "refused log 1 Unopened\n"
 log_line log.InUse = codes "refused log 2 InUse\n"
 
+-- the service does not start: its logs, its random bytes, or a flag that is broken
+abbrev pub stop_line : Stop → List ℕ
+stop_line (NoLog fault) = log_line fault
+stop_line Unseeded = codes "refused random 1 Unseeded\n"
+stop_line BrokenFlags = codes "refused flags 1 Broken\n"
+
 -- of a folder that is named, the logs can't be opened so; that memory ran out is another refusal
 abbrev pub IsLogRefusal : Option Text → LogFault → Type 0
 IsLogRefusal folder fault = (is_some folder ≡ true) × (fault ≢ log.WantOfMemory)
+
+-- why what is asked for may not start, though its flags do not stop it
+abbrev pub MayStop : Answering → Stop → Type 0
+MayStop a (NoLog fault) = IsLogRefusal a.log fault
+MayStop a Unseeded = Unit {0}
+MayStop a BrokenFlags = ⊥
 
 -- the output and what is told beside it, each by the bytes that are known of it and by whether it is broken
 module _ (out out' : Option (List ℕ)) (broken : Bool) (told told' : Option (List ℕ)) (mute : Bool) (status : ℕ) where
@@ -37,37 +53,38 @@ module _ (out out' : Option (List ℕ)) (broken : Bool) (told told' : Option (Li
   abbrev pub Refuses : Refusal → Type 0
   Refuses refusal = RefusesBy refusal out out' broken status × TellsText told told' mute
 
-  -- Documents are answered from until the service fails; or the logs of the folder can't be opened.
-  abbrev pub ServesOn : Option Text → ℕ → Type 0
-  ServesOn folder n = Writes out out' broken status (serving_line n) 1 ⊎ ((fault : LogFault) × IsLogRefusal folder fault × Fails (log_line fault))
+  -- Documents are answered from until the service fails; or it does not start, and just so where its flags stop it.
+  abbrev pub ServesOn : Answering → Bool → ℕ → Type 0
+  ServesOn a stops n =
+      MatchBool stops (Fails (stop_line BrokenFlags)) (Writes out out' broken status (serving_line n) 1 ⊎ ((stop : Stop) × MayStop a stop × Fails (stop_line stop)))
 
   -- the same, or a refusal
-  abbrev pub Reports : Option Text → Result ℕ Refusal → Type 0
-  Reports folder (Ok n) = ServesOn folder n
-  Reports folder (Err refusal) = Refuses refusal
+  abbrev pub Reports : Answering → Bool → Result ℕ Refusal → Type 0
+  Reports a stops (Ok n) = ServesOn a stops n
+  Reports a stops (Err refusal) = Refuses refusal
 
 -- so many documents are answered from; or they are not, by the network, so many seats or memory
-abbrev pub Begins : Option (List ℕ) → Option (List ℕ) → Bool → Option (List ℕ) → Option (List ℕ) → Bool → ℕ → Option Text → ℕ → ℕ → Type 0
-Begins out out' broken told told' mute status folder seats n =
-    ServesOn out out' broken told told' mute status folder n
-    ⊎ ((refusal : Refusal) × MayFail seats refusal × Refuses out out' broken told told' mute status refusal)
+abbrev pub Begins : Option (List ℕ) → Option (List ℕ) → Bool → Option (List ℕ) → Option (List ℕ) → Bool → ℕ → Answering → Bool → ℕ → Type 0
+Begins out out' broken told told' mute status a stops n =
+    ServesOn out out' broken told told' mute status a stops n
+    ⊎ ((refusal : Refusal) × MayNotStart (seats_of a) refusal × Refuses out out' broken told told' mute status refusal)
 
 -- so many documents are answered from, or there is a refusal
-abbrev pub Serves : Option (List ℕ) → Option (List ℕ) → Bool → Option (List ℕ) → Option (List ℕ) → Bool → ℕ → Option Text → ℕ → Type 0
-Serves out out' broken told told' mute status folder n =
-    ServesOn out out' broken told told' mute status folder n ⊎ ((refusal : Refusal) × Refuses out out' broken told told' mute status refusal)
+abbrev pub Serves : Option (List ℕ) → Option (List ℕ) → Bool → Option (List ℕ) → Option (List ℕ) → Bool → ℕ → Answering → ℕ → Type 0
+Serves out out' broken told told' mute status a n =
+    ((stops : Bool) × (stops ≡ true → a.broken ≡ Refuse) × ServesOn out out' broken told told' mute status a stops n) ⊎ ((refusal : Refusal) × Refuses out out' broken told told' mute status refusal)
 
 module _ (old new : Shown) (status : ℕ) where
   -- over files whose bytes are known, the line of what the documents at the paths make
   abbrev pub AnswersOfrep : Option Holding → List Text → Type 0
   AnswersOfrep files words = IfSome (ofrep_by words) (λ a. IfSome files (λ at.
-      ((answer : Answer) × StartsTo at a answer × Reports old.printed new.printed new.is_broken old.reported new.reported new.is_mute status a.log (count_of answer))
+      ((answer : Answer) × StartsTo at a answer × Reports old.printed new.printed new.is_broken old.reported new.reported new.is_mute status a (stops_in a.broken answer) (count_of answer))
       ⊎ ShowsWordsWant old new status))
 
   -- the number of the documents, or a refusal
   abbrev pub ServesOfrep : List Text → Type 0
   ServesOfrep words = IfSome (ofrep_by words) (λ a.
-      Serves old.printed new.printed new.is_broken old.reported new.reported new.is_mute status a.log (length a.documents) ⊎ ShowsWordsWant old new status)
+      Serves old.printed new.printed new.is_broken old.reported new.reported new.is_mute status a (length a.documents) ⊎ ShowsWordsWant old new status)
 
   -- words with a mistake are told by one of their mistakes
   abbrev pub TellsOfrep : List Text → Type 0

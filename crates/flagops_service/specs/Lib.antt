@@ -3,3 +3,4 @@ pub mod Merging
 pub mod Starting
 pub mod Ended
 pub mod Unready
+pub mod Rereading

@@ -1,10 +1,10 @@
 -- What setting all documents gives, in private contracts alone.
-use Rattle.std.specs.Prelude.{◌≡◌, ◌⊎◌, [], ◌∷◌, ◌++◌, Bool, true, false, decimal, List, ℕ, Result, Ok, Err}
+use Rattle.std.specs.Prelude.{◌≡◌, ◌⊎◌, [], ◌∷◌, ◌++◌, List, ℕ, Result, Ok, Err}
 use Rattle.flag_defs.specs.Flags.{flags_view}
 use Rattle.flag_defs.specs.declared.flags.Flags.{Flags}
 use Rattle.flag_defs.specs.Document.{Definitions}
 use Rattle.source_merge.specs.Merge.{merged_of}
-use Rattle.source_merge.specs.Sources.{Sets, SourceList}
+use Rattle.source_merge.specs.Sources.{SourceList}
 use Rattle.flagops_streams.specs.Documents.{Gives}
 use Rattle.flagops_streams.specs.declared.refusal.Refusal.{Refusal}
 
@@ -19,11 +19,6 @@ ArePublished sources published = (front : List Flags) × (flags : Flags) × (pub
 -- The merge of all sources is published behind all others, or nothing is.
 abbrev pub Publishes : SourceList → List Flags → List Flags → Type 0
 Publishes sources old new = (new ≡ old) ⊎ ((flags : Flags) × (new ≡ old ++ flags ∷ []) × AreMerged sources flags)
-
--- A document was set at the source of a number, or all sources stayed.
-abbrev pub Takes : ℕ → List ℕ → SourceList → SourceList → Bool → Type 0
-Takes number text old new true = Sets old (decimal number) text (Ok new)
-Takes number text old new false = new ≡ old
 
 -- some merges behind these, the last of which is given, and is that of the sources as they then are; or the refusal of one
 abbrev pub GivesMore : SourceList → SourceList → List (List ℕ) → List Definitions → Result Flags Refusal → Type 0

@@ -1,5 +1,6 @@
 -- What the words of `ofrep` ask for, by what `clap` reads of them.
-use Rattle.std.specs.Prelude.{ℕ, ◌+◌, List, codes, map, Option, Some, None, option_copied, option_map}
+use Rattle.std.specs.Prelude.{ℕ, zero, suc, ◌+◌, ◌/◌, max, List, codes, map, Option, Some, None, option_copied, option_map, if◌then◌else◌}
+use Rattle.std.specs.Str.{bytes_eq}
 use Rattle.clap.specs.Kinds.{Kinds}
 use Rattle.clap.specs.Simple.{App, new_app, new_rule, with_rule}
 use Rattle.clap.specs.Walk.{Row, Rule, Text, first_of}
@@ -7,18 +8,35 @@ use Rattle.flagops_words.specs.Alone.{asked_in, faults_in}
 use Rattle.flagops_words.specs.Numbers.{max_port, number_in}
 use Rattle.flagops_words.specs.Words.{◌>>=◌, number_or, option_number, some_words, texts_at}
 use Rattle.flagops_service.specs.declared.asked.Answering as code
+use Rattle.flagops_service.specs.declared.asked.OnBroken.{OnBroken}
+use Rattle.flagops_service.specs.declared.asked.OnBroken.TheVariants.{Keep, Refuse, Serve}
+use Rattle.ofrep_worker.specs.declared.unrecorded.WithoutRecord.{WithoutRecord}
+use Rattle.ofrep_worker.specs.declared.unrecorded.WithoutRecord.TheVariants as unrecorded
 
--- documents, by their paths, answered at an address by so many workers that keep notes in a folder, and streamed on a port; read again after so many seconds, 0 for never
+-- Documents, by their paths, answered at an address by so many workers that keep notes in a folder and remember so many of them together, and streamed on a port; read again after so many seconds, 0 for never. And what becomes of answers that can't be recorded, and of flags that are broken.
 pub record Answering : Type 0 where
   pub listen : Option Text
   pub log : Option Text
+  pub remember : ℕ
+  pub without_record : WithoutRecord
   pub stream : Option ℕ
   pub workers : ℕ
   pub poll : ℕ
+  pub broken : OnBroken
   pub documents : List Text
 
 abbrev pub answering_view : code.Answering → Answering
-answering_view a = record { listen = option_copied a.listen; log = option_copied a.log; stream = a.stream; workers = a.workers; poll = a.poll; documents = map (λ d. d.now) a.documents.items }
+answering_view a = record {
+  listen = option_copied a.listen;
+  log = option_copied a.log;
+  remember = a.remember;
+  without_record = a.without_record;
+  stream = a.stream;
+  workers = a.workers;
+  poll = a.poll;
+  broken = a.broken;
+  documents = map (λ d. d.now) a.documents.items;
+}
 
 -- the most subscribers of the stream at once
 abbrev pub max_subscribers : ℕ
@@ -33,10 +51,23 @@ subscribers_of (Some port) = max_subscribers
 abbrev pub seats_of : Answering → ℕ
 seats_of a = a.workers + subscribers_of a.stream
 
+-- a number, where it is one at least
+abbrev pub some_of : ℕ → Option ℕ
+some_of zero = None
+some_of (suc n) = Some (suc n)
+
+-- how many notes each of so many workers remembers of these: none, where there are fewer
+abbrev pub share_of : ℕ → ℕ → Option ℕ
+share_of notes workers = some_of (notes / max workers 1)
+
 -- ---- what the command takes
 
 abbrev pub max_workers : ℕ
 max_workers = 32
+
+-- the most notes that are remembered
+abbrev pub max_remembered : ℕ
+max_remembered = 16777216
 
 -- an hour, in seconds
 abbrev pub max_poll : ℕ
@@ -51,10 +82,16 @@ unfoldable pub ofrep_begun : App
 ofrep_begun =
     with_rule (with_rule (with_rule (new_app (codes "ofrep")) (some_words (codes "DOC"))) (option_text (codes "ADDRESS:PORT") (codes "listen"))) (option_text (codes "FOLDER") (codes "log"))
 
+-- the same with `--remember N`, `--without-record answer|refuse` and `--broken refuse|serve`
+unfoldable pub ofrep_chosen : App
+ofrep_chosen =
+    with_rule (with_rule (with_rule ofrep_begun (option_number (codes "NOTES") (codes "remember") 0 max_remembered)) (option_text (codes "answer|refuse") (codes "without-record")))
+    (option_text (codes "refuse|serve") (codes "broken"))
+
 -- the same with `--stream PORT`, `--workers N` and `--poll SECONDS`
 unfoldable pub ofrep_app : App
 ofrep_app =
-    with_rule (with_rule (with_rule ofrep_begun (option_number (codes "PORT") (codes "stream") 1 max_port)) (option_number (codes "N") (codes "workers") 1 max_workers)) (option_number (codes "SECONDS") (codes "poll") 0 max_poll)
+    with_rule (with_rule (with_rule ofrep_chosen (option_number (codes "PORT") (codes "stream") 1 max_port)) (option_number (codes "N") (codes "workers") 1 max_workers)) (option_number (codes "SECONDS") (codes "poll") 0 max_poll)
 
 -- ---- what the words ask for
 
@@ -66,13 +103,50 @@ port_if (Some word) = option_map Some (number_in 1 max_port word)
 abbrev pub port_in : List Row → Option (Option ℕ)
 port_in rows = port_if (first_of (codes "PORT") rows)
 
+-- what becomes of answers that can't be recorded, by its name
+abbrev pub without_record_named : Text → Option WithoutRecord
+without_record_named word = if bytes_eq word (codes "answer") then Some unrecorded.Answer else (if bytes_eq word (codes "refuse") then Some unrecorded.Refuse else None)
+
+-- they are not given, where nothing is said
+abbrev pub without_record_of : Option Text → Option WithoutRecord
+without_record_of None = Some unrecorded.Refuse
+without_record_of (Some word) = without_record_named word
+
+abbrev pub without_record_in : List Row → Option WithoutRecord
+without_record_in rows = without_record_of (first_of (codes "answer|refuse") rows)
+
+-- what becomes of flags that are broken, by its name
+abbrev pub broken_named : Text → Option OnBroken
+broken_named word = if bytes_eq word (codes "refuse") then Some Refuse else (if bytes_eq word (codes "serve") then Some Serve else None)
+
+-- a text that harms a flag is refused, where nothing is said
+abbrev pub broken_of : Option Text → Option OnBroken
+broken_of None = Some Keep
+broken_of (Some word) = broken_named word
+
+abbrev pub broken_in : List Row → Option OnBroken
+broken_in rows = broken_of (first_of (codes "refuse|serve") rows)
+
 abbrev pub answering_in : List Row → Option Answering
 answering_in rows = do
+  remember ← number_or 1000000 0 max_remembered (first_of (codes "NOTES") rows)
+  without ← without_record_in rows
+  broken ← broken_in rows
   stream ← port_in rows
   workers ← number_or 4 1 max_workers (first_of (codes "N") rows)
   poll ← number_or 2 0 max_poll (first_of (codes "SECONDS") rows)
   documents ← texts_at (codes "DOC") rows
-  Some (record { listen = first_of (codes "ADDRESS:PORT") rows; log = first_of (codes "FOLDER") rows; stream = stream; workers = workers; poll = poll; documents = documents })
+  Some (record {
+    listen = first_of (codes "ADDRESS:PORT") rows;
+    log = first_of (codes "FOLDER") rows;
+    remember = remember;
+    without_record = without;
+    stream = stream;
+    workers = workers;
+    poll = poll;
+    broken = broken;
+    documents = documents;
+  })
 
 unfoldable pub ofrep_faults : List Text → Kinds
 ofrep_faults = faults_in ofrep_app answering_in

@@ -1,23 +1,30 @@
 //! The command `ofrep`.
-ghost use Rattle.std.specs.Prelude.{◌≡◌, ◌<◌, false, length, map, vec_len, IfSome};
+ghost use Rattle.std.specs.Prelude.{◌≡◌, ◌<◌, false, length, map, option_map, vec_len, IfOk, IfSome};
+ghost use Rattle.std.specs.List.{list_any};
+ghost use Rattle.std.specs.NonZero.{non_zero_usize_get};
+ghost use Rattle.flag_defs.specs.Flag.{is_broken};
+ghost use Rattle.flag_defs.specs.Flags.{flags_view};
 ghost use Rattle.flagops_streams.specs.Loading.{documents_view};
 ghost use Rattle.flagops_streams.specs.Documents.{Answer, count_of, documents_in};
 ghost use Rattle.source_merge.specs.View.{sources_view};
 ghost use Rattle.flagops_service.specs.Ended.{AnswersOfrep, Begins, Reports, Serves, ServesOfrep, TellsOfrep};
 ghost use Rattle.flagops_service.specs.Merging.{AreMerged, ArePublished};
-ghost use Rattle.flagops_service.specs.Starting.{StartsOn, StartsTo};
+ghost use Rattle.flagops_service.specs.Starting.{StartsOn, StartsTo, stops_in, stops_on};
 ghost use Rattle.flagops_shell.specs.Console.{IsOpen};
-ghost use Rattle.flagops_service.specs.Words.{answering_view, seats_of, subscribers_of};
+ghost use Rattle.flagops_service.specs.Words.{answering_view, seats_of, share_of, subscribers_of};
 
-use crate::asked::Answering;
+use crate::asked::{Answering, OnBroken};
 use crate::host::Host;
 use crate::merging::merge_all;
 use crate::preparing::{Prepared, Unready, prepare};
+use crate::remembering::share_of;
 use crate::reporting::{
-    refuse_and_tell, refuse_document, refuse_log, refuse_unloaded, serving_line,
+    refuse_and_tell, refuse_document, refuse_start, refuse_unloaded, serving_line,
 };
-use crate::telling::{say_ended, say_listening, say_published};
-use crate::watching::{Watched, watch};
+use crate::stop::Stop;
+use crate::telling::{broken_in, say_broken, say_ended, say_listening, say_published};
+use crate::watched::Watched;
+use crate::watching::watch;
 use crate::words::read_ofrep;
 use flag_defs::Flags;
 use flag_text::Outlet;
@@ -25,7 +32,8 @@ use flagops_shell::{Console, FileSet, report_usage};
 use flagops_streams::{Documents, Refusal, loaded, write_line};
 use ofrep_service::{Board, work_beside};
 use snap_share::{History, Publisher, ReadSeat, ShareName, share};
-use std::alloc::AllocError;
+use source_merge::Sources;
+use std::alloc::{AllocError, Global};
 use std::convert::AsStr;
 use std::marker::Brand;
 
@@ -61,8 +69,8 @@ fn answer_asked<R: Host, F: FileSet, O: Outlet, E: Outlet>(
     requires out_whole { O.is_broken out.old ≡ false }
     requires err_whole { E.is_broken err.old ≡ false }
     ensures answers { IfSome (F.holding files.old) (λ at. (answer : Answer) × StartsTo at (answering_view answering.now) answer
-        × Reports (O.bytes out.old) (O.bytes out.new) (O.is_broken out.new) (E.bytes err.old) (E.bytes err.new) (E.is_broken err.new) result (answering_view answering.now).log (count_of answer)) }
-    ensures serves { Serves (O.bytes out.old) (O.bytes out.new) (O.is_broken out.new) (E.bytes err.old) (E.bytes err.new) (E.is_broken err.new) result (answering_view answering.now).log (length answering.now.documents.items) }
+        × Reports (O.bytes out.old) (O.bytes out.new) (O.is_broken out.new) (E.bytes err.old) (E.bytes err.new) (E.is_broken err.new) result (answering_view answering.now) (stops_in answering.now.broken answer) (count_of answer)) }
+    ensures serves { Serves (O.bytes out.old) (O.bytes out.new) (O.is_broken out.new) (E.bytes err.old) (E.bytes err.new) (E.is_broken err.new) result (answering_view answering.now) (length answering.now.documents.items) }
 {
     let alloc = rt.alloc();
     let paths = answering.documents.as_slice();
@@ -89,28 +97,91 @@ fn answer_documents<R: Host, F: FileSet, O: Outlet, E: Outlet>(
     err: &mut E,
 ) -> u8
     requires some { 0 < documents_in documents }
+    requires each { documents_in documents ≡ vec_len answering.now.documents }
     requires out_whole { O.is_broken out.old ≡ false }
     requires err_whole { E.is_broken err.old ≡ false }
     ensures { (answer : Answer) × StartsOn (seats_of (answering_view answering.now)) (documents_view documents) answer
-        × Reports (O.bytes out.old) (O.bytes out.new) (O.is_broken out.new) (E.bytes err.old) (E.bytes err.new) (E.is_broken err.new) result (answering_view answering.now).log (count_of answer) }
+        × Reports (O.bytes out.old) (O.bytes out.new) (O.is_broken out.new) (E.bytes err.old) (E.bytes err.new) (E.is_broken err.new) result (answering_view answering.now) (stops_in answering.now.broken answer) (count_of answer) }
 {
     let alloc = rt.alloc();
     let paths = answering.documents.as_slice();
     let Documents { sources, texts } = documents;
     let mut sources = sources;
     match merge_all(alloc, &mut sources, texts.as_slice()) {
-        Ok(flags) => {
-            let watched = Watched {
-                alloc,
-                sources,
-                paths,
-                texts,
-                missing: 0,
-            };
-            answer_flags(rt, answering, flags, watched, files, out, err)
-        }
+        Ok(flags) => answer_merged(rt, answering, flags, sources, texts, files, out, err),
         Err(refusal) => refuse_document(alloc, out, err, paths, texts.as_slice(), refusal),
     }
+}
+
+/// Answers from documents that were merged, whose texts these are.
+fn answer_merged<R: Host, F: FileSet, O: Outlet, E: Outlet>(
+    rt: &R,
+    answering: &Answering<'_>,
+    flags: Flags,
+    sources: Sources,
+    texts: Vec<Vec<u8>>,
+    files: &mut F,
+    out: &mut O,
+    err: &mut E,
+) -> u8
+    requires merged { AreMerged (sources_view sources) flags }
+    requires each { vec_len texts ≡ vec_len answering.now.documents }
+    requires out_whole { O.is_broken out.old ≡ false }
+    requires err_whole { E.is_broken err.old ≡ false }
+    ensures { Begins (O.bytes out.old) (O.bytes out.new) (O.is_broken out.new) (E.bytes err.old) (E.bytes err.new) (E.is_broken err.new) result (answering_view answering.now) (stops_on answering.now.broken (flags_view flags)) (length texts.items) }
+{
+    let alloc = rt.alloc();
+    if stops_broken(answering.broken, &flags) {
+        return refuse_start(out, err, Stop::BrokenFlags);
+    }
+    let refused = match none_refused(alloc, texts.len()) {
+        Ok(refused) => refused,
+        Err(AllocError) => return refuse_and_tell(alloc, out, err, Refusal::WantOfMemory),
+    };
+    let watched = Watched {
+        alloc,
+        sources,
+        paths: answering.documents.as_slice(),
+        broken: answering.broken,
+        accepted: texts,
+        refused,
+        missing: 0,
+    };
+    answer_flags(rt, answering, flags, watched, files, out, err)
+}
+
+/// No text is refused of so many documents.
+fn none_refused(alloc: Global, documents: usize) -> Result<Vec<Option<Vec<u8>>>, AllocError>
+    ensures { IfOk result (λ refused. vec_len refused ≡ documents) }
+{
+    let mut refused = Vec::new(alloc);
+    for _document in 0..documents {
+        refused.push(None)?;
+    }
+    Ok(refused)
+}
+
+/// Whether the service does not start with these flags, since one is broken.
+fn stops_broken(mode: OnBroken, flags: &Flags) -> bool
+    ensures { result ≡ stops_on mode (flags_view flags.now) }
+{
+    match mode {
+        OnBroken::Refuse => has_broken(flags),
+        OnBroken::Keep | OnBroken::Serve => false,
+    }
+}
+
+/// Whether one of the flags is broken.
+fn has_broken(flags: &Flags) -> bool
+    ensures { result ≡ list_any (λ f. is_broken f.1) (flags_view flags.now) }
+{
+    for i in 0..flags.len() {
+        let (_, flag) = flags.at(i);
+        if flag.is_broken() {
+            return true;
+        }
+    }
+    false
 }
 
 /// Answers from the flags of documents, once the logs are opened and it listens.
@@ -126,7 +197,7 @@ fn answer_flags<R: Host, F: FileSet, O: Outlet, E: Outlet>(
     requires merged { AreMerged (sources_view watched.sources) flags }
     requires out_whole { O.is_broken out.old ≡ false }
     requires err_whole { E.is_broken err.old ≡ false }
-    ensures { Begins (O.bytes out.old) (O.bytes out.new) (O.is_broken out.new) (E.bytes err.old) (E.bytes err.new) (E.is_broken err.new) result (answering_view answering.now).log (seats_of (answering_view answering.now)) (length watched.entry.texts.items) }
+    ensures { Begins (O.bytes out.old) (O.bytes out.new) (O.is_broken out.new) (E.bytes err.old) (E.bytes err.new) (E.is_broken err.new) result (answering_view answering.now) false (length watched.entry.accepted.items) }
 {
     let alloc = rt.alloc();
     match prepare(rt, alloc, answering) {
@@ -136,7 +207,7 @@ fn answer_flags<R: Host, F: FileSet, O: Outlet, E: Outlet>(
                 rt, answering, history, flags, prepared, watched, files, out, err,
             )
         }
-        Err(Unready::NoLog(fault)) => refuse_log(out, err, fault),
+        Err(Unready::Stopped(stop)) => refuse_start(out, err, stop),
         Err(Unready::Unbound) => refuse_and_tell(alloc, out, err, Refusal::Unbound),
         Err(Unready::WantOfMemory) => refuse_and_tell(alloc, out, err, Refusal::WantOfMemory),
     }
@@ -165,12 +236,12 @@ where
     requires merged { AreMerged (sources_view watched.sources) flags }
     requires out_whole { O.is_broken out.old ≡ false }
     requires err_whole { E.is_broken err.old ≡ false }
-    ensures { Begins (O.bytes out.old) (O.bytes out.new) (O.is_broken out.new) (E.bytes err.old) (E.bytes err.new) (E.is_broken err.new) result (answering_view answering.now).log (seats_of (answering_view answering.now)) (length watched.entry.texts.items) }
+    ensures { Begins (O.bytes out.old) (O.bytes out.new) (O.is_broken out.new) (E.bytes err.old) (E.bytes err.new) (E.is_broken err.new) result (answering_view answering.now) false (length watched.entry.accepted.items) }
 {
     let alloc = rt.alloc();
     let workers = answering.workers as usize;
     let wanted = workers.saturating_add(prepared.streams.len());
-    let count = flags.len();
+    let (count, broken) = (flags.len(), broken_in(&flags));
     let (mut publisher, seats) = match share::<J, R>(rt, alloc, history, flags, wanted) {
         Ok(shared) => shared,
         Err(fault) => return refuse_and_tell(alloc, out, err, Refusal::Share(fault)),
@@ -179,6 +250,7 @@ where
         rt,
         answering,
         count,
+        broken,
         prepared,
         &mut publisher,
         seats,
@@ -196,6 +268,7 @@ fn answer_shared<J, R, F, O, E>(
     rt: &R,
     answering: &Answering<'_>,
     count: usize,
+    broken: usize,
     prepared: Prepared,
     publisher: &mut Publisher<J>,
     seats: Vec<ReadSeat<J>>,
@@ -213,10 +286,10 @@ where
     requires published { ArePublished (sources_view watched.sources) publisher.old }
     requires out_whole { O.is_broken out.old ≡ false }
     requires err_whole { E.is_broken err.old ≡ false }
-    ensures { Begins (O.bytes out.old) (O.bytes out.new) (O.is_broken out.new) (E.bytes err.old) (E.bytes err.new) (E.is_broken err.new) result (answering_view answering.now).log (seats_of (answering_view answering.now)) (length watched.entry.texts.items) }
+    ensures { Begins (O.bytes out.old) (O.bytes out.new) (O.is_broken out.new) (E.bytes err.old) (E.bytes err.new) (E.is_broken err.new) result (answering_view answering.now) false (length watched.entry.accepted.items) }
 {
     let alloc = rt.alloc();
-    let line = match serving_line(alloc, watched.texts.len()) {
+    let line = match serving_line(alloc, watched.accepted.len()) {
         Ok(line) => line,
         Err(AllocError) => return refuse_and_tell(alloc, out, err, Refusal::WantOfMemory),
     };
@@ -225,14 +298,15 @@ where
         Err(AllocError) => return refuse_and_tell(alloc, out, err, Refusal::WantOfMemory),
     };
     say_listening(alloc, err, answering);
-    say_published(alloc, err, 1, count);
+    say_all_broken(&watched, err);
+    say_published(alloc, err, 1, count, broken);
     let status = write_line(out, line.as_str(), 1);
     let Prepared {
         posts,
         streams,
         keys,
     } = prepared;
-    let board = Board::new();
+    let board = board_of(answering);
     board.publish(1);
     let poll = answering.poll;
     let mut watched = watched;
@@ -241,6 +315,24 @@ where
     });
     say_ended(err, ended.is_some());
     status
+}
+
+/// Tells of each flag that is broken, by its document.
+fn say_all_broken<E: Outlet>(watched: &Watched<'_>, err: &mut E) {
+    for (path, text) in watched.paths.iter().zip(watched.accepted.iter()) {
+        say_broken(watched.alloc, err, path, text.as_slice());
+    }
+}
+
+/// A board for what is asked for: the workers share the notes that are remembered.
+fn board_of(answering: &Answering<'_>) -> Board
+    ensures without { result.without_record ≡ answering.now.without_record }
+    ensures remember { option_map non_zero_usize_get result.remember ≡ share_of answering.now.remember answering.now.workers }
+{
+    let share = share_of(answering.remember, answering.workers);
+    let board = Board::with(answering.without_record, share);
+    board.watch_documents(answering.documents.len());
+    board
 }
 
 /// The seats of so many workers, and those of the subscribers.

@@ -26,9 +26,14 @@ mod host;
 mod log_news;
 mod merging;
 mod preparing;
+mod remembering;
 mod reporting;
+mod rereading;
+mod stop;
+mod taking;
 mod telling;
 mod usage;
+mod watched;
 mod watching;
 mod words;
 

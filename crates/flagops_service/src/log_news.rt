@@ -2,18 +2,20 @@
 use flag_text::Outlet;
 use flagops_streams::say;
 use log_file::Loss;
+use note_log::Trouble;
 use ofrep_service::Board;
+use ofrep_worker::WithoutRecord;
 
-/// How often logs were opened anew after each kind of loss, and how often they could not be, as far as it was told.
+/// How often logs were opened anew after each kind of loss, and whether one can't be written, as far as it was told.
 #[derive(Clone, Copy)]
 pub(crate) struct LogNews {
     missing: u64,
     replaced: u64,
     shorter: u64,
     unseen: u64,
-    unopened: u64,
-    /// A log could not be opened anew when it was last looked for.
-    is_failing: bool,
+    /// How often a log that could be written began to fail, and why one fails now.
+    failures: u64,
+    trouble: Option<Trouble>,
 }
 
 impl LogNews {
@@ -24,28 +26,27 @@ impl LogNews {
             replaced: 0,
             shorter: 0,
             unseen: 0,
-            unopened: 0,
-            is_failing: false,
+            failures: 0,
+            trouble: None,
         }
     }
 
-    /// What the board tells now, behind what was told before.
-    fn after(self, board: &Board) -> LogNews {
-        let unopened = board.logs_unopened();
+    /// What the board tells now.
+    fn now(board: &Board) -> LogNews {
         LogNews {
             missing: board.logs_reopened(Loss::Missing),
             replaced: board.logs_reopened(Loss::Replaced),
             shorter: board.logs_reopened(Loss::Shorter),
             unseen: board.logs_reopened(Loss::Unseen),
-            unopened,
-            is_failing: unopened != self.unopened,
+            failures: board.log_failures(),
+            trouble: board.log_trouble(),
         }
     }
 }
 
 /// Tells what has happened to logs since it was last told, a line for each kind.
 pub(crate) fn tell_news<E: Outlet>(board: &Board, told: LogNews, err: &mut E) -> LogNews {
-    let news = told.after(board);
+    let news = LogNews::now(board);
     if news.missing != told.missing {
         say(
             err,
@@ -70,19 +71,38 @@ pub(crate) fn tell_news<E: Outlet>(board: &Board, told: LogNews, err: &mut E) ->
             "ofrep: the system did not say what is in the place of a log; its path is opened anew\n",
         );
     }
-    tell_failing(told, news, err);
+    tell_trouble(board.without_record(), told, news, err);
     news
 }
 
-/// Tells where logs begin to fail to open, and where they end.
-fn tell_failing<E: Outlet>(told: LogNews, news: LogNews, err: &mut E) {
-    if news.is_failing && !told.is_failing {
-        say(
-            err,
-            "ofrep: a log is lost and its path cannot be opened; what it is to record is answered with status 500\n",
-        );
+/// Tells where logs begin to fail, and where none fails any more.
+fn tell_trouble<E: Outlet>(
+    without_record: WithoutRecord,
+    told: LogNews,
+    news: LogNews,
+    err: &mut E,
+) {
+    if news.trouble.is_some() && news.trouble != told.trouble {
+        say(err, why_failing(news.trouble));
+        say(err, what_becomes(without_record));
     }
-    if told.is_failing && !news.is_failing {
-        say(err, "ofrep: no log is lost any more\n");
+    if news.trouble.is_none() && (told.trouble.is_some() || news.failures != told.failures) {
+        say(err, "ofrep: all logs can be written again\n");
+    }
+}
+
+/// Why a log fails.
+fn why_failing(trouble: Option<Trouble>) -> &'static str {
+    match trouble {
+        Some(Trouble::Lost) => "ofrep: a log is lost, and its path cannot be opened\n",
+        Some(Trouble::Unwritten) | None => "ofrep: a log cannot be written\n",
+    }
+}
+
+/// What becomes of an answer whose notes it is to take.
+fn what_becomes(without_record: WithoutRecord) -> &'static str {
+    match without_record {
+        WithoutRecord::Answer => "  what it is to record is answered all the same\n",
+        WithoutRecord::Refuse => "  what it is to record is answered with status 500\n",
     }
 }

@@ -1,11 +1,11 @@
 //! What is opened before anybody is answered.
-ghost use Rattle.std.specs.Prelude.{◌≡◌, IfErr, IfOk, Option, map, vec_len};
-ghost use Rattle.clap.specs.Walk.{Text};
+ghost use Rattle.std.specs.Prelude.{◌≡◌, IfErr, IfOk, map, vec_len};
 ghost use Rattle.ofrep_service.specs.Logs.{path_in, paths_of};
 ghost use Rattle.flagops_service.specs.Unready.{MayBeUnready};
-ghost use Rattle.flagops_service.specs.Words.{answering_view, subscribers_of};
+ghost use Rattle.flagops_service.specs.Words.{Answering as Asked, answering_view, subscribers_of};
 
 use crate::asked::Answering;
+use crate::stop::Stop;
 use log_file::{LogFault, LogPaths};
 use ofrep_service::{Post, bind, bind_stream, open_logs};
 use std::alloc::Global;
@@ -32,8 +32,8 @@ pub(crate) struct Prepared {
 #[derive(Clone, Copy, Debug, PartialEq, Eq)]
 pub(crate) enum Unready {
     WantOfMemory,
-    /// The folder or a file of the logs can't be opened.
-    NoLog(LogFault),
+    /// The logs can't be opened, or the system gives no random bytes.
+    Stopped(Stop),
     /// The address, or the port of the stream, can't be listened on.
     Unbound,
 }
@@ -48,19 +48,19 @@ where
     R: LogPaths + Net<Listener = TcpListener, Stream = TcpStream> + RandomSource,
     ensures streams { IfOk result (λ p. vec_len p.streams ≡ subscribers_of answering.now.stream) }
     ensures logs { IfOk result (λ p. map (λ post. path_in post.journal) p.posts.items ≡ paths_of (answering_view answering.now).log answering.now.workers) }
-    ensures unready { IfErr result (MayBeUnready (answering_view answering.now).log) }
+    ensures unready { IfErr result (MayBeUnready (answering_view answering.now)) }
 {
     let logs = match open_logs(rt, alloc, answering.log, answering.workers as usize) {
         Ok(logs) => logs,
         Err(LogFault::WantOfMemory) => return Err(Unready::WantOfMemory),
-        Err(fault) => return Err(Unready::NoLog(fault)),
+        Err(fault) => return Err(Unready::Stopped(Stop::NoLog(fault))),
     };
     let word = answering.listen.unwrap_or(LISTEN);
     let Ok(address) = word.parse::<SocketAddr>() else {
         return Err(Unready::Unbound);
     };
     let Ok(keys) = RandomState::new(rt) else {
-        return Err(Unready::Unbound);
+        return Err(Unready::Stopped(Stop::Unseeded));
     };
     let posts = match bind(rt, alloc, address, logs) {
         Ok(posts) => posts,
@@ -92,7 +92,7 @@ fn streams<R: Net<Listener = TcpListener, Stream = TcpStream>>(
 
 /// Why a socket can't be had: want of memory, or another reason.
 fn why_unready(kind: ErrorKind) -> Unready
-    ensures { (folder : Option Text) → MayBeUnready folder result }
+    ensures { (a : Asked) → MayBeUnready a result }
 {
     match kind {
         ErrorKind::OutOfMemory => Unready::WantOfMemory,

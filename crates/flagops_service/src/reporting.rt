@@ -1,13 +1,13 @@
 //! The lines of the command, and why it is refused.
 ghost use Rattle.std.specs.Prelude.{◌≡◌, IfOk, false, string_bytes};
-ghost use Rattle.flagops_service.specs.Ended.{Fails, Refuses, log_line, serving_line};
+ghost use Rattle.flagops_service.specs.Ended.{Fails, Refuses, serving_line, stop_line};
 ghost use Rattle.flagops_streams.specs.Told.{TellsText};
 
+use crate::stop::Stop;
 use file_diagnostics::{of_document, of_unreadable};
 use flag_text::Outlet;
 use flagops_shell::tell;
 use flagops_streams::{Refusal, refuse, say_refused, write_line};
-use log_file::LogFault;
 use source_merge::SourceFault;
 use std::alloc::{AllocError, Global};
 use std::io;
@@ -34,38 +34,14 @@ pub(crate) fn refuse_and_tell<O: Outlet, E: Outlet>(
     refuse(alloc, out, refusal)
 }
 
-/// The logs can't be opened.
-pub(crate) fn refuse_log<O: Outlet, E: Outlet>(out: &mut O, err: &mut E, fault: LogFault) -> u8
+/// The service does not start.
+pub(crate) fn refuse_start<O: Outlet, E: Outlet>(out: &mut O, err: &mut E, stop: Stop) -> u8
     requires out_whole { O.is_broken out.old ≡ false }
     requires err_whole { E.is_broken err.old ≡ false }
-    ensures { Fails (O.bytes out.old) (O.bytes out.new) (O.is_broken out.new) (E.bytes err.old) (E.bytes err.new) (E.is_broken err.new) result (log_line fault) }
+    ensures { Fails (O.bytes out.old) (O.bytes out.new) (O.is_broken out.new) (E.bytes err.old) (E.bytes err.new) (E.is_broken err.new) result (stop_line stop) }
 {
-    tell(err, why_no_log(fault));
-    write_line(out, log_line(fault), 1)
-}
-
-/// The line of a refusal of the logs.
-fn log_line(fault: LogFault) -> &'static str
-    ensures { result.now ≡ log_line fault }
-{
-    match fault {
-        LogFault::WantOfMemory => "refused log 0 WantOfMemory\n",
-        LogFault::Unopened => "refused log 1 Unopened\n",
-        LogFault::InUse => "refused log 2 InUse\n",
-    }
-}
-
-/// Why the logs can't be opened, for a person.
-fn why_no_log(fault: LogFault) -> &'static str {
-    match fault {
-        LogFault::WantOfMemory => "error: memory ran out while the logs were opened\n",
-        LogFault::Unopened => {
-            "error: the logs cannot be opened\n  the folder of --log is no folder, or its files may not be read and written\n"
-        }
-        LogFault::InUse => {
-            "error: the logs are in use\n  another service that runs records in the folder of --log\n"
-        }
-    }
+    tell(err, stop.why());
+    write_line(out, stop.line(), 1)
 }
 
 /// The document at a path was not loaded; where it can't be read, why is told in the system's words, as far as these are known.

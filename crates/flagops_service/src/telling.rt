@@ -1,8 +1,14 @@
 //! What a person is told while documents are answered from. It changes no answer.
 use crate::asked::Answering;
 use crate::preparing::{LISTEN, MOST_SUBSCRIBERS};
+use crate::taking::Unfit;
+use file_diagnostics::{of_definition_errors, of_document, quoted_name};
+use flag_defs::Flags;
+use flag_regressions::Regression;
 use flag_text::Outlet;
 use flagops_streams::say;
+use ofrep_worker::WithoutRecord;
+use source_merge::SourceFault;
 use std::alloc::{AllocError, Global};
 
 /// Tells a text that was made. One that could not be made is left out.
@@ -20,7 +26,7 @@ pub(crate) fn say_listening<E: Outlet>(alloc: Global, err: &mut E, answering: &A
         err,
         format!(in alloc; "ofrep: listens on {address}, with {workers} workers\n"),
     );
-    say_recording(alloc, err, answering.log);
+    say_recording(alloc, err, answering);
     if let Some(port) = answering.stream {
         say_made(
             err,
@@ -31,13 +37,21 @@ pub(crate) fn say_listening<E: Outlet>(alloc: Global, err: &mut E, answering: &A
     }
 }
 
-/// Whether anything is recorded, and where.
-fn say_recording<E: Outlet>(alloc: Global, err: &mut E, log: Option<&str>) {
-    match log {
-        Some(folder) => say_made(
-            err,
-            format!(in alloc; "ofrep: records hash inputs in the folder \"{folder}\"\n"),
-        ),
+/// Whether anything is recorded, and where, and what becomes of an answer that can't be.
+fn say_recording<E: Outlet>(alloc: Global, err: &mut E, answering: &Answering<'_>) {
+    match answering.log {
+        Some(folder) => {
+            say_made(
+                err,
+                format!(in alloc; "ofrep: records hash inputs in the folder \"{folder}\"\n"),
+            );
+            if let WithoutRecord::Answer = answering.without_record {
+                say(
+                    err,
+                    "ofrep: answers all the same where they can't be recorded\n",
+                );
+            }
+        }
         None => say(
             err,
             "ofrep: records nothing; --log FOLDER names a folder for what it is to record\n",
@@ -60,16 +74,116 @@ pub(crate) fn say_ended<E: Outlet>(err: &mut E, had_begun: bool) {
     }
 }
 
+/// How many of the flags are broken.
+pub(crate) fn broken_in(flags: &Flags) -> usize {
+    let mut broken: usize = 0;
+    for i in 0..flags.len() {
+        let (_, flag) = flags.at(i);
+        if flag.is_broken() {
+            broken = broken.saturating_add(1);
+        }
+    }
+    broken
+}
+
 /// What was published.
-pub(crate) fn say_published<E: Outlet>(alloc: Global, err: &mut E, number: u64, flags: usize) {
+pub(crate) fn say_published<E: Outlet>(
+    alloc: Global,
+    err: &mut E,
+    number: u64,
+    flags: usize,
+    broken: usize,
+) {
     say_made(
         err,
-        format!(in alloc; "ofrep: answers from snapshot {number}, with {flags} flags\n"),
+        format!(in alloc;
+            "ofrep: answers from snapshot {number}, with {flags} flags, of which {broken} are broken\n"
+        ),
     );
+}
+
+/// The broken flags of a document, a line for each.
+pub(crate) fn say_broken<E: Outlet>(alloc: Global, err: &mut E, path: &str, text: &[u8]) {
+    let Ok(lines) = of_definition_errors(alloc, text) else {
+        return;
+    };
+    if lines.is_empty() {
+        return;
+    }
+    say_made(
+        err,
+        format!(in alloc; "ofrep: \"{path}\" has broken flags, which are answered as errors\n"),
+    );
+    say(err, lines.as_str());
+}
+
+/// Another text of a document was accepted.
+pub(crate) fn say_accepted<E: Outlet>(alloc: Global, err: &mut E, path: &str) {
+    say_made(err, format!(in alloc; "ofrep: \"{path}\" has changed\n"));
 }
 
 /// Why a document is not taken.
 pub(crate) fn say_kept<E: Outlet>(err: &mut E, why: Result<String, AllocError>) {
     say_made(err, why);
     say(err, "  what was accepted of it last is answered from\n");
+}
+
+/// Why the text of a document is not set.
+pub(crate) fn say_unfit<E: Outlet>(
+    alloc: Global,
+    err: &mut E,
+    path: &str,
+    text: &[u8],
+    why: Unfit,
+) {
+    match why {
+        Unfit::WantOfMemory => {}
+        Unfit::Refused(fault) => say_kept(err, of_refused(alloc, path, text, fault)),
+        Unfit::Harms(regression) => say_kept(err, of_harm(alloc, path, text, &regression)),
+    }
+}
+
+/// Why a document is refused.
+fn of_refused(
+    alloc: Global,
+    path: &str,
+    text: &[u8],
+    fault: SourceFault,
+) -> Result<String, AllocError> {
+    match fault {
+        SourceFault::Refused(fault) => of_document(alloc, path, text, fault),
+        _ => {
+            let name = fault.name();
+            format!(in alloc; "ofrep: \"{path}\" is refused ({name})\n")
+        }
+    }
+}
+
+/// What a document harms, and each of its flags that is broken.
+fn of_harm(
+    alloc: Global,
+    path: &str,
+    text: &[u8],
+    regression: &Regression,
+) -> Result<String, AllocError> {
+    match regression {
+        Regression::Broken(key) => {
+            let key = quoted_name(alloc, key.as_str())?;
+            let lines = of_definition_errors(alloc, text)?;
+            format!(in alloc;
+                "ofrep: \"{path}\" is refused: it breaks the flag {key}, which is good now\n{lines}"
+            )
+        }
+        Regression::Lost(key) => {
+            let key = quoted_name(alloc, key.as_str())?;
+            format!(in alloc;
+                "ofrep: \"{path}\" is refused: it has {key} still, and no flag of this key\n"
+            )
+        }
+    }
+}
+
+/// What can't be read again, since a read might wait for ever.
+pub(crate) fn of_device(alloc: Global, path: &str) -> Result<String, AllocError> {
+    format!(in alloc; "ofrep: \"{path}\" is no plain file, and is not read again\n")
 }

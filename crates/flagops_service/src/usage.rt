@@ -1,7 +1,7 @@
 //! What `ofrep` takes, in the terms of `clap`.
 ghost use Rattle.std.specs.Prelude.{◌≡◌, IfOk, false};
 ghost use Rattle.clap.specs.Words.{app_of, rule_of};
-ghost use Rattle.flagops_service.specs.Words.{ofrep_app, ofrep_begun, option_text};
+ghost use Rattle.flagops_service.specs.Words.{ofrep_app, ofrep_begun, ofrep_chosen, option_text};
 
 use clap::{Arg, Command};
 use flagops_words::arguments::{option_number, some_words};
@@ -10,6 +10,9 @@ use std::alloc::{AllocError, Global};
 
 /// The most workers.
 pub const MOST_WORKERS: u64 = 32;
+
+/// The most notes that the workers remember together.
+pub const MOST_REMEMBERED: u64 = 16_777_216;
 
 /// The most seconds between two readings of the documents.
 pub const LONGEST_POLL: u64 = 3_600;
@@ -43,7 +46,38 @@ pub fn command<'a>(alloc: Global) -> Result<Command<'a>, AllocError>
         0,
         LONGEST_POLL,
     );
-    begun(alloc)?.arg(stream)?.arg(workers)?.arg(poll)
+    chosen(alloc)?.arg(stream)?.arg(workers)?.arg(poll)
+}
+
+/// The command `ofrep` with the words that are texts, and those that say what becomes of notes, of answers and of flags.
+#[tactic(auto, unfolding(crate::specs::Words::ofrep_chosen))]
+fn chosen<'a>(alloc: Global) -> Result<Command<'a>, AllocError>
+    ensures { IfOk result (λ c. app_of c ≡ ofrep_chosen) }
+{
+    let remember = option_number(
+        alloc,
+        "NOTES",
+        "remember",
+        "How many notes the workers remember together and so write once, at most 16777216 [default: 1000000]",
+        0,
+        MOST_REMEMBERED,
+    );
+    let without_record = text(
+        alloc,
+        "answer|refuse",
+        "without-record",
+        "What becomes of an answer whose notes the log does not take [default: refuse]",
+    );
+    let broken = text(
+        alloc,
+        "refuse|serve",
+        "broken",
+        "Refuse to start with a broken flag; or take each change of a document, though it breaks flags. Without it neither",
+    );
+    begun(alloc)?
+        .arg(remember)?
+        .arg(without_record)?
+        .arg(broken)
 }
 
 /// The command `ofrep` with the words that are texts.

@@ -4,19 +4,23 @@ ghost use Rattle.clap.specs.Walk.{first_of};
 ghost use Rattle.clap.specs.Words.{found_of, kind_of, rows_of};
 ghost use Rattle.flagops_words.specs.Alone.{IsToldBy};
 ghost use Rattle.flagops_words.specs.Numbers.{max_port};
-ghost use Rattle.flagops_service.specs.Words.{answering_in, answering_view, ofrep_by, ofrep_faults, port_in};
+ghost use Rattle.flagops_service.specs.Words.{answering_in, answering_view, broken_in, broken_named, ofrep_by, ofrep_faults, port_in, without_record_in, without_record_named};
 
-use crate::asked::Answering;
-use crate::usage::{LONGEST_POLL, MOST_WORKERS, command};
+use crate::asked::{Answering, OnBroken};
+use crate::usage::{LONGEST_POLL, MOST_REMEMBERED, MOST_WORKERS, command};
 use clap::{ArgMatches, Error};
 use flagops_words::arguments::missing_value;
 use flagops_words::matches::{number_or, texts_at};
 use flagops_words::{LARGEST_PORT, spelled};
+use ofrep_worker::WithoutRecord;
 use std::alloc::{AllocError, Global};
 use std::convert::AsStr;
 
 /// The workers where their number is left out.
 const WORKERS: u64 = 4;
+
+/// How many notes the workers remember together where their number is left out.
+const REMEMBERED: u64 = 1_000_000;
 
 /// The seconds between two readings where they are left out.
 const POLL: u64 = 2;
@@ -42,6 +46,15 @@ fn answering_in<'a>(
 ) -> Result<Option<Answering<'a>>, AllocError>
     ensures { IfOk result (λ o. option_map answering_view o ≡ answering_in (rows_of (found_of matches.now))) }
 {
+    let Some(remember) = number_or(matches, "NOTES", REMEMBERED, 0, MOST_REMEMBERED) else {
+        return Ok(None);
+    };
+    let Some(without_record) = without_record_in(matches) else {
+        return Ok(None);
+    };
+    let Some(broken) = broken_in(matches) else {
+        return Ok(None);
+    };
     let Some(stream) = port_in(matches) else {
         return Ok(None);
     };
@@ -57,9 +70,12 @@ fn answering_in<'a>(
     Ok(Some(Answering {
         listen: text_at(matches, "ADDRESS:PORT"),
         log: text_at(matches, "FOLDER"),
+        remember,
+        without_record,
         stream,
         workers,
         poll,
+        broken,
         documents: documents.to_vec(alloc)?,
     }))
 }
@@ -70,6 +86,50 @@ fn text_at<'a>(matches: &ArgMatches<'a>, name: &str) -> Option<&'a str>
     ensures { option_copied result ≡ first_of name.now (rows_of (found_of matches.now)) }
 {
     matches.get_str(name)
+}
+
+/// What becomes of answers that can't be recorded; `None` where the word names nothing.
+#[tactic(auto, using(flagops_words::proofs::Matched::rows))]
+fn without_record_in(matches: &ArgMatches<'_>) -> Option<WithoutRecord>
+    ensures { result ≡ without_record_in (rows_of (found_of matches.now)) }
+{
+    match matches.get_str("answer|refuse") {
+        Some(word) => without_record_named(word),
+        None => Some(WithoutRecord::Refuse),
+    }
+}
+
+/// What becomes of answers that can't be recorded, by its name.
+fn without_record_named(word: &str) -> Option<WithoutRecord>
+    ensures { result ≡ without_record_named word.now }
+{
+    match word {
+        "answer" => Some(WithoutRecord::Answer),
+        "refuse" => Some(WithoutRecord::Refuse),
+        _ => None,
+    }
+}
+
+/// What becomes of flags that are broken; `None` where the word names nothing.
+#[tactic(auto, using(flagops_words::proofs::Matched::rows))]
+fn broken_in(matches: &ArgMatches<'_>) -> Option<OnBroken>
+    ensures { result ≡ broken_in (rows_of (found_of matches.now)) }
+{
+    match matches.get_str("refuse|serve") {
+        Some(word) => broken_named(word),
+        None => Some(OnBroken::Keep),
+    }
+}
+
+/// What becomes of flags that are broken, by its name.
+fn broken_named(word: &str) -> Option<OnBroken>
+    ensures { result ≡ broken_named word.now }
+{
+    match word {
+        "refuse" => Some(OnBroken::Refuse),
+        "serve" => Some(OnBroken::Serve),
+        _ => None,
+    }
 }
 
 /// The port of the stream, where one is given.

@@ -332,7 +332,10 @@ listed = (
                     λ _ _ _ _ _. inr refl,
                     (
                       λ _ _ _ _ _. inr refl,
-                      (λ name is other. help_unasked _ name (λ named. sym (alone (bytes_eq (codes "help") name) named (bytes_eq-Decides (codes "help") name))) is other, tt),
+                      (
+                        λ _ _ _ _ _. inr refl,
+                        (λ name is other. help_unasked _ name (λ named. sym (alone (bytes_eq (codes "help") name) named (bytes_eq-Decides (codes "help") name))) is other, tt),
+                      ),
                     ),
                   ),
                 ),

@@ -122,10 +122,11 @@ listing name a = with_subcommand a (new_app name).top
 unfoldable pub flagops_app : App
 flagops_app =
     listing (codes "follow") (listing (codes "serve") (listing (codes "ofrep") (listing (codes "join") (listing (codes "tally") (listing (codes "record")
-    (listing (codes "picture") (listing (codes "verify-ramp") (listing (codes "ramp") (listing (codes "book") (listing (codes "check")
+    (listing (codes "picture") (listing (codes "verify-ramp") (listing (codes "ramp") (listing (codes "book") (listing (codes "compare")
+    (listing (codes "check")
     (with_subcommand (with_subcommand (with_subcommand (with_subcommand (with_subcommand
     (with_subcommand (with_subcommand (with_subcommand (on_top takes_commands (new_app (codes "flagops"))) bucket_app.top) price_app.top)
-    resolve_app.top) plan_app.top) verify_app.top) apply_app.top) drive_app.top) completions_app.top)))))))))))
+    resolve_app.top) plan_app.top) verify_app.top) apply_app.top) drive_app.top) completions_app.top))))))))))))
 
 -- ---- what the words ask for
 

@@ -3,6 +3,9 @@
 pub const CHECK: &str =
     "Prints which flags of documents are good and which are broken, and tells what is doubted of them";
 
+pub const COMPARE: &str =
+    "Prints how many recorded users an edit of a document gives another variant, and which";
+
 pub const BOOK: &str = "Writes the book of all that is in several books and files of note lines";
 
 pub const RAMP: &str = "Plans a rollout in steps, each on the rule that the step before left";

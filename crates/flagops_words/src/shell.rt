@@ -41,11 +41,12 @@ _flagops() {
     local word=${COMP_WORDS[COMP_CWORD]}
     COMPREPLY=()
     if [ "$COMP_CWORD" -eq 1 ]; then
-        COMPREPLY=($(compgen -W "bucket price check resolve plan verify apply drive book ramp verify-ramp picture record tally join ofrep serve follow completions help --help --version" -- "$word"))
+        COMPREPLY=($(compgen -W "bucket price check compare resolve plan verify apply drive book ramp verify-ramp picture record tally join ofrep serve follow completions help --help --version" -- "$word"))
         return
     fi
     case ${COMP_WORDS[1]}:$word in
         check:-*) COMPREPLY=($(compgen -W "--strict --json --help" -- "$word")) ;;
+        compare:-*) COMPREPLY=($(compgen -W "--flag --strict --json --help" -- "$word")) ;;
         bucket:-* | price:-*) COMPREPLY=($(compgen -W "--json --help" -- "$word")) ;;
         plan:-*) COMPREPLY=($(compgen -W "--refine --strict --explain --picture --help" -- "$word")) ;;
         picture:-*) COMPREPLY=($(compgen -W "--refine --ramp --help" -- "$word")) ;;
@@ -60,7 +61,7 @@ _flagops() {
         serve:-* | follow:-*) COMPREPLY=($(compgen -W "--wait --help" -- "$word")) ;;
         *:-*) COMPREPLY=($(compgen -W "--help" -- "$word")) ;;
         completions:*) COMPREPLY=($(compgen -W "bash fish zsh" -- "$word")) ;;
-        help:*) COMPREPLY=($(compgen -W "bucket price check resolve plan verify apply drive book ramp verify-ramp picture record tally join ofrep serve follow completions" -- "$word")) ;;
+        help:*) COMPREPLY=($(compgen -W "bucket price check compare resolve plan verify apply drive book ramp verify-ramp picture record tally join ofrep serve follow completions" -- "$word")) ;;
         resolve:*)
             if [ "$COMP_CWORD" -eq 4 ]; then
                 COMPREPLY=($(compgen -W "bool text whole object boolean string integer" -- "$word"))
@@ -80,6 +81,7 @@ complete -c flagops -n __fish_use_subcommand -f -l version -s V -d 'Print the ve
 complete -c flagops -n __fish_use_subcommand -f -a bucket -d 'The hash of a key, its point and its variant'
 complete -c flagops -n __fish_use_subcommand -f -a price -d 'What a new rule costs the keys of a file'
 complete -c flagops -n __fish_use_subcommand -f -a check -d 'Which flags of a document are good'
+complete -c flagops -n __fish_use_subcommand -f -a compare -d 'What an edit of a document switches'
 complete -c flagops -n __fish_use_subcommand -f -a resolve -d 'What a flag resolves to in a context'
 complete -c flagops -n __fish_use_subcommand -f -a plan -d 'The rule that switches the fewest users'
 complete -c flagops -n __fish_use_subcommand -f -a verify -d 'Check a plan apart from the planner'
@@ -97,8 +99,9 @@ complete -c flagops -n __fish_use_subcommand -f -a serve -d 'Publish documents t
 complete -c flagops -n __fish_use_subcommand -f -a follow -d 'Print the snapshots that come'
 complete -c flagops -n __fish_use_subcommand -f -a completions -d 'Print the completion of a shell'
 complete -c flagops -n __fish_use_subcommand -f -a help -d 'Print the help of a command'
-complete -c flagops -n '__fish_seen_subcommand_from bucket price check verify drive' -l json -d 'Print the answer as JSON'
-complete -c flagops -n '__fish_seen_subcommand_from check plan verify apply drive ramp verify-ramp' -l strict -d 'Refuse what is else only told'
+complete -c flagops -n '__fish_seen_subcommand_from bucket price check compare verify drive' -l json -d 'Print the answer as JSON'
+complete -c flagops -n '__fish_seen_subcommand_from check compare plan verify apply drive ramp verify-ramp' -l strict -d 'Refuse what is else only told'
+complete -c flagops -n '__fish_seen_subcommand_from compare' -l flag -x -d 'Only the pages of this flag'
 complete -c flagops -n '__fish_seen_subcommand_from plan' -l explain -d 'Tell the plan in words'
 complete -c flagops -n '__fish_seen_subcommand_from plan verify ramp verify-ramp picture tally' -l refine -x -d 'Plan in finer points'
 complete -c flagops -n '__fish_seen_subcommand_from plan' -l picture -r -d 'Write the picture of the plan'
@@ -131,6 +134,7 @@ _flagops() {
         'bucket:the hash of a key, its point and its variant'
         'price:what a new rule costs the keys of a file'
         'check:which flags of a document are good'
+        'compare:what an edit of a document switches'
         'resolve:what a flag resolves to in a context'
         'plan:the rule that switches the fewest users'
         'verify:check a plan apart from the planner'
@@ -158,6 +162,10 @@ _flagops() {
         bucket | price) _arguments '--json[print the answer as JSON]' '--help[print help]' '*:file:_files' ;;
         check)
             _arguments '--strict[refuse what is else only told]' '--json[print the answer as JSON]' '--help[print help]' '*:file:_files'
+            ;;
+        compare)
+            _arguments '--flag[only the pages of this flag]:KEY:' '--strict[refuse what is else only told]' '--json[print the answer as JSON]' \
+                '--help[print help]' '*:file:_files'
             ;;
         plan)
             _arguments '--refine[plan in finer points]:M:' '--strict[refuse what is else only told]' '--explain[tell the plan in words]' \

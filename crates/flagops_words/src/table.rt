@@ -63,6 +63,7 @@ pub const COMMANDS: &[Usage] = &[
     DRIVE,
     COMPLETIONS,
     LISTED_CHECK,
+    LISTED_COMPARE,
     LISTED_BOOK,
     LISTED_RAMP,
     LISTED_VERIFY_RAMP,
@@ -229,6 +230,12 @@ const SHELL: &[Word] = &[Word::Text("SHELL", "bash, fish or zsh")];
 const LISTED_CHECK: Usage = Usage {
     name: "check",
     about: about::CHECK,
+    words: &[],
+};
+
+const LISTED_COMPARE: Usage = Usage {
+    name: "compare",
+    about: about::COMPARE,
     words: &[],
 };
 

@@ -1,11 +1,11 @@
 //! The log.
-ghost use Rattle.std.specs.Prelude.{◌≡◌, ◌<◌, ◌⊎◌, ◌-◌, ◌^◌, [], true, false, OnErr, IfOk, is_some, min, sum_by};
+ghost use Rattle.std.specs.Prelude.{◌≡◌, ◌<◌, ◌⊎◌, ◌-◌, ◌^◌, [], true, false, OnErr, IfOk, IfSome, is_none, is_some, min, sum_by};
 ghost use Rattle.std.specs.NonZero.{non_zero_usize_get};
 ghost use Rattle.note_log.specs.Sound.{IsCounted, IsSound, earlier_in, handed_in, lines_in};
 
 use crate::batch::{Batch, batch_of};
 use crate::handing::hand_over;
-use crate::memory::{remember, use_again};
+use crate::memory::{remember, table_of, use_again};
 use crate::trouble::Trouble;
 use bytes::BytesMut;
 use http_server::Log;
@@ -26,6 +26,8 @@ pub struct NoteLog<F: LogFile> {
     /// The bytes of lines that the file has not taken.
     waiting: BytesMut,
     remembered: LruCache<Vec<u8>, (), RandomState>,
+    /// No line is remembered.
+    forgets: bool,
     written: u64,
     too_long: u64,
     ghost sound: { ∥ IsSound (handed_in handed.items) waiting.items remembered.entries ∥₁ },
@@ -35,27 +37,27 @@ pub struct NoteLog<F: LogFile> {
 impl<F: LogFile + Drop> NoteLog<F> {
     ghost use Rattle.note_log.specs.Log.{logged};
 
-    /// A log that nothing was recorded in yet. It remembers so many lines, of which it forgets the least recently used first. `keys`
-    /// are for a table of lines, whose texts others choose.
+    /// A log that nothing was recorded in yet. It remembers so many lines, of which it forgets the least recently used first, or none.
+    /// `keys` are for a table of lines, whose texts others choose.
     pub fn new(
         alloc: Global,
         keys: RandomState,
         journal: Journal<F>,
-        remember: NonZeroUsize,
+        remember: Option<NonZeroUsize>,
     ) -> Result<NoteLog<F>, AllocError>
         ensures fresh { IfOk result (λ log. logged log ≡ record { earlier = []; handed = []; waiting = [] }) }
         ensures journal { IfOk result (λ log. log.journal ≡ journal) }
-        ensures remember { IfOk result (λ log. log.remembered.cap ≡ non_zero_usize_get remember) }
+        ensures remember { IfOk result (λ log. IfSome remember (λ most. log.remembered.cap ≡ non_zero_usize_get most)) }
+        ensures forgets { IfOk result (λ log. log.forgets ≡ is_none remember) }
     {
-        // The memory for lines is taken as they come.
-        let mut remembered = LruCache::unbounded_with_hasher(alloc, keys)?;
-        remembered.resize(remember);
+        let remembered = table_of(alloc, keys, remember.unwrap_or(NonZeroUsize::MIN))?;
         Ok(NoteLog {
             journal,
             earlier: Log::new(),
             handed: Log::new(),
             waiting: BytesMut::new(alloc),
             remembered,
+            forgets: remember.is_none(),
             written: 0,
             too_long: 0,
         })
@@ -121,7 +123,7 @@ impl<F: LogFile> NoteLog<F> {
             return false;
         }
         use_again(&mut self.remembered, known.as_slice());
-        remember(&mut self.remembered, lines);
+        remember(&mut self.remembered, lines, self.forgets);
         true
     }
 

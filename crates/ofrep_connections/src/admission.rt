@@ -4,7 +4,7 @@ ghost use Rattle.ofrep_connections.specs.Stand.{PeerStands, PeersStand};
 use crate::load::LoadShare;
 use crate::peer::Peer;
 use crate::socket::Socket;
-use crate::work::Making;
+use crate::work::{Making, leave};
 use http_server::Connection;
 use mio::Registry;
 use mio::net::{TcpListener, TcpStream};
@@ -13,7 +13,7 @@ use slab::Slab;
 use std::io::{Error, ErrorKind};
 use std::time::Instant;
 
-/// The most connections of a worker. A further one is closed.
+/// The most connections of a worker. For a further one the one is closed that has had nothing to do for the longest time.
 pub(crate) const MAX_PEERS: usize = 1024;
 
 /// How long a wait lasts before the flag is looked at.
@@ -119,7 +119,7 @@ pub(crate) fn admit<S: Recording>(
     queue
 }
 
-/// Makes a peer of a socket. Where the worker has as many as it may it is closed.
+/// Makes a peer of a socket. Where the worker has as many as it may, another is closed for it.
 fn take<S: Recording, T: Socket + Drop>(
     making: Making,
     now: Instant,
@@ -131,6 +131,7 @@ fn take<S: Recording, T: Socket + Drop>(
     requires { PeersStand S.stands T.contents service.now peers.old }
     ensures { PeersStand S.stands T.contents service.now peers.new }
 {
+    make_room(registry, service, peers);
     let key = peers.vacant_key();
     if key >= MAX_PEERS {
         return;
@@ -143,6 +144,50 @@ fn take<S: Recording, T: Socket + Drop>(
     };
     let is_registered = peer.socket.register(registry, key).is_ok();
     welcome(service, peers, peer, is_registered);
+}
+
+/// Closes the connection that has had nothing to do for the longest time, where the worker has as many as it may.
+fn make_room<S: Recording, T: Socket + Drop>(
+    registry: &Registry,
+    service: &S,
+    peers: &mut Slab<Peer<T>>,
+)
+    requires { PeersStand S.stands T.contents service.now peers.old }
+    ensures { PeersStand S.stands T.contents service.now peers.new }
+{
+    if peers.len() < MAX_PEERS {
+        return;
+    }
+    if let Some(key) = longest_idle(peers) {
+        leave(registry, service, peers, key);
+    }
+}
+
+/// The peer that has had nothing to do for the longest time.
+fn longest_idle<T>(peers: &Slab<Peer<T>>) -> Option<usize> {
+    let mut longest = None;
+    for key in 0..MAX_PEERS {
+        longest = longer_idle(longest, key, peers.get(key));
+    }
+    match longest {
+        Some((key, _active)) => Some(key),
+        None => None,
+    }
+}
+
+/// The one of two that has had nothing to do for longer, by when each last had something to do.
+fn longer_idle<T>(
+    longest: Option<(usize, Instant)>,
+    key: usize,
+    peer: Option<&Peer<T>>,
+) -> Option<(usize, Instant)> {
+    let Some(peer) = peer else {
+        return longest;
+    };
+    match longest {
+        Some((_key, active)) if active <= peer.active => longest,
+        Some(_) | None => Some((key, peer.active)),
+    }
 }
 
 /// Keeps a peer that is registered. Where memory runs out it is closed.

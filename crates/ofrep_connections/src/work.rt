@@ -25,8 +25,8 @@ use std::{io, net};
 /// The token of the listener; those of the peers are below.
 const LISTENER: usize = MAX_PEERS;
 
-/// A connection that has nothing to do for so long is closed.
-const IDLE_SECONDS: u64 = 60;
+/// A connection that has nothing to do for so long is closed: longer than proxies mostly keep one, so that it is they who close it.
+const IDLE_SECONDS: u64 = 75;
 
 /// What the connections of a worker are made with.
 #[derive(Clone, Copy)]
@@ -237,7 +237,7 @@ fn leave_if_idle<S: Recording, T: Socket + Drop>(
 }
 
 /// Closes the connection of a peer.
-fn leave<S: Recording, T: Socket + Drop>(
+pub(crate) fn leave<S: Recording, T: Socket + Drop>(
     registry: &Registry,
     service: &S,
     peers: &mut Slab<Peer<T>>,

@@ -1,5 +1,5 @@
 -- Where the logs of workers stand.
-use Rattle.std.specs.Prelude.{ℕ, zero, suc, ◌+◌, List, [], ◌∷◌, ◌++◌, codes, decimal, map, Option, option_map, string_bytes}
+use Rattle.std.specs.Prelude.{ℕ, zero, suc, ◌+◌, List, [], ◌∷◌, ◌++◌, codes, decimal, Option, option_map, string_bytes}
 use Rattle.log_file.specs.declared.file.LogFile.{Ghosts}
 use Rattle.log_file.specs.declared.journal.Journal.{Journal}
 use Rattle.log_file.specs.declared.system.SystemLog.{SystemLog}

@@ -22,7 +22,7 @@ pub struct Board {
     pub(crate) is_over: AtomicBool,
     published: AtomicU64,
     pub(crate) without_record: WithoutRecord,
-    pub(crate) remember: NonZeroUsize,
+    pub(crate) remember: Option<NonZeroUsize>,
 }
 
 impl Board {
@@ -31,12 +31,11 @@ impl Board {
     pub fn new() -> Board
         ensures { result.without_record ≡ Refuse }
     {
-        let remember = NonZeroUsize::new(REMEMBERED).unwrap_or(NonZeroUsize::MIN);
-        Board::with(WithoutRecord::Refuse, remember)
+        Board::with(WithoutRecord::Refuse, NonZeroUsize::new(REMEMBERED))
     }
 
-    /// The same, where this becomes of answers that can't be recorded, and each worker remembers so many notes.
-    pub fn with(without_record: WithoutRecord, remember: NonZeroUsize) -> Board
+    /// The same, where this becomes of answers that can't be recorded, and each worker remembers so many notes, or none.
+    pub fn with(without_record: WithoutRecord, remember: Option<NonZeroUsize>) -> Board
         ensures without { result.without_record ≡ without_record }
         ensures remember { result.remember ≡ remember }
     {
@@ -68,6 +67,16 @@ impl Board {
     /// How often the path of a log whose file was lost could not be opened anew.
     pub fn logs_unopened(&self) -> u64 {
         self.counts.unopened()
+    }
+
+    /// So many documents are answered from.
+    pub fn watch_documents(&self, documents: usize) {
+        self.counts.watch_documents(documents);
+    }
+
+    /// The document at a place was refused when its text was last read, or was not.
+    pub fn refuse_document(&self, place: usize, is_refused: bool) {
+        self.counts.refuse_document(place, is_refused);
     }
 
     /// What becomes of answers that can't be recorded.

@@ -1,6 +1,7 @@
 //! The threads of the workers.
 ghost use denote.Param.Send.{IsSend, IsSync};
-ghost use Rattle.std.specs.Prelude.{◌≡◌, List, IfOk, option_map};
+ghost use Rattle.std.specs.NonZero.{non_zero_usize_get};
+ghost use Rattle.std.specs.Prelude.{◌≡◌, List, IfOk, IfSome, is_none, option_map};
 ghost use Rattle.http_server.specs.Exchange.{Call};
 ghost use Rattle.std.specs.List.{flat_map};
 ghost use Rattle.recorded_answers.specs.Stand.{AllStand, Works};
@@ -160,6 +161,8 @@ fn worker_of<'a, J: ShareName, R: Clock>(
     ensures seat { IfOk result (λ worker. worker.seat ≡ seat) }
     ensures log { IfOk result (λ worker. option_map (λ l. l.journal) worker.log ≡ journal) }
     ensures without { IfOk result (λ worker. worker.without_record ≡ board.now.without_record) }
+    ensures remember { IfOk result (λ worker. IfSome worker.log (λ l. IfSome board.now.remember (λ most. l.remembered.cap ≡ non_zero_usize_get most))) }
+    ensures forgets { IfOk result (λ worker. IfSome worker.log (λ l. l.forgets ≡ is_none board.now.remember)) }
 {
     let log = match journal {
         Some(journal) => Some(NoteLog::new(alloc, keys, journal, board.remember)?),

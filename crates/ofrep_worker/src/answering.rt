@@ -16,6 +16,7 @@ use crate::moment::moment_of;
 use crate::recording::{record_answer, trouble_in};
 use crate::unrecorded::WithoutRecord;
 use bytes::{BufMut, Bytes};
+use flag_defs::Flags;
 use http::{Request, StatusCode};
 use http_server::Response;
 use log_file::LogFile;
@@ -111,12 +112,26 @@ impl<R> Answering<'_, R> {
         fill(self.alloc, answer, response)?;
         if let Content::Counts = answer.content {
             let number = self.snapshot.number();
-            let flags = self.snapshot.flags().len();
-            let text = self.counts.text(self.alloc, number, flags)?;
+            let flags = self.snapshot.flags();
+            let text = self
+                .counts
+                .text(self.alloc, number, flags.len(), broken_in(flags))?;
             response.body.put_slice(text.as_bytes())?;
         }
         Ok(())
     }
+}
+
+/// How many of the flags are broken.
+fn broken_in(flags: &Flags) -> usize {
+    let mut broken: usize = 0;
+    for i in 0..flags.len() {
+        let (_, flag) = flags.at(i);
+        if flag.is_broken() {
+            broken = broken.saturating_add(1);
+        }
+    }
+    broken
 }
 
 /// Why the service is not ready, where that is asked, and the answer would say that it is.

@@ -6,6 +6,9 @@ use ofrep_answers::Reasons;
 use std::alloc::{AllocError, Global};
 use std::sync::atomic::{AtomicU64, Ordering};
 
+/// The most documents that are told of.
+const MOST_DOCUMENTS: u64 = 64;
+
 /// How many requests were answered with each status, how many evaluations ended with each reason, how many notes were written, how
 /// often a log was opened anew after each kind of loss, and how many logs can't be written now.
 #[derive(Drop)]
@@ -35,6 +38,9 @@ pub struct Counts {
     unwritten: AtomicU64,
     failures: AtomicU64,
     unrecorded: AtomicU64,
+    /// How many documents are answered from, and a bit for each whose text was refused when it was last read.
+    documents: AtomicU64,
+    refused: AtomicU64,
 }
 
 impl Counts {
@@ -65,6 +71,8 @@ impl Counts {
             unwritten: AtomicU64::new(0),
             failures: AtomicU64::new(0),
             unrecorded: AtomicU64::new(0),
+            documents: AtomicU64::new(0),
+            refused: AtomicU64::new(0),
         }
     }
 
@@ -140,6 +148,19 @@ impl Counts {
         self.failures.load(Ordering::Relaxed)
     }
 
+    /// So many documents are answered from.
+    pub fn watch_documents(&self, documents: usize) {
+        self.documents.store(documents as u64, Ordering::Relaxed);
+    }
+
+    /// The document at a place was refused when its text was last read, or was not.
+    pub fn refuse_document(&self, place: usize, is_refused: bool) {
+        let bit = bit_of(place);
+        let others = self.refused.load(Ordering::Relaxed) & !bit;
+        let own = if is_refused { bit } else { 0 };
+        self.refused.store(others | own, Ordering::Relaxed);
+    }
+
     /// Counts what a look for a log came to.
     pub(crate) fn count_look(&self, look: Look) {
         match look {
@@ -168,12 +189,14 @@ impl Counts {
         self.unopened.load(Ordering::Relaxed)
     }
 
-    /// The text of what is counted, for Prometheus, with the number of the snapshot and how many flags it has.
+    /// The text of what is counted, for Prometheus, with the number of the snapshot, how many flags it has, and how many of these are
+    /// broken.
     pub(crate) fn text(
         &self,
         alloc: Global,
         snapshot: u64,
         flags: usize,
+        broken: usize,
     ) -> Result<String, AllocError> {
         let mut text = format!(in alloc; "# TYPE ofrep_requests_total counter\n")?;
         push_requests(&mut text, "200", &self.ok)?;
@@ -187,6 +210,7 @@ impl Counts {
         self.push_evaluations(&mut text)?;
         self.push_reopened(&mut text)?;
         self.push_failures(&mut text)?;
+        self.push_documents(&mut text, broken)?;
         let notes = self.notes.load(Ordering::Relaxed);
         let too_long = self.inputs_too_long.load(Ordering::Relaxed);
         write!(
@@ -226,6 +250,24 @@ impl Counts {
         )
     }
 
+    /// Adds which documents are refused, by their places from 1, and how many flags are broken.
+    fn push_documents(&self, text: &mut String, broken: usize) -> Result<(), AllocError> {
+        write!(text, "# TYPE flagops_documents_refused gauge\n")?;
+        let refused = self.refused.load(Ordering::Relaxed);
+        for place in 0..self.documents.load(Ordering::Relaxed).min(MOST_DOCUMENTS) {
+            let number = place + 1;
+            let is_refused = u64::from(refused & bit_of(place as usize) != 0);
+            write!(
+                text,
+                "flagops_documents_refused{{place=\"{number}\"}} {is_refused}\n"
+            )?;
+        }
+        write!(
+            text,
+            "# TYPE flagops_flags_broken gauge\nflagops_flags_broken {broken}\n"
+        )
+    }
+
     /// Adds how many evaluations ended with each reason.
     fn push_evaluations(&self, text: &mut String) -> Result<(), AllocError> {
         write!(text, "# TYPE ofrep_evaluations_total counter\n")?;
@@ -235,6 +277,11 @@ impl Counts {
         push_reason(text, "DISABLED", &self.disabled)?;
         push_reason(text, "ERROR", &self.error)
     }
+}
+
+/// The bit of a document, by its place.
+fn bit_of(place: usize) -> u64 {
+    1u64 << (place % 64)
 }
 
 /// Adds how often a log was opened anew after a loss.

@@ -75,6 +75,13 @@ returns-in-Check g c =
     (sym c.in-Check.is ∙ c.family_of.ensures)
     (c.run-in-Check.ensures.answers, c.run-in-Check.ensures.unread, c.run-in-Check.ensures.tells, c.run-in-Check.ensures.left, c.run-in-Check.ensures.stored)
 
+pub returns-in-Compare : goal.returns-in-Compare
+returns-in-Compare g c =
+    subst (λ (f : Family). Comes c.args.console.now c.run-in-Compare.new.console (g.F.FileSet.holding c.args.files.now) (g.F.FileSet.holding c.run-in-Compare.new.files) (g.F.FileSet.has_failed c.args.files.now) (g.F.FileSet.has_failed c.run-in-Compare.new.files)
+    c.run-in-Compare.result (g.I.Inlet.bytes c.args.input.now) (g.I.Inlet.is_broken c.args.input.now) f (map g.S.AsStr.text c.args.words.now))
+    (sym c.in-Compare.is ∙ c.family_of.ensures)
+    (c.run-in-Compare.ensures.answers, c.run-in-Compare.ensures.unread, c.run-in-Compare.ensures.tells, c.run-in-Compare.ensures.left, c.run-in-Compare.ensures.stored)
+
 pub returns-in-Record : goal.returns-in-Record
 returns-in-Record g c =
     subst (λ (f : Family). Comes c.args.console.now c.record.new.console (g.F.FileSet.holding c.args.files.now) (g.F.FileSet.holding c.record.new.files) (g.F.FileSet.has_failed c.args.files.now) (g.F.FileSet.has_failed c.record.new.files)

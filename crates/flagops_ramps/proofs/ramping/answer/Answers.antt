@@ -18,8 +18,8 @@ returns-in-Ok-plan_steps-clause-exact g c =
     let made = book_question_view c.count.new.question in
     let answers = map planned_view c.in-Ok-plan_steps.answers.items in
     let plans = rw (c.as_slice-requests.ensures.value, c.factor_of-factor.ensures.value) at c.in-Ok-plan_steps.ensures.exact in
-    let gives = rw (c.as_slice-requests.ensures.value, c.as_slice-in-Ok-plan_steps.ensures.value) at c.told.ensures.exact in
-    let back = rw c.as_slice-in-Ok-plan_steps.ensures.value at c.told.ensures.reads_back in
+    let gives = rw (c.as_slice-requests.ensures.value, c.as_slice.ensures.value) at c.told.ensures.exact in
+    let back = rw c.as_slice.ensures.value at c.told.ensures.reads_back in
     let over = planned_report strict refine made requests answers c.told.result plans gives back in
     steps_report strict refine (book_question_view c.args.question) requests c.told.result (ap steps_of (sym c.bytes.ensures) ∙ c.in-Ok.ensures.exact)
     (subst (λ (q : BookQuestion). GivesOne outcome_view c.told.result (IsRampOver strict refine q (Ok requests))) c.count.ensures.kept over)

@@ -15,9 +15,10 @@ returns-in-Ok g c =
     let texts = c.args.documents.texts.items in
     let all = merged.0 ++ flags_view c.in-Ok.flags ∷ [] in
     let gives = subst (λ (ts : List (Vec ℕ Global)). Gives d.sources (texts_of ts) [] (Ok all)) c.as_slice.ensures.value merged.1 in
-    begun (seats_of (answering_view c.args.answering.now)) _ d all
-    (Reports (g.O.Outlet.bytes c.args.out.now) (g.O.Outlet.bytes c.answer_flags.new.out) (g.O.Outlet.is_broken c.answer_flags.new.out) (g.E.Outlet.bytes c.args.err.now) (g.E.Outlet.bytes c.answer_flags.new.err) (g.E.Outlet.is_broken c.answer_flags.new.err) c.answer_flags.result (answering_view c.args.answering.now).log)
-    (sym (length-map texts (λ t. t.items))) gives c.answer_flags.ensures
+    begun c.args.answering.now.broken
+    (Reports (g.O.Outlet.bytes c.args.out.now) (g.O.Outlet.bytes c.answer_merged.new.out) (g.O.Outlet.is_broken c.answer_merged.new.out) (g.E.Outlet.bytes c.args.err.now) (g.E.Outlet.bytes c.answer_merged.new.err) (g.E.Outlet.is_broken c.answer_merged.new.err) c.answer_merged.result (answering_view c.args.answering.now))
+    (seats_of (answering_view c.args.answering.now)) _ d merged.0 (flags_view c.in-Ok.flags)
+    (sym (length-map texts (λ t. t.items))) gives c.answer_merged.ensures
 
 pub returns-in-Err : goal.returns-in-Err
 returns-in-Err g c =

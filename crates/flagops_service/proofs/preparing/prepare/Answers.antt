@@ -4,10 +4,10 @@ use Rattle.flagops_service.proofs.Posts.{seen_at_posts}
 use Rattle.flagops_service.proofs.preparing.prepare.Goals as goal
 
 pub returns-in-Err-bind-clause-unready : goal.returns-in-Err-bind-clause-unready
-returns-in-Err-bind-clause-unready g c = c.why_unready.ensures (answering_view c.args.answering.now).log
+returns-in-Err-bind-clause-unready g c = c.why_unready.ensures (answering_view c.args.answering.now)
 
 pub returns-in-Err-streams-clause-unready : goal.returns-in-Err-streams-clause-unready
-returns-in-Err-streams-clause-unready g c = c.why_unready-in-Err-streams.ensures (answering_view c.args.answering.now).log
+returns-in-Err-streams-clause-unready g c = c.why_unready-in-Err-streams.ensures (answering_view c.args.answering.now)
 
 -- each post has the log that was opened for it
 pub returns-in-Ok-streams-clause-logs : goal.returns-in-Ok-streams-clause-logs

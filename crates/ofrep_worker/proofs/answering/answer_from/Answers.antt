@@ -3,7 +3,7 @@ use Rattle.std.specs.Arc.{arc_value}
 use Rattle.flag_defs.specs.Flags.{flags_view}
 use Rattle.flag_defs.specs.Document.{Definitions}
 use Rattle.note_log.specs.declared.trouble.Trouble.{Trouble}
-use Rattle.ofrep_answers.specs.Answer.{Answered, answer_of, answer_view}
+use Rattle.ofrep_answers.specs.Answer.{Answered, answer_view}
 use Rattle.ofrep_worker.specs.Answers.{RecordedIn, is_answered, kept_in}
 use Rattle.ofrep_worker.specs.Asked.{asked_of}
 use Rattle.ofrep_worker.specs.Notes.{notes_of}

@@ -31,7 +31,7 @@ invariant_of-self-2 g c =
     let none = nothing c.hand_over.new.waiting.items (sym c.hand_over.ensures.all ∙ search rules) in
     let last = nothing c.hand_over-2.new.waiting.items (sym c.hand_over-2.ensures.all ∙ search rules) in
     let moves = joined _ _ _ _ _ _ _ _ _ c.args.batch.bytes.items c.hand_over.ensures.moves none c.hand_over-2.ensures.moves in
-    record { sound = ∥∥₁_map c.args.self.now.sound (λ s. sound_after (earlier_in c.args.self.now.earlier.items) _ _ _ _ _ _ c.args.notes.now c.args.self.now.remembered.entries c.args.batch s c.requires moves c.remember.new.remembered.entries last (λ bytes stand all. c.remember.ensures bytes (c.use_again.ensures bytes stand) all)); counted = c.hand_over-2.ensures.written _ (c.hand_over.ensures.written (sum_by lines_in (earlier_in c.args.self.now.earlier.items)) c.args.self.now.counted) }
+    record { sound = ∥∥₁_map c.args.self.now.sound (λ s. sound_after (earlier_in c.args.self.now.earlier.items) _ _ _ _ _ _ c.args.notes.now c.args.self.now.remembered.entries c.args.batch s c.requires moves c.remember.new.remembered.entries last (λ bytes stand all. c.remember.ensures.stand bytes (c.use_again.ensures bytes stand) all)); counted = c.hand_over-2.ensures.written _ (c.hand_over.ensures.written (sum_by lines_in (earlier_in c.args.self.now.earlier.items)) c.args.self.now.counted) }
 
 pub returns-clause-records : goal.returns-clause-records
 returns-clause-records g c =

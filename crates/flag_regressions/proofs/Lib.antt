@@ -1,0 +1,2 @@
+pub mod FirstBroken
+pub mod Names

@@ -1,0 +1,11 @@
+pub mod Command
+pub mod Compared
+pub mod FileLines
+pub mod Loaded
+pub mod Printed
+pub mod Reasons
+pub mod Refusal
+pub mod Report
+pub mod Step
+pub mod Told
+pub mod Words

@@ -1,0 +1,41 @@
+-- Both documents and what was recorded, each loaded and read before the next.
+use Rattle.std.specs.Prelude.{◌≡◌, ℕ, List, [], ◌∷◌, Result, Ok, Err}
+use Rattle.flag_defs.specs.Document.{Definitions}
+use Rattle.flag_defs.specs.Flags.{flags_view}
+use Rattle.flagops_compare.specs.declared.loading.Loaded as program
+use Rattle.flagops_files.specs.Documents.{IsDocumentAt}
+use Rattle.flagops_files.specs.Question.{IsEvidenceAt}
+use Rattle.flagops_files.specs.Refusal.{Subjects, by, loads_evidence, loads_flags}
+use Rattle.flagops_files.specs.Told.{file}
+use Rattle.flagops_files.specs.declared.evidence.Evidence.{Evidence}
+use Rattle.flagops_files.specs.declared.refusal.Refusal.{Refusal}
+use Rattle.flagops_shell.specs.Files.{Holding}
+use Rattle.flagops_shell.specs.Outcomes.{◌>>=◌}
+
+-- the flags before the edit and after it, and the book or the tally
+pub record Loaded : Type 0 where
+  pub old : Definitions
+  pub new : Definitions
+  pub evidence : Evidence
+
+abbrev pub loaded_view : program.Loaded → Loaded
+loaded_view l = record { old = flags_view l.old; new = flags_view l.new; evidence = l.evidence }
+
+abbrev pub loaded_of : Definitions → Definitions → Result Evidence Refusal → Result Loaded Refusal
+loaded_of old new evidence = evidence >>= λ e. Ok (record { old = old; new = new; evidence = e })
+
+abbrev pub IsWithNew : Holding → Definitions → Result Definitions Refusal → List ℕ → Result Loaded Refusal → Type 0
+IsWithNew at old (Err e) book r = r ≡ Err e
+IsWithNew at old (Ok new) book r = (evidence : Result Evidence Refusal) × IsEvidenceAt at book evidence × (r ≡ loaded_of old new evidence)
+
+abbrev pub IsWithOld : Holding → Result Definitions Refusal → List ℕ → List ℕ → Result Loaded Refusal → Type 0
+IsWithOld at (Err e) new book r = r ≡ Err e
+IsWithOld at (Ok old) new book r = (document : Result Definitions Refusal) × IsDocumentAt at new document × IsWithNew at old document book r
+
+-- what the files at these paths are, or the first refusal
+unfoldable pub IsLoadedAt : Holding → List ℕ → List ℕ → List ℕ → Result Loaded Refusal → Type 0
+IsLoadedAt at old new book r = (document : Result Definitions Refusal) × IsDocumentAt at old document × IsWithOld at document new book r
+
+-- the files, each with the refusals that are of it
+abbrev pub compare_subjects : List ℕ → List ℕ → List ℕ → Subjects
+compare_subjects old new book = (file old, by loads_flags) ∷ (file new, by loads_flags) ∷ (file book, by loads_evidence) ∷ []

@@ -1,0 +1,27 @@
+-- What the program gives, in private contracts alone.
+use Rattle.std.specs.Prelude.{◌≡◌, Bool, false, Result, Ok, Err}
+use Rattle.flagops_compare.specs.Refusal.{is_unread, is_want}
+use Rattle.flagops_compare.specs.Report.{Came, NamesRefused}
+use Rattle.flagops_compare.specs.Words.{Comparing}
+use Rattle.flagops_compare.specs.declared.refusal.CompareRefusal.{CompareRefusal}
+use Rattle.flagops_shell.specs.Ending as ending
+use Rattle.flagops_shell.specs.Given as given
+use Rattle.flagops_shell.specs.Report.{outcome_view}
+use Rattle.flagops_shell.specs.declared.outcome.Outcome.{Outcome}
+use Rattle.flagops_shell.specs.declared.refused.Refused.{Refused}
+
+abbrev pub Told : Type 0
+Told = Refused CompareRefusal
+
+-- what was returned is one of these, unless memory ran out
+abbrev pub GivesOne : Result Outcome Told → (Came → Type 0) → Type 0
+GivesOne r Wanted = given.GivesOne is_want outcome_view r Wanted
+
+-- a file could not be read
+abbrev pub is_file_fault : {X : Type 0} → Result X Told → Bool
+is_file_fault r = ending.is_file_fault is_unread r
+
+-- a refusal is told by the name of the file that is refused
+abbrev pub TellsRefused : Comparing → Result Outcome Told → Type 0
+TellsRefused a (Ok o) = Unit {0}
+TellsRefused a (Err t) = is_want t.refusal ≡ false → NamesRefused a t.refusal t.remark

@@ -1,0 +1,34 @@
+use Rattle.std.proofs.Common.{◌∙◌, ℕ, Bor, List, [], ◌∷◌, ◌++◌, ap, inl, map, subst, sym}
+use Rattle.flag_defs.specs.declared.flags.Flags.{Flags}
+use Rattle.source_merge.specs.View.{sources_view}
+use Rattle.flagops_service.specs.Merging.{Publishes}
+use Rattle.flagops_service.specs.Rereading.{kept_of, state_of}
+use Rattle.flagops_service.proofs.Reread.{one_turn, reads_as}
+use Rattle.flagops_service.proofs.watching.watch.Goals.{then-waits, else-waits}
+use Rattle.flagops_service.proofs.watching.watch.Goals as goal
+
+-- one turn more
+pub loop-turn-preserved : goal.loop-turn-preserved
+loop-turn-preserved g c =
+    let l = c.loop-turn in
+    let old = c.args.watched.now in
+    let holding = g.F.FileSet.holding c.args.files.now in
+    let paths = map (λ (p : Bor (List ℕ)). p.now) old.paths.now in
+    let read = c.read_again-waits in
+    let now = read.new.self in
+    let last = c.if-waits.publisher in
+    let published : Publishes (sources_view now.sources) l.publisher last =
+    elim c.if-waits.branch [
+      | then-waits w ↦ subst (λ (all : List Flags). Publishes (sources_view now.sources) l.publisher all) (sym w.publisher-is) w.publish-waits.ensures
+      | else-waits w ↦ inl w.publisher-is
+    ] in
+    let reads = reads_as (g.F.FileSet.holding l.files) holding l.watched.broken old.broken (map (λ (p : Bor (List ℕ)). p.now) l.watched.paths.now) paths (kept_of l.watched) (kept_of now) l.invariant.1 l.invariant.2 (ap (λ ps. map (λ (p : Bor (List ℕ)). p.now) ps.now) l.invariant.3) read.ensures.reads in
+    let so_far = l.invariant.0 in (
+      (
+        so_far.0 ++ state_of now last ∷ [],
+        one_turn holding old.broken paths so_far.0 (state_of old c.args.publisher.now) (state_of l.watched l.publisher) (state_of now last) so_far.1 (inl reads, published),
+      ),
+      read.ensures.kept ∙ l.invariant.1,
+      read.ensures.mode ∙ l.invariant.2,
+      read.ensures.paths ∙ l.invariant.3,
+    )

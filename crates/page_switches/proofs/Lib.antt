@@ -1,0 +1,5 @@
+pub mod Going
+pub mod Placed
+pub mod Placing
+pub mod Reading
+pub mod Sums

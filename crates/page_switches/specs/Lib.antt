@@ -1,0 +1,5 @@
+pub mod Counted
+pub mod Fault
+pub mod Found
+pub mod Rules
+pub mod Tallied
