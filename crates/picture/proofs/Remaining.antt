@@ -45,3 +45,10 @@ pub range_ended : (n i : ℕ) → n ≤ i → range_with_len i (n - i) ≡ []
 range_ended n i all =
     let none : n - i ≡ 0 = omega (arith, all) in
     ap (range_with_len i) none
+
+-- the first of the items that are left is added, and none is left
+pub next_item : {A X : Type 0} (f : A → X) (left rest : List A) (a : A) (so_far more whole : List X) → left ≡ a ∷ rest → more ≡ so_far ++ (f a ∷ []) → so_far ++ map f left ≡ whole → more ++ map f rest ≡ whole
+next_item f left rest a so_far more whole is added tells = ap (λ xs. xs ++ map f rest) added ∙ (append_assoc so_far (f a ∷ []) (map f rest) ∙ (ap (λ xs. so_far ++ map f xs) (sym is) ∙ tells))
+
+pub no_item : {A X : Type 0} (f : A → X) (left : List A) (so_far whole : List X) → left ≡ [] → so_far ++ map f left ≡ whole → so_far ≡ whole
+no_item f left so_far whole none tells = sym (append-nil so_far) ∙ (ap (λ xs. so_far ++ map f xs) (sym none) ∙ tells)

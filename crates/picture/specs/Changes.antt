@@ -10,7 +10,7 @@ use Rattle.switch_table.specs.Runs.{Run}
 use Rattle.switch_table.specs.Switches.{name_of, switch_at}
 use Rattle.switch_table.specs.declared.table.Switch.{Switch}
 use Rattle.transport_instance.specs.Certificate.{DualPrices}
-use Rattle.picture.specs.Told.{Item, text, name, bar_told, column, foot, heading, next_row, number, numbers_at, rows_told, runs_told, spot, swatch}
+use Rattle.picture.specs.Told.{Item, text, bar_told, column, foot, heading, next_row, number, numbers_at, rows_told, runs_told, sized_name, spot, swatch}
 use Rattle.picture.specs.declared.element.Content.TheVariants as content
 use Rattle.picture.specs.declared.element.Place.{Place}
 use Rattle.picture.specs.declared.words.Style.TheVariants as style
@@ -33,7 +33,7 @@ variant_headings y = heading 100 y word.Variant ∷ column 600 y word.Before ∷
 -- a variant at a height, with its points before and after, and its limits, at another
 abbrev pub totals_told : Limits → Entries → Entries → ℕ → ℕ → List ℕ × (ℕ × ℕ) → List Item
 totals_told limits old new y z l =
-    swatch limits y l.0 ∷ name (spot 100 y) l.0 ∷ number 600 z (total_of old l.0) ∷ number 720 z (total_of new l.0) ∷ number 860 z l.1.0 ∷ number 990 z l.1.1 ∷ []
+    swatch limits y l.0 ∷ sized_name (spot 100 y) (if nat_lt y z then 1060 else 440) l.0 ∷ number 600 z (total_of old l.0) ∷ number 720 z (total_of new l.0) ∷ number 860 z l.1.0 ∷ number 990 z l.1.1 ∷ []
 
 abbrev pub dual_told : ℕ → Option ℤ → List Item
 dual_told y None = []
@@ -70,8 +70,12 @@ are_long a b = nat_lt 17 (max (length a) (length b))
 abbrev pub second_at : ℕ → List ℕ → List ℕ → Place
 second_at y a b = if are_long a b then spot 100 (next_row y) else spot 410 y
 
+-- how much room each has
+abbrev pub pair_width : List ℕ → List ℕ → ℕ
+pair_width a b = if are_long a b then 1060 else 300
+
 abbrev pub names_told : ℕ → List ℕ → List ℕ → List Item
-names_told y a b = name (spot 100 y) a ∷ name (second_at y a b) b ∷ []
+names_told y a b = sized_name (spot 100 y) (pair_width a b) a ∷ sized_name (second_at y a b) (pair_width a b) b ∷ []
 
 -- where its numbers stand
 abbrev pub pair_end : ℕ → List ℕ → List ℕ → ℕ

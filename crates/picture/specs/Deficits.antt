@@ -4,7 +4,7 @@ use Rattle.bucket_core.specs.Rule.{Entries, total_of, total_weight}
 use Rattle.price_core.specs.Limits.{Limits}
 use Rattle.transport_instance.specs.declared.certificate.CutKind.{CutKind}
 use Rattle.transport_instance.specs.declared.certificate.CutKind.TheVariants as kind
-use Rattle.picture.specs.Told.{Item, text, name, bar_told, column, down, foot, heading, named_told, next_row, number, numbers_at, rows_told, spot, swatch}
+use Rattle.picture.specs.Told.{Item, text, bar_told, column, down, foot, heading, named_told, next_row, number, numbers_at, rows_told, sized_name, spot, swatch}
 use Rattle.picture.specs.declared.element.Content.TheVariants as content
 use Rattle.picture.specs.declared.words.Style.TheVariants as style
 use Rattle.picture.specs.declared.words.Word.{Word}
@@ -39,7 +39,7 @@ limit_headings y = heading 100 y word.Variant ∷ column 820 y word.Points ∷ c
 -- a variant with its points and its limits
 abbrev pub limit_told : Limits → Entries → ℕ → List ℕ × (ℕ × ℕ) → List Item
 limit_told limits old y l =
-    swatch limits y l.0 ∷ name (spot 100 y) l.0 ∷ number 820 (numbers_at 34 y l.0) (total_of old l.0) ∷ number 990 (numbers_at 34 y l.0) l.1.0 ∷ number 1160 (numbers_at 34 y l.0) l.1.1 ∷ []
+    swatch limits y l.0 ∷ sized_name (spot 100 y) 1060 l.0 ∷ number 820 (numbers_at 34 y l.0) (total_of old l.0) ∷ number 990 (numbers_at 34 y l.0) l.1.0 ∷ number 1160 (numbers_at 34 y l.0) l.1.1 ∷ []
 
 abbrev pub limit_end : ℕ → List ℕ × (ℕ × ℕ) → ℕ
 limit_end y l = next_row (numbers_at 34 y l.0)

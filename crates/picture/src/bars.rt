@@ -3,7 +3,7 @@ ghost use Rattle.std.specs.Prelude.{◌≡◌, ◌≤◌, ◌++◌, OnOk, positi
 ghost use Rattle.std.specs.Str.{bytes_eq};
 ghost use Rattle.bucket_core.specs.Rule.{IsRuleTotal};
 ghost use Rattle.price_core.specs.Limits.{limits_view};
-ghost use Rattle.picture.specs.Told.{bar_told, edge, extent_of, look_of, place_of, told};
+ghost use Rattle.picture.specs.Told.{bar_told, edge, extent_of, look_of, place_of, points_told, told};
 
 use crate::element::{Element, Extent, Look, Piece, Place};
 use bucket_core::Rule;
@@ -119,7 +119,7 @@ fn letters(width: u64) -> u32 {
 /// Adds a line between each two points, where they are few.
 fn add_points(elements: &mut Vec<Element<'_>>, total: u64, y: u64) -> Result<(), AllocError>
     requires { IsRuleTotal total }
-    ensures { OnOk result (told elements.new.items ≡ told elements.old.items) }
+    ensures { OnOk result (told elements.new.items ≡ told elements.old.items ++ points_told y total) }
 {
     if total > FEW_POINTS {
         return Ok(());

@@ -1,7 +1,7 @@
 //! What the lists and the tables of a picture share: their headings, and rows with names and numbers.
-ghost use Rattle.std.specs.Prelude.{◌≡◌, ◌++◌, ◌-◌, OnOk};
+ghost use Rattle.std.specs.Prelude.{◌≡◌, ◌++◌, ◌-◌, ◌<◌, ◌^◌, OnOk};
 ghost use Rattle.price_core.specs.Limits.{limits_view};
-ghost use Rattle.picture.specs.Told.{headings_told, look_of, number_element, spot, told};
+ghost use Rattle.picture.specs.Told.{headings_told, look_of, number_element, size_for, spot, told};
 
 use crate::bars::{LEFT, look_of};
 use crate::element::{Content, Element, Extent, Piece, Place};
@@ -19,9 +19,12 @@ pub(crate) const NAMES: u64 = 100;
 const SIZE: u64 = 28;
 
 /// The size at which a name finds room in so many units: a letter is as wide as three fifths of its size.
-pub(crate) fn size_for(name: &str, width: u64) -> u64 {
+pub(crate) fn size_for(name: &str, width: u64) -> u64
+    requires { width < 2 ^ 32 }
+    ensures { result ≡ size_for width name.now }
+{
     let letters = (name.len() as u64).max(1);
-    (width.saturating_mul(5) / letters.saturating_mul(3).max(1)).clamp(1, SIZE)
+    (width * 5 / 3 / letters).min(SIZE).max(1)
 }
 
 /// Adds headings at a height: each begins at its place over names, and ends there over numbers.

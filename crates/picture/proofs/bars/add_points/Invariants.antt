@@ -1,7 +1,9 @@
-use Rattle.std.proofs.Common.{◌≡◌}
-use Rattle.picture.specs.Told.{told}
+use Rattle.std.proofs.Common.{◌≡◌, ◌++◌, ◌-◌, map}
+use Rattle.std.specs.List.{range_with_len}
+use Rattle.picture.specs.Told.{point_line, told}
 use Rattle.picture.proofs.bars.add_points.Given as goal
 
--- lines tell nothing
+-- the lines that are left
 abbrev pub invariant-loop-point : goal.invariant-loop-point
-invariant-loop-point l = told l.elements.items ≡ told l.fn.elements.items
+invariant-loop-point l =
+    told l.elements.items ++ map (point_line l.y l.total) (range_with_len l.point (l.total - l.point)) ≡ told l.fn.elements.items ++ map (point_line l.y l.total) (range_with_len 1 (l.total - 1))
