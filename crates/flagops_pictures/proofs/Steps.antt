@@ -25,11 +25,11 @@ pub continues_none : (y : ℕ) (bytes : List ℕ) → Continues [] y y bytes byt
 continues_none y bytes = λ above body top. (subst (λ (ps : Pictures). IsBody ps bytes) (sym (append-nil above)) body, top ∙ ap depth (sym (append-nil above)))
 
 -- the number of a step, its picture, and the rest
-pub continues_step : (n : ℕ) (this : ℕ × List Item) (rest : Pictures) (y y1 y2 end : ℕ) (a b c d : List ℕ) → Adds y (step_told n ∷ []) a b → y1 ≡ down y step_height → Adds y1 this.1 b c → y2 ≡ down y1 this.0
+pub continues_step : (n : ℕ) (this : ℕ × List Item) (rest : Pictures) (y y1 y2 end : ℕ) (a b c d : List ℕ) → Adds y (step_told n) a b → y1 ≡ down y step_height → Adds y1 this.1 b c → y2 ≡ down y1 this.0
     → Continues rest y2 end c d → Continues (step_picture n ∷ (this ∷ rest)) y end a d
 continues_step n this rest y y1 y2 end a b c d first below second lower others = λ above body top.
     let numbered : Pictures = above ++ (step_picture n ∷ []) in
-    let one = one_more above (step_picture n) a b body (subst (λ (z : ℕ). Adds z (step_told n ∷ []) a b) top first) in
+    let one = one_more above (step_picture n) a b body (subst (λ (z : ℕ). Adds z (step_told n) a b) top first) in
     let at_one : y1 ≡ depth numbered = below ∙ (ap (λ (z : ℕ). down z step_height) top ∙ sym (depth_more above (step_picture n))) in
     let two = one_more numbered this b c one (subst (λ (z : ℕ). Adds z this.1 b c) at_one second) in
     let at_two : y2 ≡ depth (numbered ++ (this ∷ [])) = lower ∙ (ap (λ (z : ℕ). down z this.0) at_one ∙ sym (depth_more numbered this)) in
@@ -64,7 +64,7 @@ module _ (standing : Standing) (refine : Option ℕ) (requests : List (List ℕ)
   both_right right = subst (λ (xs : List Answer). AreRight standing refine (request ∷ more) book xs) are (subst (λ (rs : List (List ℕ)). AreRight standing refine rs book answers) is right)
 
   -- the first was told, and so were those behind it
-  pub both_told : (n y y1 y2 end : ℕ) (a b c d : List ℕ) → Adds y (step_told n ∷ []) a b → y1 ≡ down y step_height → AddsTold (checked_on standing refine answer request book) answer y1 y2 b c
+  pub both_told : (n y y1 y2 end : ℕ) (a b c d : List ℕ) → Adds y (step_told n) a b → y1 ≡ down y step_height → AddsTold (checked_on standing refine answer request book) answer y1 y2 b c
       → Tells (left_by standing request answer) (Some 1) (still answer more) book (suc n) others y2 end c d → Tells standing refine requests book n answers y end a d
   both_told n y y1 y2 end a b c d first below second rest =
       let all : Tells standing refine (request ∷ more) book n (answer ∷ others) y end a d =
@@ -137,7 +137,7 @@ module _ (standing : Standing) (refine : Option ℕ) (steps : List (Vec ℕ Glob
         none_behind e (still answer requests_behind) book (map planned_view others) some
         (subst (λ (s : Standing). AreRight s (Some 1) (still answer requests_behind) book (map planned_view others)) stands (both right).1)
 
-    pub all_told : (n y y1 y2 end : ℕ) (a b c d : List ℕ) (next : Standing) → left ≡ next → Adds y (step_told n ∷ []) a b → y1 ≡ down y step_height → AddsTold (checked_on standing refine answer x.items book) answer y1 y2 b c
+    pub all_told : (n y y1 y2 end : ℕ) (a b c d : List ℕ) (next : Standing) → left ≡ next → Adds y (step_told n) a b → y1 ≡ down y step_height → AddsTold (checked_on standing refine answer x.items book) answer y1 y2 b c
         → Tells next (Some 1) requests_behind book (n + 1) (map planned_view others) y2 end c d → Tells standing refine (requests_view steps) book n (map planned_view answers) y end a d
     all_told n y y1 y2 end a b c d next stands first below second tells =
         let follows : n + 1 ≡ suc n = add-one n in
@@ -145,7 +145,7 @@ module _ (standing : Standing) (refine : Option ℕ) (steps : List (Vec ℕ Glob
         (behind left next (still answer requests_behind) requests_behind book n (n + 1) (map planned_view others) y2 end c d stands same follows tells)
 
   -- there are none
-  pub last_told : (ended : Bool) → ended ≡ (length others == 0) → ended ≡ true → (n y y1 y2 : ℕ) (a b c : List ℕ) → Adds y (step_told n ∷ []) a b → y1 ≡ down y step_height → AddsTold (checked_on standing refine answer x.items book) answer y1 y2 b c
+  pub last_told : (ended : Bool) → ended ≡ (length others == 0) → ended ≡ true → (n y y1 y2 : ℕ) (a b c : List ℕ) → Adds y (step_told n) a b → y1 ≡ down y step_height → AddsTold (checked_on standing refine answer x.items book) answer y1 y2 b c
       → Tells standing refine (requests_view steps) book n (map planned_view answers) y y2 a c
   last_told ended tests is_ended n y y1 y2 a b c first below second =
       both_told standing refine (requests_view steps) book (map planned_view answers) x.items requests_behind answer (map planned_view others) is are n y y1 y2 y2 a b c c first below second

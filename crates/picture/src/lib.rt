@@ -6,10 +6,10 @@
 //! There is no script in it and nothing from elsewhere; colours follow the reader's scheme, and patterns tell them apart too.
 //!
 //! Proved, over the definitions of `specs/`: a picture is a list of elements, each spelled as `Spelling` says, so that no name
-//! adds markup of its own; and what the elements tell, in their order, is what `Told` says of the rules, the limits, the prices,
-//! the runs, the table and the certificate. Captions and bars are told with their places, a bar by the points of its rule, and
-//! each text of a table with its column. How far below the top a picture ends is what `Heights` says. How high a row stands in it,
-//! and how things look, is not.
+//! adds markup of its own; and what the elements tell, in their order, is what `Changes` and `Deficits` say of the rules, the
+//! limits, the prices, the runs, the table and the certificate: each text and name at its place, each bar over the points of its
+//! rule and in the looks of its variants, and how far down the picture ends. The pictures of a page stand one below the other.
+//! The letters on bars and bands, and what colours and patterns the numbers of a look stand for, are not told.
 #![tactic(auto)]
 
 mod bars;
