@@ -1,3 +1,0 @@
-pub mod Origin
-pub mod Guard
-pub mod Laws
