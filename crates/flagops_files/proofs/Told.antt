@@ -50,6 +50,19 @@ first_within f [] e remark names = absurd names
 first_within f (x ∷ xs) e remark (inl (refused, says)) = inl ((e, refused, refl), says)
 first_within f (x ∷ xs) e remark (inr (succeeds, names)) = inr (succeeds, first_within f xs e remark names)
 
+-- what is attempted is left of all of these: the first of what is left that is refused is the first of all
+abbrev pub AreLeft : {R : Type 0} → List (Attempt R) → List (Attempt R) → Type 0
+AreLeft {R} left all = (e : R) (remark : Remark) → NamesFirst left e remark → NamesFirst all e remark
+
+module _ {R : Type 0} (a : Attempt R) (left all : List (Attempt R)) (are : AreLeft (a ∷ left) all) where
+  -- after one that succeeds
+  pub left_after : a.Succeeds → AreLeft left all
+  left_after succeeds e remark names = are e remark (inr (succeeds, names))
+
+  -- one that is refused is the first
+  pub first_of_left : (e : R) (remark : Remark) → a.Refuses e → Says (NamesSubject a.subject) remark → NamesFirst all e remark
+  first_of_left e remark refused says = are e remark (inl (refused, says))
+
 -- ---- a refusal of another family is told as it was
 
 module _ {E R : Type 0} (want : E → Bool) (is_want : R → Bool) (f : E → R) (same : (e : E) → is_want (f e) ≡ want e) (e : Refused E) (t : Refused R) (is : t.refusal ≡ f e.refusal) (said : t.remark ≡ e.remark) where
