@@ -1,7 +1,7 @@
 -- A remark that is made of lines, and what is told of one of several things.
 use Rattle.std.proofs.Common.{◌≡◌, ℕ, Bool, false, List, [], ◌∷◌, ◌++◌, map, Result, Ok, Err, IfOk, String, string_bytes, refl, sym, subst, inl, inr, Global}
 use Rattle.std.specs.Prelude.{OnErr}
-use Rattle.flagops_files.specs.Told.{AllSucceed, Attempt, NamesFirst, NamesOne, NamesSubject, Subject, Subjects, within}
+use Rattle.flagops_files.specs.Told.{AllSucceed, Attempt, NamesFirst, NamesOne, NamesSubject, Subject, Subjects, by_kind, within}
 use Rattle.flagops_shell.proofs.Lifted.{not_want}
 use Rattle.flagops_shell.specs.Diagnostic.{Says}
 use Rattle.flagops_shell.specs.declared.refused.Refused.{Refused}
@@ -49,6 +49,12 @@ pub first_within : {E R : Type 0} (f : E → R) (xs : List (Attempt E)) (e : E) 
 first_within f [] e remark names = absurd names
 first_within f (x ∷ xs) e remark (inl (refused, says)) = inl ((e, refused, refl), says)
 first_within f (x ∷ xs) e remark (inr (succeeds, names)) = inr (succeeds, first_within f xs e remark names)
+
+-- one of several by its kind
+pub first_by_kind : {R : Type 0} (xs : Subjects R) (e : R) (remark : Remark) → NamesOne xs e remark → NamesFirst (by_kind xs) e remark
+first_by_kind [] e remark names = absurd names
+first_by_kind (x ∷ xs) e remark (inl named) = inl named
+first_by_kind (x ∷ xs) e remark (inr more) = inr (tt, first_by_kind xs e remark more)
 
 -- what is attempted is left of all of these: the first of what is left that is refused is the first of all
 abbrev pub AreLeft : {R : Type 0} → List (Attempt R) → List (Attempt R) → Type 0

@@ -1,5 +1,5 @@
 -- What a person is told of a refusal, whatever the refusals are of.
-use Rattle.std.specs.Prelude.{◌≡◌, ◌⊎◌, ℕ, Bool, true, false, List, [], ◌∷◌, Result, Ok, Err}
+use Rattle.std.specs.Prelude.{◌≡◌, ◌⊎◌, ℕ, Bool, true, false, List, [], ◌∷◌, map, Result, Ok, Err}
 use Rattle.file_diagnostics.specs.Named.{Names, NamesWord}
 use Rattle.flagops_shell.specs.Diagnostic.{Says}
 use Rattle.flagops_shell.specs.declared.refused.Refused.{Refused}
@@ -40,9 +40,12 @@ attempt {X} subject Gives = record { subject = subject; Refuses = λ e. Gives (E
 abbrev pub attempt_of : {X R : Type 0} → Subject → Result X R → Attempt R
 attempt_of {X} subject given = record { subject = subject; Refuses = λ e. given ≡ Err e; Succeeds = (x : X) × (given ≡ Ok x) }
 
--- one whose refusals are known by their kind, where nothing else that is attempted has refusals of that kind
+-- one whose refusals are known by their kind, where nothing else that is attempted has refusals of that kind; and several
 abbrev pub attempt_by : {R : Type 0} → Subject → (R → Bool) → Attempt R
 attempt_by subject is_of = record { subject = subject; Refuses = λ e. is_of e ≡ true; Succeeds = Unit {0} }
+
+abbrev pub by_kind : {R : Type 0} → Subjects R → List (Attempt R)
+by_kind subjects = map (λ s. attempt_by s.0 s.1) subjects
 
 -- the same, where each refusal is that of another family
 abbrev pub within : {E R : Type 0} → (E → R) → Attempt E → Attempt R
