@@ -1,8 +1,8 @@
 -- Of which file a person is told.
-use Rattle.std.proofs.Common.{◌≡◌, ℕ, false, List, IfErr, Result, Ok, Err, ap, inl, refl, string_bytes, subst, sym}
+use Rattle.std.proofs.Common.{◌≡◌, ◌∙◌, ◌++◌, ℕ, false, List, IfErr, Result, Ok, Err, ap, append_assoc, codes, inl, refl, string_bytes, subst, sym}
 use Rattle.flagops_files.specs.Refusal as files
 use Rattle.flagops_files.specs.Refusal.{Refused}
-use Rattle.file_diagnostics.specs.Named.{Names}
+use Rattle.file_diagnostics.specs.Named.{Names, NamesWord}
 use Rattle.flagops_shell.specs.Diagnostic.{Says}
 use Rattle.flagops_shell.specs.declared.refused.Remark.{Remark}
 use Rattle.flagops_shell.specs.declared.refused.Remark.TheVariants.{Short, Lines}
@@ -43,3 +43,9 @@ stream_named path (Err t) stops = λ no_want. subst (λ (r : FilterRefusal). Say
 pub stream_read : {X : Type 0} (r : Result X Told) → IfErr r IsStopped → is_file_fault r ≡ false
 stream_read (Ok x) stops = refl
 stream_read (Err t) stops = ap is_unread stops.0.1
+
+-- lines behind those that name a word
+pub named_before : (word lines more : List ℕ) → NamesWord word lines → NamesWord word (lines ++ more)
+unfolding NamesWord
+named_before word lines more (rest, is) =
+    (rest ++ more, ap (λ (l : List ℕ). l ++ more) is ∙ (append_assoc (codes "error: ") (word ++ rest) more ∙ ap (λ (l : List ℕ). codes "error: " ++ l) (append_assoc word rest more)))
