@@ -5,7 +5,7 @@ use Rattle.std.specs.Prelude.{Result, Ok, Err, IsOk}
 use Rattle.book_core.specs.Book.{input_count}
 use Rattle.book_core.specs.Printing.{book_text}
 use Rattle.flagops_books.specs.Calls.{book_calls}
-use Rattle.flagops_books.specs.Report.{IsBookReport, IsStored, IsUnitedFor, IsUnitedWhere, LeavesUnited, TellsUnited, counts_text, remark_of}
+use Rattle.flagops_books.specs.Report.{IsBookReport, IsStored, IsUnitedFor, IsUnitedWhere, LeavesUnited, TellsUnited, counts_text, remark_of, replaces_at}
 use Rattle.flagops_books.specs.Step.{GivesUnited}
 use Rattle.flagops_books.specs.Told.{NamesFile, book_subjects, is_told}
 use Rattle.flagops_books.specs.Union.{IsUnited, United, noted, stray}
@@ -79,13 +79,13 @@ module _ (u : Uniting) where
 
   module _ (g : Gathered) (n : ℕ) (many : length u.files ≡ n) where
     abbrev Stores : Option Holding → Result Report BookRefusal → Holding → Type 0
-    Stores after r at = IsStored at after u.out (book_text g.book) (counts_text (input_count g.book) n) (is_told (string_bytes g.told)) r
+    Stores after r at = IsStored (replaces_at at u.out u.replace g.book) at after u.out (book_text g.book) (counts_text (input_count g.book) n) (is_told (string_bytes g.told)) r
 
     reported_at : (at : Holding) (after : Option Holding) (r : Result Report BookRefusal) → GivesUnited (Ok (Noted g)) (IsUnitedFor u at) → Stores after r at → IsBookReport at after u r
     unfolding IsBookReport
     reported_at at after r is stores =
         let told = string_bytes g.told in
-        (Ok (noted is.0 told), is.2, (g.book, is.1, subst (λ (k : ℕ). IsStored at after u.out (book_text g.book) (counts_text (input_count g.book) k) (is_told told) r) (sym many) stores))
+        (Ok (noted is.0 told), is.2, (g.book, is.1, subst (λ (k : ℕ). IsStored (replaces_at at u.out u.replace g.book) at after u.out (book_text g.book) (counts_text (input_count g.book) k) (is_told told) r) (sym many) stores))
 
     pub stored_reported : (old mid after : Option Holding) (r : Result Outcome Refused) → mid ≡ old → IfSome old (λ at. GivesUnited (Ok (Noted g)) (IsUnitedFor u at))
         → IfSome mid (λ at. GivesOne outcome_view r (λ x. Stores after x at)) → IfSome old (λ at. GivesOne outcome_view r (IsBookReport at after u))

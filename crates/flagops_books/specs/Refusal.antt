@@ -7,6 +7,7 @@ use Rattle.flagops_shell.specs.Ending as shell
 use Rattle.flagops_shell.specs.Given as given
 use Rattle.flagops_shell.specs.Outcomes as outcomes
 use Rattle.flagops_shell.specs.declared.refused.Refused as refusals
+use Rattle.flagops_files.specs.Payload.{number_item}
 use Rattle.flagops_files.specs.Refusal as files
 use Rattle.flagops_files.specs.Refusal.{line_with}
 use Rattle.flagops_files.specs.Told as told
@@ -15,23 +16,26 @@ use Rattle.flagops_files.specs.declared.refusal.Refusal.TheVariants as file
 use Rattle.flagops_books.specs.declared.refusal.BookCall.{BookCall}
 use Rattle.flagops_books.specs.declared.refusal.BookCall.TheVariants as call
 use Rattle.flagops_books.specs.declared.refusal.BookRefusal.{BookRefusal}
-use Rattle.flagops_books.specs.declared.refusal.BookRefusal.TheVariants.{Load, WantOfMemory, FullBook}
+use Rattle.flagops_books.specs.declared.refusal.BookRefusal.TheVariants.{Load, WantOfMemory, FullBook, WouldLose}
 
 abbrev pub call_name : BookCall → List ℕ
 call_name (call.Load c) = files.call_name c
 call_name call.Book = codes "book"
+call_name call.Replace = codes "book"
 
 -- the call that refused
 abbrev pub call_of : BookRefusal → BookCall
 call_of (Load e) = call.Load (files.call_of e)
 call_of WantOfMemory = call.Book
 call_of FullBook = call.Book
+call_of (WouldLose n) = call.Replace
 
 -- memory ran out
 abbrev pub is_want : BookRefusal → Bool
 is_want (Load e) = files.is_want e
 is_want WantOfMemory = true
 is_want FullBook = false
+is_want (WouldLose n) = false
 
 -- a file could not be read or written
 abbrev pub is_unread : BookRefusal → Bool
@@ -45,10 +49,15 @@ unwritable = Load files.unwritable
 abbrev pub read_refusal : BookFileFault → BookRefusal
 read_refusal e = Load (file.ReadBook e)
 
+-- so many inputs of a book would be lost
+abbrev pub loss_line : ℕ → List ℕ
+loss_line lost = line_with (codes "book") (decimal 3) (codes "WouldLose") (number_item lost)
+
 abbrev pub line_of : BookRefusal → List ℕ
 line_of (Load e) = files.line_of e
 line_of WantOfMemory = want_line_of (codes "book")
 line_of FullBook = line_with (codes "book") (decimal 2) (codes "PageFull") []
+line_of (WouldLose lost) = loss_line lost
 
 -- ---- by the type of these refusals
 

@@ -4,6 +4,8 @@ use Rattle.flag_text.specs.Printing.{text_of}
 use Rattle.flag_text.specs.Shape.{text}
 use Rattle.flagops_books.specs.Calls.{unites_files}
 use Rattle.flagops_books.specs.Refusal.{loads_book, stores_file, Subjects, by}
+use Rattle.flagops_books.specs.declared.refusal.BookRefusal.{BookRefusal}
+use Rattle.flagops_books.specs.declared.refusal.BookRefusal.TheVariants.{WouldLose}
 use Rattle.flagops_files.specs.Told.{file}
 
 -- something is told
@@ -32,5 +34,14 @@ passed_text path passed torn = if not (passed == 0) || torn then passed_line pat
 abbrev pub united_subjects : List (List ℕ) → Subjects
 united_subjects paths = map (λ path. (file path, by unites_files)) paths
 
+-- a book that is written over would lose inputs
+abbrev pub is_of_losing : BookRefusal → Bool
+is_of_losing (WouldLose n) = true
+is_of_losing e = false
+
+-- what is refused of the book that is written
+abbrev pub written_subjects : List ℕ → Subjects
+written_subjects out = (file out, by loads_book) ∷ (file out, by stores_file) ∷ (file out, is_of_losing) ∷ []
+
 abbrev pub book_subjects : List ℕ → List (List ℕ) → Subjects
-book_subjects out paths = (file out, by loads_book) ∷ (file out, by stores_file) ∷ united_subjects paths
+book_subjects out paths = (file out, by loads_book) ∷ (file out, by stores_file) ∷ (file out, is_of_losing) ∷ united_subjects paths

@@ -22,7 +22,8 @@ use std::alloc::Global;
 use std::convert::AsStr;
 
 /// It writes the book of what several files note, replaced whole, and prints how many inputs it has and of how many files it is; a
-/// refusal leaves the files as they were. A person is told of each file in which lines were passed over.
+/// refusal leaves the files as they were. A book that is there is written over only where the new one has all its inputs, unless with
+/// `replace`. A person is told of each file in which lines were passed over.
 impl<'w, R, F: FileSet> Command<'w, R, F> for Uniting<'w> {
     type Refusal = BookRefusal;
 
@@ -64,7 +65,14 @@ fn outcome<F: FileSet>(
 {
     let came = united_for(alloc, files, asked)?;
     match came {
-        Step::Noted(all) => stored(alloc, files, asked.out, all, asked.files.len()),
+        Step::Noted(all) => stored(
+            alloc,
+            files,
+            asked.out,
+            asked.replace,
+            all,
+            asked.files.len(),
+        ),
         Step::Stopped(outcome) => Ok(outcome),
     }
 }

@@ -12,7 +12,7 @@ use Rattle.flagops_commands.proofs.books.drive.drive.Goals as goal
 
 pub returns-in_err-flags-clause-exact : goal.returns-in_err-flags-clause-exact
 returns-in_err-flags-clause-exact g c =
-    let told = no_document c.args.document.now c.args.asks.now c.args.workers c.args.book.now c.args.add c.args.strict c.args.json _ _ c.in_err-flags.field-0.0 c.load_flags.ensures.kept c.in_err-flags.ensures.exact in search rules
+    let told = no_document c.args.document.now c.args.asks.now c.args.workers c.args.book.now c.args.add c.args.replace c.args.strict c.args.json _ _ c.in_err-flags.field-0.0 c.load_flags.ensures.kept c.in_err-flags.ensures.exact in search rules
 
 pub returns-in_err-flags-clause-left : goal.returns-in_err-flags-clause-left
 returns-in_err-flags-clause-left g c = inl c.load_flags.ensures.kept
@@ -35,7 +35,7 @@ returns-in_err-flags-clause-unread g c =
 pub returns-in_err-loaded-clause-exact : goal.returns-in_err-loaded-clause-exact
 returns-in_err-loaded-clause-exact g c =
     let told =
-    no_asks c.args.document.now c.args.asks.now c.args.workers c.args.book.now c.args.add c.args.strict c.args.json (flags_view c.in_ok-flags.flags) _ _ c.in_err-loaded.field-0.0 (c.load_asks.ensures.kept ∙ c.load_flags.ensures.kept) c.in_ok-flags.ensures.exact
+    no_asks c.args.document.now c.args.asks.now c.args.workers c.args.book.now c.args.add c.args.replace c.args.strict c.args.json (flags_view c.in_ok-flags.flags) _ _ c.in_err-loaded.field-0.0 (c.load_asks.ensures.kept ∙ c.load_flags.ensures.kept) c.in_ok-flags.ensures.exact
     (at_first _ _ _ c.load_flags.ensures.kept c.in_err-loaded.ensures.exact) in
     search rules
 
@@ -60,7 +60,7 @@ returns-in_err-loaded-clause-unread g c =
 pub returns-in_err-before-clause-exact : goal.returns-in_err-before-clause-exact
 returns-in_err-before-clause-exact g c =
     let told =
-    no_book c.args.document.now c.args.asks.now c.args.workers c.args.book.now c.args.add c.args.strict c.args.json (flags_view c.in_ok-flags.flags) (file_view c.in_ok-loaded.loaded) _ _ c.in_err-before.field-0.0 (c.book_before.ensures.kept ∙ (c.load_asks.ensures.kept ∙ c.load_flags.ensures.kept))
+    no_book c.args.document.now c.args.asks.now c.args.workers c.args.book.now c.args.add c.args.replace c.args.strict c.args.json (flags_view c.in_ok-flags.flags) (file_view c.in_ok-loaded.loaded) _ _ c.in_err-before.field-0.0 (c.book_before.ensures.kept ∙ (c.load_asks.ensures.kept ∙ c.load_flags.ensures.kept))
     c.in_ok-flags.ensures.exact (at_first _ _ _ c.load_flags.ensures.kept c.in_ok-loaded.ensures.exact) (at_first _ _ _ (c.load_asks.ensures.kept ∙ c.load_flags.ensures.kept) c.in_err-before.ensures.exact) in
     search rules
 
@@ -85,7 +85,7 @@ returns-in_err-before-clause-unread g c =
 pub returns-in_err-drive_output-clause-exact : goal.returns-in_err-drive_output-clause-exact
 returns-in_err-drive_output-clause-exact g c =
     let told =
-    not_driven c.args.document.now c.args.asks.now c.args.workers c.args.book.now c.args.add c.args.strict c.args.json (flags_view c.in_ok-flags.flags) (file_view c.in_ok-loaded.loaded) c.in_ok-before.before _ _ c.in_err-drive_output.field-0.0 (c.book_before.ensures.kept ∙ (c.load_asks.ensures.kept ∙ c.load_flags.ensures.kept))
+    not_driven c.args.document.now c.args.asks.now c.args.workers c.args.book.now c.args.add c.args.replace c.args.strict c.args.json (flags_view c.in_ok-flags.flags) (file_view c.in_ok-loaded.loaded) c.in_ok-before.before _ _ c.in_err-drive_output.field-0.0 (c.book_before.ensures.kept ∙ (c.load_asks.ensures.kept ∙ c.load_flags.ensures.kept))
     c.in_ok-flags.ensures.exact (at_first _ _ _ c.load_flags.ensures.kept c.in_ok-loaded.ensures.exact) (at_first _ _ _ (c.load_asks.ensures.kept ∙ c.load_flags.ensures.kept) c.in_ok-before.ensures.exact) c.in_err-drive_output.ensures.exact in
     search rules
 
@@ -111,7 +111,7 @@ returns-in_err-drive_output-clause-unread g c =
 
 pub returns-clause-exact : goal.returns-clause-exact
 returns-clause-exact g c =
-    driven c.args.document.now c.args.asks.now c.args.workers c.args.book.now c.args.add c.args.strict c.args.json (flags_view c.in_ok-flags.flags) (file_view c.in_ok-loaded.loaded) c.in_ok-before.before _ _ (drive_output_view c.in_ok-drive_output.drive_output) _
+    driven c.args.document.now c.args.asks.now c.args.workers c.args.book.now c.args.add c.args.replace c.args.strict c.args.json (flags_view c.in_ok-flags.flags) (file_view c.in_ok-loaded.loaded) c.in_ok-before.before _ _ (drive_output_view c.in_ok-drive_output.drive_output) _
     c.in_ok-flags.ensures.exact (at_first _ _ _ c.load_flags.ensures.kept c.in_ok-loaded.ensures.exact) (at_first _ _ _ (c.load_asks.ensures.kept ∙ c.load_flags.ensures.kept) c.in_ok-before.ensures.exact) c.in_ok-drive_output.ensures.exact (at_first _ _ _ (c.book_before.ensures.kept ∙ (c.load_asks.ensures.kept ∙ c.load_flags.ensures.kept)) c.written.ensures.exact)
 
 pub returns-clause-left : goal.returns-clause-left

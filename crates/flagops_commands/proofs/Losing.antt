@@ -1,0 +1,85 @@
+-- A new book that is written where nothing of the old one is lost.
+use Rattle.std.proofs.Common.{◌≡◌, ◌≢◌, ◌==◌, ℕ, Bool, List, Option, Some, None, true, false, IfSome, ap, refl, subst, sym, ◌∙◌}
+use Rattle.std.proofs.lemmas.Bool.{eqb-false}
+use Rattle.std.specs.Prelude.{Result, Ok, Err, if◌then◌else◌}
+use Rattle.book_core.specs.Book.{Contents}
+use Rattle.book_core.specs.Reading.{book_of}
+use Rattle.book_losses.specs.Losses.{losses_at}
+use Rattle.flagops_drive.specs.Driven.{DriveOutput}
+use Rattle.flagops_commands.specs.Drive.{IsSaved, IsWritten, replaces_at, unless_lost}
+use Rattle.flagops_commands.specs.Refusal.{GivesOne, Refused, is_want}
+use Rattle.flagops_commands.specs.declared.refusal.ListedRefusal.{ListedRefusal}
+use Rattle.flagops_commands.specs.declared.refusal.ListedRefusal.TheVariants.{Load, WouldLose}
+use Rattle.flagops_shell.specs.Files.{Holding}
+use Rattle.flagops_shell.specs.Outcomes.{◌>>=◌, refused_by}
+use Rattle.flagops_shell.specs.Report.{Report, outcome_view}
+use Rattle.flagops_shell.specs.declared.outcome.Outcome.{Outcome}
+
+-- ---- whether a book may be written
+
+module _ (old : Option Holding) (book : List ℕ) (new : Contents) where
+  abbrev Lost : Holding → Result ℕ ListedRefusal
+  Lost at = refused_by Load (losses_at at book new)
+
+  pub free : IfSome old (λ at. replaces_at at book true new ≡ Ok tt)
+  free = go old
+    where
+      go : (h : Option Holding) → IfSome h (λ at. replaces_at at book true new ≡ Ok tt)
+      unfolding replaces_at
+      go None = tt
+      go (Some at) = refl
+
+  pub none_lost : (lost : ℕ) → IfSome old (λ at. Lost at ≡ Ok lost) → lost ≡ 0 → IfSome old (λ at. replaces_at at book false new ≡ Ok tt)
+  none_lost lost is none = go old is
+    where
+      go : (h : Option Holding) → IfSome h (λ at. Lost at ≡ Ok lost) → IfSome h (λ at. replaces_at at book false new ≡ Ok tt)
+      unfolding replaces_at
+      go None is = tt
+      go (Some at) is = ap (λ (r : Result ℕ ListedRefusal). r >>= unless_lost) is ∙ ap unless_lost none
+
+  otherwise : (b : Bool) (lost : ℕ) → b ≡ false → (let r : Result (Unit {0}) ListedRefusal = if b then Ok tt else Err (WouldLose lost) in r) ≡ Err (WouldLose lost)
+  otherwise true lost is = cc
+  otherwise false lost is = refl
+
+  pub some_lost : (lost : ℕ) (e : Refused) → IfSome old (λ at. Lost at ≡ Ok lost) → (lost == 0) ≡ false → e.refusal ≡ WouldLose lost → IfSome old (λ at. is_want e.refusal ≡ false → replaces_at at book false new ≡ Err e.refusal)
+  some_lost lost e is some refused = go old is
+    where
+      go : (h : Option Holding) → IfSome h (λ at. Lost at ≡ Ok lost) → IfSome h (λ at. is_want e.refusal ≡ false → replaces_at at book false new ≡ Err e.refusal)
+      unfolding replaces_at
+      go None is = tt
+      go (Some at) is = λ wanted. ap (λ (r : Result ℕ ListedRefusal). r >>= unless_lost) is ∙ otherwise (lost == 0) lost some ∙ ap Err (sym refused)
+
+  pub unknown : (e : Refused) → IfSome old (λ at. is_want e.refusal ≡ false → Lost at ≡ Err e.refusal) → IfSome old (λ at. is_want e.refusal ≡ false → replaces_at at book false new ≡ Err e.refusal)
+  unknown e is = go old is
+    where
+      go : (h : Option Holding) → IfSome h (λ at. is_want e.refusal ≡ false → Lost at ≡ Err e.refusal) → IfSome h (λ at. is_want e.refusal ≡ false → replaces_at at book false new ≡ Err e.refusal)
+      unfolding replaces_at
+      go None is = tt
+      go (Some at) is = λ wanted. ap (λ (r : Result ℕ ListedRefusal). r >>= unless_lost) (is wanted)
+
+-- ---- whether it was
+
+module _ (old after : Option Holding) (book : List ℕ) (lossy : Bool) (new : Contents) (d : DriveOutput) (reads : book_of d.book ≡ Ok new) where
+  -- it may not be
+  pub not_written : (e : Refused) → after ≡ old → IfSome old (λ at. is_want e.refusal ≡ false → replaces_at at book lossy new ≡ Err e.refusal)
+      → IfSome old (λ at. is_want e.refusal ≡ false → IsWritten at after book lossy (Ok d) (Err e.refusal))
+  not_written e same refused = go old same refused
+    where
+      go : (h : Option Holding) → after ≡ h → IfSome h (λ at. is_want e.refusal ≡ false → replaces_at at book lossy new ≡ Err e.refusal) → IfSome h (λ at. is_want e.refusal ≡ false → IsWritten at after book lossy (Ok d) (Err e.refusal))
+      go None same refused = tt
+      go (Some at) same refused = λ wanted.
+          (new, reads, subst (λ (free : Result (Unit {0}) ListedRefusal). IsSaved free at after book d (Err e.refusal)) (sym (refused wanted)) (refl, same))
+
+  -- it may
+  pub written_so : (mid : Option Holding) (r : Result Outcome Refused) → mid ≡ old → IfSome old (λ at. replaces_at at book lossy new ≡ Ok tt) → IfSome mid (λ at. GivesOne outcome_view r (IsSaved (Ok tt) at after book d))
+      → IfSome old (λ at. GivesOne outcome_view r (IsWritten at after book lossy (Ok d)))
+  written_so mid r same may saved = go old r may (subst (λ (h : Option Holding). IfSome h (λ at. GivesOne outcome_view r (IsSaved (Ok tt) at after book d))) same saved)
+    where
+      come : (at : Holding) (x : Result Report ListedRefusal) → replaces_at at book lossy new ≡ Ok tt → IsSaved (Ok tt) at after book d x → IsWritten at after book lossy (Ok d) x
+      come at x may saved = (new, reads, subst (λ (free : Result (Unit {0}) ListedRefusal). IsSaved free at after book d x) (sym may) saved)
+
+      go : (h : Option Holding) (s : Result Outcome Refused) → IfSome h (λ at. replaces_at at book lossy new ≡ Ok tt) → IfSome h (λ at. GivesOne outcome_view s (IsSaved (Ok tt) at after book d))
+          → IfSome h (λ at. GivesOne outcome_view s (IsWritten at after book lossy (Ok d)))
+      go None s may saved = tt
+      go (Some at) (Ok o) may saved = come at (Ok (outcome_view o)) may saved
+      go (Some at) (Err e) may saved = λ wanted. come at (Err e.refusal) may (saved wanted)
