@@ -118,7 +118,8 @@ fn outcome_at_once<R: Threads + Sync, F: FileSet>(
             plan,
             key,
             site,
-        } => apply(alloc, files, document, plan, key, *site),
+            strict,
+        } => apply(alloc, files, document, plan, key, *site, *strict),
         Asked::Keep {
             document,
             plan,
