@@ -56,7 +56,7 @@ pub fn missing_keep(alloc: Global) -> Result<Error, AllocError>
 {
     command(alloc, &APPLY_ALONE)?.error(
         ErrorKind::MissingRequiredArgument,
-        "'--write', '--refine <M>' and '--strict' go with '--keep', which was not provided",
+        "'--write', '--refine <M>' and '--doubted' go with '--keep', which was not provided",
     )
 }
 
