@@ -97,17 +97,18 @@ subjects_of (price old new request keys json) = price_subjects old new request k
 subjects_of (resolve document key kind default context moment) = resolve_subjects document context
 subjects_of (verify document request book answer refine strict json) = rolled (verify_subjects document request book answer)
 subjects_of (plan document request book refine strict explain) = rolled (plan_subjects document request book)
-subjects_of (apply document answer key site) = rolled (apply_subjects document answer)
+subjects_of (apply document answer key site strict) = rolled (apply_subjects document answer)
 subjects_of (keep document answer request book write refine strict) = rolled (keep_subjects document answer request book)
 subjects_of (drive document asks workers book add replace strict json) = drive_subjects document asks book
 subjects_of (completions shell) = []
 
 -- what a person is told beside the report of a command that was not refused: what is doubted of a
--- request or of an answer to it, and what the asks ended in
+-- request or of an answer to it, what is left out of a document, and what the asks ended in
 abbrev pub notes_of : Asked → List ℕ → Type 0
 notes_of (price old new request keys json) = Names request
 notes_of (verify document request book answer refine strict json) = NamesDoubted request book
 notes_of (plan document request book refine strict explain) = NamesDoubted request book
+notes_of (apply document answer key site strict) = Names document
 notes_of (keep document answer request book write refine strict) = NamesDoubted request book
 notes_of (drive document asks workers book add replace strict json) = Names asks
 notes_of asked = λ lines. Unit {0}

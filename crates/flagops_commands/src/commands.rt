@@ -84,7 +84,8 @@ pub fn outcome<R: Threads + Wait + Sync, F: FileSet>(
             plan,
             key,
             site,
-        } => apply(alloc, files, document, plan, key, *site),
+            strict,
+        } => apply(alloc, files, document, plan, key, *site, *strict),
         Asked::Keep {
             document,
             plan,

@@ -1,7 +1,8 @@
 mod Asked
 pub mod Doubting
-mod Edited
+pub mod Edited
 mod Loaded
+mod Omitted
 mod Passed
 mod Tallies
 pub mod Telling

@@ -59,6 +59,8 @@ pub enum Asked<'a> {
         plan: &'a str,
         key: &'a str,
         site: u32,
+        /// Whether it is refused, and not only told, that what is printed leaves something of the document out.
+        strict: bool,
     },
     /// The text of the document with the buckets of the request's site replaced by the rule of a plan file that is right.
     Keep {
