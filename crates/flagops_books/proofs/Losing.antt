@@ -1,6 +1,6 @@
 -- A new book that is written where nothing of the old one is lost.
-use Rattle.std.proofs.Common.{◌≡◌, ◌≢◌, ◌==◌, ℕ, Bool, List, Option, Some, None, true, false, IfSome, ap, refl, subst, sym, ◌∙◌}
-use Rattle.std.proofs.lemmas.Bool.{eqb-false}
+use Rattle.std.proofs.Common.{◌≡◌, ◌==◌, ◌||◌, ℕ, Bool, List, Option, Some, None, true, false, IfSome, ap, refl, subst, sym, ◌∙◌}
+use Rattle.std.proofs.lemmas.Bool.{eqb-true}
 use Rattle.std.specs.Prelude.{Result, Ok, Err, if◌then◌else◌}
 use Rattle.book_core.specs.Book.{Contents}
 use Rattle.book_losses.specs.Losses.{losses_at}
@@ -19,41 +19,48 @@ module _ (old : Option Holding) (book : List ℕ) (new : Contents) where
   abbrev Lost : Holding → Result ℕ BookRefusal
   Lost at = refused_by Load (losses_at at book new)
 
-  pub free : IfSome old (λ at. replaces_at at book true new ≡ Ok tt)
-  free = go old
+  pub free : (lossy : Bool) → lossy ≡ true → IfSome old (λ at. replaces_at at book lossy new ≡ Ok tt)
+  free lossy is = go old
     where
-      go : (h : Option Holding) → IfSome h (λ at. replaces_at at book true new ≡ Ok tt)
+      go : (h : Option Holding) → IfSome h (λ at. replaces_at at book lossy new ≡ Ok tt)
       unfolding replaces_at
       go None = tt
-      go (Some at) = refl
+      go (Some at) = rw is refl
 
-  pub none_lost : (lost : ℕ) → IfSome old (λ at. Lost at ≡ Ok lost) → lost ≡ 0 → IfSome old (λ at. replaces_at at book false new ≡ Ok tt)
-  none_lost lost is none = go old is
-    where
-      go : (h : Option Holding) → IfSome h (λ at. Lost at ≡ Ok lost) → IfSome h (λ at. replaces_at at book false new ≡ Ok tt)
-      unfolding replaces_at
-      go None is = tt
-      go (Some at) is = ap (λ (r : Result ℕ BookRefusal). r >>= unless_lost) is ∙ ap unless_lost none
+  held : (at : Holding) (lossy : Bool) → lossy ≡ false → replaces_at at book lossy new ≡ (Lost at >>= unless_lost)
+  unfolding replaces_at
+  held at lossy is = rw is refl
 
   otherwise : (b : Bool) (lost : ℕ) → b ≡ false → (let r : Result (Unit {0}) BookRefusal = if b then Ok tt else Err (WouldLose lost) in r) ≡ Err (WouldLose lost)
   otherwise true lost is = cc
   otherwise false lost is = refl
 
-  pub some_lost : (lost : ℕ) (e : Refused) → IfSome old (λ at. Lost at ≡ Ok lost) → (lost == 0) ≡ false → e.refusal ≡ WouldLose lost → IfSome old (λ at. is_want e.refusal ≡ false → replaces_at at book false new ≡ Err e.refusal)
-  some_lost lost e is some refused = go old is
-    where
-      go : (h : Option Holding) → IfSome h (λ at. Lost at ≡ Ok lost) → IfSome h (λ at. is_want e.refusal ≡ false → replaces_at at book false new ≡ Err e.refusal)
-      unfolding replaces_at
-      go None is = tt
-      go (Some at) is = λ wanted. ap (λ (r : Result ℕ BookRefusal). r >>= unless_lost) is ∙ otherwise (lost == 0) lost some ∙ ap Err (sym refused)
+  apart : (b : Bool) (lost : ℕ) → (lost == 0) ≡ b → (lost ≡ 0 → ⊥) → b ≡ false
+  apart true lost is some = absurd (some (eqb-true lost 0 is))
+  apart false lost is some = refl
 
-  pub unknown : (e : Refused) → IfSome old (λ at. is_want e.refusal ≡ false → Lost at ≡ Err e.refusal) → IfSome old (λ at. is_want e.refusal ≡ false → replaces_at at book false new ≡ Err e.refusal)
-  unknown e is = go old is
-    where
-      go : (h : Option Holding) → IfSome h (λ at. is_want e.refusal ≡ false → Lost at ≡ Err e.refusal) → IfSome h (λ at. is_want e.refusal ≡ false → replaces_at at book false new ≡ Err e.refusal)
-      unfolding replaces_at
-      go None is = tt
-      go (Some at) is = λ wanted. ap (λ (r : Result ℕ BookRefusal). r >>= unless_lost) (is wanted)
+  module _ (lossy : Bool) (keeps : lossy ≡ false) where
+    pub none_lost : (lost : ℕ) → IfSome old (λ at. Lost at ≡ Ok lost) → lost ≡ 0 → IfSome old (λ at. replaces_at at book lossy new ≡ Ok tt)
+    none_lost lost is none = go old is
+      where
+        go : (h : Option Holding) → IfSome h (λ at. Lost at ≡ Ok lost) → IfSome h (λ at. replaces_at at book lossy new ≡ Ok tt)
+        go None is = tt
+        go (Some at) is = held at lossy keeps ∙ ap (λ (r : Result ℕ BookRefusal). r >>= unless_lost) is ∙ ap unless_lost none
+
+    pub some_lost : (lost : ℕ) (e : Refused) → IfSome old (λ at. Lost at ≡ Ok lost) → (lost ≡ 0 → ⊥) → e.refusal ≡ WouldLose lost → IfSome old (λ at. is_want e.refusal ≡ false → replaces_at at book lossy new ≡ Err e.refusal)
+    some_lost lost e is some refused = go old is
+      where
+        go : (h : Option Holding) → IfSome h (λ at. Lost at ≡ Ok lost) → IfSome h (λ at. is_want e.refusal ≡ false → replaces_at at book lossy new ≡ Err e.refusal)
+        go None is = tt
+        go (Some at) is = λ wanted.
+            held at lossy keeps ∙ ap (λ (r : Result ℕ BookRefusal). r >>= unless_lost) is ∙ otherwise (lost == 0) lost (apart (lost == 0) lost refl some) ∙ ap Err (sym refused)
+
+    pub unknown : (e : Refused) → IfSome old (λ at. is_want e.refusal ≡ false → Lost at ≡ Err e.refusal) → IfSome old (λ at. is_want e.refusal ≡ false → replaces_at at book lossy new ≡ Err e.refusal)
+    unknown e is = go old is
+      where
+        go : (h : Option Holding) → IfSome h (λ at. is_want e.refusal ≡ false → Lost at ≡ Err e.refusal) → IfSome h (λ at. is_want e.refusal ≡ false → replaces_at at book lossy new ≡ Err e.refusal)
+        go None is = tt
+        go (Some at) is = λ wanted. held at lossy keeps ∙ ap (λ (r : Result ℕ BookRefusal). r >>= unless_lost) (is wanted)
 
 -- ---- whether it was
 
