@@ -5,7 +5,7 @@ use Rattle.std.specs.Prelude.{Result, Ok, Err, IsOk}
 use Rattle.book_core.specs.Book.{input_count}
 use Rattle.book_core.specs.Printing.{book_text}
 use Rattle.flagops_books.specs.Attempts.{book_attempts, read_attempts, stored_attempts, united_attempts}
-use Rattle.flagops_books.specs.Calls.{book_calls, stores_book}
+use Rattle.flagops_books.specs.Calls.{book_calls}
 use Rattle.flagops_books.specs.Report.{IsBookReport, IsStored, IsUnitedFor, IsUnitedWhere, LeavesUnited, TellsUnited, counts_text, remark_of, replaces_at}
 use Rattle.flagops_books.specs.Step.{GivesUnited, HaveSucceeded}
 use Rattle.flagops_books.specs.Told.{NamesFile, is_told}
@@ -151,10 +151,10 @@ module _ (u : Uniting) (old : Option Holding) where
       go None names = tt
       go (Some at) names = λ wanted. first_left (read_attempts at u) (stored_attempts u.out) e.refusal e.remark (names wanted)
 
-  pub written_last : (g : Gathered) (r : Result Outcome Refused) → IfSome old (λ at. HaveSucceeded (read_attempts at u) (Ok (Noted g))) → ComesFrom stores_book r → TellsOf (file u.out) r → IfSome old (λ at. TellsOfFirst (book_attempts at u) r)
+  pub written_last : (g : Gathered) (r : Result Outcome Refused) → IfSome old (λ at. HaveSucceeded (read_attempts at u) (Ok (Noted g))) → ComesFrom book_calls r → TellsOf (file u.out) r → IfSome old (λ at. TellsOfFirst (book_attempts at u) r)
   written_last g r succeed comes tells = go old r succeed comes tells
     where
-      go : (h : Option Holding) (x : Result Outcome Refused) → IfSome h (λ at. HaveSucceeded (read_attempts at u) (Ok (Noted g))) → ComesFrom stores_book x → TellsOf (file u.out) x → IfSome h (λ at. TellsOfFirst (book_attempts at u) x)
+      go : (h : Option Holding) (x : Result Outcome Refused) → IfSome h (λ at. HaveSucceeded (read_attempts at u) (Ok (Noted g))) → ComesFrom book_calls x → TellsOf (file u.out) x → IfSome h (λ at. TellsOfFirst (book_attempts at u) x)
       go None x succeed comes tells = tt
       go (Some at) (Ok o) succeed comes tells = tt
       go (Some at) (Err e) succeed comes tells = λ wanted. first_right (read_attempts at u) (stored_attempts u.out) e.refusal e.remark succeed (inl (comes, tells wanted))

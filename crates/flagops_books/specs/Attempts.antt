@@ -1,6 +1,6 @@
 -- What the command `book` attempts in turn: a person is told of the first that is refused.
 use Rattle.std.specs.Prelude.{ℕ, Bool, List, [], ◌∷◌, ◌++◌}
-use Rattle.flagops_books.specs.Calls.{stores_book}
+use Rattle.flagops_books.specs.Calls.{book_calls}
 use Rattle.flagops_books.specs.Refusal.{Attempts, by}
 use Rattle.flagops_books.specs.Union.{IsUnited}
 use Rattle.flagops_books.specs.Words.{Uniting}
@@ -18,7 +18,7 @@ united_attempts at passing before (path ∷ paths) = attempt (file path) (IsUnit
 
 -- the file that is written, once it may be known what to write
 abbrev pub stored_attempts : List ℕ → Attempts
-stored_attempts out = attempt_by (file out) (by stores_book) ∷ []
+stored_attempts out = attempt_by (file out) (by book_calls) ∷ []
 
 -- what comes before: whether that file may become a book, and the files that are read
 abbrev pub read_attempts : Holding → Uniting → Attempts

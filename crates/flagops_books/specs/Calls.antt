@@ -27,12 +27,7 @@ abbrev pub checks_losses : BookCall → Bool
 checks_losses call.Book = true
 checks_losses c = loads_book c
 
--- those of writing a book that may be written
+-- and those of writing a book that may be written
 abbrev pub saves_book : BookCall → Bool
 saves_book call.Book = true
 saves_book c = stores_file c
-
--- and those of writing what the files come to
-abbrev pub stores_book : BookCall → Bool
-stores_book call.Book = true
-stores_book c = loads loads_and_stores c

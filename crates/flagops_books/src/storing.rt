@@ -2,7 +2,7 @@
 ghost use Rattle.std.specs.Prelude.{◌≡◌, ◌||◌, false, true, Ok, IfErr, IfOk, IfSome, is_some, string_bytes};
 ghost use Rattle.book_core.specs.Book.{input_count};
 ghost use Rattle.book_core.specs.Printing.{book_text};
-ghost use Rattle.flagops_books.specs.Calls.{checks_losses, saves_book, stores_book};
+ghost use Rattle.flagops_books.specs.Calls.{book_calls, checks_losses, saves_book};
 ghost use Rattle.flagops_books.specs.Report.{IsStored, counts_text, replaces_at};
 ghost use Rattle.flagops_books.specs.Told.{is_told};
 ghost use Rattle.flagops_shell.specs.Ending.{KeepsUnlessDone};
@@ -32,6 +32,7 @@ struct Output {
 
 /// The report of what so many files note, once the book is written: where inputs of the book that is there may not be lost, it is
 /// written only where none is.
+#[tactic(auto, using(crate::proofs::Losing::writes))]
 pub(crate) fn stored<F: FileSet>(
     alloc: Global,
     files: &mut F,
@@ -41,7 +42,7 @@ pub(crate) fn stored<F: FileSet>(
     count: usize,
 ) -> Result<Outcome, Refused>
     ensures exact { IfSome (F.holding files.old) (λ at. GivesOne outcome_view result (IsStored (replaces_at at out.now lossy all.book) at (F.holding files.new) out.now (book_text all.book) (counts_text (input_count all.book) count) (is_told (string_bytes all.told)))) }
-    ensures calls { ComesFrom stores_book result }
+    ensures calls { ComesFrom book_calls result }
     ensures failed { F.has_failed files.new ≡ (F.has_failed files.old || is_file_fault result) }
     ensures others { KeepsOthers (F.holding files.old) (F.holding files.new) out.now }
     ensures kept { KeepsUnlessDone (F.holding files.old) (F.holding files.new) result }
@@ -53,7 +54,7 @@ pub(crate) fn stored<F: FileSet>(
 }
 
 /// That a new book may be written over the one at a path.
-#[tactic(auto, using(crate::proofs::Losing::free, crate::proofs::Losing::none_lost, crate::proofs::Losing::some_lost, crate::proofs::Losing::unknown))]
+#[tactic(auto, using(crate::proofs::Losing::free, crate::proofs::Losing::none_lost, crate::proofs::Losing::some_lost, crate::proofs::Losing::unknown, crate::proofs::Losing::checks, crate::proofs::Losing::loses))]
 fn check_losses<F: FileSet>(
     alloc: Global,
     files: &mut F,
