@@ -1,2 +1,2 @@
-mod Counting
-mod Loading
+mod Counted
+mod Loaded

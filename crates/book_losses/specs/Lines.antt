@@ -12,7 +12,7 @@ has_line book page (begins other) = None
 has_line book page neither = None
 
 -- so many of the inputs that stand first among the bytes are missing, and the pages behind them are left
-pub record IsCounted (new : Contents) (page : PageName) (bytes : List ℕ) (lost : ℕ) (rest : List ℕ) : Type 0 where
-  pub lost : lost ≡ missing (leading (lines_of bytes)) (inputs_on new page)
+pub record IsCounted (new : Contents) (page : PageName) (bytes : List ℕ) (count : ℕ) (rest : List ℕ) : Type 0 where
+  pub lost : count ≡ missing (leading (lines_of bytes)) (inputs_on new page)
   pub pages : pages_in (lines_of rest) ≡ pages_in (lines_of bytes)
-  pub room : lost + length rest ≤ length bytes
+  pub room : count + length rest ≤ length bytes

@@ -11,7 +11,7 @@ use std::alloc::{AllocError, Global};
 
 /// How many inputs of the old book do not stand on the same page of the new one. Want of memory is its one fault. Cost: the old
 /// book is printed, and each of its inputs is looked for as by [`Book::has`].
-#[tactic(auto, using(crate::proofs::Counting::of_book, crate::proofs::Counting::no_book))]
+#[tactic(auto, using(crate::proofs::Counted::no_book))]
 pub fn lost_inputs(alloc: Global, old: &Book, new: &Book) -> Result<u64, AllocError>
     ensures { IfOk result (λ n. n ≡ lost_inputs old.now new.now) }
 {
@@ -24,7 +24,7 @@ pub fn lost_inputs(alloc: Global, old: &Book, new: &Book) -> Result<u64, AllocEr
 }
 
 /// The same of the pages that begin on lines.
-#[tactic(auto, using(crate::proofs::Counting::goes_over, crate::proofs::Counting::goes_all))]
+#[tactic(auto, using(crate::proofs::Counted::goes_over, crate::proofs::Counted::goes_all))]
 fn lost_on(alloc: Global, lines: &[u8], new: &Book) -> Result<u64, AllocError>
     ensures { IfOk result (λ n. n ≡ lost_inputs (pages_in (lines_of lines.now)) new.now) }
 {
@@ -39,7 +39,7 @@ fn lost_on(alloc: Global, lines: &[u8], new: &Book) -> Result<u64, AllocError>
 }
 
 /// How many of the inputs that stand first among the bytes the page of the new book does not have, and the bytes behind them.
-#[tactic(auto, using(crate::proofs::Counting::one_more, crate::proofs::Counting::ends_file, crate::proofs::Counting::ends_page))]
+#[tactic(auto, using(crate::proofs::Counted::none_yet))]
 fn lost_first<'a>(
     alloc: Global,
     page: &Page,
@@ -54,10 +54,11 @@ fn lost_first<'a>(
         let Some((line, behind)) = cut_line(rest) else {
             return Ok((lost, rest));
         };
-        let Some(is_kept) = has_line(alloc, new, page, line)? else {
-            return Ok((lost, rest));
-        };
-        lost += u64::from(!is_kept);
+        let found = has_line(alloc, new, page, line)?;
+        match found {
+            Some(is_kept) => lost += u64::from(!is_kept),
+            None => return Ok((lost, rest)),
+        }
         rest = behind;
     }
 }

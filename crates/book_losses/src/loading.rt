@@ -13,7 +13,7 @@ use std::alloc::{AllocError, Global};
 
 /// How many inputs of the book in the file at a path the new book does not have: none where no file can be read, or it is empty.
 /// A file that is no book is refused as [`load_book`] refuses it.
-#[tactic(auto, using(crate::proofs::Loading::none_there, crate::proofs::Loading::there))]
+#[tactic(auto, using(crate::proofs::Loaded::none_there, crate::proofs::Loaded::there))]
 pub fn losses_at<F: FileSet>(
     alloc: Global,
     files: &mut F,
@@ -34,7 +34,7 @@ pub fn losses_at<F: FileSet>(
 }
 
 /// The same of a file that has bytes.
-#[tactic(auto, using(crate::proofs::Loading::counted_so))]
+#[tactic(auto, using(crate::proofs::Loaded::counted_so))]
 fn lost_of<F: FileSet>(
     alloc: Global,
     files: &mut F,
@@ -55,7 +55,7 @@ fn lost_of<F: FileSet>(
 }
 
 /// Whether the file at a path has bytes, as far as it can be read.
-#[tactic(auto, using(crate::proofs::Loading::filled, crate::proofs::Loading::unread))]
+#[tactic(auto, using(crate::proofs::Loaded::filled, crate::proofs::Loaded::unread))]
 fn is_filled<F: FileSet>(alloc: Global, files: &F, path: &str) -> Result<bool, AllocError>
     ensures { IfSome (F.holding files.now) (λ at. IfOk result (λ b. b ≡ is_filled (at path.now))) }
 {

@@ -21,14 +21,13 @@ use Rattle.flagops_books.specs.declared.refusal.BookRefusal.TheVariants.{Load, W
 abbrev pub call_name : BookCall → List ℕ
 call_name (call.Load c) = files.call_name c
 call_name call.Book = codes "book"
-call_name call.Replace = codes "book"
 
 -- the call that refused
 abbrev pub call_of : BookRefusal → BookCall
 call_of (Load e) = call.Load (files.call_of e)
 call_of WantOfMemory = call.Book
 call_of FullBook = call.Book
-call_of (WouldLose n) = call.Replace
+call_of (WouldLose n) = call.Book
 
 -- memory ran out
 abbrev pub is_want : BookRefusal → Bool
@@ -92,17 +91,17 @@ is_file_fault r = shell.is_file_fault is_unread r
 abbrev pub by : (BookCall → Bool) → BookRefusal → Bool
 by calls e = calls (call_of e)
 
--- what may be refused, each with the refusals that are of it
-abbrev pub Subjects : Type 0
-Subjects = told.Subjects BookRefusal
-
 -- a refusal is told by the name of what is refused
 abbrev pub TellsOf : {X : Type 0} → told.Subject → Result X Refused → Type 0
 TellsOf subject r = told.TellsOf is_want subject r
 
--- a refusal is told by the name of one of them
-abbrev pub TellsOfOne : {X : Type 0} → Subjects → Result X Refused → Type 0
-TellsOfOne subjects r = told.TellsOfOne is_want subjects r
+-- what is attempted in turn
+abbrev pub Attempts : Type 1
+Attempts = List (told.Attempt BookRefusal)
+
+-- a refusal is that of the first of them that is refused, and is told by the name of what that is about
+abbrev pub TellsOfFirst : {X : Type 0} → Attempts → Result X Refused → Type 0
+TellsOfFirst attempts r = told.TellsOfFirst is_want attempts r
 
 -- these calls, by which files are read or written
 abbrev pub loads : (Call → Bool) → BookCall → Bool

@@ -4,8 +4,9 @@ use Rattle.std.specs.Prelude.{◌≡◌, ◌⊎◌, ℕ, ◌==◌, Bool, true, f
 use Rattle.book_core.specs.Book.{Contents, input_count}
 use Rattle.book_core.specs.Printing.{book_text}
 use Rattle.book_losses.specs.Losses.{losses_at}
+use Rattle.flagops_books.specs.Attempts.{book_attempts}
 use Rattle.flagops_books.specs.Stray.{stray_report}
-use Rattle.flagops_books.specs.Told.{NamesFile, book_subjects, is_told}
+use Rattle.flagops_books.specs.Told.{NamesFile, is_told}
 use Rattle.flagops_books.specs.Union.{IsUnited, United, noted, stray}
 use Rattle.flagops_books.specs.Words.{Uniting}
 use Rattle.flagops_shell.specs.Files.{Holding, KeepsOthers, Stores}
@@ -14,7 +15,7 @@ use Rattle.flagops_files.specs.Question.{replaceable_at}
 use Rattle.flagops_books.specs.Refusal.{unwritable, Outcomes, Remarks}
 use Rattle.flagops_books.specs.declared.refusal.BookRefusal.{BookRefusal}
 use Rattle.flagops_books.specs.declared.refusal.BookRefusal.TheVariants.{Load, WouldLose}
-use Rattle.flagops_files.specs.Told.{NamesOne}
+use Rattle.flagops_files.specs.Told.{NamesFirst}
 use Rattle.flagops_shell.specs.Diagnostic.{Says, remark_text}
 use Rattle.flagops_shell.specs.declared.refused.Remark.{Remark}
 use Rattle.note_books.specs.Notes.{Notes, IsBookOf, no_notes}
@@ -72,7 +73,7 @@ TellsCame (Ok (stray path n)) remark = Says (NamesFile path) remark
 abbrev pub TellsUnited : Uniting → Holding → Remark → Type 0
 TellsUnited u at remark = (came : Result United BookRefusal) × IsUnitedFor u at came × TellsCame came remark
 
--- that, and of a refusal the name of what is refused
+-- that, and of a refusal the name of the first that is refused
 abbrev pub remark_of : Uniting → Holding → Remarks
 remark_of u at (Ok report) remark = TellsUnited u at remark
-remark_of u at (Err e) remark = NamesOne (book_subjects u.out u.files) e remark
+remark_of u at (Err e) remark = NamesFirst (book_attempts at u) e remark

@@ -16,8 +16,6 @@ pub enum BookCall {
     Load(Call),
     /// The command `book` itself.
     Book,
-    /// The command `book` itself, where it would write over another book.
-    Replace,
 }
 
 impl BookCall {
@@ -27,7 +25,7 @@ impl BookCall {
     {
         match self {
             BookCall::Load(call) => call.name(),
-            BookCall::Book | BookCall::Replace => "book",
+            BookCall::Book => "book",
         }
     }
 }
@@ -52,8 +50,9 @@ impl BookRefusal {
     {
         match self {
             BookRefusal::Load(refusal) => BookCall::Load(refusal.call()),
-            BookRefusal::WantOfMemory | BookRefusal::FullBook => BookCall::Book,
-            BookRefusal::WouldLose(_) => BookCall::Replace,
+            BookRefusal::WantOfMemory | BookRefusal::FullBook | BookRefusal::WouldLose(_) => {
+                BookCall::Book
+            }
         }
     }
 }

@@ -1,13 +1,13 @@
 //! From what files note to the book that is written, and what is printed of it.
-ghost use Rattle.std.specs.Prelude.{◌≡◌, ◌||◌, [], ◌∷◌, false, true, Ok, IfErr, IfOk, IfSome, is_some, string_bytes};
+ghost use Rattle.std.specs.Prelude.{◌≡◌, ◌||◌, false, true, Ok, IfErr, IfOk, IfSome, is_some, string_bytes};
 ghost use Rattle.book_core.specs.Book.{input_count};
 ghost use Rattle.book_core.specs.Printing.{book_text};
-ghost use Rattle.flagops_books.specs.Calls.{checks_losses, saves_book, stores_book};
+ghost use Rattle.flagops_books.specs.Calls.{book_calls, checks_losses, saves_book};
 ghost use Rattle.flagops_books.specs.Report.{IsStored, counts_text, replaces_at};
-ghost use Rattle.flagops_books.specs.Told.{is_told, written_subjects};
+ghost use Rattle.flagops_books.specs.Told.{is_told};
 ghost use Rattle.flagops_shell.specs.Ending.{KeepsUnlessDone};
 ghost use Rattle.flagops_shell.specs.Files.{KeepsOthers};
-ghost use Rattle.flagops_books.specs.Refusal.{ComesFrom, GivesOne, GivesUnlessWant, is_file_fault, stores_file, TellsOfOne, by};
+ghost use Rattle.flagops_books.specs.Refusal.{ComesFrom, GivesOne, GivesUnlessWant, is_file_fault, TellsOf};
 ghost use Rattle.flagops_books.specs.declared.refusal.BookRefusal.TheVariants.{WouldLose};
 ghost use Rattle.flagops_shell.specs.Report.{outcome_view};
 ghost use Rattle.file_diagnostics.specs.Named.{Names};
@@ -32,6 +32,7 @@ struct Output {
 
 /// The report of what so many files note, once the book is written: where inputs of the book that is there may not be lost, it is
 /// written only where none is.
+#[tactic(auto, using(crate::proofs::Losing::writes))]
 pub(crate) fn stored<F: FileSet>(
     alloc: Global,
     files: &mut F,
@@ -41,11 +42,11 @@ pub(crate) fn stored<F: FileSet>(
     count: usize,
 ) -> Result<Outcome, Refused>
     ensures exact { IfSome (F.holding files.old) (λ at. GivesOne outcome_view result (IsStored (replaces_at at out.now lossy all.book) at (F.holding files.new) out.now (book_text all.book) (counts_text (input_count all.book) count) (is_told (string_bytes all.told)))) }
-    ensures calls { ComesFrom stores_book result }
+    ensures calls { ComesFrom book_calls result }
     ensures failed { F.has_failed files.new ≡ (F.has_failed files.old || is_file_fault result) }
     ensures others { KeepsOthers (F.holding files.old) (F.holding files.new) out.now }
     ensures kept { KeepsUnlessDone (F.holding files.old) (F.holding files.new) result }
-    ensures names { TellsOfOne (written_subjects out.now) result }
+    ensures names { TellsOf (file out.now) result }
     ensures told { IfOk result (λ o. IfSome o.remark (λ m. m ≡ Lines all.told)) }
 {
     check_losses(alloc, files, out, &all.book, lossy)?;
@@ -53,7 +54,7 @@ pub(crate) fn stored<F: FileSet>(
 }
 
 /// That a new book may be written over the one at a path.
-#[tactic(auto, using(crate::proofs::Losing::free, crate::proofs::Losing::none_lost, crate::proofs::Losing::some_lost, crate::proofs::Losing::unknown))]
+#[tactic(auto, using(crate::proofs::Losing::free, crate::proofs::Losing::none_lost, crate::proofs::Losing::some_lost, crate::proofs::Losing::unknown, crate::proofs::Losing::checks, crate::proofs::Losing::loses))]
 fn check_losses<F: FileSet>(
     alloc: Global,
     files: &mut F,
@@ -65,7 +66,7 @@ fn check_losses<F: FileSet>(
     ensures calls { ComesFrom checks_losses result }
     ensures failed { F.has_failed files.new ≡ (F.has_failed files.old || is_file_fault result) }
     ensures kept { F.holding files.new ≡ F.holding files.old }
-    ensures names { TellsOfOne (written_subjects path.now) result }
+    ensures names { TellsOf (file path.now) result }
 {
     if lossy {
         return Ok(());
@@ -108,7 +109,7 @@ fn saved<F: FileSet>(
     ensures failed { F.has_failed files.new ≡ (F.has_failed files.old || is_file_fault result) }
     ensures others { KeepsOthers (F.holding files.old) (F.holding files.new) out.now }
     ensures kept { KeepsUnlessDone (F.holding files.old) (F.holding files.new) result }
-    ensures names { TellsOfOne ((file out.now, by stores_file) ∷ []) result }
+    ensures names { TellsOf (file out.now) result }
     ensures told { IfOk result (λ o. IfSome o.remark (λ m. m ≡ Lines all.told)) }
 {
     let Gathered { book, told } = all;

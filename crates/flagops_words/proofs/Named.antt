@@ -398,7 +398,7 @@ each = (
                 (document.0, file.0, key.0, site.0)),
             (
               λ _ _ _. drive_asks _ refl
-                  ((refl, λ v e h. cc), ((refl, λ v e h. cc), ((refl, λ v e h. passes _ _ e), ((refl, λ v e h. cc), ((refl, λ v e h. cc), ((refl, λ v e h. cc), ((refl, λ v e h. cc), ((refl, λ v e h. cc), tt))))))))
+                  ((refl, λ v e h. cc), ((refl, λ v e h. cc), ((refl, λ v e h. passes _ _ e), ((refl, λ v e h. cc), ((refl, λ v e h. cc), ((refl, λ v e h. cc), ((refl, λ v e h. cc), ((refl, λ v e h. cc), ((refl, λ v e h. cc), tt)))))))))
                   (λ rows e.
                   let document = needed _ _ e in
                   let file = needed _ _ document.1 in

@@ -132,7 +132,7 @@ fn written<F: FileSet>(
 }
 
 /// That a new book may be written over the one at a path.
-#[tactic(auto, using(crate::proofs::Losing::free, crate::proofs::Losing::none_lost, crate::proofs::Losing::some_lost, crate::proofs::Losing::unknown))]
+#[tactic(auto, using(crate::proofs::Losing::free, crate::proofs::Losing::none_lost, crate::proofs::Losing::some_lost, crate::proofs::Losing::unknown, crate::proofs::Losing::checks, crate::proofs::Losing::loses))]
 fn check_losses<F: FileSet>(
     alloc: Global,
     files: &mut F,

@@ -1,5 +1,5 @@
 use Rattle.std.proofs.Common.{length}
-use Rattle.book_losses.proofs.Counting.{Looked}
+use Rattle.book_losses.proofs.Counted.{Looked}
 use Rattle.book_losses.proofs.counting.lost_first.Given as goal
 
 abbrev pub invariant-inputs : goal.invariant-inputs

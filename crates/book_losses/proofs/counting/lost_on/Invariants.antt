@@ -1,5 +1,5 @@
 use Rattle.std.proofs.Common.{length}
-use Rattle.book_losses.proofs.Counting.{GoesOn}
+use Rattle.book_losses.proofs.Counted.{GoesOn}
 use Rattle.book_losses.proofs.counting.lost_on.Given as goal
 
 abbrev pub invariant-pages : goal.invariant-pages

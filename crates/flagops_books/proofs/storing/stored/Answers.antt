@@ -1,5 +1,5 @@
 use Rattle.std.proofs.Common.{refl, rules}
-use Rattle.flagops_books.proofs.Losing.{not_stored, stored_so}
+use Rattle.flagops_books.proofs.Losing.{failed_after, not_stored, stored_by, stored_so}
 use Rattle.flagops_shell.proofs.Kept.{kept_after, others_after}
 use Rattle.flagops_books.proofs.storing.stored.Goals as goal
 
@@ -16,3 +16,9 @@ returns-clause-others g c = others_after _ _ _ _ c.check_losses.ensures.kept c.s
 
 pub returns-clause-kept : goal.returns-clause-kept
 returns-clause-kept g c = kept_after _ _ _ _ _ refl c.check_losses.ensures.kept c.saved.ensures.kept
+
+pub returns-clause-calls : goal.returns-clause-calls
+returns-clause-calls g c = stored_by c.saved.result c.saved.ensures.calls
+
+pub returns-clause-failed : goal.returns-clause-failed
+returns-clause-failed g c = failed_after _ _ _ _ c.in_ok-check_losses.ensures.failed c.saved.ensures.failed

@@ -4,6 +4,7 @@ use Rattle.flagops_drive.specs.File.{file_view}
 use Rattle.flagops_commands.specs.Refusal.{loads_book, loads_flags, loads_tree}
 use Rattle.flagops_commands.specs.Drive.{HasNoAsks, HasUnreadAsk}
 use Rattle.flagops_commands.proofs.Driving.{at_first, driven, left_by_storing, no_asks, no_book, no_document, not_driven}
+use Rattle.flagops_commands.proofs.Losing.{driven_by, told_written}
 use Rattle.flagops_commands.proofs.Summary.{told_numbers}
 use Rattle.flagops_shell.proofs.Kept.{kept_after, others_after}
 use Rattle.flagops_commands.proofs.Refusing.{by_another, by_name, failed_last, for_no_asks, for_unread, in_any_case, in_any_mode, none_driven, wrong_workers}
@@ -143,3 +144,9 @@ pub returns-clause-numbers : goal.returns-clause-numbers
 returns-clause-numbers g c =
     told_numbers c.args.asks.now c.args.book.now c.args.add c.args.json (file_view c.in_ok-loaded.loaded) c.in_ok-before.before c.in_ok-drive_output.drive_output.text.items c.in_ok-drive_output.drive_output.tally c.remark_on-remark.result _ _
     (at_first _ _ _ c.load_flags.ensures.kept c.in_ok-loaded.ensures.exact) (at_first _ _ _ (c.load_asks.ensures.kept ∙ c.load_flags.ensures.kept) c.in_ok-before.ensures.exact) c.in_ok-drive_output.ensures.tally c.remark_on-remark.ensures.numbers c.written.ensures.remark
+
+pub returns-clause-calls : goal.returns-clause-calls
+returns-clause-calls g c = driven_by c.written.result c.written.ensures.calls
+
+pub returns-clause-names : goal.returns-clause-names
+returns-clause-names g c = told_written c.args.document.now c.args.asks.now c.args.book.now c.written.result c.written.ensures.names

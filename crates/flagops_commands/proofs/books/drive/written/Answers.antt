@@ -1,5 +1,5 @@
 use Rattle.flagops_drive.specs.Driven.{drive_output_view}
-use Rattle.flagops_commands.proofs.Losing.{not_written, written_so}
+use Rattle.flagops_commands.proofs.Losing.{failed_after, not_written, stored_by, told_stored, written_so}
 use Rattle.flagops_shell.proofs.Kept.{kept_after, others_after}
 use Rattle.std.proofs.Common.{inl, refl, rules}
 use Rattle.flagops_commands.proofs.books.drive.written.Goals as goal
@@ -17,3 +17,12 @@ returns-clause-others g c = others_after _ _ _ _ c.check_losses.ensures.kept c.s
 
 pub returns-clause-kept : goal.returns-clause-kept
 returns-clause-kept g c = kept_after _ _ _ _ _ refl c.check_losses.ensures.kept c.saved.ensures.kept
+
+pub returns-clause-calls : goal.returns-clause-calls
+returns-clause-calls g c = stored_by c.saved.result c.saved.ensures.calls
+
+pub returns-clause-failed : goal.returns-clause-failed
+returns-clause-failed g c = failed_after _ _ _ _ c.in_ok-check_losses.ensures.failed c.saved.ensures.failed
+
+pub returns-clause-names : goal.returns-clause-names
+returns-clause-names g c = told_stored c.args.book.now c.saved.result c.saved.ensures.names

@@ -1,6 +1,7 @@
 -- Inputs that are looked for in another book, page by page and line by line.
 use Rattle.std.proofs.Common.{◌≡◌, ℕ, ◌+◌, ◌<◌, ◌≤◌, Bool, true, false, not, cond, List, [], ◌∷◌, length, Option, Some, None, Result, Ok, Err, IfOk, refl, sym, ap, ◌∙◌, subst, arith}
 use Rattle.std.proofs.lemmas.List.Sums.{sum_by-cons}
+use mir.Val.{bool_byte}
 use Rattle.std.specs.List.{slice_split}
 use Rattle.book_core.specs.Book.{Contents, Inputs, inputs_on, is_among}
 use Rattle.book_core.specs.Page.{PageName}
@@ -107,6 +108,11 @@ module _ (new : Contents) (page : PageName) (bytes : List ℕ) where
             pages = sym (same_pages it.0 it.1) ∙ so_far.pages;
             room = omega (arith, so_far.room, lengths);
           }
+
+      -- the input of a line, whether it is missing or not
+      pub one_more : (kept : Bool) (n : ℕ) → Some kept ≡ has_line new page (line_of line) → n ≡ bool_byte (not kept) → Looked (lost + n) behind
+      one_more true n is none = let same : lost + n ≡ lost = omega (arith, none) in subst (λ (k : ℕ). Looked k behind) (sym same) (one_kept is)
+      one_more false n is one = subst (λ (k : ℕ). Looked (lost + k) behind) (sym one) (one_lost is)
 
       -- a line that is that of no input
       pub ends_page : None ≡ has_line new page (line_of line) → IsCounted new page bytes lost rest
