@@ -16,7 +16,7 @@ use Rattle.flagops_shell.specs.declared.outcome.Outcome.{Outcome}
 use Rattle.plan_text.specs.Answer.{Answer}
 
 differ : {X E Y : Type 0} {x : X} {e : E} → Ok x ≡ Err e → Y
-differ same = absurd cc
+differ same = cc
 
 succeeded : (at : Holding) (document request book : List ℕ) (q : BookQuestion) → IsBookQuestionAt at document request book (Ok q) → AllSucceed (book_question_attempts at document request book)
 unfolding IsBookQuestionAt
