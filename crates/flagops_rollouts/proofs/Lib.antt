@@ -1,6 +1,7 @@
 mod Asked
 pub mod Doubting
 pub mod Edited
+mod Edits
 mod Loaded
 mod Omitted
 mod Passed
