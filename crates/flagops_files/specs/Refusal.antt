@@ -190,6 +190,14 @@ TellsOf subject r = told.TellsOf is_want subject r
 abbrev pub TellsOfOne : {X : Type 0} → Subjects → Result X Refused → Type 0
 TellsOfOne subjects r = told.TellsOfOne is_want subjects r
 
+-- what is attempted in turn
+abbrev pub Attempts : Type 1
+Attempts = List (told.Attempt Refusal)
+
+-- a refusal is told by the name of what the first of them is about that is refused
+abbrev pub TellsOfFirst : {X : Type 0} → Attempts → Result X Refused → Type 0
+TellsOfFirst attempts r = told.TellsOfFirst is_want attempts r
+
 -- a file could not be read or written
 abbrev pub is_unread : Refusal → Bool
 is_unread (Load load.Unreadable) = true

@@ -1,6 +1,7 @@
 mod Diagnosed
 pub mod Drawings
 pub mod Matched
+mod Naming
 pub mod Pictures
 pub mod Planned
 mod Posing

@@ -82,6 +82,8 @@ pub enum Asked<'a> {
         book: &'a str,
         /// Whether the book keeps what it has.
         add: bool,
+        /// Whether what it has may be lost.
+        replace: bool,
         /// Whether what is doubted is refused, and not only told.
         strict: bool,
         /// Whether the answer is printed as JSON.

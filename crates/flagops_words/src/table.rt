@@ -209,6 +209,10 @@ const DRIVE: Usage = Usage {
         ),
         Word::Text("BOOK", "The book file that is written"),
         Word::Flag("add", "Read BOOK first, and write it with what it had"),
+        Word::Flag(
+            "replace",
+            "Write BOOK also where inputs that it had are lost",
+        ),
         STRICT,
         JSON,
     ],

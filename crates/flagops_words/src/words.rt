@@ -238,6 +238,7 @@ fn drive_in<'a>(words: &ArgMatches<'a>) -> Option<Asked<'a>>
         workers,
         book,
         add: flag_in(words, "add"),
+        replace: flag_in(words, "replace"),
         strict: is_strict(words),
         json: is_json(words),
     })
