@@ -3,7 +3,7 @@ pub mod Doubting
 pub mod Edited
 mod Edits
 mod Loaded
-mod Omitted
+mod Omissions
 mod Passed
 mod Tallies
 pub mod Telling
