@@ -1,9 +1,7 @@
 -- What was attempted without a refusal.
-use Rattle.std.proofs.Common.{◌≡◌, ◌∙◌, ap, ℕ, List, refl, sym}
+use Rattle.std.proofs.Common.{◌≡◌, ℕ, List, refl}
 use Rattle.std.specs.Prelude.{Result, Ok, Err}
-use Rattle.flag_defs.specs.Document.{Definitions}
 use Rattle.book_core.specs.Book.{Contents}
-use Rattle.flagops_files.specs.Documents.{IsDocumentAt}
 use Rattle.flagops_files.specs.Loading.{max_text}
 use Rattle.flagops_files.specs.Question.{BookQuestion, IsBookQuestionAt, IsEvidenceAt, IsQuestionAt, IsQuestionWith, Question, book_at, book_question_attempts, question_attempts, question_of}
 use Rattle.flagops_files.specs.Told.{AllSucceed}
