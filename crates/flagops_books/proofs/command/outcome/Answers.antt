@@ -10,6 +10,7 @@ use Rattle.flagops_books.specs.Refusal.{GivesOne, Refused, TellsOfFirst}
 use Rattle.flagops_shell.specs.Report.{outcome_view}
 use Rattle.flagops_shell.specs.declared.outcome.Outcome.{Outcome}
 use Rattle.flagops_books.proofs.Ending.{as_many, left, no_union, read_first, stored_reported, stray_reported, told_noted, told_stopped, written_last}
+use Rattle.flagops_books.proofs.Following.{everywhere}
 use Rattle.flagops_books.proofs.command.outcome.Goals as goal
 
 pub returns-in_err-came-clause-exact : goal.returns-in_err-came-clause-exact
@@ -74,3 +75,6 @@ returns-in-Noted-clause-names g c =
     let u = uniting_view c.args.asked.now in
     let old = g.F.FileSet.holding c.args.files.now in
     written_last u old c.in-Noted.all c.stored.result (subst (λ (s : Step). IfSome old (λ at. HaveSucceeded (read_attempts at u) (Ok s))) c.in-Noted.is c.in_ok-came.ensures.succeed) c.stored.ensures.calls c.stored.ensures.names
+
+pub returns-in-Stopped-clause-names : goal.returns-in-Stopped-clause-names
+returns-in-Stopped-clause-names g c = everywhere (g.F.FileSet.holding c.args.files.now) (λ at. Unit {0}) (λ at. tt)

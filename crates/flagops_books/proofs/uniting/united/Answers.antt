@@ -2,7 +2,7 @@ use Rattle.std.proofs.Common.{arith, rules, ◌+◌, ◌≡◌, ◌∙◌, [], E
 use Rattle.std.proofs.lemmas.List.{drop_all}
 use Rattle.std.proofs.lemmas.Result.{err_from_is_err_and}
 use Rattle.std.specs.Prelude.{Result}
-use Rattle.flagops_books.specs.Step.{GivesUnited}
+use Rattle.flagops_books.specs.Step.{GivesUnited, HaveSucceeded}
 use Rattle.flagops_books.specs.Union.{IsUnited}
 use Rattle.flagops_books.specs.declared.uniting.Step.{Step}
 use Rattle.flagops_books.specs.declared.uniting.Step.TheVariants.{Noted, Stopped}
@@ -121,3 +121,22 @@ returns-clause-succeed g c =
     (λ at. Ahead at c.args.passing all (map (λ p. p.now) (take l.path-index paths)) (map (λ p. p.now) (drop l.path-index paths)) l.all)
     (λ at. AllSucceed (united_attempts at c.args.passing [] all))
     (λ at ahead. all_ahead at c.args.passing all (map (λ p. p.now) (take l.path-index paths)) (map (λ p. p.now) (drop l.path-index paths)) l.all ahead (ap (map (λ p. p.now)) (drop_all l.path-index paths c.loop-path-test.false))) l.invariant.ahead
+
+-- nothing is told of a refusal, where none is
+
+pub returns-clause-names : goal.returns-clause-names
+returns-clause-names g c = everywhere (g.F.FileSet.holding c.args.files.now) (λ at. Unit {0}) (λ at. tt)
+
+pub returns-in-Stopped-clause-names : goal.returns-in-Stopped-clause-names
+returns-in-Stopped-clause-names g c = everywhere (g.F.FileSet.holding c.args.files.now) (λ at. Unit {0}) (λ at. tt)
+
+pub returns-in-Stopped-clause-succeed : goal.returns-in-Stopped-clause-succeed
+returns-in-Stopped-clause-succeed g c = everywhere (g.F.FileSet.holding c.args.files.now) (λ at. Unit {0}) (λ at. tt)
+
+pub returns-in_err-step-clause-succeed : goal.returns-in_err-step-clause-succeed
+returns-in_err-step-clause-succeed g c =
+    let all = map (λ p. p.now) c.args.paths.now in
+    let refused = c.in_err-step.field-0.0 in
+    let p = err_from_is_err_and c.from_residual.result c.from_residual.ensures.1 in
+    let is : c.from_residual.result ≡ Err refused = p.1 ∙ ap Err p.2 in
+    subst (λ (r : Result Step Refused). IfSome (g.F.FileSet.holding c.args.files.now) (λ at. HaveSucceeded (united_attempts at c.args.passing [] all) r)) (sym is) (everywhere (g.F.FileSet.holding c.args.files.now) (λ at. Unit {0}) (λ at. tt))
