@@ -20,12 +20,12 @@ none_of None is = refl
 none_of (Some bytes) is = cc
 
 module _ (old : Option Holding) (path : List ℕ) where
-  pub filled : (front : List ℕ) → IfSome old (λ at. Some front ≡ option_map first_piece (at path)) → IfSome old (λ at. not (length front == 0) ≡ is_filled (at path))
-  filled front is = go old is
+  pub filled : (front bytes : List ℕ) (empty : Bool) → bytes ≡ front → empty ≡ (length bytes == 0) → IfSome old (λ at. Some front ≡ option_map first_piece (at path)) → IfSome old (λ at. not empty ≡ is_filled (at path))
+  filled front bytes empty same none is = go old is
     where
-      go : (h : Option Holding) → IfSome h (λ at. Some front ≡ option_map first_piece (at path)) → IfSome h (λ at. not (length front == 0) ≡ is_filled (at path))
+      go : (h : Option Holding) → IfSome h (λ at. Some front ≡ option_map first_piece (at path)) → IfSome h (λ at. not empty ≡ is_filled (at path))
       go None is = tt
-      go (Some at) is = filled_of (at path) front is
+      go (Some at) is = ap not (none ∙ ap (λ (bs : List ℕ). length bs == 0) same) ∙ filled_of (at path) front is
 
   pub unread : IfSome old (λ at. (let o : Option (List ℕ) = None in o) ≡ option_map first_piece (at path)) → IfSome old (λ at. false ≡ is_filled (at path))
   unread is = go old is

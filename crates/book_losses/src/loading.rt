@@ -60,7 +60,7 @@ fn is_filled<F: FileSet>(alloc: Global, files: &F, path: &str) -> Result<bool, A
     ensures { IfSome (F.holding files.now) (λ at. IfOk result (λ b. b ≡ is_filled (at path.now))) }
 {
     match files.front(alloc, path)? {
-        Some(front) => Ok(!front.is_empty()),
+        Some(front) => Ok(!front.as_slice().is_empty()),
         None => Ok(false),
     }
 }
