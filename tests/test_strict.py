@@ -163,6 +163,23 @@ class Strict(ProgramTest):
                 self.assertTrue(told.err.startswith(begins), told.err)
                 self.assertTrue(told.err.endswith("\n" + plain.err), told.err)
 
+    def test_the_edit_by_hand_beside_a_plan(self):
+        """Three red points in one block: the two inputs on the fifth point are switched, which the plan leaves where they are."""
+        words = ["plan", "--explain", "document", "request", "book"]
+        line = "  your edit by hand, each variant in one block, would switch {} of {}; this plan switches {}\n"
+        for asked, book, numbers in [
+            (RED_3, BOOK, (2, 7, 0)),
+            (request('"red":0,"blue":10'), BOOK, (4, 7, 4)),
+            # The old rule has red first, and so has the edit: green follows behind blue.
+            (request('"red":5,"blue":3,"green":2'), BOOK, (0, 7, 0)),
+            (RED_3, EMPTY_BOOK, (0, 0, 0)),
+        ]:
+            with self.subTest(asked=asked):
+                ran = run(words, files(asked, book))
+                self.assertIn(line.format(*numbers), ran.err)
+        blocked = run(words, files(request('"red":10', ',"forbid":[["blue","red"]]'), BOOK))
+        self.assertNotIn("your edit by hand", blocked.err)
+
 
 if __name__ == "__main__":
     unittest.main()

@@ -79,7 +79,7 @@ module _ (a : Comparing) where
 
   tally_told_at : (at : Holding) (r : Result Outcome Told) → TellsTally a r → TellsRefused at a r
   tally_told_at at (Ok o) tells = tt
-  tally_told_at at (Err t) tells = λ no_want. let p = tells no_want in subst (λ (r : CompareRefusal). NamesRefused at a r t.remark) (sym p.1) p.2
+  tally_told_at at (Err t) tells = λ no_want. let p = tells no_want in subst (λ (r : CompareRefusal). NamesRefused at a r t.remark) (sym p.0) p.1
 
   pub tally_told : (holding : Option Holding) (r : Result Outcome Told) → TellsTally a r → IfSome holding (λ at. TellsRefused at a r)
   tally_told None r tells = tt

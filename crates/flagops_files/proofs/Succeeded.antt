@@ -1,9 +1,7 @@
 -- What was attempted without a refusal.
-use Rattle.std.proofs.Common.{◌≡◌, ◌∙◌, ap, ℕ, List, refl, sym}
+use Rattle.std.proofs.Common.{◌≡◌, ℕ, List, refl}
 use Rattle.std.specs.Prelude.{Result, Ok, Err}
-use Rattle.flag_defs.specs.Document.{Definitions}
 use Rattle.book_core.specs.Book.{Contents}
-use Rattle.flagops_files.specs.Documents.{IsDocumentAt}
 use Rattle.flagops_files.specs.Loading.{max_text}
 use Rattle.flagops_files.specs.Question.{BookQuestion, IsBookQuestionAt, IsEvidenceAt, IsQuestionAt, IsQuestionWith, Question, book_at, book_question_attempts, question_attempts, question_of}
 use Rattle.flagops_files.specs.Told.{AllSucceed}
@@ -14,7 +12,7 @@ use Rattle.flagops_shell.specs.Files.{Holding, load_of}
 use Rattle.flagops_shell.specs.Outcomes.{◌>>=◌, refused_by}
 
 differ : {X E Y : Type 0} {x : X} {e : E} → Ok x ≡ Err e → Y
-differ same = absurd cc
+differ same = cc
 
 module _ (at : Holding) (path request last : List ℕ) where
   -- the files of a question
@@ -38,15 +36,12 @@ module _ (at : Holding) (path request last : List ℕ) where
   book_question_succeed q (Err e, document, same) = differ same
   book_question_succeed q (Ok flags, document, same) = with_request (refused_by Load (load_of at request max_text)) refl same
     where
-      contents_of : List ℕ → Result Contents Refusal → Result BookQuestion Refusal
-      contents_of bytes book = book >>= λ contents. Ok (record { flags = flags; request = bytes; book = contents })
-
-      with_book : (bytes : List ℕ) → refused_by Load (load_of at request max_text) ≡ Ok bytes → (book : Result Contents Refusal) → book_at at last ≡ book → Ok q ≡ contents_of bytes book
-          → AllSucceed (book_question_attempts at path request last)
+      with_book : (bytes : List ℕ) → refused_by Load (load_of at request max_text) ≡ Ok bytes → (book : Result Contents Refusal) → book_at at last ≡ book
+          → Ok q ≡ (book >>= λ contents. Ok (record { flags = flags; request = bytes; book = contents })) → AllSucceed (book_question_attempts at path request last)
       with_book bytes loaded (Err e) read same = differ same
       with_book bytes loaded (Ok contents) read same = ((flags, document), ((bytes, loaded), ((contents, read), tt)))
 
-      with_request : (bytes : Result (List ℕ) Refusal) → refused_by Load (load_of at request max_text) ≡ bytes → Ok q ≡ (bytes >>= λ b. contents_of b (book_at at last))
-          → AllSucceed (book_question_attempts at path request last)
+      with_request : (bytes : Result (List ℕ) Refusal) → refused_by Load (load_of at request max_text) ≡ bytes
+          → Ok q ≡ (bytes >>= λ b. book_at at last >>= λ contents. Ok (record { flags = flags; request = b; book = contents })) → AllSucceed (book_question_attempts at path request last)
       with_request (Err e) loaded same = differ same
       with_request (Ok bytes) loaded same = with_book bytes loaded (book_at at last) refl same

@@ -1,5 +1,5 @@
 -- Why a file is not read or written, and the line that a refusal is written as.
-use Rattle.std.specs.Prelude.{◌≡◌, ℕ, Bool, true, false, List, [], ◌∷◌, ◌++◌, codes, decimal, Result}
+use Rattle.std.specs.Prelude.{ℕ, Bool, true, false, List, [], ◌++◌, codes, decimal, Result}
 use Rattle.flag_text.specs.Fault as texts
 use Rattle.flag_text.specs.declared.fault.TextFault.TheVariants as text
 use Rattle.bucket_core.specs.Fault as rules

@@ -1,5 +1,6 @@
 -- Of which file a person is told.
-use Rattle.std.proofs.Common.{◌≡◌, ◌∙◌, ◌++◌, ℕ, false, List, IfErr, Result, Ok, Err, ap, append_assoc, codes, inl, refl, string_bytes, subst, sym}
+use Rattle.std.proofs.Common.{◌≡◌, ◌∙◌, ◌++◌, ℕ, false, List, IfErr, Result, Ok, Err, ap, append_assoc, inl, refl, string_bytes, subst, sym}
+use Rattle.std.specs.Prelude.{codes}
 use Rattle.flagops_files.specs.Refusal as files
 use Rattle.flagops_files.specs.Refusal.{Refused}
 use Rattle.file_diagnostics.specs.Named.{Names, NamesWord}

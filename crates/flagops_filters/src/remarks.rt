@@ -56,11 +56,7 @@ fn word_line(alloc: Global, word: &str, reason: &str) -> Result<String, AllocErr
 pub(crate) fn is_noted(start: Start, counted: Counted) -> bool
     ensures { result ≡ is_noted start counted.empty counted.long counted.torn }
 {
-    start.clock.is_some()
-        || start.is_siteless
-        || counted.empty
-        || counted.long > 0
-        || counted.torn
+    start.clock.is_some() || start.is_siteless || counted.empty || counted.long > 0 || counted.torn
 }
 
 /// What is told of contexts that were all recorded: that their moment is the clock's, that no input is reached, that there were

@@ -1,7 +1,6 @@
 mod Diagnosed
 pub mod Drawings
 pub mod Matched
-mod Naming
 pub mod Pictures
 pub mod Planned
 mod Posing

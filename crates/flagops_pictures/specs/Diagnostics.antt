@@ -1,30 +1,20 @@
--- What a person is told of what a command that draws comes to: of a refusal the first file or word that was refused, and beside a report
--- what is doubted.
-use Rattle.std.specs.Prelude.{[], ◌∷◌, ◌++◌, Bool, true, false, List, ℕ, Ok, Err}
+-- What a person is told of what a command that draws comes to: of a refusal the file or the word that was refused, and beside a report what
+-- is doubted.
+use Rattle.std.specs.Prelude.{[], ◌∷◌, ◌++◌, List, ℕ, Ok, Err}
 use Rattle.flagops_rollouts.specs.Doubts.{NamesDoubted, doubt_subjects}
-use Rattle.flagops_rollouts.specs.Subjects.{is_of_request, is_of_size, the_plan}
-use Rattle.flagops_rollouts.specs.Loaded.{book_question_attempts, plan_at}
-use Rattle.flagops_rollouts.specs.Refusal.{Attempts, stores_file, Remarks, Subjects, by}
-use Rattle.flagops_rollouts.specs.declared.refusal.RolloutRefusal.{RolloutRefusal}
-use Rattle.flagops_rollouts.specs.declared.refusal.RolloutRefusal.TheVariants.{Verify}
-use Rattle.flagops_files.specs.Told.{NamesFirst, attempt_of, by_kind, file, word}
+use Rattle.flagops_rollouts.specs.Subjects.{is_of_answer, is_of_request, is_of_size, the_plan}
+use Rattle.flagops_rollouts.specs.Loaded.{book_question_subjects}
+use Rattle.flagops_rollouts.specs.Refusal.{stores_file, Remarks, Subjects, by}
+use Rattle.flagops_files.specs.Told.{NamesOne, file, word}
 use Rattle.flagops_shell.specs.Diagnostic.{Says}
-use Rattle.flagops_shell.specs.Files.{Holding}
 use Rattle.flagops_pictures.specs.Words.{Picturing, Planning}
-use Rattle.rollout_checks.specs.declared.verify_fault.VerifyFault.TheVariants as verdict
-
--- a plan is no answer to its request
-abbrev pub is_of_check : RolloutRefusal → Bool
-is_of_check (Verify (verdict.Check e)) = true
-is_of_check e = false
 
 -- the request or the plan, where the plan is not right
 abbrev pub checked_subjects : List ℕ → List ℕ → Subjects
-checked_subjects request plan = (file request, is_of_request) ∷ (file plan, is_of_check) ∷ []
+checked_subjects request plan = (file request, is_of_request) ∷ (file plan, is_of_answer) ∷ []
 
--- the files of the question, the plan file, and then the check of the one against the other
-abbrev pub picture_attempts : Holding → Picturing → Attempts
-picture_attempts at a = book_question_attempts at a.document a.request a.book ++ (attempt_of (file a.plan) (plan_at at a.plan) ∷ by_kind (checked_subjects a.request a.plan))
+abbrev pub picture_subjects : Picturing → Subjects
+picture_subjects a = book_question_subjects a.document a.request a.book ++ checked_subjects a.request a.plan
 
 -- what `plan` refuses of a question
 abbrev pub planned_subjects : List ℕ → List ℕ → Subjects
@@ -34,14 +24,13 @@ planned_subjects request book = (file request, is_of_request) ∷ (word the_plan
 abbrev pub drawn_subjects : Planning → Subjects
 drawn_subjects p = (file p.picture, by stores_file) ∷ planned_subjects p.request p.book
 
--- the files of the question, and then the plan and its picture
-abbrev pub plan_attempts : Holding → Planning → Attempts
-plan_attempts at p = book_question_attempts at p.document p.request p.book ++ by_kind (drawn_subjects p)
+abbrev pub plan_subjects : Planning → Subjects
+plan_subjects p = book_question_subjects p.document p.request p.book ++ drawn_subjects p
 
-abbrev pub picture_told : Holding → Picturing → Remarks
-picture_told at a (Ok report) remark = Says (NamesDoubted a.request a.book) remark
-picture_told at a (Err e) remark = NamesFirst (picture_attempts at a) e remark
+abbrev pub picture_told : Picturing → Remarks
+picture_told a (Ok report) remark = Says (NamesDoubted a.request a.book) remark
+picture_told a (Err e) remark = NamesOne (picture_subjects a) e remark
 
-abbrev pub plan_told : Holding → Planning → Remarks
-plan_told at p (Ok report) remark = Says (NamesDoubted p.request p.book) remark
-plan_told at p (Err e) remark = NamesFirst (plan_attempts at p) e remark
+abbrev pub plan_told : Planning → Remarks
+plan_told p (Ok report) remark = Says (NamesDoubted p.request p.book) remark
+plan_told p (Err e) remark = NamesOne (plan_subjects p) e remark

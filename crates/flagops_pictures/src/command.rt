@@ -3,13 +3,13 @@ ghost use denote.Param.Send.{IsSync};
 ghost use Rattle.std.specs.Prelude.{◌≡◌, ◌||◌, false, true, is_some, map, IfErr, IfOk, IfSome, Ok, option_map, string_bytes};
 ghost use Rattle.flagops_rollouts.specs.Doubts.{NamesDoubted, doubt_of};
 ghost use Rattle.flagops_rollouts.specs.Subjects.{NamesVerified};
-ghost use Rattle.flagops_rollouts.specs.Refusal.{ComesFrom, GivesOne, GivesUnlessWant, is_file_fault, is_want, TellsOfFirst, TellsOfOne};
+ghost use Rattle.flagops_rollouts.specs.Refusal.{ComesFrom, GivesOne, GivesUnlessWant, is_file_fault, is_want, TellsOfOne};
 ghost use Rattle.flagops_shell.specs.Outcomes.{beside};
 ghost use Rattle.flagops_shell.specs.Diagnostic.{Says};
 ghost use Rattle.flagops_files.specs.Question.{book_question_view};
 ghost use Rattle.flagops_shell.specs.Report.{outcome_view};
 ghost use Rattle.flagops_pictures.specs.Commands.{picture_description};
-ghost use Rattle.flagops_pictures.specs.Diagnostics.{checked_subjects, picture_attempts};
+ghost use Rattle.flagops_pictures.specs.Diagnostics.{checked_subjects, picture_subjects};
 ghost use Rattle.flagops_pictures.specs.Pictured.{IsPictureReport, IsPictured, as_question, drawn_report, picture_calls};
 ghost use Rattle.flagops_pictures.specs.Words as words;
 ghost use Rattle.flagops_pictures.specs.Words.{picturing_view};
@@ -69,7 +69,7 @@ fn outcome<R: Threads + Sync, F: FileSet>(
     ensures exact { IfSome (F.holding files.old) (λ at. GivesOne outcome_view result (IsPictureReport at (picturing_view asked.now))) }
     ensures calls { ComesFrom picture_calls result }
     ensures failed { F.has_failed files.new ≡ (F.has_failed files.old || is_file_fault result) }
-    ensures names { IfSome (F.holding files.old) (λ at. TellsOfFirst (picture_attempts at (picturing_view asked.now)) result) }
+    ensures names { TellsOfOne (picture_subjects (picturing_view asked.now)) result }
     ensures notes { IfOk result (λ o. IfSome o.remark (Says (NamesDoubted asked.now.request.now asked.now.book.now))) }
     ensures kept { F.holding files.new ≡ F.holding files.old }
 {

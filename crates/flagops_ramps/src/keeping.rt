@@ -320,10 +320,10 @@ fn kept_onto(
 {
     let (document, ramp) = (asked.answered.rollout.document, asked.answered.ramp);
     let (flags, bytes) = (&question.flags, question.document.as_slice());
-    let Ok(is_left) = is_left(alloc, flags, request, before) else {
+    let Ok(stands) = is_left(alloc, flags, request, before) else {
         return Err(out_of_memory());
     };
-    if !is_left {
+    if !stands {
         return Err(Refused {
             refusal: RampRefusal::OtherRule,
             remark: Remark::of(file_line(alloc, document, OTHER_RULE)),

@@ -1,8 +1,9 @@
 mod Asked
 pub mod Doubting
 pub mod Edited
+mod Edits
 mod Loaded
-mod Omitted
+mod Omissions
 mod Passed
 mod Tallies
 pub mod Telling

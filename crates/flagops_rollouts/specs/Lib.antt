@@ -1,4 +1,5 @@
 pub mod Apply
+pub mod ByHand
 pub mod Calls
 pub mod Doubts
 pub mod FileLines

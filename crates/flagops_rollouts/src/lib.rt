@@ -22,6 +22,7 @@
 #![tactic(auto)]
 
 mod applying;
+mod by_hand;
 mod doubts;
 mod explained;
 mod keep_refusal;

@@ -44,7 +44,7 @@ pub fn settled_omissions(
 }
 
 /// The remark on what is left out, or its refusal. The document and its path are what the contract names.
-#[tactic(auto, using(crate::proofs::Omitted::of_document))]
+#[tactic(auto, using(crate::proofs::Omissions::of_document))]
 fn settle(
     path: &str,
     document: &Document,

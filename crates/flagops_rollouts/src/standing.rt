@@ -27,7 +27,7 @@ pub fn has_rule(
 }
 
 /// The literal buckets of a site of a flag, where it has the site.
-fn entries_in(
+pub(crate) fn entries_in(
     alloc: Global,
     number: u32,
     flag: Option<&Flag>,

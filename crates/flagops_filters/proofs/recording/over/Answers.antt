@@ -1,4 +1,4 @@
-use Rattle.std.proofs.Common.{◌≡◌, ◌∙◌, IfSome, ap, option_map, subst, sym}
+use Rattle.std.proofs.Common.{◌∙◌, IfSome, ap, option_map, subst, ℕ}
 use Rattle.flag_defs.specs.Flags.{flags_view}
 use Rattle.note_streams.specs.Recorded.{recorded_of}
 use Rattle.record_lines.specs.Record.{IsSceneOf}
@@ -19,7 +19,7 @@ returns-in-Ok g c =
     let s = scene_of c.in-Ok.recorder in
     let moment = c.moment.ensures.value ∙ ap (moment_of asked) c.of-start.ensures.value in
     over_scene c.args.console.now c.stream.new.console c.stream.result c.args.asked.now.document.now flags key asked c.args.now is_cut s given
-    (subst (λ (m : _). IsSceneOf flags key m s) moment c.in-Ok.ensures.scene)
+    (subst (λ (m : ℕ). IsSceneOf flags key m s) moment c.in-Ok.ensures.scene)
     (subst (λ (t : Start). IfSome given (λ bytes. RecordEnds c.args.console.now c.stream.new.console c.stream.result (recorded_of s bytes) t bytes is_cut)) c.of-start.ensures.value c.stream.ensures)
 
 pub returns-in-Err : goal.returns-in-Err

@@ -2,12 +2,9 @@ use Rattle.std.proofs.Common.{◌≡◌, Err, IfSome, inl, rules, subst}
 use Rattle.flagops_files.specs.Question.{Question, book_question_view}
 use Rattle.flagops_rollouts.specs.Refusal.{GivesOne, is_file_fault}
 use Rattle.flagops_shell.specs.Report.{outcome_view}
-use Rattle.flagops_files.specs.Told.{by_kind}
-use Rattle.flagops_pictures.specs.Diagnostics.{drawn_subjects}
 use Rattle.flagops_pictures.specs.Planning.{IsPlanWith}
 use Rattle.flagops_pictures.specs.Words.{planning_view}
 use Rattle.flagops_pictures.proofs.Planned.{asked_of, failed_behind, kept_behind, left_behind, unasked}
-use Rattle.flagops_pictures.proofs.Naming.{in_planned, in_question}
 use Rattle.flagops_pictures.proofs.planning.outcome.Goals as goal
 
 pub returns-clause-exact : goal.returns-clause-exact
@@ -36,13 +33,3 @@ pub returns-clause-failed : goal.returns-clause-failed
 returns-clause-failed g c =
     failed_behind (g.F.FileSet.has_failed c.args.files.now) (g.F.FileSet.has_failed c.load_book_question.new.files) (g.F.FileSet.has_failed c.planned.new.files) (is_file_fault c.planned.result)
     c.in_ok-question.ensures.failed c.planned.ensures.failed
-
-pub returns-clause-names : goal.returns-clause-names
-returns-clause-names g c =
-    in_planned (planning_view c.args.asked.now) (book_question_view c.in_ok-question.question) _ c.planned.result c.in_ok-question.ensures.exact c.planned.ensures.names
-
-pub returns-in_err-question-clause-names : goal.returns-in_err-question-clause-names
-returns-in_err-question-clause-names g c =
-    let p = planning_view c.args.asked.now in
-    let is : c.from_residual.result ≡ Err c.in_err-question.field-0.0 = search rules in
-    in_question p.document p.request p.book (λ at. by_kind (drawn_subjects p)) _ c.from_residual.result c.in_err-question.field-0.0 is c.in_err-question.ensures.first

@@ -3,7 +3,7 @@ use Rattle.flag_defs.specs.Definition.{Definition}
 use Rattle.flag_defs.specs.Flag.{flag_view}
 use Rattle.flag_defs.specs.Flags.{flags_view}
 use Rattle.flagops_rollouts.specs.Omitted.{flag_line}
-use Rattle.flagops_rollouts.proofs.Omitted.{one_more}
+use Rattle.flagops_rollouts.proofs.Omissions.{one_more}
 use Rattle.flagops_rollouts.proofs.omitted.broken_lines.Goals as goal
 
 pub loop-i-preserved : goal.loop-i-preserved

@@ -3,7 +3,7 @@ use Rattle.std.proofs.lemmas.Map.Keys.{any_passes_from_place}
 use Rattle.flag_defs.specs.Definition.{Definition}
 use Rattle.flag_defs.specs.Flag.{flag_view, is_broken}
 use Rattle.flag_defs.specs.Flags.{flags_view}
-use Rattle.flagops_rollouts.proofs.Omitted.{one_passed}
+use Rattle.flagops_rollouts.proofs.Omissions.{one_passed}
 use Rattle.flagops_rollouts.proofs.omitted.is_any_broken.Goals as goal
 
 pub returns-then-is_broken : goal.returns-then-is_broken
