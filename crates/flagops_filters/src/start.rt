@@ -47,7 +47,7 @@ impl Start {
 /// Of a targeting, where there is one.
 fn start_on(targeting: Option<&Expr>, asked: Option<Moment>, now: u64) -> Start
     requires { now < 2 ^ 53 }
-    ensures value { result ≡ start_on (option_map (λ e. view e.now) targeting) (option_map (λ m. m.number) asked) now }
+    ensures value { result ≡ start_on (option_map (λ e. view e.now) targeting.entry) (option_map (λ m. m.number) asked) now }
     ensures small { IfSome result.clock (λ n. n < 2 ^ 53) }
 {
     match targeting {
