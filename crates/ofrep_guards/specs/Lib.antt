@@ -1,0 +1,4 @@
+pub mod Asked
+pub mod Reply
+pub mod Guard
+pub mod Laws

@@ -1,0 +1,61 @@
+-- What a guard's replies are sent as (Fetch standard, 3.3.2 to 3.3.4: fields of a CORS response, and which of them scripts see; RFC 9110: 204, 403, 415, Vary).
+use Rattle.std.specs.Prelude.{◌≡◌, ◌⊎◌, ℕ, List, [], ◌∷◌, ◌++◌, codes, Option, Some, None}
+use Rattle.http1.specs.Fields.{Header}
+use Rattle.http_server.specs.Response.{IsResponse, fields_of}
+use Rattle.http_server.specs.declared.response.Response.{Response}
+use Rattle.ofrep_guards.specs.declared.reply.Reply.{Reply}
+use Rattle.ofrep_guards.specs.declared.reply.Reply.TheVariants.{Forbidden, Preflight, Unsupported}
+
+-- the pages of this origin may read the response, with its field ETag; those of others are answered otherwise
+abbrev pub origin_fields : List ℕ → List Header
+origin_fields origin =
+    (codes "access-control-allow-origin", origin) ∷ (codes "access-control-expose-headers", codes "ETag") ∷ (codes "vary", codes "Origin") ∷ []
+
+-- where it is for a page
+abbrev pub page_fields : Option (List ℕ) → List Header
+page_fields None = []
+page_fields (Some origin) = origin_fields origin
+
+-- a page may ask by POST and with these fields; its browser need not ask that again for ten minutes
+abbrev pub preflight_fields : List Header
+preflight_fields =
+    (codes "access-control-allow-methods", codes "POST") ∷ (codes "access-control-allow-headers", codes "content-type, if-none-match, authorization")
+    ∷ (codes "access-control-max-age", codes "600") ∷ []
+
+abbrev pub json_fields : List Header
+json_fields = (codes "content-type", codes "application/json") ∷ []
+
+-- ---- a reply of the guard
+
+abbrev pub status_of : Reply → ℕ
+status_of Forbidden = 403
+status_of Preflight = 204
+status_of Unsupported = 415
+
+-- to a page of an origin that is not listed no field says that it may read the reply
+abbrev pub reply_fields : Reply → Option (List ℕ) → List Header
+reply_fields Forbidden page = json_fields
+reply_fields Preflight page = page_fields page ++ preflight_fields
+reply_fields Unsupported page = page_fields page ++ json_fields
+
+abbrev pub reply_text : Reply → List ℕ
+reply_text Forbidden = codes "{\"errorDetails\":\"the origin of this page is not listed\"}"
+reply_text Preflight = []
+reply_text Unsupported = codes "{\"errorDetails\":\"the body is encoded, or its type is not application/json\"}"
+
+-- the response is the reply; where memory runs out it has the status of the reply, and nothing else
+abbrev pub Replies : Reply → Option (List ℕ) → Response → Type 0
+Replies reply page response = IsResponse (status_of reply) (reply_fields reply page) (reply_text reply) response ⊎ IsResponse (status_of reply) [] [] response
+
+-- ---- what is passed on
+
+-- the response is the given one, and the pages of the origin may read it
+pub record IsShared (origin : List ℕ) (given response : Response) : Type 0 where
+  pub status : response.status ≡ given.status
+  pub body : response.body ≡ given.body
+  pub fields : fields_of response ≡ fields_of given ++ origin_fields origin
+
+-- The response is the given one, which the page that it is for may read. Where memory runs out for that it tells nothing.
+abbrev pub Shares : Option (List ℕ) → Response → Response → Type 0
+Shares None given response = response ≡ given
+Shares (Some origin) given response = IsShared origin given response ⊎ IsResponse 500 [] [] response

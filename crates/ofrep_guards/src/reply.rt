@@ -1,0 +1,42 @@
+//! The replies of a guard.
+ghost use Rattle.std.specs.Prelude.{◌≡◌};
+ghost use Rattle.ofrep_guards.specs.Reply.{reply_text, status_of};
+
+use http::StatusCode;
+
+/// What a guard replies itself to a request.
+#[derive(Clone, Copy, Debug, PartialEq, Eq)]
+pub(crate) enum Reply {
+    /// The request names an origin that is not listed.
+    Forbidden,
+    /// A browser asks what a page may ask.
+    Preflight,
+    /// The body says to be encoded, or to be no JSON.
+    Unsupported,
+}
+
+impl Reply {
+    /// Its status.
+    pub(crate) fn status(self) -> StatusCode
+        ensures { result ≡ status_of self }
+    {
+        match self {
+            Reply::Forbidden => StatusCode::FORBIDDEN,
+            Reply::Preflight => StatusCode::NO_CONTENT,
+            Reply::Unsupported => StatusCode::UNSUPPORTED_MEDIA_TYPE,
+        }
+    }
+
+    /// Its body.
+    pub(crate) fn text(self) -> &'static str
+        ensures { result.now ≡ reply_text self }
+    {
+        match self {
+            Reply::Forbidden => r#"{"errorDetails":"the origin of this page is not listed"}"#,
+            Reply::Preflight => "",
+            Reply::Unsupported => {
+                r#"{"errorDetails":"the body is encoded, or its type is not application/json"}"#
+            }
+        }
+    }
+}
