@@ -313,6 +313,102 @@ class Answers(ServiceTest):
             self.assertTrue(stream.recv(4096).startswith(b"HTTP/1.1 200 "))
 
 
+class Browsers(ServiceTest):
+    """Requests of web pages (the CORS protocol of the Fetch standard), and bodies that say to be something else than JSON."""
+
+    APP = "https://app.example.com"
+    SHARED = {"access-control-allow-origin": APP, "access-control-expose-headers": "ETag", "vary": "Origin"}
+    ALLOWED = {"access-control-allow-methods": "POST", "access-control-allow-headers": "content-type, if-none-match, authorization", "access-control-max-age": "600"}
+
+    def of(self, method, path, body=b"", **headers):
+        """The status, the headers by their names in lower case, and the body of an answer."""
+        status, told, text = self.ask(method, path, body, {name.replace("_", "-"): value for name, value in headers.items()})
+        return status, {name.lower(): value for name, value in told.items()}, text
+
+    def begin(self, *words):
+        return self.start("--log", "log", "--workers", "1", "--poll", "0", *words)
+
+    def refused(self, origin, method="POST", path=f"{FLAGS}/color"):
+        """A request of a page of this origin is forbidden, and its browser keeps the answer from it."""
+        with self.subTest(origin, method=method, path=path):
+            status, headers, text = self.of(method, path, context("mallory"), Origin=origin)
+            self.assertEqual((status, headers["content-type"], list(json.loads(text))), (403, JSON, ["errorDetails"]))
+            self.assertFalse({*self.SHARED, *self.ALLOWED} & set(headers), headers)
+
+    def test_no_page_may_ask(self):
+        self.begin()
+        for origin in (self.APP, "null", "", "http://127.0.0.1"):
+            self.refused(origin)
+            self.refused(origin, path=FLAGS)
+            self.refused(origin, "OPTIONS")
+        self.refused(self.APP, "GET", "/healthz")
+        self.refused(self.APP, "GET", "/metrics")
+        self.assertEqual(self.notes(), [])
+        self.assertEqual(self.of("OPTIONS", f"{FLAGS}/color")[0], 405)
+        self.assertEqual(self.flag("color", context("mallory")), (200, color_of("mallory")))
+        self.assertEqual(len(self.notes()), 1)
+
+    def test_pages_of_listed_origins(self):
+        self.begin("--cors", "https://other.example.com", "--cors", self.APP)
+        for path, body in ((f"{FLAGS}/color", context("mallory")), (FLAGS, context("mallory")), (f"{FLAGS}/nobody", b""), (f"{FLAGS}/color", b"{")):
+            with self.subTest(path, body=body):
+                status, headers, text = self.of("POST", path, body)
+                self.assertFalse(set(self.SHARED) & set(headers), headers)
+                self.assertEqual(self.of("POST", path, body, Origin=self.APP), (status, {**headers, **self.SHARED}, text))
+        tag = self.of("POST", FLAGS, context("mallory"))[1]["etag"]
+        status, headers, text = self.of("POST", FLAGS, context("mallory"), Origin=self.APP, If_None_Match=tag)
+        self.assertEqual((status, headers["etag"], text), (304, tag, b""))
+        self.assertEqual({name: headers[name] for name in self.SHARED}, self.SHARED)
+        self.assertEqual(self.of("GET", "/healthz", Origin=self.APP)[1].keys() & set(self.SHARED), set())
+        for origin in ("https://other.example.com.evil.org", "https://app.example.com/", "http://app.example.com", "HTTPS://APP.EXAMPLE.COM", "null", "*"):
+            self.refused(origin)
+
+    def test_what_a_browser_asks_first(self):
+        self.begin("--cors", self.APP)
+        for path in (FLAGS, f"{FLAGS}/color", f"{FLAGS}/nobody"):
+            with self.subTest(path):
+                asked = {"Access_Control_Request_Method": "POST", "Access_Control_Request_Headers": "content-type"}
+                status, headers, text = self.of("OPTIONS", path, Origin=self.APP, **asked)
+                self.assertEqual((status, text), (204, b""))
+                for name, value in {**self.SHARED, **self.ALLOWED}.items():
+                    self.assertEqual(headers.get(name), value, name)
+        self.assertEqual(self.of("OPTIONS", "/metrics", Origin=self.APP)[0], 405)
+        self.assertEqual(self.notes(), [])
+
+    def test_any_origin(self):
+        self.begin("--cors", "*")
+        for origin in (self.APP, "null", "http://localhost:3000"):
+            with self.subTest(origin):
+                status, headers, _ = self.of("POST", f"{FLAGS}/size", Origin=origin)
+                self.assertEqual((status, headers["access-control-allow-origin"]), (200, origin))
+
+    def test_types_of_bodies(self):
+        self.begin("--cors", self.APP)
+        body = context("mallory")
+        for kind in ("text/plain", "text/plain; application/json", "application/x-www-form-urlencoded", "application/jsonx", "application/json, text/plain", "application", ""):
+            with self.subTest(kind):
+                status, headers, text = self.of("POST", f"{FLAGS}/color", body, Content_Type=kind)
+                self.assertEqual((status, headers["content-type"], list(json.loads(text))), (415, JSON, ["errorDetails"]))
+        for coding in ("gzip", "identity"):
+            with self.subTest(coding):
+                status, headers, _ = self.of("POST", FLAGS, body, Content_Type=JSON, Content_Encoding=coding, Origin=self.APP)
+                self.assertEqual((status, headers["access-control-allow-origin"]), (415, self.APP))
+        self.assertEqual(self.notes(), [])
+        for kind in (JSON, "application/json;charset=utf-8", "Application/JSON ; a=b", "application/json  ", "application/json;"):
+            with self.subTest(kind):
+                self.assertEqual(self.of("POST", f"{FLAGS}/color", body, Content_Type=kind)[0], 200)
+        self.assertEqual(self.of("GET", "/healthz", Content_Type="text/plain")[0], 200)
+
+    def test_they_are_counted(self):
+        self.begin("--cors", self.APP)
+        self.of("POST", FLAGS, Origin="null")
+        self.of("OPTIONS", FLAGS, Origin=self.APP)
+        self.of("POST", FLAGS, b"x", Content_Type="text/plain")
+        lines = self.of("GET", "/metrics")[2].decode().splitlines()
+        for status in (403, 204, 415):
+            self.assertIn(f'ofrep_requests_total{{status="{status}"}} 1', lines)
+
+
 class Unbuffered:
     """Reads of a socket that take no byte of the next answer."""
 

@@ -1,5 +1,5 @@
 //! The command `ofrep`.
-ghost use Rattle.std.specs.Prelude.{◌≡◌, ◌<◌, false, length, map, option_map, vec_len, IfOk, IfSome};
+ghost use Rattle.std.specs.Prelude.{◌≡◌, ◌<◌, false, length, map, option_map, string_bytes, vec_len, IfOk, IfSome};
 ghost use Rattle.std.specs.List.{list_any};
 ghost use Rattle.std.specs.NonZero.{non_zero_usize_get};
 ghost use Rattle.flag_defs.specs.Flag.{is_broken};
@@ -297,6 +297,10 @@ where
         Ok(parted) => parted,
         Err(AllocError) => return refuse_and_tell(alloc, out, err, Refusal::WantOfMemory),
     };
+    let board = match board_of(alloc, answering) {
+        Ok(board) => board,
+        Err(AllocError) => return refuse_and_tell(alloc, out, err, Refusal::WantOfMemory),
+    };
     say_listening(alloc, err, answering);
     say_all_broken(&watched, err);
     say_published(alloc, err, 1, count, broken);
@@ -306,7 +310,6 @@ where
         streams,
         keys,
     } = prepared;
-    let board = board_of(answering);
     board.publish(1);
     let poll = answering.poll;
     let mut watched = watched;
@@ -325,14 +328,28 @@ fn say_all_broken<E: Outlet>(watched: &Watched<'_>, err: &mut E) {
 }
 
 /// A board for what is asked for: the workers share the notes that are remembered.
-fn board_of(answering: &Answering<'_>) -> Board
-    ensures without { result.without_record ≡ answering.now.without_record }
-    ensures remember { option_map non_zero_usize_get result.remember ≡ share_of answering.now.remember answering.now.workers }
+fn board_of(alloc: Global, answering: &Answering<'_>) -> Result<Board, AllocError>
+    ensures without { IfOk result (λ board. board.without_record ≡ answering.now.without_record) }
+    ensures remember { IfOk result (λ board. option_map non_zero_usize_get board.remember ≡ share_of answering.now.remember answering.now.workers) }
+    ensures origins { IfOk result (λ board. map string_bytes board.origins.items ≡ (answering_view answering.now).cors) }
 {
+    let origins = copied(alloc, answering.cors.as_slice())?;
     let share = share_of(answering.remember, answering.workers);
-    let board = Board::with(answering.without_record, share);
+    let board = Board::new(answering.without_record, share, origins, None);
     board.watch_documents(answering.documents.len());
-    board
+    Ok(board)
+}
+
+/// Copies of texts.
+#[tactic(auto, using(crate::proofs::Copied::one_more))]
+fn copied(alloc: Global, texts: &[&str]) -> Result<Vec<String>, AllocError>
+    ensures { IfOk result (λ copies. map string_bytes copies.items ≡ map (λ t. t.now) texts.now) }
+{
+    let mut copies = Vec::new(alloc);
+    for text in texts {
+        copies.push(String::from_str(alloc, text)?)?;
+    }
+    Ok(copies)
 }
 
 /// The seats of so many workers, and those of the subscribers.

@@ -3,6 +3,15 @@ use Rattle.std.proofs.Common.{◌≡◌, ◌∙◌, ℕ, List, [], ◌∷◌, �
 use Rattle.http1.specs.Fields.{Header}
 use Rattle.http_header.specs.FieldValue.{FieldValue, plain_value}
 
+-- two are those two
+pub two : (a b c : List Header) (l m : List ℕ) (x y : FieldValue) (s t : List ℕ) → x ≡ plain_value s → y ≡ plain_value t
+    → b ≡ a ++ (l, x.bytes) ∷ [] → c ≡ b ++ (m, y.bytes) ∷ [] → c ≡ a ++ ((l, s) ∷ (m, t) ∷ [])
+two a b c l m x y s t is_s is_t first second =
+    second ∙ ap (λ (h : List Header). h ++ (m, y.bytes) ∷ []) first
+    ∙ append_assoc a ((l, x.bytes) ∷ []) ((m, y.bytes) ∷ [])
+    ∙ ap (λ (v : FieldValue). a ++ ((l, v.bytes) ∷ (m, y.bytes) ∷ [])) is_s
+    ∙ ap (λ (v : FieldValue). a ++ ((l, s) ∷ (m, v.bytes) ∷ [])) is_t
+
 -- three are those three
 pub three : (a b c d : List Header) (l m n : List ℕ) (x y z : FieldValue) (s t u : List ℕ) → x ≡ plain_value s → y ≡ plain_value t → z ≡ plain_value u
     → b ≡ a ++ (l, x.bytes) ∷ [] → c ≡ b ++ (m, y.bytes) ∷ [] → d ≡ c ++ (n, z.bytes) ∷ [] → d ≡ a ++ ((l, s) ∷ (m, t) ∷ (n, u) ∷ [])

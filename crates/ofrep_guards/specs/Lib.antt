@@ -1,3 +1,5 @@
+pub mod KeyLine
+pub mod Key
 pub mod Asked
 pub mod Reply
 pub mod Guard

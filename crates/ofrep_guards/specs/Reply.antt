@@ -1,10 +1,10 @@
--- What a guard's replies are sent as (Fetch standard, 3.3.2 to 3.3.4: fields of a CORS response, and which of them scripts see; RFC 9110: 204, 403, 415, Vary).
+-- What a guard's replies are sent as (Fetch standard, 3.3.2 to 3.3.4: fields of a CORS response, and which of them scripts see; RFC 9110: 204, 401 and WWW-Authenticate, 403, 404, 415, Vary; RFC 6750, 3: Bearer).
 use Rattle.std.specs.Prelude.{◌≡◌, ◌⊎◌, ℕ, List, [], ◌∷◌, ◌++◌, codes, Option, Some, None}
 use Rattle.http1.specs.Fields.{Header}
 use Rattle.http_server.specs.Response.{IsResponse, fields_of}
 use Rattle.http_server.specs.declared.response.Response.{Response}
 use Rattle.ofrep_guards.specs.declared.reply.Reply.{Reply}
-use Rattle.ofrep_guards.specs.declared.reply.Reply.TheVariants.{Forbidden, Preflight, Unsupported}
+use Rattle.ofrep_guards.specs.declared.reply.Reply.TheVariants.{Forbidden, Elsewhere, Preflight, Unauthorized, Unsupported}
 
 -- the pages of this origin may read the response, with its field ETag; those of others are answered otherwise
 abbrev pub origin_fields : List ℕ → List Header
@@ -25,22 +25,32 @@ preflight_fields =
 abbrev pub json_fields : List Header
 json_fields = (codes "content-type", codes "application/json") ∷ []
 
+-- the same, and how a key is shown
+abbrev pub challenge_fields : List Header
+challenge_fields = (codes "www-authenticate", codes "Bearer") ∷ (codes "content-type", codes "application/json") ∷ []
+
 -- ---- a reply of the guard
 
 abbrev pub status_of : Reply → ℕ
 status_of Forbidden = 403
+status_of Elsewhere = 404
 status_of Preflight = 204
+status_of Unauthorized = 401
 status_of Unsupported = 415
 
--- to a page of an origin that is not listed no field says that it may read the reply
+-- no field says to a page of an origin that is not listed that it may read the reply
 abbrev pub reply_fields : Reply → Option (List ℕ) → List Header
 reply_fields Forbidden page = json_fields
+reply_fields Elsewhere page = json_fields
 reply_fields Preflight page = page_fields page ++ preflight_fields
+reply_fields Unauthorized page = page_fields page ++ challenge_fields
 reply_fields Unsupported page = page_fields page ++ json_fields
 
 abbrev pub reply_text : Reply → List ℕ
 reply_text Forbidden = codes "{\"errorDetails\":\"the origin of this page is not listed\"}"
+reply_text Elsewhere = codes "{\"errorDetails\":\"nothing is served at this path\"}"
 reply_text Preflight = []
+reply_text Unauthorized = codes "{\"errorDetails\":\"the request shows no key that is known\"}"
 reply_text Unsupported = codes "{\"errorDetails\":\"the body is encoded, or its type is not application/json\"}"
 
 -- the response is the reply; where memory runs out it has the status of the reply, and nothing else

@@ -9,8 +9,12 @@ use http::StatusCode;
 pub(crate) enum Reply {
     /// The request names an origin that is not listed.
     Forbidden,
+    /// What the path is for is not served.
+    Elsewhere,
     /// A browser asks what a page may ask.
     Preflight,
+    /// The request shows no key that is known.
+    Unauthorized,
     /// The body says to be encoded, or to be no JSON.
     Unsupported,
 }
@@ -22,7 +26,9 @@ impl Reply {
     {
         match self {
             Reply::Forbidden => StatusCode::FORBIDDEN,
+            Reply::Elsewhere => StatusCode::NOT_FOUND,
             Reply::Preflight => StatusCode::NO_CONTENT,
+            Reply::Unauthorized => StatusCode::UNAUTHORIZED,
             Reply::Unsupported => StatusCode::UNSUPPORTED_MEDIA_TYPE,
         }
     }
@@ -33,7 +39,9 @@ impl Reply {
     {
         match self {
             Reply::Forbidden => r#"{"errorDetails":"the origin of this page is not listed"}"#,
+            Reply::Elsewhere => r#"{"errorDetails":"nothing is served at this path"}"#,
             Reply::Preflight => "",
+            Reply::Unauthorized => r#"{"errorDetails":"the request shows no key that is known"}"#,
             Reply::Unsupported => {
                 r#"{"errorDetails":"the body is encoded, or its type is not application/json"}"#
             }

@@ -2,13 +2,13 @@
 ghost use Rattle.std.specs.Prelude.{◌≡◌, ◌++◌, OnOk, option_copied};
 ghost use Rattle.http_server.specs.Response.{IsBlank, IsResponse, fields_of};
 ghost use Rattle.ofrep_guards.specs.Asked.{value_of};
-ghost use Rattle.ofrep_guards.specs.Reply.{Replies, Shares, json_fields, origin_fields, page_fields, preflight_fields, reply_fields, reply_text, status_of};
+ghost use Rattle.ofrep_guards.specs.Reply.{Replies, Shares, challenge_fields, json_fields, origin_fields, page_fields, preflight_fields, reply_fields, reply_text, status_of};
 
 use crate::reply::Reply;
 use bytes::BufMut;
 use http::header::{
     ACCESS_CONTROL_ALLOW_HEADERS, ACCESS_CONTROL_ALLOW_METHODS, ACCESS_CONTROL_ALLOW_ORIGIN,
-    ACCESS_CONTROL_EXPOSE_HEADERS, ACCESS_CONTROL_MAX_AGE, CONTENT_TYPE, VARY,
+    ACCESS_CONTROL_EXPOSE_HEADERS, ACCESS_CONTROL_MAX_AGE, CONTENT_TYPE, VARY, WWW_AUTHENTICATE,
 };
 use http::{HeaderValue, StatusCode};
 use http_server::Response;
@@ -58,10 +58,14 @@ fn add_fields(
     ensures body { response.new.body ≡ response.old.body }
 {
     match reply {
-        Reply::Forbidden => add_json(response),
+        Reply::Forbidden | Reply::Elsewhere => add_json(response),
         Reply::Preflight => {
             add_page(page, response)?;
             add_preflight(response)
+        }
+        Reply::Unauthorized => {
+            add_page(page, response)?;
+            add_challenge(response)
         }
         Reply::Unsupported => {
             add_page(page, response)?;
@@ -105,6 +109,17 @@ fn add_preflight(response: &mut Response) -> Result<(), AllocError>
     let fields = HeaderValue::from_static("content-type, if-none-match, authorization");
     response.add_header(ACCESS_CONTROL_ALLOW_HEADERS, fields)?;
     response.add_header(ACCESS_CONTROL_MAX_AGE, HeaderValue::from_static("600"))
+}
+
+/// Adds how a key is shown, and the media type of JSON.
+fn add_challenge(response: &mut Response) -> Result<(), AllocError>
+    ensures fields { OnOk result (fields_of response.new ≡ fields_of response.old ++ challenge_fields) }
+    ensures status { response.new.status ≡ response.old.status }
+    ensures body { response.new.body ≡ response.old.body }
+{
+    let scheme = HeaderValue::from_static("Bearer");
+    response.add_header(WWW_AUTHENTICATE, scheme)?;
+    response.add_header(CONTENT_TYPE, HeaderValue::from_static("application/json"))
 }
 
 /// Adds the media type of JSON.

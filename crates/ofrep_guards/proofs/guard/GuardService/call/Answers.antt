@@ -1,7 +1,7 @@
-use Rattle.std.proofs.Common.{◌≡◌, ◌∙◌, ℕ, List, Option, None, map, option_copied, string_bytes, subst, sym}
+use Rattle.std.proofs.Common.{◌≡◌, ◌∙◌, ℕ, List, Option, None, option_copied, subst, sym}
 use Rattle.std.proofs.lemmas.Result.{on_ok_weaker}
 use Rattle.http_server.specs.declared.response.Response.{Response}
-use Rattle.ofrep_guards.specs.Asked.{asked_of, reply_to, value_of}
+use Rattle.ofrep_guards.specs.Asked.{asked_of, reply_to, rules_view, value_of}
 use Rattle.ofrep_guards.specs.Guard.{Guards, page_in}
 use Rattle.ofrep_guards.specs.Reply.{Shares}
 use Rattle.ofrep_guards.specs.declared.reply.Reply.{Reply}
@@ -15,11 +15,11 @@ returns-in-None-clause-ok g c =
     let new = c.pass_on.new.self in
     let told = c.pass_on.new.response in
     let page = value_of (option_copied c.page_of-page.result) in
-    let none : reply_to (map string_bytes old.origins.now) (asked_of request) ≡ None = sym c.reply_to.ensures ∙ c.in-None.is in
+    let none : reply_to (rules_view old.rules) (asked_of request) ≡ None = sym c.reply_to.ensures ∙ c.in-None.is in
     let asks : page ≡ page_in request = c.page_of-page.ensures in
     on_ok_weaker c.pass_on.result
     (λ (p : (given : Response) × g.S.Service.answers old.service request given new.service × Shares page given told). (
-      c.pass_on.ensures.origins,
+      c.pass_on.ensures.rules,
       subst (λ (reply : Option Reply). Guards g.S.Service.answers reply old.service request told new.service) (sym none)
           (p.0, p.1, subst (λ (o : Option (List ℕ)). Shares o p.0 told) asks p.2),
     ))
