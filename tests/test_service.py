@@ -409,6 +409,75 @@ class Browsers(ServiceTest):
             self.assertIn(f'ofrep_requests_total{{status="{status}"}} 1', lines)
 
 
+class Keys(ServiceTest):
+    """Requests of clients that have to show a key."""
+
+    ONE, OTHER = "0123456789abcdef", "another-key-of-24-bytes!"
+
+    def asked(self, path=f"{FLAGS}/color", method="POST", **headers):
+        """The status and the headers, by their names in lower case, of an answer."""
+        status, told, _ = self.ask(method, path, context("mallory"), {name.replace("_", "-"): value for name, value in headers.items()})
+        return status, {name.lower(): value for name, value in told.items()}
+
+    def test_who_may_ask(self):
+        self.put("k", f"{self.ONE}\n{self.OTHER}\n")
+        self.start("--log", "log", "--workers", "1", "--poll", "0", "--keys", "k", "--cors", Browsers.APP)
+        wrong = [
+            {},
+            {"Authorization": ""},
+            {"Authorization": self.ONE},
+            {"Authorization": f"Basic {self.ONE}"},
+            {"Authorization": "Bearer "},
+            {"Authorization": f"Bearer {self.ONE[:-1]}"},
+            {"Authorization": f"Bearer {self.ONE}0"},
+            {"Authorization": f"Bearer  {self.ONE}"},
+            {"Authorization": f"Bearer {self.ONE}\t{self.OTHER}"},
+            {"X-API-Key": ""},
+            {"X-API-Key": f"Bearer {self.ONE}"},
+            {"X-API-Key": self.OTHER.upper()},
+        ]
+        for headers in wrong:
+            for path in (FLAGS, f"{FLAGS}/color", f"{FLAGS}/nobody"):
+                with self.subTest(headers=headers, path=path):
+                    status, told, text = self.ask("POST", path, context("mallory"), headers)
+                    told = {name.lower(): value for name, value in told.items()}
+                    self.assertEqual((status, told["www-authenticate"], told["content-type"], list(json.loads(text))), (401, "Bearer", JSON, ["errorDetails"]))
+        self.assertEqual(self.notes(), [])
+        right = [{"Authorization": f"Bearer {self.ONE}"}, {"Authorization": f"bEARER {self.OTHER}"}, {"X_API_Key": self.OTHER}, {"Authorization": "Basic YTpi", "X_API_Key": self.ONE}]
+        for headers in right:
+            with self.subTest(headers=headers):
+                self.assertEqual(self.asked(**headers)[0], 200)
+        self.assertEqual(len(self.notes()), 1)
+        for path in ("/healthz", "/readyz", "/metrics"):
+            self.assertEqual(self.asked(path, "GET")[0], 200)
+        self.assertEqual(self.asked(Origin=Browsers.APP)[1]["access-control-allow-origin"], Browsers.APP)
+        self.assertEqual(self.asked(method="OPTIONS", Origin=Browsers.APP)[0], 204)
+        self.assertEqual(self.asked(Origin="null", X_API_Key=self.ONE)[0], 403)
+        count = 3 * len(wrong) + 1
+        self.assertIn(f'ofrep_requests_total{{status="401"}} {count}', self.ask("GET", "/metrics")[2].decode().splitlines())
+
+    def test_the_file_is_read_again(self):
+        self.put("k", self.ONE)
+        child = self.start("--poll", "1", "--keys", "k")
+        self.assertEqual(self.asked(X_API_Key=self.ONE)[0], 200)
+        self.assertEqual(self.asked(X_API_Key=self.OTHER)[0], 401)
+        self.put("k", self.OTHER)
+        wait_until(lambda: self.asked(X_API_Key=self.OTHER)[0] == 200, "the new key is not taken")
+        wait_until(lambda: self.asked(X_API_Key=self.ONE)[0] == 401, "the old key is taken still")
+        self.put("k", "short")
+        self.told(child, 'ofrep: "k" is refused')
+        self.assertEqual(self.asked(X_API_Key=self.OTHER)[0], 200)
+        self.assertEqual(self.asked(X_API_Key="short")[0], 401)
+
+    def test_files_without_keys(self):
+        rows = [(None, "1 Unreadable"), ("", "2 NoKey"), ("0" * 65537, "3 TooLarge"), ("0" * 15, "4 BadKey"), (f"{self.ONE}\n\n{self.OTHER}\n", "4 BadKey"), (f"{self.ONE} \n", "4 BadKey"), ("0123456789abcdeß", "4 BadKey")]
+        for text, name in rows:
+            with self.subTest(text):
+                files = {"d": compact(DOCUMENT)} if text is None else {"d": compact(DOCUMENT), "k": text}
+                told = run(["ofrep", "--keys", "k", "d"], files)
+                self.assertEqual((told.out, told.status), (f"refused keys {name}\n", 1))
+
+
 class Unbuffered:
     """Reads of a socket that take no byte of the next answer."""
 

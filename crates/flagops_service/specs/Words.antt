@@ -14,10 +14,11 @@ use Rattle.flagops_service.specs.declared.asked.OnBroken.TheVariants.{Keep, Refu
 use Rattle.ofrep_worker.specs.declared.unrecorded.WithoutRecord.{WithoutRecord}
 use Rattle.ofrep_worker.specs.declared.unrecorded.WithoutRecord.TheVariants as unrecorded
 
--- Documents, by their paths, answered at an address, also to the web pages of these origins, by so many workers that keep notes in a folder and remember so many of them together, and streamed on a port; read again after so many seconds, 0 for never. And what becomes of answers that can't be recorded, and of flags that are broken.
+-- Documents, by their paths, answered at an address, also to the web pages of these origins, to whoever shows a key of a file where one is named, by so many workers that keep notes in a folder and remember so many of them together, and streamed on a port; read again after so many seconds, 0 for never. And what becomes of answers that can't be recorded, and of flags that are broken.
 pub record Answering : Type 0 where
   pub listen : Option Text
   pub cors : List Text
+  pub keys : Option Text
   pub log : Option Text
   pub remember : ℕ
   pub without_record : WithoutRecord
@@ -31,6 +32,7 @@ abbrev pub answering_view : code.Answering → Answering
 answering_view a = record {
   listen = option_copied a.listen;
   cors = map (λ o. o.now) a.cors.items;
+  keys = option_copied a.keys;
   log = option_copied a.log;
   remember = a.remember;
   without_record = a.without_record;
@@ -89,9 +91,9 @@ unfoldable pub ofrep_begun : App
 ofrep_begun =
     with_rule (with_rule (with_rule (new_app (codes "ofrep")) (some_words (codes "DOC"))) (option_text (codes "ADDRESS:PORT") (codes "listen"))) (option_text (codes "FOLDER") (codes "log"))
 
--- the same with `--cors ORIGIN`
+-- the same with `--cors ORIGIN` and `--keys FILE`
 unfoldable pub ofrep_guarded : App
-ofrep_guarded = with_rule ofrep_begun (option_texts (codes "ORIGIN") (codes "cors"))
+ofrep_guarded = with_rule (with_rule ofrep_begun (option_texts (codes "ORIGIN") (codes "cors"))) (option_text (codes "FILE") (codes "keys"))
 
 -- the same with `--remember N`, `--without-record answer|refuse` and `--broken refuse|serve`
 unfoldable pub ofrep_chosen : App
@@ -154,6 +156,7 @@ answering_in rows = do
   Some (record {
     listen = first_of (codes "ADDRESS:PORT") rows;
     cors = origins_in rows;
+    keys = first_of (codes "FILE") rows;
     log = first_of (codes "FOLDER") rows;
     remember = remember;
     without_record = without;

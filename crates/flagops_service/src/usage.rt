@@ -80,7 +80,7 @@ fn chosen<'a>(alloc: Global) -> Result<Command<'a>, AllocError>
         .arg(broken)
 }
 
-/// The command `ofrep` with the words that are texts, and that which says whose web pages may ask.
+/// The command `ofrep` with the words that are texts, and those that say who may ask.
 #[tactic(auto, unfolding(crate::specs::Words::ofrep_guarded))]
 fn guarded<'a>(alloc: Global) -> Result<Command<'a>, AllocError>
     ensures { IfOk result (λ c. app_of c ≡ ofrep_guarded) }
@@ -91,7 +91,13 @@ fn guarded<'a>(alloc: Global) -> Result<Command<'a>, AllocError>
         "cors",
         "An origin whose web pages may ask, as https://app.example.com, or * for any; may be given more than once",
     );
-    begun(alloc)?.arg(origins)
+    let keys = text(
+        alloc,
+        "FILE",
+        "keys",
+        "A file of keys, a line for each, of which a request for an evaluation has to show one",
+    );
+    begun(alloc)?.arg(origins)?.arg(keys)
 }
 
 /// The command `ofrep` with the words that are texts.

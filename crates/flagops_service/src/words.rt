@@ -70,6 +70,7 @@ fn answering_in<'a>(
     Ok(Some(Answering {
         listen: text_at(matches, "ADDRESS:PORT"),
         cors: origins_in(alloc, matches)?,
+        keys: text_at(matches, "FILE"),
         log: text_at(matches, "FOLDER"),
         remember,
         without_record,

@@ -8,5 +8,8 @@ use Rattle.ofrep_guards.specs.contracts.keys.Keys as Keys
 Keys-send : IsSend Keys.the_row
 Keys-send = declared_send Keys.the_type (search (sendable, crosses) depth 40, tt)
 
+Keys-sync : IsSync Keys.the_row
+Keys-sync = declared_sync Keys.the_type (search (sendable, crosses) depth 40, tt)
+
 pub KeyRing-sync : IsSync KeyRing.the_row
-KeyRing-sync = declared_sync KeyRing.the_type (search (sendable, crosses) depth 40, (search (sendable, crosses, Keys-send) depth 40, tt))
+KeyRing-sync = declared_sync KeyRing.the_type (Keys-sync, (search (sendable, crosses) depth 40, (search (sendable, crosses, Keys-send) depth 40, tt)))

@@ -13,6 +13,7 @@ use Rattle.ofrep_requests.specs.declared.place.Place.{Place}
 use Rattle.ofrep_requests.specs.declared.place.Place.TheVariants.{OneFlag, EveryFlag, Health, Metrics, Nowhere}
 use Rattle.ofrep_guards.specs.Key.{bears, is_among, keys_view, passes}
 use Rattle.ofrep_guards.specs.declared.held.HeldKeys.{HeldKeys}
+use Rattle.ofrep_guards.specs.declared.held.KeyRing.{KeyRing}
 use Rattle.ofrep_guards.specs.declared.reply.Reply.{Reply}
 use Rattle.ofrep_guards.specs.declared.reply.Reply.TheVariants.{Forbidden, Elsewhere, Preflight, Unauthorized, Unsupported}
 use Rattle.ofrep_guards.specs.declared.rules.Paths.{Paths}
@@ -93,6 +94,10 @@ rules_view r = record {
   keys = option_map (λ (held : HeldKeys). keys_view held.keys) r.keys;
   paths = r.paths;
 }
+
+-- the keys that guards begin with, where there is a ring of them
+abbrev pub first_keys : Option KeyRing → Option (List (List ℕ))
+first_keys ring = option_map (λ (r : KeyRing). keys_view r.first) ring
 
 -- an entry of the list is the origin, or stands for any
 abbrev pub is_named : List ℕ → List ℕ → Bool

@@ -1,10 +1,10 @@
 //! What a guard goes by.
-ghost use Rattle.std.specs.Prelude.{◌≡◌, ◌||◌, codes, is_some, map, option_copied, option_map, string_bytes};
+ghost use Rattle.std.specs.Prelude.{◌≡◌, ◌||◌, IfOk, codes, is_some, map, option_copied, option_map, string_bytes};
 ghost use Rattle.std.specs.List.{list_any};
 ghost use Rattle.http.specs.Request.{head_of};
 ghost use Rattle.http_header.specs.HeaderMap.{get};
 ghost use Rattle.ofrep_requests.specs.Request.{place_of};
-ghost use Rattle.ofrep_guards.specs.Asked.{asked_of, evaluates, evaluation_reply, is_admitted, is_foreign, is_named, place_reply, reply_to, rules_view, serves, value_of};
+ghost use Rattle.ofrep_guards.specs.Asked.{asked_of, evaluates, evaluation_reply, first_keys, is_admitted, is_foreign, is_named, place_reply, reply_to, rules_view, serves, value_of};
 ghost use Rattle.ofrep_guards.specs.Key.{bears, is_among, keys_view, passes};
 
 use crate::asked::{evaluates, is_preflight, is_unsupported, origin_of};
@@ -15,7 +15,7 @@ use bytes::Bytes;
 use http::header::AUTHORIZATION;
 use http::{HeaderName, HeaderValue, Request};
 use ofrep_requests::Place;
-use std::alloc::Global;
+use std::alloc::{AllocError, Global};
 
 /// What is served.
 #[derive(Clone, Copy, Debug, PartialEq, Eq)]
@@ -38,26 +38,26 @@ pub struct Rules<'a> {
 }
 
 impl<'a> Rules<'a> {
-    /// These rules. No key of a ring is known before the first look.
+    /// These rules, with the keys that a ring begins with.
     pub fn new(
         alloc: Global,
         origins: &'a [String],
         ring: Option<&'a KeyRing>,
         paths: Paths,
-    ) -> Rules<'a>
-        ensures origins { result.origins.now ≡ origins.now }
-        ensures keys { is_some result.keys ≡ is_some ring.entry }
-        ensures paths { result.paths ≡ paths }
+    ) -> Result<Rules<'a>, AllocError>
+        ensures origins { IfOk result (λ rules. rules.origins.now ≡ origins.now) }
+        ensures keys { IfOk result (λ rules. (rules_view rules).keys ≡ first_keys (option_copied ring.entry)) }
+        ensures paths { IfOk result (λ rules. rules.paths ≡ paths) }
     {
         let keys = match ring {
-            Some(ring) => Some(HeldKeys::new(alloc, ring)),
+            Some(ring) => Some(HeldKeys::new(alloc, ring)?),
             None => None,
         };
-        Rules {
+        Ok(Rules {
             origins,
             keys,
             paths,
-        }
+        })
     }
 
     /// Takes over the keys of the ring.

@@ -1,5 +1,5 @@
 //! What the threads of a service tell each other.
-ghost use Rattle.std.specs.Prelude.{◌≡◌, is_some};
+ghost use Rattle.std.specs.Prelude.{◌≡◌, option_map};
 
 use log_file::Loss;
 use note_log::Trouble;
@@ -38,7 +38,7 @@ impl Board {
         ensures without { result.without_record ≡ without_record }
         ensures remember { result.remember ≡ remember }
         ensures origins { result.origins ≡ origins }
-        ensures keys { is_some result.keys ≡ is_some keys }
+        ensures keys { option_map (λ ring. ring.first) result.keys ≡ keys }
     {
         let keys = match keys {
             Some(keys) => Some(KeyRing::new(keys)),

@@ -10,6 +10,7 @@ pub(crate) struct Statuses {
     no_content: AtomicU64,
     not_modified: AtomicU64,
     bad_request: AtomicU64,
+    unauthorized: AtomicU64,
     forbidden: AtomicU64,
     not_found: AtomicU64,
     not_allowed: AtomicU64,
@@ -27,6 +28,7 @@ impl Statuses {
             no_content: AtomicU64::new(0),
             not_modified: AtomicU64::new(0),
             bad_request: AtomicU64::new(0),
+            unauthorized: AtomicU64::new(0),
             forbidden: AtomicU64::new(0),
             not_found: AtomicU64::new(0),
             not_allowed: AtomicU64::new(0),
@@ -44,6 +46,7 @@ impl Statuses {
             204 => &self.no_content,
             304 => &self.not_modified,
             400 => &self.bad_request,
+            401 => &self.unauthorized,
             403 => &self.forbidden,
             404 => &self.not_found,
             405 => &self.not_allowed,
@@ -62,6 +65,7 @@ impl Statuses {
         push_status(text, "204", &self.no_content)?;
         push_status(text, "304", &self.not_modified)?;
         push_status(text, "400", &self.bad_request)?;
+        push_status(text, "401", &self.unauthorized)?;
         push_status(text, "403", &self.forbidden)?;
         push_status(text, "404", &self.not_found)?;
         push_status(text, "405", &self.not_allowed)?;
