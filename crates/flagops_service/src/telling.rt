@@ -151,7 +151,10 @@ pub(crate) fn say_keys_kept<E: Outlet>(err: &mut E, why: Result<String, AllocErr
 
 /// Why what a file has are no keys.
 pub(crate) fn say_keys_refused<E: Outlet>(alloc: Global, err: &mut E, path: &str, fault: KeyFault) {
-    say_keys_kept(err, format!(in alloc; "ofrep: \"{path}\" is refused: {fault}\n"));
+    say_keys_kept(
+        err,
+        format!(in alloc; "ofrep: \"{path}\" is refused: {fault}\n"),
+    );
 }
 
 /// Why the text of a document is not set.

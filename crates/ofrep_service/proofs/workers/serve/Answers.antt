@@ -1,5 +1,3 @@
-use Rattle.http.specs.declared.request.Request.{Request}
-use Rattle.http_server.specs.declared.response.Response.{Response}
 use Rattle.ofrep_guards.specs.Asked.{asked_of, reply_to, rules_view}
 use Rattle.ofrep_guards.specs.Laws.{guarded, guarded_stays, looked_stays}
 use Rattle.ofrep_service.proofs.Resting.{all_rest}
@@ -10,9 +8,12 @@ pub returns : goal.returns
 returns g c =
     let turns = c.answer_connections.ensures in
     let answers = g.S.Service.answers in
-    let stands = g.S.Recording.stands in
-    (turns.0, turns.1, all_rest _ _ _
-    (λ old request response new is. guarded answers stands g.met.S.Recording.given (reply_to (rules_view old.rules) (asked_of request)) old.service request response new.service is.1)
-    (λ old request response new is. guarded_stays answers stands g.met.S.Recording.stays (reply_to (rules_view old.rules) (asked_of request)) old.service request response new.service is.1)
-    (λ old new is. looked_stays g.S.Recording.looked stands g.met.S.Recording.looked_stays old.service new.service is.3)
-    turns.0 c.args.guard.now c.answer_connections.new.service turns.1)
+    let stands = g.S.Recording.stands in (
+      turns.0,
+      turns.1,
+      all_rest _ _ _
+          (λ old request response new is. guarded answers stands g.met.S.Recording.given (reply_to (rules_view old.rules) (asked_of request)) old.service request response new.service is.1)
+          (λ old request response new is. guarded_stays answers stands g.met.S.Recording.stays (reply_to (rules_view old.rules) (asked_of request)) old.service request response new.service is.1)
+          (λ old new is. looked_stays g.S.Recording.looked stands g.met.S.Recording.looked_stays old.service new.service is.3)
+          turns.0 c.args.guard.now c.answer_connections.new.service turns.1,
+    )
