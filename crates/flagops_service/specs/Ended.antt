@@ -51,7 +51,8 @@ IsLogRefusal folder fault = (is_some folder ≡ true) × (fault ≢ log.WantOfMe
 
 -- of a file that is named, the keys can't be used so; that memory ran out is another refusal
 abbrev pub IsKeysRefusal : Option Text → WhyNoKeys → Type 0
-IsKeysRefusal file why = (is_some file ≡ true) × (why ≢ Unusable key.WantOfMemory)
+IsKeysRefusal file Unreadable = is_some file ≡ true
+IsKeysRefusal file (Unusable fault) = (is_some file ≡ true) × (fault ≢ key.WantOfMemory)
 
 -- why what is asked for may not start, though its flags do not stop it
 abbrev pub MayStop : Answering → Stop → Type 0
