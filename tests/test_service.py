@@ -313,6 +313,171 @@ class Answers(ServiceTest):
             self.assertTrue(stream.recv(4096).startswith(b"HTTP/1.1 200 "))
 
 
+class Browsers(ServiceTest):
+    """Requests of web pages (the CORS protocol of the Fetch standard), and bodies that say to be something else than JSON."""
+
+    APP = "https://app.example.com"
+    SHARED = {"access-control-allow-origin": APP, "access-control-expose-headers": "ETag", "vary": "Origin"}
+    ALLOWED = {"access-control-allow-methods": "POST", "access-control-allow-headers": "content-type, if-none-match, authorization", "access-control-max-age": "600"}
+
+    def of(self, method, path, body=b"", **headers):
+        """The status, the headers by their names in lower case, and the body of an answer."""
+        status, told, text = self.ask(method, path, body, {name.replace("_", "-"): value for name, value in headers.items()})
+        return status, {name.lower(): value for name, value in told.items()}, text
+
+    def begin(self, *words):
+        return self.start("--log", "log", "--workers", "1", "--poll", "0", *words)
+
+    def refused(self, origin, method="POST", path=f"{FLAGS}/color"):
+        """A request of a page of this origin is forbidden, and its browser keeps the answer from it."""
+        with self.subTest(origin, method=method, path=path):
+            status, headers, text = self.of(method, path, context("mallory"), Origin=origin)
+            self.assertEqual((status, headers["content-type"], list(json.loads(text))), (403, JSON, ["errorDetails"]))
+            self.assertFalse({*self.SHARED, *self.ALLOWED} & set(headers), headers)
+
+    def test_no_page_may_ask(self):
+        self.begin()
+        for origin in (self.APP, "null", "", "http://127.0.0.1"):
+            self.refused(origin)
+            self.refused(origin, path=FLAGS)
+            self.refused(origin, "OPTIONS")
+        self.refused(self.APP, "GET", "/healthz")
+        self.refused(self.APP, "GET", "/metrics")
+        self.assertEqual(self.notes(), [])
+        self.assertEqual(self.of("OPTIONS", f"{FLAGS}/color")[0], 405)
+        self.assertEqual(self.flag("color", context("mallory")), (200, color_of("mallory")))
+        self.assertEqual(len(self.notes()), 1)
+
+    def test_pages_of_listed_origins(self):
+        self.begin("--cors", "https://other.example.com", "--cors", self.APP)
+        for path, body in ((f"{FLAGS}/color", context("mallory")), (FLAGS, context("mallory")), (f"{FLAGS}/nobody", b""), (f"{FLAGS}/color", b"{")):
+            with self.subTest(path, body=body):
+                status, headers, text = self.of("POST", path, body)
+                self.assertFalse(set(self.SHARED) & set(headers), headers)
+                self.assertEqual(self.of("POST", path, body, Origin=self.APP), (status, {**headers, **self.SHARED}, text))
+        tag = self.of("POST", FLAGS, context("mallory"))[1]["etag"]
+        status, headers, text = self.of("POST", FLAGS, context("mallory"), Origin=self.APP, If_None_Match=tag)
+        self.assertEqual((status, headers["etag"], text), (304, tag, b""))
+        self.assertEqual({name: headers[name] for name in self.SHARED}, self.SHARED)
+        self.assertEqual(self.of("GET", "/healthz", Origin=self.APP)[1].keys() & set(self.SHARED), set())
+        for origin in ("https://other.example.com.evil.org", "https://app.example.com/", "http://app.example.com", "HTTPS://APP.EXAMPLE.COM", "null", "*"):
+            self.refused(origin)
+
+    def test_what_a_browser_asks_first(self):
+        self.begin("--cors", self.APP)
+        for path in (FLAGS, f"{FLAGS}/color", f"{FLAGS}/nobody"):
+            with self.subTest(path):
+                asked = {"Access_Control_Request_Method": "POST", "Access_Control_Request_Headers": "content-type"}
+                status, headers, text = self.of("OPTIONS", path, Origin=self.APP, **asked)
+                self.assertEqual((status, text), (204, b""))
+                for name, value in {**self.SHARED, **self.ALLOWED}.items():
+                    self.assertEqual(headers.get(name), value, name)
+        self.assertEqual(self.of("OPTIONS", "/metrics", Origin=self.APP)[0], 405)
+        self.assertEqual(self.notes(), [])
+
+    def test_any_origin(self):
+        self.begin("--cors", "*")
+        for origin in (self.APP, "null", "http://localhost:3000"):
+            with self.subTest(origin):
+                status, headers, _ = self.of("POST", f"{FLAGS}/size", Origin=origin)
+                self.assertEqual((status, headers["access-control-allow-origin"]), (200, origin))
+
+    def test_types_of_bodies(self):
+        self.begin("--cors", self.APP)
+        body = context("mallory")
+        for kind in ("text/plain", "text/plain; application/json", "application/x-www-form-urlencoded", "application/jsonx", "application/json, text/plain", "application", ""):
+            with self.subTest(kind):
+                status, headers, text = self.of("POST", f"{FLAGS}/color", body, Content_Type=kind)
+                self.assertEqual((status, headers["content-type"], list(json.loads(text))), (415, JSON, ["errorDetails"]))
+        for coding in ("gzip", "identity"):
+            with self.subTest(coding):
+                status, headers, _ = self.of("POST", FLAGS, body, Content_Type=JSON, Content_Encoding=coding, Origin=self.APP)
+                self.assertEqual((status, headers["access-control-allow-origin"]), (415, self.APP))
+        self.assertEqual(self.notes(), [])
+        for kind in (JSON, "application/json;charset=utf-8", "Application/JSON ; a=b", "application/json  ", "application/json;"):
+            with self.subTest(kind):
+                self.assertEqual(self.of("POST", f"{FLAGS}/color", body, Content_Type=kind)[0], 200)
+        self.assertEqual(self.of("GET", "/healthz", Content_Type="text/plain")[0], 200)
+
+    def test_they_are_counted(self):
+        self.begin("--cors", self.APP)
+        self.of("POST", FLAGS, Origin="null")
+        self.of("OPTIONS", FLAGS, Origin=self.APP)
+        self.of("POST", FLAGS, b"x", Content_Type="text/plain")
+        lines = self.of("GET", "/metrics")[2].decode().splitlines()
+        for status in (403, 204, 415):
+            self.assertIn(f'ofrep_requests_total{{status="{status}"}} 1', lines)
+
+
+class Keys(ServiceTest):
+    """Requests of clients that have to show a key."""
+
+    ONE, OTHER = "0123456789abcdef", "another-key-of-24-bytes!"
+
+    def asked(self, path=f"{FLAGS}/color", method="POST", **headers):
+        """The status and the headers, by their names in lower case, of an answer."""
+        status, told, _ = self.ask(method, path, context("mallory"), {name.replace("_", "-"): value for name, value in headers.items()})
+        return status, {name.lower(): value for name, value in told.items()}
+
+    def test_who_may_ask(self):
+        self.put("k", f"{self.ONE}\n{self.OTHER}\n")
+        self.start("--log", "log", "--workers", "1", "--poll", "0", "--keys", "k", "--cors", Browsers.APP)
+        wrong = [
+            {},
+            {"Authorization": ""},
+            {"Authorization": self.ONE},
+            {"Authorization": f"Basic {self.ONE}"},
+            {"Authorization": "Bearer "},
+            {"Authorization": f"Bearer {self.ONE[:-1]}"},
+            {"Authorization": f"Bearer {self.ONE}0"},
+            {"Authorization": f"Bearer  {self.ONE}"},
+            {"Authorization": f"Bearer {self.ONE}\t{self.OTHER}"},
+            {"X-API-Key": ""},
+            {"X-API-Key": f"Bearer {self.ONE}"},
+            {"X-API-Key": self.OTHER.upper()},
+        ]
+        for headers in wrong:
+            for path in (FLAGS, f"{FLAGS}/color", f"{FLAGS}/nobody"):
+                with self.subTest(headers=headers, path=path):
+                    status, told, text = self.ask("POST", path, context("mallory"), headers)
+                    told = {name.lower(): value for name, value in told.items()}
+                    self.assertEqual((status, told["www-authenticate"], told["content-type"], list(json.loads(text))), (401, "Bearer", JSON, ["errorDetails"]))
+        self.assertEqual(self.notes(), [])
+        right = [{"Authorization": f"Bearer {self.ONE}"}, {"Authorization": f"bEARER {self.OTHER}"}, {"X_API_Key": self.OTHER}, {"Authorization": "Basic YTpi", "X_API_Key": self.ONE}]
+        for headers in right:
+            with self.subTest(headers=headers):
+                self.assertEqual(self.asked(**headers)[0], 200)
+        self.assertEqual(len(self.notes()), 1)
+        for path in ("/healthz", "/readyz", "/metrics"):
+            self.assertEqual(self.asked(path, "GET")[0], 200)
+        self.assertEqual(self.asked(Origin=Browsers.APP)[1]["access-control-allow-origin"], Browsers.APP)
+        self.assertEqual(self.asked(method="OPTIONS", Origin=Browsers.APP)[0], 204)
+        self.assertEqual(self.asked(Origin="null", X_API_Key=self.ONE)[0], 403)
+        count = 3 * len(wrong) + 1
+        self.assertIn(f'ofrep_requests_total{{status="401"}} {count}', self.ask("GET", "/metrics")[2].decode().splitlines())
+
+    def test_the_file_is_read_again(self):
+        self.put("k", self.ONE)
+        child = self.start("--poll", "1", "--keys", "k")
+        self.assertEqual(self.asked(X_API_Key=self.ONE)[0], 200)
+        self.assertEqual(self.asked(X_API_Key=self.OTHER)[0], 401)
+        self.put("k", self.OTHER)
+        wait_until(lambda: self.asked(X_API_Key=self.OTHER)[0] == 200, "the new key is not taken")
+        wait_until(lambda: self.asked(X_API_Key=self.ONE)[0] == 401, "the old key is taken still")
+        self.put("k", "short")
+        self.told(child, 'ofrep: "k" is refused')
+        self.assertEqual(self.asked(X_API_Key=self.OTHER)[0], 200)
+        self.assertEqual(self.asked(X_API_Key="short")[0], 401)
+
+    def test_files_without_keys(self):
+        rows = [(None, "1 Unreadable"), ("", "2 NoKey"), ("0" * 65537, "3 TooLarge"), ("0" * 15, "4 BadKey"), (f"{self.ONE}\n\n{self.OTHER}\n", "4 BadKey"), (f"{self.ONE} \n", "4 BadKey"), ("0123456789abcdeß", "4 BadKey")]
+        for text, name in rows:
+            with self.subTest(text):
+                files = {"d": compact(DOCUMENT)} if text is None else {"d": compact(DOCUMENT), "k": text}
+                told = run(["ofrep", "--keys", "k", "d"], files)
+                self.assertEqual((told.out, told.status), (f"refused keys {name}\n", 1))
+
+
 class Unbuffered:
     """Reads of a socket that take no byte of the next answer."""
 

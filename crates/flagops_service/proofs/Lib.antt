@@ -1,4 +1,5 @@
 pub mod Broken
+pub mod Copied
 pub mod Matched
 pub mod Posts
 pub mod Reread

@@ -9,7 +9,10 @@ use Rattle.flagops_service.specs.Starting.{MayNotStart, StartsTo, stops_in}
 use Rattle.flagops_service.specs.Words.{Answering, ofrep_by, ofrep_faults, seats_of}
 use Rattle.flagops_service.specs.declared.asked.OnBroken.TheVariants.{Refuse}
 use Rattle.flagops_service.specs.declared.stop.Stop.{Stop}
-use Rattle.flagops_service.specs.declared.stop.Stop.TheVariants.{NoLog, Unseeded, BrokenFlags}
+use Rattle.flagops_service.specs.declared.stop.Stop.TheVariants.{NoLog, Unseeded, BrokenFlags, NoKeys}
+use Rattle.flagops_service.specs.declared.stop.NoKeys.{NoKeys as WhyNoKeys}
+use Rattle.flagops_service.specs.declared.stop.NoKeys.TheVariants.{Unreadable, Unusable}
+use Rattle.ofrep_guards.specs.declared.key.KeyFault.TheVariants as key
 use Rattle.flagops_streams.specs.Documents.{Answer, count_of}
 use Rattle.flagops_streams.specs.Report.{RefusesBy, Writes}
 use Rattle.flagops_streams.specs.Told.{TellsText}
@@ -27,21 +30,36 @@ log_line log.WantOfMemory = codes "refused log 0 WantOfMemory\n"
 log_line log.Unopened = codes "refused log 1 Unopened\n"
 log_line log.InUse = codes "refused log 2 InUse\n"
 
--- the service does not start: its logs, its random bytes, or a flag that is broken
+-- the file of keys has none to ask for
+abbrev pub keys_line : WhyNoKeys → List ℕ
+keys_line Unreadable = codes "refused keys 1 Unreadable\n"
+keys_line (Unusable key.WantOfMemory) = codes "refused keys 0 WantOfMemory\n"
+keys_line (Unusable key.NoKey) = codes "refused keys 2 NoKey\n"
+keys_line (Unusable key.TooLarge) = codes "refused keys 3 TooLarge\n"
+keys_line (Unusable key.BadKey) = codes "refused keys 4 BadKey\n"
+
+-- the service does not start: its logs, its random bytes, a flag that is broken, or its keys
 abbrev pub stop_line : Stop → List ℕ
 stop_line (NoLog fault) = log_line fault
 stop_line Unseeded = codes "refused random 1 Unseeded\n"
 stop_line BrokenFlags = codes "refused flags 1 Broken\n"
+stop_line (NoKeys why) = keys_line why
 
 -- of a folder that is named, the logs can't be opened so; that memory ran out is another refusal
 abbrev pub IsLogRefusal : Option Text → LogFault → Type 0
 IsLogRefusal folder fault = (is_some folder ≡ true) × (fault ≢ log.WantOfMemory)
+
+-- of a file that is named, the keys can't be used so; that memory ran out is another refusal
+abbrev pub IsKeysRefusal : Option Text → WhyNoKeys → Type 0
+IsKeysRefusal file Unreadable = is_some file ≡ true
+IsKeysRefusal file (Unusable fault) = (is_some file ≡ true) × (fault ≢ key.WantOfMemory)
 
 -- why what is asked for may not start, though its flags do not stop it
 abbrev pub MayStop : Answering → Stop → Type 0
 MayStop a (NoLog fault) = IsLogRefusal a.log fault
 MayStop a Unseeded = Unit {0}
 MayStop a BrokenFlags = ⊥
+MayStop a (NoKeys why) = IsKeysRefusal a.keys why
 
 -- the output and what is told beside it, each by the bytes that are known of it and by whether it is broken
 module _ (out out' : Option (List ℕ)) (broken : Bool) (told told' : Option (List ℕ)) (mute : Bool) (status : ℕ) where

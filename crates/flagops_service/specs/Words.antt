@@ -1,9 +1,10 @@
 -- What the words of `ofrep` ask for, by what `clap` reads of them.
-use Rattle.std.specs.Prelude.{ℕ, zero, suc, ◌+◌, ◌/◌, max, List, codes, map, Option, Some, None, option_copied, option_map, if◌then◌else◌}
+use Rattle.std.specs.Prelude.{ℕ, zero, suc, ◌+◌, ◌/◌, max, List, [], codes, map, Option, Some, None, option_copied, option_map, unwrap_or, if◌then◌else◌}
 use Rattle.std.specs.Str.{bytes_eq}
 use Rattle.clap.specs.Kinds.{Kinds}
 use Rattle.clap.specs.Simple.{App, new_app, new_rule, with_rule}
-use Rattle.clap.specs.Walk.{Row, Rule, Text, first_of}
+use Rattle.clap.specs.Walk.{Row, Rule, Text, all_of, first_of}
+use Rattle.clap.specs.declared.builder.action.ArgAction.TheVariants.{Append}
 use Rattle.flagops_words.specs.Alone.{asked_in, faults_in}
 use Rattle.flagops_words.specs.Numbers.{max_port, number_in}
 use Rattle.flagops_words.specs.Words.{◌>>=◌, number_or, option_number, some_words, texts_at}
@@ -13,9 +14,11 @@ use Rattle.flagops_service.specs.declared.asked.OnBroken.TheVariants.{Keep, Refu
 use Rattle.ofrep_worker.specs.declared.unrecorded.WithoutRecord.{WithoutRecord}
 use Rattle.ofrep_worker.specs.declared.unrecorded.WithoutRecord.TheVariants as unrecorded
 
--- Documents, by their paths, answered at an address by so many workers that keep notes in a folder and remember so many of them together, and streamed on a port; read again after so many seconds, 0 for never. And what becomes of answers that can't be recorded, and of flags that are broken.
+-- Documents, by their paths, answered at an address, also to the web pages of these origins, to whoever shows a key of a file where one is named, by so many workers that keep notes in a folder and remember so many of them together, and streamed on a port; read again after so many seconds, 0 for never. And what becomes of answers that can't be recorded, and of flags that are broken.
 pub record Answering : Type 0 where
   pub listen : Option Text
+  pub cors : List Text
+  pub keys : Option Text
   pub log : Option Text
   pub remember : ℕ
   pub without_record : WithoutRecord
@@ -28,6 +31,8 @@ pub record Answering : Type 0 where
 abbrev pub answering_view : code.Answering → Answering
 answering_view a = record {
   listen = option_copied a.listen;
+  cors = map (λ o. o.now) a.cors.items;
+  keys = option_copied a.keys;
   log = option_copied a.log;
   remember = a.remember;
   without_record = a.without_record;
@@ -77,15 +82,23 @@ max_poll = 3600
 abbrev pub option_text : Text → Text → Rule
 option_text id long = record (new_rule id) { long = Some long }
 
+-- one that may be given more than once
+abbrev pub option_texts : Text → Text → Rule
+option_texts id long = record (option_text id long) { action = Some Append }
+
 -- `ofrep DOC..` with `--listen ADDRESS:PORT` and `--log FOLDER`
 unfoldable pub ofrep_begun : App
 ofrep_begun =
     with_rule (with_rule (with_rule (new_app (codes "ofrep")) (some_words (codes "DOC"))) (option_text (codes "ADDRESS:PORT") (codes "listen"))) (option_text (codes "FOLDER") (codes "log"))
 
+-- the same with `--cors ORIGIN` and `--keys FILE`
+unfoldable pub ofrep_guarded : App
+ofrep_guarded = with_rule (with_rule ofrep_begun (option_texts (codes "ORIGIN") (codes "cors"))) (option_text (codes "FILE") (codes "keys"))
+
 -- the same with `--remember N`, `--without-record answer|refuse` and `--broken refuse|serve`
 unfoldable pub ofrep_chosen : App
 ofrep_chosen =
-    with_rule (with_rule (with_rule ofrep_begun (option_number (codes "NOTES") (codes "remember") 0 max_remembered)) (option_text (codes "answer|refuse") (codes "without-record")))
+    with_rule (with_rule (with_rule ofrep_guarded (option_number (codes "NOTES") (codes "remember") 0 max_remembered)) (option_text (codes "answer|refuse") (codes "without-record")))
     (option_text (codes "refuse|serve") (codes "broken"))
 
 -- the same with `--stream PORT`, `--workers N` and `--poll SECONDS`
@@ -127,6 +140,10 @@ broken_of (Some word) = broken_named word
 abbrev pub broken_in : List Row → Option OnBroken
 broken_in rows = broken_of (first_of (codes "refuse|serve") rows)
 
+-- the origins that are given, none where none is
+abbrev pub origins_in : List Row → List Text
+origins_in rows = unwrap_or (all_of (codes "ORIGIN") rows) []
+
 abbrev pub answering_in : List Row → Option Answering
 answering_in rows = do
   remember ← number_or 1000000 0 max_remembered (first_of (codes "NOTES") rows)
@@ -138,6 +155,8 @@ answering_in rows = do
   documents ← texts_at (codes "DOC") rows
   Some (record {
     listen = first_of (codes "ADDRESS:PORT") rows;
+    cors = origins_in rows;
+    keys = first_of (codes "FILE") rows;
     log = first_of (codes "FOLDER") rows;
     remember = remember;
     without_record = without;

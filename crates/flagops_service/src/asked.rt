@@ -14,12 +14,15 @@ pub enum OnBroken {
     Serve,
 }
 
-/// What `ofrep` is asked for: to answer from documents, by their paths, at an address, by so many workers that keep their notes
-/// in a folder and remember so many of them together, to serve the stream on a port, and to read the documents again after so many
-/// seconds, 0 for never; and what becomes of answers that can't be recorded, and of flags that are broken.
+/// What `ofrep` is asked for: to answer from documents, by their paths, at an address, also the web pages of these origins, whoever
+/// shows a key of a file where one is named, by so many workers that keep their notes in a folder and remember so many of them together, to serve the stream on a port, and to read
+/// the documents again after so many seconds, 0 for never; and what becomes of answers that can't be recorded, and of flags that are
+/// broken.
 #[derive(Debug, Drop)]
 pub struct Answering<'a> {
     pub listen: Option<&'a str>,
+    pub cors: Vec<&'a str>,
+    pub keys: Option<&'a str>,
     pub log: Option<&'a str>,
     pub remember: u64,
     pub without_record: WithoutRecord,

@@ -1,5 +1,5 @@
 //! The command `ofrep`.
-ghost use Rattle.std.specs.Prelude.{◌≡◌, ◌<◌, false, length, map, option_map, vec_len, IfOk, IfSome};
+ghost use Rattle.std.specs.Prelude.{◌≡◌, ◌≤◌, ◌<◌, ◌++◌, false, length, map, option_map, string_bytes, vec_len, IfOk, IfSome};
 ghost use Rattle.std.specs.List.{list_any};
 ghost use Rattle.std.specs.NonZero.{non_zero_usize_get};
 ghost use Rattle.flag_defs.specs.Flag.{is_broken};
@@ -15,6 +15,7 @@ ghost use Rattle.flagops_service.specs.Words.{answering_view, seats_of, share_of
 
 use crate::asked::{Answering, OnBroken};
 use crate::host::Host;
+use crate::keys::WatchedKeys;
 use crate::merging::merge_all;
 use crate::preparing::{Prepared, Unready, prepare};
 use crate::remembering::share_of;
@@ -30,6 +31,7 @@ use flag_defs::Flags;
 use flag_text::Outlet;
 use flagops_shell::{Console, FileSet, report_usage};
 use flagops_streams::{Documents, Refusal, loaded, write_line};
+use ofrep_guards::Keys;
 use ofrep_service::{Board, work_beside};
 use snap_share::{History, Publisher, ReadSeat, ShareName, share};
 use source_merge::Sources;
@@ -184,7 +186,7 @@ fn has_broken(flags: &Flags) -> bool
     false
 }
 
-/// Answers from the flags of documents, once the logs are opened and it listens.
+/// Answers from the flags of documents, once the keys are read, the logs are opened and it listens.
 fn answer_flags<R: Host, F: FileSet, O: Outlet, E: Outlet>(
     rt: &R,
     answering: &Answering<'_>,
@@ -200,7 +202,7 @@ fn answer_flags<R: Host, F: FileSet, O: Outlet, E: Outlet>(
     ensures { Begins (O.bytes out.old) (O.bytes out.new) (O.is_broken out.new) (E.bytes err.old) (E.bytes err.new) (E.is_broken err.new) result (answering_view answering.now) false (length watched.entry.accepted.items) }
 {
     let alloc = rt.alloc();
-    match prepare(rt, alloc, answering) {
+    match prepare(rt, alloc, answering, files) {
         Ok(prepared) => {
             let history = History::new();
             answer_prepared::<Brand, R, F, O, E>(
@@ -233,6 +235,7 @@ where
     E: Outlet,
     requires name { history.seen.book ≡ J.book }
     requires streams { vec_len prepared.streams ≡ subscribers_of answering.now.stream }
+    requires posts { vec_len prepared.posts ≡ answering.now.workers }
     requires merged { AreMerged (sources_view watched.sources) flags }
     requires out_whole { O.is_broken out.old ≡ false }
     requires err_whole { E.is_broken err.old ≡ false }
@@ -284,6 +287,7 @@ where
     O: Outlet,
     E: Outlet,
     requires published { ArePublished (sources_view watched.sources) publisher.old }
+    requires seats { vec_len prepared.posts ≤ vec_len seats }
     requires out_whole { O.is_broken out.old ≡ false }
     requires err_whole { E.is_broken err.old ≡ false }
     ensures { Begins (O.bytes out.old) (O.bytes out.new) (O.is_broken out.new) (E.bytes err.old) (E.bytes err.new) (E.is_broken err.new) result (answering_view answering.now) false (length watched.entry.accepted.items) }
@@ -297,21 +301,35 @@ where
         Ok(parted) => parted,
         Err(AllocError) => return refuse_and_tell(alloc, out, err, Refusal::WantOfMemory),
     };
-    say_listening(alloc, err, answering);
-    say_all_broken(&watched, err);
-    say_published(alloc, err, 1, count, broken);
-    let status = write_line(out, line.as_str(), 1);
     let Prepared {
         posts,
         streams,
         keys,
+        clients,
     } = prepared;
-    let board = board_of(answering);
+    let board = match board_of(alloc, answering, clients) {
+        Ok(board) => board,
+        Err(AllocError) => return refuse_and_tell(alloc, out, err, Refusal::WantOfMemory),
+    };
+    say_listening(alloc, err, answering);
+    say_all_broken(&watched, err);
+    say_published(alloc, err, 1, count, broken);
+    let status = write_line(out, line.as_str(), 1);
     board.publish(1);
     let poll = answering.poll;
     let mut watched = watched;
+    let mut clients = WatchedKeys::new(alloc, answering.keys);
     let ended = work_beside(rt, alloc, keys, &board, seats, posts, others, streams, || {
-        watch(rt, &mut watched, publisher, &board, poll, files, err)
+        watch(
+            rt,
+            &mut watched,
+            &mut clients,
+            publisher,
+            &board,
+            poll,
+            files,
+            err,
+        )
     });
     say_ended(err, ended.is_some());
     status
@@ -324,23 +342,46 @@ fn say_all_broken<E: Outlet>(watched: &Watched<'_>, err: &mut E) {
     }
 }
 
-/// A board for what is asked for: the workers share the notes that are remembered.
-fn board_of(answering: &Answering<'_>) -> Board
-    ensures without { result.without_record ≡ answering.now.without_record }
-    ensures remember { option_map non_zero_usize_get result.remember ≡ share_of answering.now.remember answering.now.workers }
+/// A board for what is asked for: the workers share the notes that are remembered, and want a key of these where a file is named.
+fn board_of(
+    alloc: Global,
+    answering: &Answering<'_>,
+    clients: Option<Keys>,
+) -> Result<Board, AllocError>
+    ensures without { IfOk result (λ board. board.without_record ≡ answering.now.without_record) }
+    ensures remember { IfOk result (λ board. option_map non_zero_usize_get board.remember ≡ share_of answering.now.remember answering.now.workers) }
+    ensures origins { IfOk result (λ board. map string_bytes board.origins.items ≡ (answering_view answering.now).cors) }
+    ensures keys { IfOk result (λ board. option_map (λ ring. ring.first) board.keys ≡ clients) }
 {
+    let origins = copied(alloc, answering.cors.as_slice())?;
     let share = share_of(answering.remember, answering.workers);
-    let board = Board::with(answering.without_record, share);
+    let board = Board::new(answering.without_record, share, origins, clients);
     board.watch_documents(answering.documents.len());
-    board
+    Ok(board)
+}
+
+/// Copies of texts.
+#[tactic(auto, using(crate::proofs::Copied::one_more))]
+fn copied(alloc: Global, texts: &[&str]) -> Result<Vec<String>, AllocError>
+    ensures { IfOk result (λ copies. map string_bytes copies.items ≡ map (λ t. t.now) texts.now) }
+{
+    let mut copies = Vec::new(alloc);
+    for text in texts {
+        copies.push(String::from_str(alloc, text)?)?;
+    }
+    Ok(copies)
 }
 
 /// The seats of so many workers, and those of the subscribers.
 fn parted<J: ShareName>(
     seats: Vec<ReadSeat<J>>,
     workers: usize,
-) -> Result<(Vec<ReadSeat<J>>, Vec<ReadSeat<J>>), AllocError> {
+) -> Result<(Vec<ReadSeat<J>>, Vec<ReadSeat<J>>), AllocError>
+    requires { workers ≤ vec_len seats }
+    ensures workers { IfOk result (λ r. vec_len r.0 ≡ workers) }
+    ensures all { IfOk result (λ r. r.0.items ++ r.1.items ≡ seats.items) }
+{
     let mut seats = seats;
-    let others = seats.split_off(workers.min(seats.len()))?;
+    let others = seats.split_off(workers)?;
     Ok((seats, others))
 }

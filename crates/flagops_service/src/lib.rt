@@ -23,6 +23,7 @@
 mod asked;
 mod command;
 mod host;
+mod keys;
 mod log_news;
 mod merging;
 mod preparing;

@@ -158,7 +158,7 @@ fn bit_of(place: usize) -> u32 {
 }
 
 /// Whether a pipe, a terminal or the like is at the path, from which a read might wait for ever.
-fn is_device<R: LogPaths>(rt: &R, path: &str) -> bool {
+pub(crate) fn is_device<R: LogPaths>(rt: &R, path: &str) -> bool {
     match rt.metadata_at(path) {
         Ok(found) => !found.is_file() && !found.is_dir(),
         Err(_) => false,

@@ -1,8 +1,9 @@
 //! Why the service does not start, apart from its documents, its address, its seats and memory.
 ghost use Rattle.std.specs.Prelude.{◌≡◌};
-ghost use Rattle.flagops_service.specs.Ended.{log_line, stop_line};
+ghost use Rattle.flagops_service.specs.Ended.{keys_line, log_line, stop_line};
 
 use log_file::LogFault;
+use ofrep_guards::KeyFault;
 
 /// Why the service does not start.
 #[derive(Clone, Copy, Debug, PartialEq, Eq)]
@@ -13,6 +14,17 @@ pub(crate) enum Stop {
     Unseeded,
     /// A flag is broken, and none is to be.
     BrokenFlags,
+    /// The file of keys has none to ask for.
+    NoKeys(NoKeys),
+}
+
+/// Why a file has no keys to ask for.
+#[derive(Clone, Copy, Debug, PartialEq, Eq)]
+pub(crate) enum NoKeys {
+    /// It can't be read.
+    Unreadable,
+    /// What it has are no keys.
+    Unusable(KeyFault),
 }
 
 impl Stop {
@@ -24,6 +36,7 @@ impl Stop {
             Stop::NoLog(fault) => log_line(fault),
             Stop::Unseeded => "refused random 1 Unseeded\n",
             Stop::BrokenFlags => "refused flags 1 Broken\n",
+            Stop::NoKeys(why) => keys_line(why),
         }
     }
 
@@ -37,6 +50,7 @@ impl Stop {
             Stop::BrokenFlags => {
                 "error: flags are broken\n  with --broken refuse none may be; \"flagops check DOC..\" names each\n"
             }
+            Stop::NoKeys(why) => why_no_keys(why),
         }
     }
 }
@@ -61,6 +75,40 @@ fn why_no_log(fault: LogFault) -> &'static str {
         }
         LogFault::InUse => {
             "error: the logs are in use\n  another service that runs records in the folder of --log\n"
+        }
+    }
+}
+
+/// The line of a refusal of the keys.
+fn keys_line(why: NoKeys) -> &'static str
+    ensures { result.now ≡ keys_line why }
+{
+    match why {
+        NoKeys::Unreadable => "refused keys 1 Unreadable\n",
+        NoKeys::Unusable(KeyFault::WantOfMemory) => "refused keys 0 WantOfMemory\n",
+        NoKeys::Unusable(KeyFault::NoKey) => "refused keys 2 NoKey\n",
+        NoKeys::Unusable(KeyFault::TooLarge) => "refused keys 3 TooLarge\n",
+        NoKeys::Unusable(KeyFault::BadKey) => "refused keys 4 BadKey\n",
+    }
+}
+
+/// Why there are no keys, for a person.
+pub(crate) fn why_no_keys(why: NoKeys) -> &'static str {
+    match why {
+        NoKeys::Unreadable => {
+            "error: the file of --keys cannot be read\n  it is a file with a key on each line\n"
+        }
+        NoKeys::Unusable(KeyFault::WantOfMemory) => {
+            "error: memory ran out while the keys were read\n"
+        }
+        NoKeys::Unusable(KeyFault::NoKey) => {
+            "error: the file of --keys is empty\n  with no key nobody could ask for a flag\n"
+        }
+        NoKeys::Unusable(KeyFault::TooLarge) => {
+            "error: the file of --keys has more than 65536 bytes\n"
+        }
+        NoKeys::Unusable(KeyFault::BadKey) => {
+            "error: a line of the file of --keys is no key\n  a key has 16 bytes at least, all of them visible ASCII; there are no blank lines\n"
         }
     }
 }

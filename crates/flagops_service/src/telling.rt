@@ -7,6 +7,7 @@ use flag_defs::Flags;
 use flag_regressions::Regression;
 use flag_text::Outlet;
 use flagops_streams::say;
+use ofrep_guards::KeyFault;
 use ofrep_worker::WithoutRecord;
 use source_merge::SourceFault;
 use std::alloc::{AllocError, Global};
@@ -27,6 +28,12 @@ pub(crate) fn say_listening<E: Outlet>(alloc: Global, err: &mut E, answering: &A
         format!(in alloc; "ofrep: listens on {address}, with {workers} workers\n"),
     );
     say_recording(alloc, err, answering);
+    if let Some(path) = answering.keys {
+        say_made(
+            err,
+            format!(in alloc; "ofrep: wants a key of the file \"{path}\" for each evaluation\n"),
+        );
+    }
     if let Some(port) = answering.stream {
         say_made(
             err,
@@ -126,6 +133,28 @@ pub(crate) fn say_accepted<E: Outlet>(alloc: Global, err: &mut E, path: &str) {
 pub(crate) fn say_kept<E: Outlet>(err: &mut E, why: Result<String, AllocError>) {
     say_made(err, why);
     say(err, "  what was accepted of it last is answered from\n");
+}
+
+/// Other keys are wanted.
+pub(crate) fn say_keys_changed<E: Outlet>(alloc: Global, err: &mut E, path: &str) {
+    say_made(
+        err,
+        format!(in alloc; "ofrep: \"{path}\" has changed; a key of it is wanted\n"),
+    );
+}
+
+/// Why the keys stay as they are.
+pub(crate) fn say_keys_kept<E: Outlet>(err: &mut E, why: Result<String, AllocError>) {
+    say_made(err, why);
+    say(err, "  the keys that were read of it last stay\n");
+}
+
+/// Why what a file has are no keys.
+pub(crate) fn say_keys_refused<E: Outlet>(alloc: Global, err: &mut E, path: &str, fault: KeyFault) {
+    say_keys_kept(
+        err,
+        format!(in alloc; "ofrep: \"{path}\" is refused: {fault}\n"),
+    );
 }
 
 /// Why the text of a document is not set.

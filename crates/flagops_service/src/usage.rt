@@ -1,9 +1,9 @@
 //! What `ofrep` takes, in the terms of `clap`.
 ghost use Rattle.std.specs.Prelude.{◌≡◌, IfOk, false};
 ghost use Rattle.clap.specs.Words.{app_of, rule_of};
-ghost use Rattle.flagops_service.specs.Words.{ofrep_app, ofrep_begun, ofrep_chosen, option_text};
+ghost use Rattle.flagops_service.specs.Words.{ofrep_app, ofrep_begun, ofrep_chosen, ofrep_guarded, option_text, option_texts};
 
-use clap::{Arg, Command};
+use clap::{Arg, ArgAction, Command};
 use flagops_words::arguments::{option_number, some_words};
 use flagops_words::{LARGEST_PORT, about};
 use std::alloc::{AllocError, Global};
@@ -74,10 +74,30 @@ fn chosen<'a>(alloc: Global) -> Result<Command<'a>, AllocError>
         "broken",
         "Refuse to start with a broken flag; or take each change of a document, though it breaks flags. Without it neither",
     );
-    begun(alloc)?
+    guarded(alloc)?
         .arg(remember)?
         .arg(without_record)?
         .arg(broken)
+}
+
+/// The command `ofrep` with the words that are texts, and those that say who may ask.
+#[tactic(auto, unfolding(crate::specs::Words::ofrep_guarded))]
+fn guarded<'a>(alloc: Global) -> Result<Command<'a>, AllocError>
+    ensures { IfOk result (λ c. app_of c ≡ ofrep_guarded) }
+{
+    let origins = texts(
+        alloc,
+        "ORIGIN",
+        "cors",
+        "An origin whose web pages may ask, as https://app.example.com, or * for any; may be given more than once",
+    );
+    let keys = text(
+        alloc,
+        "FILE",
+        "keys",
+        "A file of keys, a line for each, of which a request for an evaluation has to show one",
+    );
+    begun(alloc)?.arg(origins)?.arg(keys)
 }
 
 /// The command `ofrep` with the words that are texts.
@@ -116,4 +136,15 @@ fn text<'a>(alloc: Global, name: &'a str, long: &'a str, help: &'a str) -> Arg<'
     ensures local { result.global ≡ false }
 {
     Arg::new(alloc, name).long(long).help(help)
+}
+
+/// An option with a text, which may be given more than once.
+fn texts<'a>(alloc: Global, name: &'a str, long: &'a str, help: &'a str) -> Arg<'a>
+    ensures rule { rule_of result ≡ option_texts name.entry.now long.entry.now }
+    ensures local { result.global ≡ false }
+{
+    Arg::new(alloc, name)
+        .long(long)
+        .action(ArgAction::Append)
+        .help(help)
 }

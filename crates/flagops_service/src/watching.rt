@@ -4,6 +4,7 @@ ghost use Rattle.source_merge.specs.View.{sources_view};
 ghost use Rattle.flagops_service.specs.Merging.{Publishes};
 ghost use Rattle.flagops_service.specs.Rereading.{State, Watches, state_of};
 
+use crate::keys::WatchedKeys;
 use crate::log_news::{LogNews, tell_news};
 use crate::telling::{broken_in, say_made, say_published};
 use crate::watched::Watched;
@@ -18,11 +19,12 @@ use std::sync::Wait;
 use std::thread;
 use std::time::{Clock, Duration};
 
-/// Reads documents again after each pause of so many seconds, 0 for never, and publishes what they have become. Each second it tells
-/// what has happened to logs.
+/// Reads documents again after each pause of so many seconds, 0 for never, and publishes what they have become; and the file of keys.
+/// Each second it tells what has happened to logs.
 pub(crate) fn watch<J: ShareName, R: Clock + LogPaths + Wait, F: FileSet, E: Outlet>(
     rt: &R,
     watched: &mut Watched<'_>,
+    clients: &mut WatchedKeys<'_>,
     publisher: &mut Publisher<J>,
     board: &Board,
     poll: u64,
@@ -42,6 +44,7 @@ pub(crate) fn watch<J: ShareName, R: Clock + LogPaths + Wait, F: FileSet, E: Out
         }
         waits |= watched.read_again(rt, files, err);
         watched.show(board);
+        clients.renew(rt, board, files, err);
         if waits {
             waits = publish(rt, watched, publisher, board, err);
         }

@@ -4,7 +4,7 @@ ghost use Rattle.clap.specs.Walk.{first_of};
 ghost use Rattle.clap.specs.Words.{found_of, kind_of, rows_of};
 ghost use Rattle.flagops_words.specs.Alone.{IsToldBy};
 ghost use Rattle.flagops_words.specs.Numbers.{max_port};
-ghost use Rattle.flagops_service.specs.Words.{answering_in, answering_view, broken_in, broken_named, ofrep_by, ofrep_faults, port_in, without_record_in, without_record_named};
+ghost use Rattle.flagops_service.specs.Words.{answering_in, answering_view, broken_in, broken_named, ofrep_by, ofrep_faults, origins_in, port_in, without_record_in, without_record_named};
 
 use crate::asked::{Answering, OnBroken};
 use crate::usage::{LONGEST_POLL, MOST_REMEMBERED, MOST_WORKERS, command};
@@ -69,6 +69,8 @@ fn answering_in<'a>(
     };
     Ok(Some(Answering {
         listen: text_at(matches, "ADDRESS:PORT"),
+        cors: origins_in(alloc, matches)?,
+        keys: text_at(matches, "FILE"),
         log: text_at(matches, "FOLDER"),
         remember,
         without_record,
@@ -78,6 +80,17 @@ fn answering_in<'a>(
         broken,
         documents: documents.to_vec(alloc)?,
     }))
+}
+
+/// The origins that are given, none where none is.
+#[tactic(auto, using(flagops_words::proofs::Matched::rows))]
+fn origins_in<'a>(alloc: Global, matches: &ArgMatches<'a>) -> Result<Vec<&'a str>, AllocError>
+    ensures { IfOk result (λ origins. map (λ o. o.now) origins.items ≡ origins_in (rows_of (found_of matches.now))) }
+{
+    match matches.get_strs("ORIGIN") {
+        Some(origins) => origins.to_vec(alloc),
+        None => Ok(Vec::new(alloc)),
+    }
 }
 
 /// The text that is given for an argument, where there is one.

@@ -17,6 +17,7 @@ use Rattle.snap_share.specs.declared.history.ShareName as ShareName
 use Rattle.snap_share.specs.contracts.seat.ReadSeat as ReadSeat
 use Rattle.snap_share.proofs.Crossings.{ReadSeat-send}
 use Rattle.ofrep_connections.specs.contracts.load.Load as Load
+use Rattle.ofrep_guards.proofs.Crossings.{KeyRing-sync}
 use Rattle.ofrep_worker.specs.contracts.counts.Counts as Counts
 use Rattle.ofrep_service.specs.contracts.board.Board as Board
 use Rattle.ofrep_service.specs.contracts.posts.Post as Post
@@ -47,7 +48,26 @@ Load-sync : IsSync Load.the_row
 Load-sync = search (sendable, crosses) depth 40
 
 Board-sync : IsSync Board.the_row
-Board-sync = declared_sync Board.the_type (Counts-sync, (Load-sync, (search (sendable, crosses) depth 40, (search (sendable, crosses) depth 40, (search (sendable, crosses) depth 40, (search (sendable, crosses) depth 40, tt))))))
+Board-sync =
+    declared_sync Board.the_type (
+      Counts-sync,
+      (
+        Load-sync,
+        (
+          search (sendable, crosses) depth 40,
+          (
+            search (sendable, crosses) depth 40,
+            (
+              search (sendable, crosses) depth 40,
+              (
+                search (sendable, crosses) depth 40,
+                (search (sendable, crosses) depth 40, (search (sendable, crosses, KeyRing-sync) depth 40, tt)),
+              ),
+            ),
+          ),
+        ),
+      ),
+    )
 
 TcpListener-send : IsSend TcpListener.the_row
 TcpListener-send = search (sendable, crosses) depth 40

@@ -1,20 +1,18 @@
 //! What the threads of a service tell each other.
-ghost use Rattle.std.specs.Prelude.{◌≡◌};
-ghost use Rattle.ofrep_worker.specs.declared.unrecorded.WithoutRecord.TheVariants.{Refuse};
+ghost use Rattle.std.specs.Prelude.{◌≡◌, option_map};
 
 use log_file::Loss;
 use note_log::Trouble;
 use ofrep_connections::Load;
+use ofrep_guards::{KeyRing, Keys};
 use ofrep_worker::{Counts, WithoutRecord};
 use std::num::NonZeroUsize;
+use std::sync::Wait;
 use std::sync::atomic::{AtomicBool, AtomicU64, Ordering};
 
-/// How many notes each worker remembers where nothing else is said.
-const REMEMBERED: usize = 65_536;
-
 /// What the threads of a service tell each other: what the workers count, how many connections they hold, which snapshot was
-/// published last, whether all of them are to end; and what becomes of answers that can't be recorded, and how many notes each
-/// worker remembers.
+/// published last, whether all of them are to end; and what becomes of answers that can't be recorded, how many notes each worker
+/// remembers, the pages of which origins may ask, and the keys of which a request shows one, where one is wanted.
 #[derive(Drop)]
 pub struct Board {
     pub(crate) counts: Counts,
@@ -23,22 +21,29 @@ pub struct Board {
     published: AtomicU64,
     pub(crate) without_record: WithoutRecord,
     pub(crate) remember: Option<NonZeroUsize>,
+    pub(crate) origins: Vec<String>,
+    pub(crate) keys: Option<KeyRing>,
 }
 
 impl Board {
-    /// A board where nothing was counted or published yet. What can't be recorded is not answered, and each worker remembers 65,536
-    /// notes.
-    pub fn new() -> Board
-        ensures { result.without_record ≡ Refuse }
-    {
-        Board::with(WithoutRecord::Refuse, NonZeroUsize::new(REMEMBERED))
-    }
-
-    /// The same, where this becomes of answers that can't be recorded, and each worker remembers so many notes, or none.
-    pub fn with(without_record: WithoutRecord, remember: Option<NonZeroUsize>) -> Board
+    /// A board where nothing was counted or published yet. This becomes of answers that can't be recorded, each worker remembers so
+    /// many notes, or none, the pages of these origins may ask, or with `*` any, and a request shows one of the keys, where there are
+    /// some.
+    pub fn new(
+        without_record: WithoutRecord,
+        remember: Option<NonZeroUsize>,
+        origins: Vec<String>,
+        keys: Option<Keys>,
+    ) -> Board
         ensures without { result.without_record ≡ without_record }
         ensures remember { result.remember ≡ remember }
+        ensures origins { result.origins ≡ origins }
+        ensures keys { option_map (λ ring. ring.first) result.keys ≡ keys }
     {
+        let keys = match keys {
+            Some(keys) => Some(KeyRing::new(keys)),
+            None => None,
+        };
         Board {
             counts: Counts::new(),
             load: Load::new(),
@@ -46,6 +51,8 @@ impl Board {
             published: AtomicU64::new(0),
             without_record,
             remember,
+            origins,
+            keys,
         }
     }
 
@@ -77,6 +84,13 @@ impl Board {
     /// The document at a place was refused when its text was last read, or was not.
     pub fn refuse_document(&self, place: usize, is_refused: bool) {
         self.counts.refuse_document(place, is_refused);
+    }
+
+    /// From now on a request shows one of these keys, where one is wanted.
+    pub fn replace_keys<R: Wait>(&self, rt: &R, keys: Keys) {
+        if let Some(ring) = &self.keys {
+            ring.replace(rt, keys);
+        }
     }
 
     /// What becomes of answers that can't be recorded.

@@ -1,20 +1,23 @@
 //! The threads of the workers.
 ghost use denote.Param.Send.{IsSend, IsSync};
 ghost use Rattle.std.specs.NonZero.{non_zero_usize_get};
-ghost use Rattle.std.specs.Prelude.{◌≡◌, List, IfOk, IfSome, is_none, option_map};
+ghost use Rattle.std.specs.Prelude.{◌≡◌, List, IfOk, IfSome, is_none, option_map, vec_len};
 ghost use Rattle.http_server.specs.Exchange.{Call};
 ghost use Rattle.std.specs.List.{flat_map};
+ghost use Rattle.ofrep_guards.specs.Asked.{first_keys, rules_view};
+ghost use Rattle.ofrep_guards.specs.declared.rules.Paths.TheVariants.{All};
 ghost use Rattle.recorded_answers.specs.Stand.{AllStand, Works};
 
 use crate::board::Board;
 use crate::logs::Journal;
 use crate::posts::Post;
 use crate::streams::stream_beside;
-use http_server::Config;
+use http_server::{Config, Service};
 use limits::{STACK_BYTES, TEXT_BYTES};
 use log_file::{LogPaths, SystemLog};
 use note_log::NoteLog;
 use ofrep_connections::answer_connections;
+use ofrep_guards::{CountsStatus, Guard, Paths, Rules};
 use ofrep_worker::OfrepWorker;
 use recorded_answers::Recording;
 use snap_share::{ReadSeat, ShareName};
@@ -30,7 +33,7 @@ use std::time::Clock;
 const MOST_PENDING: usize = 16_777_216;
 
 /// Runs a worker on a thread for each post, and serves the stream on a thread for each listener, each with the seat of the same
-/// place, and does `beside` meanwhile on its own. It ends when all workers have ended, and they end where the system fails them.
+/// place, and does `beside` meanwhile on its own. There is a seat for each post. It ends when all workers have ended, and they end where the system fails them.
 /// Where a thread can't be made it answers None, and `beside` is not done.
 pub fn work_beside<J, R, B, T>(
     rt: &R,
@@ -47,7 +50,8 @@ where
     J: ShareName + Send + Sync,
     R: Net<Listener = TcpListener, Stream = TcpStream> + LogPaths + Clock + Threads + Wait + Sync,
     B: FnOnce() -> T + Drop,
-    requires { B.pre beside }
+    requires called { B.pre beside }
+    requires seated { vec_len seats ≡ vec_len posts }
 {
     stream_beside(
         rt,
@@ -116,21 +120,32 @@ fn answer<J: ShareName, R: Net + LogPaths + Clock>(
     post: Post,
 ) -> io::Result<()> {
     let Post { listener, journal } = post;
-    let mut worker = worker_of(rt, alloc, keys, board, seat, journal)?;
-    serve(rt, alloc, keys, board, listener, &mut worker)
+    let worker = worker_of(rt, alloc, keys, board, seat, journal)?;
+    let rules = Rules::new(
+        alloc,
+        board.origins.as_slice(),
+        board.keys.as_ref(),
+        Paths::All,
+    )?;
+    let mut guard = Guard::new(rules, worker);
+    serve(rt, alloc, keys, board, listener, &mut guard)
 }
 
-/// Has a worker answer the connections of a listener until all threads are to end or the system fails: turn by turn it looks for its
-/// log, and then answers. What its answers rest on stands in the end.
-fn serve<S: Recording, R: Net + Clock>(
+/// Has a worker behind a guard, which lists the board's origins and begins with its keys, answer the connections of a listener until all threads are to end or
+/// the system fails: turn by turn it looks for its log, and then answers. What its answers rest on stands in the end.
+fn serve<'a, S: Recording + CountsStatus, R: Net + Clock>(
     rt: &R,
     alloc: Global,
     keys: RandomState,
     board: &Board,
     listener: TcpListener,
-    worker: &mut S,
+    guard: &mut Guard<'a, S>,
 ) -> io::Result<()>
-    ensures { (turns : List (List Call)) × Works S.answers S.looked worker.old turns worker.new × AllStand S.stands worker.new (flat_map (λ calls. calls) turns) }
+    requires origins { guard.old.rules.origins.now ≡ board.now.origins.items }
+    requires keys { (rules_view guard.old.rules).keys ≡ first_keys board.now.keys }
+    requires paths { guard.old.rules.paths ≡ All }
+    ensures { (turns : List (List Call)) × Works ⟦<Guard<'a, S> as Service>⟧.answers ⟦<Guard<'a, S> as Recording>⟧.looked guard.old turns guard.new
+        × AllStand ⟦<Guard<'a, S> as Recording>⟧.stands guard.new (flat_map (λ calls. calls) turns) }
 {
     let config = Config {
         max_body_len: TEXT_BYTES,
@@ -145,7 +160,7 @@ fn serve<S: Recording, R: Net + Clock>(
         listener,
         &board.load,
         &board.is_over,
-        worker,
+        guard,
     )
 }
 

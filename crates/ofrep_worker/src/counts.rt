@@ -1,4 +1,5 @@
 //! What the workers of a service count together.
+use crate::statuses::Statuses;
 use http::StatusCode;
 use log_file::{Look, Loss};
 use note_log::Trouble;
@@ -13,14 +14,7 @@ const MOST_DOCUMENTS: u64 = 64;
 /// often a log was opened anew after each kind of loss, and how many logs can't be written now.
 #[derive(Drop)]
 pub struct Counts {
-    ok: AtomicU64,
-    not_modified: AtomicU64,
-    bad_request: AtomicU64,
-    not_found: AtomicU64,
-    not_allowed: AtomicU64,
-    too_large: AtomicU64,
-    failed: AtomicU64,
-    unready: AtomicU64,
+    statuses: Statuses,
     error: AtomicU64,
     disabled: AtomicU64,
     fixed: AtomicU64,
@@ -47,14 +41,7 @@ impl Counts {
     /// Nothing was counted yet.
     pub fn new() -> Counts {
         Counts {
-            ok: AtomicU64::new(0),
-            not_modified: AtomicU64::new(0),
-            bad_request: AtomicU64::new(0),
-            not_found: AtomicU64::new(0),
-            not_allowed: AtomicU64::new(0),
-            too_large: AtomicU64::new(0),
-            failed: AtomicU64::new(0),
-            unready: AtomicU64::new(0),
+            statuses: Statuses::new(),
             error: AtomicU64::new(0),
             disabled: AtomicU64::new(0),
             fixed: AtomicU64::new(0),
@@ -78,17 +65,7 @@ impl Counts {
 
     /// Counts a request that is answered with this status.
     pub(crate) fn count(&self, status: StatusCode) {
-        let count = match status.as_u16() {
-            200 => &self.ok,
-            304 => &self.not_modified,
-            400 => &self.bad_request,
-            404 => &self.not_found,
-            405 => &self.not_allowed,
-            413 => &self.too_large,
-            503 => &self.unready,
-            _ => &self.failed,
-        };
-        count.fetch_add(1, Ordering::Relaxed);
+        self.statuses.count(status);
     }
 
     /// Counts evaluations that ended with these reasons.
@@ -198,15 +175,8 @@ impl Counts {
         flags: usize,
         broken: usize,
     ) -> Result<String, AllocError> {
-        let mut text = format!(in alloc; "# TYPE ofrep_requests_total counter\n")?;
-        push_requests(&mut text, "200", &self.ok)?;
-        push_requests(&mut text, "304", &self.not_modified)?;
-        push_requests(&mut text, "400", &self.bad_request)?;
-        push_requests(&mut text, "404", &self.not_found)?;
-        push_requests(&mut text, "405", &self.not_allowed)?;
-        push_requests(&mut text, "413", &self.too_large)?;
-        push_requests(&mut text, "500", &self.failed)?;
-        push_requests(&mut text, "503", &self.unready)?;
+        let mut text = String::new(alloc);
+        self.statuses.push(&mut text)?;
         self.push_evaluations(&mut text)?;
         self.push_reopened(&mut text)?;
         self.push_failures(&mut text)?;
@@ -307,14 +277,5 @@ fn push_reason(text: &mut String, reason: &str, count: &AtomicU64) -> Result<(),
     write!(
         text,
         "ofrep_evaluations_total{{reason=\"{reason}\"}} {count}\n"
-    )
-}
-
-/// Adds how many requests were answered with a status.
-fn push_requests(text: &mut String, status: &str, count: &AtomicU64) -> Result<(), AllocError> {
-    let count = count.load(Ordering::Relaxed);
-    write!(
-        text,
-        "ofrep_requests_total{{status=\"{status}\"}} {count}\n"
     )
 }

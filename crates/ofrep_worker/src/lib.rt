@@ -20,6 +20,7 @@ mod moment;
 mod notes;
 mod recording;
 mod standing;
+mod statuses;
 mod unrecorded;
 mod worker;
 

@@ -10,10 +10,11 @@ use crate::failing::leave_empty;
 use crate::recording::{record_waiting, trouble_in};
 use crate::unrecorded::WithoutRecord;
 use bytes::Bytes;
-use http::Request;
+use http::{Request, StatusCode};
 use http_server::{Response, Service};
 use log_file::{LogFile, LogPaths};
 use note_log::{NoteLog, Trouble};
+use ofrep_guards::CountsStatus;
 use snap_share::{Current, ReadSeat, ShareFault, ShareName};
 use std::alloc::{AllocError, Global};
 use std::time::Clock;
@@ -140,6 +141,12 @@ impl<J: ShareName, R, F: LogFile> OfrepWorker<'_, J, R, F> {
         self.notes = notes;
         self.too_long = too_long;
         self.trouble = trouble;
+    }
+}
+
+impl<J: ShareName, R, F: LogFile> CountsStatus for OfrepWorker<'_, J, R, F> {
+    fn count_status(&self, status: StatusCode) {
+        self.counts.count(status);
     }
 }
 

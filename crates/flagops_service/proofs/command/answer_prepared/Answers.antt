@@ -18,3 +18,7 @@ returns-in-Err g c =
 -- the flags were shared, and are the merge of all documents
 pub answer_shared-status-requires-clause-published : goal.answer_shared-status-requires-clause-published
 answer_shared-status-requires-clause-published g c κs within = ([], c.args.flags, c.in-Ok.ensures.published, c.requires.merged)
+
+-- there is a seat for each post
+pub answer_shared-status-requires-clause-seats : goal.answer_shared-status-requires-clause-seats
+answer_shared-status-requires-clause-seats g c κs within = omega (arith, c.in-Ok.ensures.seats.0, c.saturating_add-wanted.ensures, c.requires.posts)

@@ -28,7 +28,7 @@ loop-turn-preserved g c =
         so_far.0 ++ state_of now last ∷ [],
         one_turn holding old.broken paths so_far.0 (state_of old c.args.publisher.now) (state_of l.watched l.publisher) (state_of now last) so_far.1 (inl reads, published),
       ),
-      read.ensures.kept ∙ l.invariant.1,
+      c.renew.ensures.kept ∙ read.ensures.kept ∙ l.invariant.1,
       read.ensures.mode ∙ l.invariant.2,
       read.ensures.paths ∙ l.invariant.3,
     )

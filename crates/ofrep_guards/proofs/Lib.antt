@@ -1,0 +1,4 @@
+pub mod Types
+pub mod Fields
+pub mod KeyFiles
+pub mod Crossings

@@ -1,0 +1,78 @@
+//! Keys that many guards share, and that change while they are in use.
+ghost use Rattle.std.specs.Prelude.{◌≡◌, IfOk};
+ghost use Rattle.ofrep_guards.specs.Key.{keys_view};
+
+use crate::keys::Keys;
+use std::alloc::{AllocError, Global};
+use std::sync::atomic::{AtomicU64, Ordering};
+use std::sync::{Mutex, Wait};
+
+/// The keys that the guards of a service share: those that they begin with, and those that were set since.
+#[derive(Drop)]
+pub struct KeyRing {
+    pub(crate) first: Keys,
+    /// How often others were set.
+    version: AtomicU64,
+    later: Mutex<Option<Keys>>,
+}
+
+impl KeyRing {
+    /// These keys.
+    pub fn new(keys: Keys) -> KeyRing
+        ensures { result.first ≡ keys }
+    {
+        KeyRing {
+            first: keys,
+            version: AtomicU64::new(0),
+            later: Mutex::new(None),
+        }
+    }
+
+    /// Sets other keys. Each guard holds them in the place of the last ones from one of its next looks on.
+    pub fn replace<R: Wait>(&self, rt: &R, keys: Keys) {
+        *self.later.lock(rt) = Some(keys);
+        self.version.fetch_add(1, Ordering::SeqCst);
+    }
+}
+
+/// What a guard holds of a ring.
+#[derive(Drop)]
+pub(crate) struct HeldKeys<'a> {
+    alloc: Global,
+    ring: &'a KeyRing,
+    version: u64,
+    pub(crate) keys: Keys,
+}
+
+impl<'a> HeldKeys<'a> {
+    /// The keys that all guards begin with.
+    pub(crate) fn new(alloc: Global, ring: &'a KeyRing) -> Result<HeldKeys<'a>, AllocError>
+        ensures { IfOk result (λ held. keys_view held.keys ≡ keys_view ring.now.first) }
+    {
+        let keys = ring.first.copied(alloc)?;
+        Ok(HeldKeys {
+            alloc,
+            ring,
+            version: 0,
+            keys,
+        })
+    }
+
+    /// Takes over the keys of the ring where others were set. Where memory runs out, or they are being set or taken over just now,
+    /// they are taken over the next time.
+    pub(crate) fn renew(&mut self) {
+        let version = self.ring.version.load(Ordering::SeqCst);
+        if version == self.version {
+            return;
+        }
+        let Some(later) = self.ring.later.try_lock() else {
+            return;
+        };
+        if let Some(keys) = &*later {
+            if let Ok(keys) = keys.copied(self.alloc) {
+                self.keys = keys;
+                self.version = version;
+            }
+        }
+    }
+}
