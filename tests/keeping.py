@@ -114,7 +114,7 @@ def problem_of_use(folder, document, kept):
     ]:
         if folder.run(*words("kept")) != folder.run(*words("applied")):
             return f"another answer of {words('kept')}"
-    written = folder.run("apply", "--keep", "--write", "doc", "plan", "request", "book")
+    written = folder.run("apply", "--keep", "--write", "--doubted", "doc", "plan", "request", "book")
     if written != (f"written {len(kept.encode())}\n", 0) or folder.read("doc") != kept:
         return f"not written as it is printed: {written}"
     return None if sorted(os.listdir(folder.at)) == sorted(["doc", "request", "book", "next", "plan", "kept", "applied", "context"]) else "a file is left"

@@ -1,4 +1,5 @@
 """The command `apply`."""
+import json
 import unittest
 
 from given import FIVES, FREE, document, none_of, plan_of
@@ -97,6 +98,40 @@ class Apply(ProgramTest):
     def test_a_broken_flag_stays_beside_the_one_that_is_changed(self):
         text = document().replace('{"flags":{', '{"flags":{"b":1,')
         self.assert_applied(text, '[["green",7]]', GREEN.replace('{"flags":{', '{"flags":{"b":{},'))
+
+    def test_what_is_left_out(self):
+        """It is told, each broken flag by its key, and refused with `--strict`; the line and the status stay."""
+        flags = '{"flags":{'
+        for text, told in [
+            (document(), []),
+            (AS_IT_WAS, []),
+            (document()[:-1] + ',"$schema":"s","metadata":{"team":"shop"}}', ['"$schema" is left out', '"metadata" is left out']),
+            (document()[:-1] + ',"$evaluators":{}}', ['"$evaluators" is written out where a targeting refers to it']),
+            (document().replace('"state"', '"metadata":{},"state"', 1), ['of the flag "color" is left out: "metadata"']),
+            (document().replace(flags, flags + '"b":1,"a":{"state":"ENABLED","variants":{"low":0.5}},'), ['flag "a" is broken', 'flag "b" is broken']),
+        ]:
+            with self.subTest(text=text):
+                words, files = ["apply", "d", "p", "color", "0"], {"d": text, "p": FREE}
+                plain = run(words, files)
+                self.assertEqual(plain.status, 0)
+                self.assertEqual(json.loads(plain.out)["flags"]["color"], json.loads(APPLIED)["flags"]["color"])
+                self.assertEqual(plain.err.startswith('note: "d" '), told != [], plain.err)
+                places = [plain.err.find(it) for it in told]
+                self.assertTrue(all(it >= 0 for it in places) and places == sorted(places), plain.err)
+                strict = run([*words, "--strict"], files)
+                refused = (1, "refused apply 19 Omitted\n", plain.err)
+                self.assertEqual((strict.status, strict.out, strict.err), refused if told else (0, plain.out, ""))
+                # The same of a step of a ramp.
+                ramp = f'{{"plan":{FREE},"step":1}}\n'
+                for options in ([], ["--strict"]):
+                    step = run(["apply", "--step", "1", *options, *words[1:]], {"d": text, "p": ramp})
+                    self.assertEqual(step[:3], (strict if options else plain)[:3])
+
+    def test_a_refusal_goes_before_what_is_left_out(self):
+        text = document()[:-1] + ',"metadata":{}}'
+        self.assert_ends(["apply", "--strict", "d", "p", "color", "1"], {"d": text, "p": FREE}, 1, "refused apply 3 NoSite\n")
+        ran = run(["apply", "--strict", "d", "p", "color", "0"], {"d": text, "p": none_of("red")})
+        self.assertEqual((ran.status, ran.out, ran.err), (3, "none\n", ""))
 
     def test_a_rule_may_have_a_name_twice_where_another_stands_between(self):
         rule = '[["a",1],["b",2],["a",3]]'

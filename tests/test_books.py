@@ -215,7 +215,7 @@ class Unions(ProgramTest):
             ("\n" + EMPTY_BOOK, "1 Header"),
             ("\ufeff" + EMPTY_BOOK, "1 Header"),
             (EMPTY_BOOK[:-1], "2 Line 1"),
-            (EMPTY_BOOK + "x", None),
+            (EMPTY_BOOK, None),
             ("", None),
         ]:
             with self.subTest(text=text[:40]):
@@ -228,6 +228,50 @@ class Unions(ProgramTest):
                 else:
                     ran = self.assert_ends(["book", "o", "one"], files, 0, "inputs 1\nfiles 1\n")
                     self.assertEqual(ran.files, {**files, "o": files["one"]})
+
+    def test_a_book_that_would_lose_inputs_stays(self):
+        """It is said how many; with `--replace` the book of the files is written, as where nothing is lost."""
+        one, other = {"a": {"x", "z"}, "c": {"k"}}, {"a": {"y", "z"}, "b": {"k"}}
+        both = {"a": {"x", "y", "z"}, "b": {"k"}, "c": {"k"}}
+        notes = "".join(note(flag, text) for flag, texts in one.items() for text in sorted(texts))
+        for before, words, lost in [
+            (one, ["one"], 0),
+            (one, ["one", "other"], 0),
+            (one, ["notes"], 0),
+            ({}, ["one"], 0),
+            (both, ["one", "other"], 0),
+            (both, ["one"], 2),
+            (both, ["notes"], 2),
+            (both, ["other"], 2),
+            (other, ["one"], 2),
+            ({"a": {"w"}, **{key: {"k"} for key in "bcd"}}, ["other"], 3),
+            ({"a": {"k"}}, ["one"], 1),
+        ]:
+            with self.subTest(before=before, words=words):
+                files = {"one": book_of(one), "other": book_of(other), "notes": notes}
+                fresh = run(["book", "o", *words], files)
+                self.assertEqual(fresh.status, 0)
+                ran = run(["book", "o", *words], {**files, "o": book_of(before)})
+                if lost:
+                    told = f'error: "o" has {lost} input{"" if lost == 1 else "s"} that the new book lacks, so it stays\n'
+                    refusal = (1, f"refused book 3 WouldLose {lost}\n", {**files, "o": book_of(before)})
+                    self.assertEqual((ran.status, ran.out, ran.files), refusal)
+                    self.assertEqual(ran.err, told + "  keep them by naming it among the files, or give them up with --replace\n")
+                else:
+                    self.assertEqual(ran, fresh)
+                self.assertEqual(run(["book", "--replace", "o", *words], {**files, "o": book_of(before)}), fresh)
+
+    def test_a_faulty_book_is_not_written_over(self):
+        """Unless with `--replace`; a file that is read is refused before it."""
+        one = book_of({"a": {"x"}})
+        for text, fault in [(EMPTY_BOOK + "x", "2 Line 2"), (EMPTY_BOOK + '"x"\n', "2 Line 2"), (one + '"a"\n', "3 Order 4")]:
+            with self.subTest(text=text):
+                files = {"one": one, "o": text}
+                ran = self.assert_ends(["book", "o", "one"], files, 1, f"refused read_book {fault}\n")
+                self.assertEqual(ran.files, files)
+                self.assert_ends(["book", "o", "none"], files, 1, "refused load 1 Unreadable\n")
+                ran = self.assert_ends(["book", "--replace", "o", "one"], files, 0, "inputs 1\nfiles 1\n")
+                self.assertEqual(ran.files, {**files, "o": one})
 
     def test_a_page_that_is_too_small_for_all(self):
         front = '{"book":1}\n{"by":"{\\"var\\":[\\"key\\"]}","flag":"color","site":0}\n'

@@ -167,6 +167,63 @@ class Drive(ProgramTest):
                 ran = self.assert_ends(["drive", "d", "a", "2", "b", "--add"], files, 1, f"refused {refusal}\n")
                 self.assertEqual(ran.files.get("b"), book)
 
+    def test_a_book_that_would_lose_inputs_stays(self):
+        """It is said how many; with `--replace` the new book is written, as where nothing is lost."""
+        page = BOOK[len(EMPTY_BOOK) : BOOK.index('""\n')]
+        one = EMPTY_BOOK + page + '"test"\n'
+        all_keys = [key for key, _ in KEYS]
+        for before, keys, lost in [
+            ("", all_keys, 0),
+            (EMPTY_BOOK, all_keys, 0),
+            (one, all_keys, 0),
+            (BOOK, all_keys, 0),
+            (one, ["test"], 0),
+            (BOOK + '"zoe"\n', all_keys, 1),
+            (one + '"zoe"\n', ["test"], 1),
+            (one + '"zoe"\n', ["zoe"], 1),
+            (BOOK, ["test"], 6),
+            (BOOK, [], 7),
+            (BOOK + '{"by":null,"flag":"other","site":0}\n"test"\n"zoe"\n', all_keys, 2),
+            (one.replace('"site":0', '"site":1'), ["test"], 1),
+            (one.replace('"color"', '"colour"'), ["test"], 1),
+            (EMPTY_BOOK + '{"by":null,"flag":"color","site":0}\n"test"\n', ["test"], 1),
+        ]:
+            for words in [[], ["--json"]]:
+                with self.subTest(before=before, keys=keys, words=words):
+                    files = {"d": document(), "a": "[" + ",".join(ask(key) for key in keys) + "]"}
+                    fresh = run(["drive", *words, "d", "a", "2", "b"], files)
+                    ran = run(["drive", *words, "d", "a", "2", "b"], {**files, "b": before})
+                    if lost:
+                        told = f'error: "b" has {lost} input{"" if lost == 1 else "s"} that the new book lacks, so it stays\n'
+                        self.assertEqual((ran.status, ran.out, ran.files["b"]), (1, f"refused drive 7 WouldLose {lost}\n", before))
+                        self.assertEqual(ran.err, told + "  keep them with --add, or give them up with --replace\n")
+                    else:
+                        self.assertEqual(ran, fresh)
+                    self.assertEqual(run(["drive", "--replace", *words, "d", "a", "2", "b"], {**files, "b": before}), fresh)
+
+    def test_what_is_refused_of_the_old_book(self):
+        """A faulty one stays, unless with `--replace`, and what is no book stays with it too; a doubt comes first."""
+        for before, words, refusal in [
+            (EMPTY_BOOK + '"a"\n', [], "read_book 2 Line 2"),
+            (EMPTY_BOOK + "rest", [], "read_book 2 Line 2"),
+            (BOOK[:-1], [], "read_book 2 Line 9"),
+            ("{}\n", ["--replace"], "read_book 1 Header"),
+            (BOOK, ["--strict"], "drive 17 Unrecorded"),
+        ]:
+            with self.subTest(before=before, words=words):
+                files = {"d": document(), "a": "[]", "b": before}
+                ran = self.assert_ends(["drive", *words, "d", "a", "2", "b"], files, 1, f"refused {refusal}\n")
+                self.assertEqual(ran.files, files)
+                if not words:
+                    ran = run(["drive", "--replace", "d", "a", "2", "b"], files)
+                    self.assertEqual((ran.status, ran.files["b"]), (0, EMPTY_BOOK))
+
+    def test_a_book_that_is_added_to_loses_nothing(self):
+        for words in [["--add"], ["--add", "--replace"]]:
+            files = {"d": document(), "a": "[]", "b": BOOK}
+            ran = run(["drive", *words, "d", "a", "2", "b"], files)
+            self.assertEqual((ran.status, ran.files["b"]), (0, BOOK))
+
     def test_an_input_that_is_too_long_is_counted_and_not_noted(self):
         key = "k" * 1025
         report = answer(key, "blue") + "inputs 0\ncalls 0\nnews 0\nfull 0\nlong 1\n"

@@ -188,7 +188,8 @@ class FiltersTest(ProgramTest):
         self.assertEqual((ran.out, ran.status), ("refused plan 2 UnknownFlag\n", 1))
         self.assertIn('"none"', ran.err)
         self.assertEqual(record("", document=BROKEN).out, "refused plan 3 NoSite\n")
-        self.assertEqual(record(context("a"), document=BROKEN, key="plain"), ("", "", 0, {"d": BROKEN}))
+        no_site = "record: the targeting has no fractional, and nothing is recorded\n"
+        self.assertEqual(record(context("a"), document=BROKEN, key="plain"), ("", no_site, 0, {"d": BROKEN}))
         for key, site, refused in [
             ("none", "0", "2 UnknownFlag"),
             ("color", "0", "3 NoSite"),
@@ -204,13 +205,33 @@ class FiltersTest(ProgramTest):
         self.assertEqual(tally("", "--refine", "125001").out, "refused plan 7 TotalTooLarge\n")
 
     def test_moment(self):
-        """The moment is that of each evaluation, and 0 where it is left out."""
-        targeting = {"if": [{">": [{"var": "$flagd.timestamp"}, 5]}, {"fractional": [{"var": "key"}, ["red", 1]]}, "red"]}
-        flags = {"t": {"state": "ENABLED", "variants": {"red": 1}, "defaultVariant": "red", "targeting": targeting}}
+        """The moment is that of each evaluation; where it is left out, 0, or the clock's second where the targeting may read it."""
+        pick = {"fractional": [{"var": "key"}, ["red", 1]]}
+        flags = {
+            key: {"state": "ENABLED", "variants": {"red": 1}, "defaultVariant": "red", "targeting": targeting}
+            for key, targeting in {
+                "timed": {"if": [{">": [{"var": "$flagd.timestamp"}, 5]}, pick, "red"]},
+                "missing": {"if": [{"missing": "$flagd.timestamp"}, "red", pick]},
+                "computed": {"if": [{"var": {"cat": ["$flagd.", "timestamp"]}}, pick, "red"]},
+                "scope": {"if": [{"var": ["", 0]}, pick, "red"]},
+                "bucket": {"fractional": [{"var": "key"}, [{"var": "$flagd"}, 1], ["red", 1]]},
+            }.items()
+        }
         document = compact({"flags": flags})
-        for more, count in [([], 0), (["--moment", "5"], 0), (["--moment", "6"], 1)]:
-            ran = record(context("a"), *more, document=document, key="t")
-            self.assertEqual((len(ran.out.splitlines()), ran.status), (count, 0))
+        for moment, count in [("0", 0), ("5", 0), ("6", 1)]:
+            ran = record(context("a"), "--moment", moment, document=document, key="timed")
+            self.assertEqual((len(ran.out.splitlines()), ran.err, ran.status), (count, "", 0))
+        ran = record(context("a"), document=document, key="missing")
+        self.assertEqual((len(ran.out.splitlines()), ran.err, ran.status), (1, "", 0))
+        told = r"record: the targeting reads \$flagd\.timestamp and no --moment is given: the moment is \d+, the clock's second\n"
+        for key in ["timed", "computed", "scope", "bucket"]:
+            with self.subTest(key=key):
+                ran = record(context("a"), document=document, key=key)
+                self.assertEqual((len(ran.out.splitlines()), ran.status), (1, 0))
+                self.assertRegex(ran.err, "^" + told + "$")
+        ran = record(context("a") + "[]\n", document=document, key="timed")
+        self.assertEqual((len(ran.out.splitlines()), ran.status), (2, 1))
+        self.assertRegex(ran.err, "^error: the standard input: [^\n]*line 2[^\n]*\n" + told + "$")
 
     def test_unreadable(self):
         """A read that fails is a refusal of its own."""

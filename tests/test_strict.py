@@ -79,7 +79,7 @@ class Strict(ProgramTest):
             for call, words in [
                 ("verify", ["verify", "document", "request", "book", "plan"]),
                 ("apply", ["apply", "--keep", "document", "plan", "request", "book"]),
-                ("apply", ["apply", "--keep", "--write", "document", "plan", "request", "book"]),
+                ("apply", ["apply", "--keep", "--write", "--doubted", "document", "plan", "request", "book"]),
             ]:
                 with self.subTest(words=words, doubt=doubt):
                     plain = run(words, given)
@@ -101,7 +101,7 @@ class Strict(ProgramTest):
                 ("plan", ["plan", "document", "request", "book"]),
                 ("verify", ["verify", "document", "request", "book", "plan"]),
                 ("apply", ["apply", "--keep", "document", "plan", "request", "book"]),
-                ("apply", ["apply", "--keep", "--write", "document", "plan", "request", "book"]),
+                ("apply", ["apply", "--keep", "--write", "--doubted", "document", "plan", "request", "book"]),
             ]:
                 with self.subTest(words=words, told=told, lines=lines[:4]):
                     plain = run(words, given)
@@ -110,6 +110,23 @@ class Strict(ProgramTest):
                     refused = (1, f"refused {call} 18 Foreign\n", note, given)
                     wanted = tuple(plain[i] for i in (2, 0, 1, 3)) if told is None else refused
                     self.assertEqual((strict.status, strict.out, strict.err, strict.files), wanted)
+
+    def test_a_doubted_request_is_not_written(self):
+        """Without `--strict` being said; `--doubted` writes all the same, and what is not doubted is written as ever."""
+        for asked, book, doubt, note in DOUBTS:
+            with self.subTest(doubt=doubt):
+                given = {**files(asked, book), "plan": run(["plan", "document", "request", "book"], files(asked, book)).out}
+                words = ["document", "plan", "request", "book"]
+                refused = run(["apply", "--keep", "--write", *words], given)
+                self.assertEqual((refused.status, refused.out, refused.files), (1, f"refused apply {doubt}\n", given))
+                self.assertEqual(refused.err[: len(note)], note)
+                kept = run(["apply", "--keep", *words], given)
+                written = run(["apply", "--keep", "--write", "--doubted", *words], given)
+                self.assertEqual((written.status, written.out, written.err), (0, f"written {len(kept.out)}\n", refused.err))
+                self.assertEqual(written.files, {**given, "document": kept.out})
+        for options in ([], ["--doubted"]):
+            given = {**files(RED_3, BOOK), "plan": plan_of(rule=CHEAPEST)}
+            self.assertEqual(run(["apply", "--keep", "--write", *options, "document", "plan", "request", "book"], given).status, 0)
 
     def test_a_member_that_is_not_read_and_inputs_of_another_flag(self):
         """Both are told, and the refusal has the first."""
@@ -146,8 +163,22 @@ class Strict(ProgramTest):
                 self.assertTrue(told.err.startswith(begins), told.err)
                 self.assertTrue(told.err.endswith("\n" + plain.err), told.err)
 
-    def test_the_option_goes_with_keep(self):
-        self.assert_mistake(["apply", "--strict", "d", "p", "f", "0"], {}, "'--strict' go with '--keep'")
+    def test_the_edit_by_hand_beside_a_plan(self):
+        """Three red points in one block: the two inputs on the fifth point are switched, which the plan leaves where they are."""
+        words = ["plan", "--explain", "document", "request", "book"]
+        line = "  your edit by hand, each variant in one block, would switch {} of {}; this plan switches {}\n"
+        for asked, book, numbers in [
+            (RED_3, BOOK, (2, 7, 0)),
+            (request('"red":0,"blue":10'), BOOK, (4, 7, 4)),
+            # The old rule has red first, and so has the edit: green follows behind blue.
+            (request('"red":5,"blue":3,"green":2'), BOOK, (0, 7, 0)),
+            (RED_3, EMPTY_BOOK, (0, 0, 0)),
+        ]:
+            with self.subTest(asked=asked):
+                ran = run(words, files(asked, book))
+                self.assertIn(line.format(*numbers), ran.err)
+        blocked = run(words, files(request('"red":10', ',"forbid":[["blue","red"]]'), BOOK))
+        self.assertNotIn("your edit by hand", blocked.err)
 
 
 if __name__ == "__main__":

@@ -151,9 +151,9 @@ class Drives(ProgramTest):
                 self.assertEqual(ran.files["b"], text)
 
     def test_a_book_and_an_empty_file_are(self):
-        for text in ["", EMPTY_BOOK, BOOK, EMPTY_BOOK + "rest"]:
-            with self.subTest(text=text):
-                ran = run(["drive", "d", "a", "1", "b"], {"d": document(), "a": "[]", "b": text})
+        for words, text in [([], ""), ([], EMPTY_BOOK), (["--replace"], BOOK), (["--replace"], EMPTY_BOOK + "rest")]:
+            with self.subTest(words=words, text=text):
+                ran = run(["drive", *words, "d", "a", "1", "b"], {"d": document(), "a": "[]", "b": text})
                 self.assertEqual((ran.status, ran.files["b"]), (0, EMPTY_BOOK))
 
     def test_what_the_asks_ended_in_is_told(self):

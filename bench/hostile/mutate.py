@@ -44,8 +44,8 @@ KINDS = {
         (row("apply --keep --write kept plan request tally", writes="kept"), "kept"),
         (row("ramp doc steps book"), "doc"),
         (row("picture doc request book plan"), "doc"),
-        (row("drive doc few 2 made", writes="made"), "doc"),
-        (row("drive --strict --json doc few 2 made", writes="made"), "doc"),
+        (row("drive --replace doc few 2 made", writes="made"), "doc"),
+        (row("drive --replace --strict --json doc few 2 made", writes="made"), "doc"),
         (row("record doc checkout", stdin="contexts"), "doc"),
         (row("tally doc checkout 0", stdin="sorted"), "doc"),
     ],
@@ -67,8 +67,8 @@ KINDS = {
     "keys": [(row("price old new prices keys"), "keys")],
     "context": [(row("resolve doc checkout bool false context 0"), "context")],
     "asks": [
-        (row("drive doc few 2 made", writes="made"), "few"),
-        (row("drive --strict --json doc few 2 made", writes="made"), "few"),
+        (row("drive --replace doc few 2 made", writes="made"), "few"),
+        (row("drive --replace --strict --json doc few 2 made", writes="made"), "few"),
         (row("drive --add doc asks 2 made", writes="made"), "asks"),
     ],
     "book": [
@@ -255,12 +255,12 @@ class Trial:
         answers, counts = lines[:-count], lines[-count:]
         are_counts = are_texts_of(MEMBERS["drive"], counts) if "--json" in words else len(counts) == count
         book = read(self.folder, words[-1])
-        return self.again("book", "joined", "printed", out=book).startswith("inputs") and are_counts and all(map(is_resolution, answers))
+        return self.again("book", "--replace", "joined", "printed", out=book).startswith("inputs") and are_counts and all(map(is_resolution, answers))
 
     def book(self, words, ran):
         """The book is to be read, and to be the book of itself."""
         text = read(self.folder, "joined")
-        return self.again("book", "joined", "printed", out=text) == ran.out.split("\n")[0] + "\nfiles 1\n" and read(self.folder, "joined") == text
+        return self.again("book", "--replace", "joined", "printed", out=text) == ran.out.split("\n")[0] + "\nfiles 1\n" and read(self.folder, "joined") == text
 
     def tally(self, words, ran):
         """The tally is to be that of itself."""

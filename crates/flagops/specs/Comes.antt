@@ -25,7 +25,7 @@ use Rattle.flagops_shell.specs.Files.{Holding}
 use Rattle.flagops_shell.specs.Running.{Description, Runs}
 use Rattle.flagops_streams.specs.Ended.{AnswersServe, FollowsAsked, RefusesUnread, ServesAsked, TellsFollow, TellsServe}
 use Rattle.flagops.specs.declared.family.Family.{Family}
-use Rattle.flagops.specs.declared.family.Family.TheVariants.{Files, Serve, Follow, Ramp, VerifyRamp, Picture, PictureRamp, PlanPicture, ApplyStep, Ofrep, Record, Tally, Join, Book, Check, Compare}
+use Rattle.flagops.specs.declared.family.Family.TheVariants.{Files, Serve, Follow, Ramp, VerifyRamp, Picture, PictureRamp, PlanPicture, ApplyStep, KeepStep, Ofrep, Record, Tally, Join, Book, Check, Compare}
 
 module _ (old new : Shown) (held holds : Option Holding) (had_failed has_failed : Bool) (status : ℕ) (given : Option (List ℕ)) (is_cut : Bool) where
   -- of a command, by which of its refusals are of a file that could not be read or written, and by their lines
@@ -85,6 +85,7 @@ module _ (old new : Shown) (held holds : Option Holding) (had_failed has_failed 
   Comes PictureRamp words = AnswersSteps pictures.ramp_description words
   Comes PlanPicture words = AnswersRollout pictures.plan_description words
   Comes ApplyStep words = AnswersSteps ramps.step_description words
+  Comes KeepStep words = AnswersSteps ramps.keep_description words
   Comes Ofrep words = ComesOfOfrep words
   Comes Record words = ComesOfRecord words
   Comes Tally words = ComesOfTally words

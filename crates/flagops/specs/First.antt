@@ -4,7 +4,7 @@ use Rattle.std.specs.List.{insert, starts_with}
 use Rattle.std.specs.Str.{bytes_eq}
 use Rattle.clap.specs.Walk.{Text}
 use Rattle.flagops.specs.declared.family.Family.{Family}
-use Rattle.flagops.specs.declared.family.Family.TheVariants.{Files, Serve, Follow, Ramp, VerifyRamp, Picture, PictureRamp, PlanPicture, ApplyStep, Ofrep, Record, Tally, Join, Book, Check, Compare}
+use Rattle.flagops.specs.declared.family.Family.TheVariants.{Files, Serve, Follow, Ramp, VerifyRamp, Picture, PictureRamp, PlanPicture, ApplyStep, KeepStep, Ofrep, Record, Tally, Join, Book, Check, Compare}
 
 -- the family that a word names: a command over files alone where it names none of the others
 abbrev pub family_named : Text → Family
@@ -37,7 +37,7 @@ abbrev pub family_with : Text → List Text → Family
 family_with first words =
     if bytes_eq first (codes "plan") && has_option (codes "--picture") words then PlanPicture else
     (if bytes_eq first (codes "picture") && has_option (codes "--ramp") words then PictureRamp else
-    (if bytes_eq first (codes "apply") && has_option (codes "--step") words then ApplyStep else family_named first))
+    (if bytes_eq first (codes "apply") && has_option (codes "--step") words then (if has_option (codes "--keep") words then KeepStep else ApplyStep) else family_named first))
 
 abbrev pub family_of : List Text → Family
 family_of [] = Files
@@ -54,6 +54,7 @@ reads_its_words Picture = true
 reads_its_words PictureRamp = true
 reads_its_words PlanPicture = true
 reads_its_words ApplyStep = true
+reads_its_words KeepStep = true
 reads_its_words Ofrep = true
 reads_its_words Record = true
 reads_its_words Tally = true

@@ -14,7 +14,7 @@ use flagops_commands::Listed;
 use flagops_compare::Comparing;
 use flagops_filters::{Joining, Opening, record, tally};
 use flagops_pictures::{Picturing, PicturingRamp, Planning};
-use flagops_ramps::{Applying, Ramping, Verifying};
+use flagops_ramps::{Applying, Keeping, Ramping, Verifying};
 use flagops_service::{Host, ofrep};
 use flagops_shell::{Console, FileSet, complain, run, want};
 use flagops_streams::{follow, serve};
@@ -86,6 +86,7 @@ where
         Family::PictureRamp => run::<R, S, F, PicturingRamp<'_>, O, E>(rt, words, files, console),
         Family::PlanPicture => run::<R, S, F, Planning<'_>, O, E>(rt, words, files, console),
         Family::ApplyStep => run::<R, S, F, Applying<'_>, O, E>(rt, words, files, console),
+        Family::KeepStep => run::<R, S, F, Keeping<'_>, O, E>(rt, words, files, console),
         Family::Ofrep => ofrep(rt, words, files, console),
         Family::Record => record(rt, words, input, files, console),
         Family::Tally => tally(rt, words, input, files, console),

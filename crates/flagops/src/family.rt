@@ -25,6 +25,8 @@ pub enum Family {
     PlanPicture,
     /// `apply --step`.
     ApplyStep,
+    /// `apply --step --keep`.
+    KeepStep,
     /// `ofrep`.
     Ofrep,
     /// `record`.
@@ -61,7 +63,11 @@ fn family_with<S: AsStr>(first: &str, words: &[S]) -> Family
         return Family::PictureRamp;
     }
     if first == "apply" && has_option(words, b"--step") {
-        return Family::ApplyStep;
+        return if has_option(words, b"--keep") {
+            Family::KeepStep
+        } else {
+            Family::ApplyStep
+        };
     }
     family_named(first)
 }

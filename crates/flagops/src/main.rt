@@ -3,7 +3,7 @@
 //!
 //! The words go to the crate of the command's family: `flagops_commands` (`bucket`, `price`, `resolve`, `plan`, `verify`, `apply`,
 //! `drive`, `completions`), `flagops_checks` (`check`), `flagops_books` (`book`), `flagops_filters` (`record`, `tally`, `join`),
-//! `flagops_ramps` (`ramp`, `verify-ramp`, `apply --step`), `flagops_pictures` (`picture`, `plan --picture`), `flagops_streams`
+//! `flagops_ramps` (`ramp`, `verify-ramp`, `apply --step`, with `--keep` too), `flagops_pictures` (`picture`, `plan --picture`), `flagops_streams`
 //! (`serve`, `follow`) or `flagops_service` (`ofrep`). The contract of each says what is written and which status is given; its
 //! clauses stand again at [`flagops`](dispatch::flagops), over the status of the process.
 #![tactic(auto)]

@@ -1,20 +1,23 @@
 -- What the command comes to, and what a person is told of it.
 use Rattle.flagops_files.specs.declared.refusal.Refusal.{Refusal}
-use Rattle.std.proofs.Common.{◌≡◌, ◌∙◌, ℕ, suc, false, List, [], ◌∷◌, Option, Some, None, IfSome, IfOk, IfErr, length, map, inr, refl, ap, sym, subst, string_bytes}
+use Rattle.std.proofs.Common.{◌≡◌, ◌∙◌, ℕ, suc, false, List, [], ◌∷◌, Option, Some, None, IfSome, IfOk, IfErr, length, map, inl, inr, refl, ap, sym, subst, string_bytes}
 use Rattle.std.specs.Prelude.{Result, Ok, Err, IsOk}
 use Rattle.book_core.specs.Book.{input_count}
 use Rattle.book_core.specs.Printing.{book_text}
+use Rattle.flagops_books.specs.Attempts.{book_attempts, read_attempts, stored_attempts, united_attempts}
 use Rattle.flagops_books.specs.Calls.{book_calls}
-use Rattle.flagops_books.specs.Report.{IsBookReport, IsStored, IsUnitedFor, IsUnitedWhere, LeavesUnited, TellsUnited, counts_text, remark_of}
-use Rattle.flagops_books.specs.Step.{GivesUnited}
-use Rattle.flagops_books.specs.Told.{NamesFile, book_subjects, is_told}
+use Rattle.flagops_books.specs.Report.{IsBookReport, IsStored, IsUnitedFor, IsUnitedWhere, LeavesUnited, TellsUnited, counts_text, remark_of, replaces_at}
+use Rattle.flagops_books.specs.Step.{GivesUnited, HaveSucceeded}
+use Rattle.flagops_books.specs.Told.{NamesFile, is_told}
 use Rattle.flagops_books.specs.Union.{IsUnited, United, noted, stray}
 use Rattle.flagops_books.specs.Words.{Uniting}
 use Rattle.flagops_books.specs.declared.uniting.Gathered.{Gathered}
 use Rattle.flagops_books.specs.declared.uniting.Step.{Step}
 use Rattle.flagops_books.specs.declared.uniting.Step.TheVariants.{Noted, Stopped}
+use Rattle.flagops_files.proofs.Told.{first_left, first_right}
 use Rattle.flagops_files.specs.Question.{replaceable_at}
-use Rattle.flagops_books.specs.Refusal.{ComesFrom, GivesOne, Refused, call_name, call_of, is_want, TellsOfOne}
+use Rattle.flagops_files.specs.Told.{AllSucceed, NamesFirst, NamesSubject, file}
+use Rattle.flagops_books.specs.Refusal.{ComesFrom, GivesOne, Refused, call_name, call_of, is_want, TellsOf, TellsOfFirst}
 use Rattle.flagops_shell.specs.Outcomes.{IsCallOf, refused_by}
 use Rattle.flagops_books.specs.declared.refusal.BookRefusal.TheVariants.{Load}
 use Rattle.flagops_books.specs.declared.refusal.BookRefusal.{BookRefusal}
@@ -79,13 +82,13 @@ module _ (u : Uniting) where
 
   module _ (g : Gathered) (n : ℕ) (many : length u.files ≡ n) where
     abbrev Stores : Option Holding → Result Report BookRefusal → Holding → Type 0
-    Stores after r at = IsStored at after u.out (book_text g.book) (counts_text (input_count g.book) n) (is_told (string_bytes g.told)) r
+    Stores after r at = IsStored (replaces_at at u.out u.replace g.book) at after u.out (book_text g.book) (counts_text (input_count g.book) n) (is_told (string_bytes g.told)) r
 
     reported_at : (at : Holding) (after : Option Holding) (r : Result Report BookRefusal) → GivesUnited (Ok (Noted g)) (IsUnitedFor u at) → Stores after r at → IsBookReport at after u r
     unfolding IsBookReport
     reported_at at after r is stores =
         let told = string_bytes g.told in
-        (Ok (noted is.0 told), is.2, (g.book, is.1, subst (λ (k : ℕ). IsStored at after u.out (book_text g.book) (counts_text (input_count g.book) k) (is_told told) r) (sym many) stores))
+        (Ok (noted is.0 told), is.2, (g.book, is.1, subst (λ (k : ℕ). IsStored (replaces_at at u.out u.replace g.book) at after u.out (book_text g.book) (counts_text (input_count g.book) k) (is_told told) r) (sym many) stores))
 
     pub stored_reported : (old mid after : Option Holding) (r : Result Outcome Refused) → mid ≡ old → IfSome old (λ at. GivesUnited (Ok (Noted g)) (IsUnitedFor u at))
         → IfSome mid (λ at. GivesOne outcome_view r (λ x. Stores after x at)) → IfSome old (λ at. GivesOne outcome_view r (IsBookReport at after u))
@@ -105,6 +108,56 @@ module _ (u : Uniting) where
 -- as many paths as words
 pub as_many : {X : Type 0} (now : X → List ℕ) (xs : List X) (n : ℕ) → n ≡ length xs → length (map now xs) ≡ n
 as_many now xs n is = counted now xs ∙ sym is
+
+-- ---- the first that is refused
+
+module _ (u : Uniting) (old : Option Holding) where
+  -- the file that is written, before one is read
+  pub out_first : (e : Refused) → IfSome old (λ at. is_want e.refusal ≡ false → refused_by Load (replaceable_at at u.out) ≡ Err e.refusal) → (is_want e.refusal ≡ false → Says (NamesSubject (file u.out)) e.remark)
+      → IfSome old (λ at. TellsOfFirst (read_attempts at u) (let r : Result Step Refused = Err e in r))
+  out_first e is says = go old is
+    where
+      go : (h : Option Holding) → IfSome h (λ at. is_want e.refusal ≡ false → refused_by Load (replaceable_at at u.out) ≡ Err e.refusal) → IfSome h (λ at. is_want e.refusal ≡ false → NamesFirst (read_attempts at u) e.refusal e.remark)
+      go None is = tt
+      go (Some at) is = λ wanted. inl (is wanted, says wanted)
+
+  -- a file that is read behind it
+  pub file_first : (free : Unit {0}) (r : Result Step Refused) → IfSome old (λ at. (let x : Result (Unit {0}) BookRefusal = refused_by Load (replaceable_at at u.out) in x) ≡ Ok free) → IfSome old (λ at. TellsOfFirst (united_attempts at u.torn [] u.files) r)
+      → IfSome old (λ at. TellsOfFirst (read_attempts at u) r)
+  file_first free r is names = go old r is names
+    where
+      go : (h : Option Holding) (x : Result Step Refused) → IfSome h (λ at. (let y : Result (Unit {0}) BookRefusal = refused_by Load (replaceable_at at u.out) in y) ≡ Ok free) → IfSome h (λ at. TellsOfFirst (united_attempts at u.torn [] u.files) x)
+          → IfSome h (λ at. TellsOfFirst (read_attempts at u) x)
+      go None x is names = tt
+      go (Some at) (Ok s) is names = tt
+      go (Some at) (Err e) is names = λ wanted. inr ((free, is), names wanted)
+
+  pub file_succeeds : (free : Unit {0}) (r : Result Step Refused) → IfSome old (λ at. (let x : Result (Unit {0}) BookRefusal = refused_by Load (replaceable_at at u.out) in x) ≡ Ok free) → IfSome old (λ at. HaveSucceeded (united_attempts at u.torn [] u.files) r)
+      → IfSome old (λ at. HaveSucceeded (read_attempts at u) r)
+  file_succeeds free r is succeed = go old r is succeed
+    where
+      go : (h : Option Holding) (x : Result Step Refused) → IfSome h (λ at. (let y : Result (Unit {0}) BookRefusal = refused_by Load (replaceable_at at u.out) in y) ≡ Ok free) → IfSome h (λ at. HaveSucceeded (united_attempts at u.torn [] u.files) x)
+          → IfSome h (λ at. HaveSucceeded (read_attempts at u) x)
+      go None x is succeed = tt
+      go (Some at) (Ok (Noted g)) is succeed = ((free, is), succeed)
+      go (Some at) (Ok (Stopped o)) is succeed = tt
+      go (Some at) (Err e) is succeed = tt
+
+  -- what is read is refused before what is written
+  pub read_first : (e : Refused) → IfSome old (λ at. is_want e.refusal ≡ false → NamesFirst (read_attempts at u) e.refusal e.remark) → IfSome old (λ at. is_want e.refusal ≡ false → NamesFirst (book_attempts at u) e.refusal e.remark)
+  read_first e names = go old names
+    where
+      go : (h : Option Holding) → IfSome h (λ at. is_want e.refusal ≡ false → NamesFirst (read_attempts at u) e.refusal e.remark) → IfSome h (λ at. is_want e.refusal ≡ false → NamesFirst (book_attempts at u) e.refusal e.remark)
+      go None names = tt
+      go (Some at) names = λ wanted. first_left (read_attempts at u) (stored_attempts u.out) e.refusal e.remark (names wanted)
+
+  pub written_last : (g : Gathered) (r : Result Outcome Refused) → IfSome old (λ at. HaveSucceeded (read_attempts at u) (Ok (Noted g))) → ComesFrom book_calls r → TellsOf (file u.out) r → IfSome old (λ at. TellsOfFirst (book_attempts at u) r)
+  written_last g r succeed comes tells = go old r succeed comes tells
+    where
+      go : (h : Option Holding) (x : Result Outcome Refused) → IfSome h (λ at. HaveSucceeded (read_attempts at u) (Ok (Noted g))) → ComesFrom book_calls x → TellsOf (file u.out) x → IfSome h (λ at. TellsOfFirst (book_attempts at u) x)
+      go None x succeed comes tells = tt
+      go (Some at) (Ok o) succeed comes tells = tt
+      go (Some at) (Err e) succeed comes tells = λ wanted. first_right (read_attempts at u) (stored_attempts u.out) e.refusal e.remark succeed (inl (comes, tells wanted))
 
 -- ---- what is told of it
 
@@ -131,8 +184,8 @@ module _ (u : Uniting) where
 
 -- ---- what the command shows of it
 
--- of a report what is told of the files, and of a refusal the name of what is refused
-pub remarks : (files : Option Holding) (u : Uniting) (r : Result Outcome Refused) → TellsOfOne (book_subjects u.out u.files) r → IfOk r (λ o. IfSome files (λ at. IfSome o.remark (TellsUnited u at)))
+-- of a report what is told of the files, and of a refusal the name of the first that is refused
+pub remarks : (files : Option Holding) (u : Uniting) (r : Result Outcome Refused) → IfSome files (λ at. TellsOfFirst (book_attempts at u) r) → IfOk r (λ o. IfSome files (λ at. IfSome o.remark (TellsUnited u at)))
     → IfSome files (λ at. Remarks is_want (remark_of u at) r)
 remarks None u r names notes = tt
 remarks (Some at) u (Ok o) names notes = λ remark is. subst (λ (m : Option Remark). IfSome m (TellsUnited u at)) is notes

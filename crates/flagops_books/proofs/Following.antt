@@ -1,12 +1,14 @@
 -- Files that are read one after the other.
 use Rattle.flagops_files.specs.declared.refusal.Refusal.{Refusal}
-use Rattle.std.proofs.Common.{◌≡◌, ◌+◌, ◌<◌, ℕ, Bool, true, false, List, [], ◌∷◌, Option, Some, None, IfSome, add-one, refl, ap, sym, subst, drop, get_or, length, map, inl, inr, string_bytes}
+use Rattle.std.proofs.Common.{◌≡◌, ◌+◌, ◌<◌, ℕ, Bool, true, false, List, [], ◌∷◌, ◌++◌, Option, Some, None, IfSome, add-one, append-nil, append_assoc, refl, ap, ◌∙◌, sym, subst, drop, take, get_or, length, map, inl, inr, string_bytes}
 use Rattle.std.proofs.Math.Seq.{drop-cons}
+use Rattle.std.proofs.lemmas.List.{map-append, take_more}
 use Rattle.std.specs.Prelude.{Result, Ok, Err}
 use Rattle.std.specs.List.Sorted.{IsStrictlySortedBy}
 use Rattle.book_core.specs.Book.{Contents, inputs_on}
 use Rattle.book_core.specs.Reading.{book_of}
 use Rattle.book_core.specs.declared.fault.BookFileFault.{BookFileFault}
+use Rattle.flagops_books.specs.Attempts.{united_attempts}
 use Rattle.flagops_books.specs.Step.{GivesUnited}
 use Rattle.flagops_books.specs.Union.{IsLast, IsUnited, IsWithBook, IsWithBytes, IsWithFile, IsWithLines, Later, United, noted, stray}
 use Rattle.flagops_books.specs.declared.uniting.Gathered.{Gathered}
@@ -16,7 +18,10 @@ use Rattle.flagops_shell.specs.Files.{Holding}
 use Rattle.flagops_files.specs.Question.{notes_bytes_at}
 use Rattle.flagops_shell.specs.declared.outcome.Outcome.{Outcome}
 use Rattle.flagops_books.specs.declared.refusal.BookRefusal.{BookRefusal}
-use Rattle.flagops_books.specs.Refusal.{Refused}
+use Rattle.flagops_books.specs.Refusal.{Refused, is_want}
+use Rattle.flagops_files.proofs.Told.{AreLeft, first_of_left, left_after}
+use Rattle.flagops_files.specs.Told.{AllSucceed, Attempt, NamesFirst, NamesSubject, attempt, file}
+use Rattle.flagops_shell.specs.Diagnostic.{Says}
 use Rattle.note_books.specs.Blank.{begins_book}
 use Rattle.note_books.specs.Lines.{Taken}
 use Rattle.note_books.specs.Notes.{IsBookOf, Notes, both, no_notes, notes_in}
@@ -141,11 +146,81 @@ goes_all at passing paths left g goes none =
     let told = string_bytes g.told in
     (goes.0, goes.1, goes.2 (Ok (noted goes.0 told)) (subst (λ (ps : List (List ℕ)). IsUnited at passing ps goes.0 told (Ok (noted goes.0 told))) (sym none) refl))
 
+-- ---- the first that is refused
+
+-- the notes of these files so far: what more files come to behind them, they come to behind these files
+abbrev pub AreNoted : Holding → Bool → List (List ℕ) → Gathered → Type 0
+AreNoted at passing before g =
+    (now : Notes) × IsBookOf now g.book × ((more : List (List ℕ)) (r : Result United BookRefusal) → IsUnited at passing more now (string_bytes g.told) r → IsUnited at passing (before ++ more) no_notes [] r)
+
+-- behind these files others are left, of which the first that is refused is the first of all, and all succeed where these do
+abbrev pub Ahead : Holding → Bool → List (List ℕ) → List (List ℕ) → List (List ℕ) → Gathered → Type 0
+Ahead at passing all before left g =
+    AreNoted at passing before g × AreLeft (united_attempts at passing before left) (united_attempts at passing [] all)
+    × (AllSucceed (united_attempts at passing before left) → AllSucceed (united_attempts at passing [] all))
+
+pub none_before : (at : Holding) (passing : Bool) (paths : List (List ℕ)) (g : Gathered) → g.book ≡ [] → string_bytes g.told ≡ [] → Ahead at passing paths [] paths g
+none_before at passing paths g none quiet =
+    ((no_notes, subst (IsBookOf no_notes) (sym none) no_book, λ more r later. subst (λ (l : List ℕ). IsUnited at passing more no_notes l r) quiet later), (λ e remark names. names), λ succeed. succeed)
+
+module _ (at : Holding) (passing : Bool) (all before left rest : List (List ℕ)) (path : List ℕ) (g : Gathered) (ahead : Ahead at passing all before left g) (first : left ≡ path ∷ rest) where
+  abbrev Here : Attempt BookRefusal
+  Here = attempt (file path) (IsUnited at passing (before ++ path ∷ []) no_notes [])
+
+  abbrev OnFile : Result Step Refused → Type 0
+  OnFile r = (now : Notes) → IsBookOf now g.book → GivesUnited r (IsWithFile IsLast passing now (string_bytes g.told) path (notes_bytes_at at passing path))
+
+  with_more : (more : List (List ℕ)) (r : Result United BookRefusal) → IsWithFile (IsUnited at passing more) passing ahead.0.0 (string_bytes g.told) path (notes_bytes_at at passing path) r
+      → IsUnited at passing (before ++ path ∷ more) no_notes [] r
+  unfolding IsUnited
+  with_more more r came = ahead.0.2 (path ∷ more) r came
+
+  named_left : AreLeft (Here ∷ united_attempts at passing (before ++ path ∷ []) rest) (united_attempts at passing [] all)
+  named_left e remark names = ahead.1 e remark (subst (λ (ps : List (List ℕ)). NamesFirst (united_attempts at passing before ps) e remark) (sym first) names)
+
+  pub noted_on : (s : Step) (next : Gathered) → s ≡ Noted next → OnFile (Ok s) → AreNoted at passing (before ++ path ∷ []) next
+  noted_on s next is gives =
+      let came : GivesUnited (Ok (Noted next)) (IsWithFile IsLast passing ahead.0.0 (string_bytes g.told) path (notes_bytes_at at passing path)) = subst (λ (x : Step). OnFile (Ok x)) is gives ahead.0.0 ahead.0.1 in (
+        came.0,
+        came.1,
+        λ more r later.
+            subst (λ (ps : List (List ℕ)). IsUnited at passing ps no_notes [] r) (sym (append_assoc before (path ∷ []) more))
+            (with_more more r (behind_file (IsUnited at passing more) passing came.0 (string_bytes next.told) r later ahead.0.0 (string_bytes g.told) path (notes_bytes_at at passing path) came.2)),
+      )
+
+  last_noted : (next : Gathered) → AreNoted at passing (before ++ path ∷ []) next → Here.Succeeds
+  unfolding IsUnited
+  last_noted next are =
+      let r : Result United BookRefusal = Ok (noted are.0 (string_bytes next.told)) in
+      (noted are.0 (string_bytes next.told), subst (λ (ps : List (List ℕ)). IsUnited at passing ps no_notes [] r) (append-nil (before ++ path ∷ [])) (are.2 [] r refl))
+
+  pub ahead_on : (s : Step) (next : Gathered) → s ≡ Noted next → OnFile (Ok s) → Ahead at passing all (before ++ path ∷ []) rest next
+  ahead_on s next is gives =
+      let are = noted_on s next is gives in
+      let succeeds = last_noted next are in (
+        are,
+        left_after Here (united_attempts at passing (before ++ path ∷ []) rest) (united_attempts at passing [] all) named_left succeeds,
+        λ succeed. ahead.2 (subst (λ (ps : List (List ℕ)). AllSucceed (united_attempts at passing before ps)) (sym first) (succeeds, succeed)),
+      )
+
+  pub ahead_refused : (e : Refused) → OnFile (Err e) → (is_want e.refusal ≡ false → Says (NamesSubject (file path)) e.remark) → is_want e.refusal ≡ false → NamesFirst (united_attempts at passing [] all) e.refusal e.remark
+  ahead_refused e gives says wanted =
+      first_of_left Here (united_attempts at passing (before ++ path ∷ []) rest) (united_attempts at passing [] all) named_left e.refusal e.remark
+      (with_more [] (Err e.refusal) (stop_file (IsUnited at passing []) passing (Err e.refusal) (λ n t is. not_both (sym is)) ahead.0.0 (string_bytes g.told) path (notes_bytes_at at passing path) (gives ahead.0.0 ahead.0.1 wanted)))
+      (says wanted)
+
+pub all_ahead : (at : Holding) (passing : Bool) (all before left : List (List ℕ)) (g : Gathered) → Ahead at passing all before left g → left ≡ [] → AllSucceed (united_attempts at passing [] all)
+all_ahead at passing all before left g ahead none = ahead.2 (subst (λ (ps : List (List ℕ)). AllSucceed (united_attempts at passing before ps)) (sym none) tt)
+
 -- the first of those that are left, and those behind it
 pub first_left : {X : Type 0} (now : X → List ℕ) (xs : List X) (i : ℕ) (z : X) → i < length xs → map now (drop i xs) ≡ now (get_or xs i z) ∷ map now (drop (i + 1) xs)
 first_left now xs i z inside =
     let left : drop i xs ≡ get_or xs i z ∷ drop (i + 1) xs = rw add-one (drop-cons xs i z inside) in
     ap (map now) left
+
+-- those before the next one
+pub before_next : {X : Type 0} (now : X → List ℕ) (xs : List X) (i : ℕ) (z : X) → i < length xs → map now (take (i + 1) xs) ≡ map now (take i xs) ++ now (get_or xs i z) ∷ []
+before_next now xs i z inside = ap (map now) (take_more xs i z inside) ∙ map-append now (take i xs) (get_or xs i z ∷ [])
 
 -- ---- what follows for files whose bytes are known
 

@@ -1,6 +1,7 @@
 pub mod Ending
 pub mod Following
 mod Loaded
+mod Losing
 pub mod Matched
 pub mod Naming
 mod Read

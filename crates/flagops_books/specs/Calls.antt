@@ -22,7 +22,12 @@ abbrev pub book_calls : BookCall → Bool
 book_calls call.Book = true
 book_calls c = loads loads_and_stores c
 
--- and those of writing what they come to
-abbrev pub stores_book : BookCall → Bool
-stores_book call.Book = true
-stores_book c = stores_file c
+-- those by which it is known that a new book loses nothing
+abbrev pub checks_losses : BookCall → Bool
+checks_losses call.Book = true
+checks_losses c = loads_book c
+
+-- and those of writing a book that may be written
+abbrev pub saves_book : BookCall → Bool
+saves_book call.Book = true
+saves_book c = stores_file c

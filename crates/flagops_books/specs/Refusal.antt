@@ -7,6 +7,7 @@ use Rattle.flagops_shell.specs.Ending as shell
 use Rattle.flagops_shell.specs.Given as given
 use Rattle.flagops_shell.specs.Outcomes as outcomes
 use Rattle.flagops_shell.specs.declared.refused.Refused as refusals
+use Rattle.flagops_files.specs.Payload.{number_item}
 use Rattle.flagops_files.specs.Refusal as files
 use Rattle.flagops_files.specs.Refusal.{line_with}
 use Rattle.flagops_files.specs.Told as told
@@ -15,7 +16,7 @@ use Rattle.flagops_files.specs.declared.refusal.Refusal.TheVariants as file
 use Rattle.flagops_books.specs.declared.refusal.BookCall.{BookCall}
 use Rattle.flagops_books.specs.declared.refusal.BookCall.TheVariants as call
 use Rattle.flagops_books.specs.declared.refusal.BookRefusal.{BookRefusal}
-use Rattle.flagops_books.specs.declared.refusal.BookRefusal.TheVariants.{Load, WantOfMemory, FullBook}
+use Rattle.flagops_books.specs.declared.refusal.BookRefusal.TheVariants.{Load, WantOfMemory, FullBook, WouldLose}
 
 abbrev pub call_name : BookCall → List ℕ
 call_name (call.Load c) = files.call_name c
@@ -26,12 +27,14 @@ abbrev pub call_of : BookRefusal → BookCall
 call_of (Load e) = call.Load (files.call_of e)
 call_of WantOfMemory = call.Book
 call_of FullBook = call.Book
+call_of (WouldLose n) = call.Book
 
 -- memory ran out
 abbrev pub is_want : BookRefusal → Bool
 is_want (Load e) = files.is_want e
 is_want WantOfMemory = true
 is_want FullBook = false
+is_want (WouldLose n) = false
 
 -- a file could not be read or written
 abbrev pub is_unread : BookRefusal → Bool
@@ -45,10 +48,15 @@ unwritable = Load files.unwritable
 abbrev pub read_refusal : BookFileFault → BookRefusal
 read_refusal e = Load (file.ReadBook e)
 
+-- so many inputs of a book would be lost
+abbrev pub loss_line : ℕ → List ℕ
+loss_line lost = line_with (codes "book") (decimal 3) (codes "WouldLose") (number_item lost)
+
 abbrev pub line_of : BookRefusal → List ℕ
 line_of (Load e) = files.line_of e
 line_of WantOfMemory = want_line_of (codes "book")
 line_of FullBook = line_with (codes "book") (decimal 2) (codes "PageFull") []
+line_of (WouldLose lost) = loss_line lost
 
 -- ---- by the type of these refusals
 
@@ -83,17 +91,17 @@ is_file_fault r = shell.is_file_fault is_unread r
 abbrev pub by : (BookCall → Bool) → BookRefusal → Bool
 by calls e = calls (call_of e)
 
--- what may be refused, each with the refusals that are of it
-abbrev pub Subjects : Type 0
-Subjects = told.Subjects BookRefusal
-
 -- a refusal is told by the name of what is refused
 abbrev pub TellsOf : {X : Type 0} → told.Subject → Result X Refused → Type 0
 TellsOf subject r = told.TellsOf is_want subject r
 
--- a refusal is told by the name of one of them
-abbrev pub TellsOfOne : {X : Type 0} → Subjects → Result X Refused → Type 0
-TellsOfOne subjects r = told.TellsOfOne is_want subjects r
+-- what is attempted in turn
+abbrev pub Attempts : Type 1
+Attempts = List (told.Attempt BookRefusal)
+
+-- a refusal is that of the first of them that is refused, and is told by the name of what that is about
+abbrev pub TellsOfFirst : {X : Type 0} → Attempts → Result X Refused → Type 0
+TellsOfFirst attempts r = told.TellsOfFirst is_want attempts r
 
 -- these calls, by which files are read or written
 abbrev pub loads : (Call → Bool) → BookCall → Bool

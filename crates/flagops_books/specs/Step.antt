@@ -5,7 +5,8 @@ use Rattle.flagops_books.specs.Told.{NamesFile, passed_text}
 use Rattle.flagops_books.specs.Union.{United, noted, stray}
 use Rattle.flagops_books.specs.declared.uniting.Step.{Step}
 use Rattle.flagops_books.specs.declared.uniting.Step.TheVariants.{Noted, Stopped}
-use Rattle.flagops_books.specs.Refusal.{is_want, Refused}
+use Rattle.flagops_books.specs.Refusal.{Attempts, is_want, Refused}
+use Rattle.flagops_files.specs.Told.{AllSucceed}
 use Rattle.flagops_shell.specs.Report.{outcome_view}
 use Rattle.flagops_shell.specs.declared.outcome.Outcome.{Outcome}
 use Rattle.flagops_shell.specs.Diagnostic.{Says}
@@ -22,6 +23,12 @@ abbrev pub GivesUnited : Result Step Refused → (Result United BookRefusal → 
 GivesUnited (Ok (Noted g)) Wanted = (all : Notes) × IsBookOf all g.book × Wanted (Ok (noted all (string_bytes g.told)))
 GivesUnited (Ok (Stopped o)) Wanted = (path : List ℕ) × (n : ℕ) × Wanted (Ok (stray path n)) × IsStop path n o
 GivesUnited (Err e) Wanted = is_want e.refusal ≡ false → Wanted (Err e.refusal)
+
+-- what is attempted has succeeded, where no call and no line is refused
+abbrev pub HaveSucceeded : Attempts → Result Step Refused → Type 0
+HaveSucceeded attempts (Ok (Noted g)) = AllSucceed attempts
+HaveSucceeded attempts (Ok (Stopped o)) = Unit {0}
+HaveSucceeded attempts (Err e) = Unit {0}
 
 -- the notes that were taken, and what is told of their file behind what was told before
 abbrev pub IsStepOf : List ℕ → NotesTaken → List ℕ → Step → Type 0

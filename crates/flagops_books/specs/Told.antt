@@ -1,10 +1,7 @@
 -- What a person is told of files, beside the output.
-use Rattle.std.specs.Prelude.{◌≡◌, ◌||◌, ◌==◌, ℕ, Bool, true, false, not, List, [], ◌∷◌, ◌++◌, length, map, codes, decimal, if◌then◌else◌}
+use Rattle.std.specs.Prelude.{◌≡◌, ◌||◌, ◌==◌, ℕ, Bool, true, false, not, List, [], ◌++◌, length, codes, decimal, if◌then◌else◌}
 use Rattle.flag_text.specs.Printing.{text_of}
 use Rattle.flag_text.specs.Shape.{text}
-use Rattle.flagops_books.specs.Calls.{unites_files}
-use Rattle.flagops_books.specs.Refusal.{loads_book, stores_file, Subjects, by}
-use Rattle.flagops_files.specs.Told.{file}
 
 -- something is told
 abbrev pub is_told : List ℕ → Bool
@@ -27,10 +24,3 @@ passed_line path passed true =
 -- what a person is told of the file: that line where something was passed over, and else nothing
 abbrev pub passed_text : List ℕ → ℕ → Bool → List ℕ
 passed_text path passed torn = if not (passed == 0) || torn then passed_line path passed torn else []
-
--- the files that are read, and the one that is looked at first and then written, each with the refusals that are of it
-abbrev pub united_subjects : List (List ℕ) → Subjects
-united_subjects paths = map (λ path. (file path, by unites_files)) paths
-
-abbrev pub book_subjects : List ℕ → List (List ℕ) → Subjects
-book_subjects out paths = (file out, by loads_book) ∷ (file out, by stores_file) ∷ united_subjects paths

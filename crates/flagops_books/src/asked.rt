@@ -9,4 +9,6 @@ pub struct Uniting<'a> {
     pub files: Vec<&'a str>,
     /// Whether a line that is that of no note is passed over.
     pub torn: bool,
+    /// Whether what the file that is written has may be lost.
+    pub replace: bool,
 }

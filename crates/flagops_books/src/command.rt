@@ -1,13 +1,13 @@
 //! The command `book`.
 ghost use Rattle.std.specs.Prelude.{◌≡◌, ◌||◌, IfOk, IfSome, ⊤};
+ghost use Rattle.flagops_books.specs.Attempts.{book_attempts, read_attempts};
 ghost use Rattle.flagops_books.specs.Calls.{book_calls, unites_files};
 ghost use Rattle.flagops_books.specs.Command.{description};
 ghost use Rattle.flagops_books.specs.Report.{IsBookReport, IsUnitedFor, LeavesUnited, TellsUnited};
-ghost use Rattle.flagops_books.specs.Step.{GivesUnited};
-ghost use Rattle.flagops_books.specs.Told.{book_subjects};
+ghost use Rattle.flagops_books.specs.Step.{GivesUnited, HaveSucceeded};
 ghost use Rattle.flagops_books.specs.Words as words;
 ghost use Rattle.flagops_books.specs.Words.{uniting_view};
-ghost use Rattle.flagops_books.specs.Refusal.{ComesFrom, GivesOne, is_file_fault, TellsOfOne};
+ghost use Rattle.flagops_books.specs.Refusal.{ComesFrom, GivesOne, is_file_fault, TellsOfFirst};
 ghost use Rattle.flagops_shell.specs.Ending.{KeepsUnlessDone};
 ghost use Rattle.flagops_shell.specs.Report.{outcome_view};
 
@@ -22,7 +22,8 @@ use std::alloc::Global;
 use std::convert::AsStr;
 
 /// It writes the book of what several files note, replaced whole, and prints how many inputs it has and of how many files it is; a
-/// refusal leaves the files as they were. A person is told of each file in which lines were passed over.
+/// refusal leaves the files as they were. A book that is there is written over only where the new one has all its inputs, unless with
+/// `replace`. A person is told of each file in which lines were passed over.
 impl<'w, R, F: FileSet> Command<'w, R, F> for Uniting<'w> {
     type Refusal = BookRefusal;
 
@@ -59,12 +60,19 @@ fn outcome<F: FileSet>(
     ensures failed { F.has_failed files.new ≡ (F.has_failed files.old || is_file_fault result) }
     ensures left { LeavesUnited (F.holding files.old) (F.holding files.new) (uniting_view asked.now) }
     ensures kept { KeepsUnlessDone (F.holding files.old) (F.holding files.new) result }
-    ensures names { TellsOfOne (book_subjects (uniting_view asked.now).out (uniting_view asked.now).files) result }
+    ensures names { IfSome (F.holding files.old) (λ at. TellsOfFirst (book_attempts at (uniting_view asked.now)) result) }
     ensures notes { IfOk result (λ o. IfSome (F.holding files.old) (λ at. IfSome o.remark (TellsUnited (uniting_view asked.now) at))) }
 {
     let came = united_for(alloc, files, asked)?;
     match came {
-        Step::Noted(all) => stored(alloc, files, asked.out, all, asked.files.len()),
+        Step::Noted(all) => stored(
+            alloc,
+            files,
+            asked.out,
+            asked.replace,
+            all,
+            asked.files.len(),
+        ),
         Step::Stopped(outcome) => Ok(outcome),
     }
 }
@@ -79,7 +87,8 @@ fn united_for<F: FileSet>(
     ensures calls { ComesFrom unites_files result }
     ensures failed { F.has_failed files.new ≡ (F.has_failed files.old || is_file_fault result) }
     ensures kept { F.holding files.new ≡ F.holding files.old }
-    ensures names { TellsOfOne (book_subjects (uniting_view asked.now).out (uniting_view asked.now).files) result }
+    ensures names { IfSome (F.holding files.old) (λ at. TellsOfFirst (read_attempts at (uniting_view asked.now)) result) }
+    ensures succeed { IfSome (F.holding files.old) (λ at. HaveSucceeded (read_attempts at (uniting_view asked.now)) result) }
 {
     match check_replaceable(alloc, files, asked.out) {
         Ok(_) => united(alloc, files, asked.files.as_slice(), asked.torn),

@@ -1,5 +1,6 @@
 //! Files that are loaded and written for the command `book`, where each refusal is one of the command.
 ghost use Rattle.std.specs.Prelude.{◌≡◌, ◌||◌, false, IfErr, IfSome, OnErr, OnOk};
+ghost use Rattle.book_losses.specs.Losses.{losses_at};
 ghost use Rattle.flagops_books.specs.Refusal.{ComesFrom, GivesUnlessWant, TellsOf, is_file_fault, is_want, loads_book, stores_file, unwritable};
 ghost use Rattle.flagops_books.specs.declared.refusal.BookRefusal.TheVariants.{Load};
 ghost use Rattle.flagops_files.specs.Question.{notes_bytes_at, replaceable_at};
@@ -8,6 +9,8 @@ ghost use Rattle.flagops_shell.specs.Files.{KeepsOthers, Stores};
 ghost use Rattle.flagops_shell.specs.Outcomes.{refused_by};
 
 use crate::refusal::Refused;
+use book_core::Book;
+use book_losses::losses_at;
 use flagops_shell::FileSet;
 use std::alloc::Global;
 
@@ -45,6 +48,26 @@ pub(crate) fn check_replaceable<F: FileSet>(
 {
     match flagops_files::check_replaceable(alloc, files, path) {
         Ok(()) => Ok(()),
+        Err(refused) => Err(Refused::of(refused)),
+    }
+}
+
+/// How many inputs of the book in the file at a path a new book does not have.
+#[tactic(auto, using(crate::proofs::Loaded::told, crate::proofs::Loaded::comes, crate::proofs::Loaded::failed_load))]
+pub(crate) fn load_losses<F: FileSet>(
+    alloc: Global,
+    files: &mut F,
+    path: &str,
+    new: &Book,
+) -> Result<u64, Refused>
+    ensures exact { IfSome (F.holding files.old) (λ at. GivesUnlessWant (λ n. n) result (refused_by Load (losses_at at path.now new.now))) }
+    ensures calls { ComesFrom loads_book result }
+    ensures failed { F.has_failed files.new ≡ (F.has_failed files.old || is_file_fault result) }
+    ensures kept { F.holding files.new ≡ F.holding files.old }
+    ensures names { TellsOf (file path.now) result }
+{
+    match losses_at(alloc, files, path, new) {
+        Ok(lost) => Ok(lost),
         Err(refused) => Err(Refused::of(refused)),
     }
 }

@@ -1,11 +1,11 @@
 //! Why the command `book` refuses, and the line that each refusal is written as.
-ghost use Rattle.std.specs.Prelude.{◌≡◌};
+ghost use Rattle.std.specs.Prelude.{◌≡◌, IfOk, string_bytes};
 ghost use Rattle.flagops_books.specs.FileLines.{file_line};
-ghost use Rattle.flagops_books.specs.Refusal.{call_name, call_of, is_unread, is_want, line_of};
+ghost use Rattle.flagops_books.specs.Refusal.{call_name, call_of, is_unread, is_want, line_of, loss_line};
 ghost use Rattle.flagops_books.specs.declared.refusal.BookRefusal.TheVariants.{Load};
 ghost use Rattle.flagops_shell.specs.declared.refused.Remark.TheVariants.{Short};
 
-use flagops_files::{Call, Refusal, fault_line};
+use flagops_files::{Call, Refusal, fault_line, number_item};
 use flagops_shell::{CommandRefusal, Remark};
 use std::alloc::{AllocError, Global};
 
@@ -39,6 +39,8 @@ pub enum BookRefusal {
     WantOfMemory,
     /// Books have more than 1000000 inputs of a page together.
     FullBook,
+    /// The new book lacks so many inputs of the one that it would be written over.
+    WouldLose(u64),
 }
 
 impl BookRefusal {
@@ -48,7 +50,9 @@ impl BookRefusal {
     {
         match self {
             BookRefusal::Load(refusal) => BookCall::Load(refusal.call()),
-            BookRefusal::WantOfMemory | BookRefusal::FullBook => BookCall::Book,
+            BookRefusal::WantOfMemory | BookRefusal::FullBook | BookRefusal::WouldLose(_) => {
+                BookCall::Book
+            }
         }
     }
 }
@@ -86,7 +90,7 @@ impl CommandRefusal for BookRefusal {
         match self {
             BookRefusal::Load(refusal) => refusal.is_want(),
             BookRefusal::WantOfMemory => true,
-            BookRefusal::FullBook => false,
+            BookRefusal::FullBook | BookRefusal::WouldLose(_) => false,
         }
     }
 
@@ -97,8 +101,17 @@ impl CommandRefusal for BookRefusal {
                 String::from_str(alloc, "refused book 0 WantOfMemory\n")
             }
             BookRefusal::FullBook => fault_line(alloc, "book", 2, "PageFull", ""),
+            BookRefusal::WouldLose(lost) => loss_line(alloc, *lost),
         }
     }
 
     ghost unread_lines = { file_line };
+}
+
+/// The line of a refusal to lose so many inputs.
+fn loss_line(alloc: Global, lost: u64) -> Result<String, AllocError>
+    ensures { IfOk result (λ s. string_bytes s ≡ loss_line lost) }
+{
+    let items = number_item(alloc, lost)?;
+    fault_line(alloc, "book", 3, "WouldLose", items.as_str())
 }

@@ -1,21 +1,25 @@
 //! From what files note to the book that is written, and what is printed of it.
-ghost use Rattle.std.specs.Prelude.{◌≡◌, ◌||◌, [], ◌∷◌, false, true, IfErr, IfOk, IfSome, is_some, string_bytes};
+ghost use Rattle.std.specs.Prelude.{◌≡◌, ◌||◌, false, true, Ok, IfErr, IfOk, IfSome, is_some, string_bytes};
 ghost use Rattle.book_core.specs.Book.{input_count};
 ghost use Rattle.book_core.specs.Printing.{book_text};
-ghost use Rattle.flagops_books.specs.Calls.{stores_book};
-ghost use Rattle.flagops_books.specs.Report.{IsStored, counts_text};
+ghost use Rattle.flagops_books.specs.Calls.{book_calls, checks_losses, saves_book};
+ghost use Rattle.flagops_books.specs.Report.{IsStored, counts_text, replaces_at};
 ghost use Rattle.flagops_books.specs.Told.{is_told};
 ghost use Rattle.flagops_shell.specs.Ending.{KeepsUnlessDone};
 ghost use Rattle.flagops_shell.specs.Files.{KeepsOthers};
-ghost use Rattle.flagops_books.specs.Refusal.{ComesFrom, GivesOne, is_file_fault, stores_file, TellsOfOne, by};
+ghost use Rattle.flagops_books.specs.Refusal.{ComesFrom, GivesOne, GivesUnlessWant, is_file_fault, TellsOf};
+ghost use Rattle.flagops_books.specs.declared.refusal.BookRefusal.TheVariants.{WouldLose};
 ghost use Rattle.flagops_shell.specs.Report.{outcome_view};
+ghost use Rattle.file_diagnostics.specs.Named.{Names};
 ghost use Rattle.flagops_files.specs.Told.{file};
+ghost use Rattle.flagops_shell.specs.Diagnostic.{Says};
 ghost use Rattle.flagops_shell.specs.declared.refused.Remark.TheVariants.{Lines};
 
-use crate::loading::store;
+use crate::loading::{load_losses, store};
 use crate::refusal::{BookRefusal, Refused, out_of_memory};
 use crate::uniting::Gathered;
 use book_core::{Book, print_book};
+use book_losses::of_losses;
 use flagops_shell::{FileSet, Outcome, Remark, Status};
 use std::alloc::{AllocError, Global};
 
@@ -26,20 +30,86 @@ struct Output {
     file: Vec<u8>,
 }
 
-/// The report of what so many files note, once the book is written.
+/// The report of what so many files note, once the book is written: where inputs of the book that is there may not be lost, it is
+/// written only where none is.
+#[tactic(auto, using(crate::proofs::Losing::writes))]
 pub(crate) fn stored<F: FileSet>(
+    alloc: Global,
+    files: &mut F,
+    out: &str,
+    lossy: bool,
+    all: Gathered,
+    count: usize,
+) -> Result<Outcome, Refused>
+    ensures exact { IfSome (F.holding files.old) (λ at. GivesOne outcome_view result (IsStored (replaces_at at out.now lossy all.book) at (F.holding files.new) out.now (book_text all.book) (counts_text (input_count all.book) count) (is_told (string_bytes all.told)))) }
+    ensures calls { ComesFrom book_calls result }
+    ensures failed { F.has_failed files.new ≡ (F.has_failed files.old || is_file_fault result) }
+    ensures others { KeepsOthers (F.holding files.old) (F.holding files.new) out.now }
+    ensures kept { KeepsUnlessDone (F.holding files.old) (F.holding files.new) result }
+    ensures names { TellsOf (file out.now) result }
+    ensures told { IfOk result (λ o. IfSome o.remark (λ m. m ≡ Lines all.told)) }
+{
+    check_losses(alloc, files, out, &all.book, lossy)?;
+    saved(alloc, files, out, all, count)
+}
+
+/// That a new book may be written over the one at a path.
+#[tactic(auto, using(crate::proofs::Losing::free, crate::proofs::Losing::none_lost, crate::proofs::Losing::some_lost, crate::proofs::Losing::unknown, crate::proofs::Losing::checks, crate::proofs::Losing::loses))]
+fn check_losses<F: FileSet>(
+    alloc: Global,
+    files: &mut F,
+    path: &str,
+    new: &Book,
+    lossy: bool,
+) -> Result<(), Refused>
+    ensures exact { IfSome (F.holding files.old) (λ at. GivesUnlessWant (λ u. u) result (replaces_at at path.now lossy new.now)) }
+    ensures calls { ComesFrom checks_losses result }
+    ensures failed { F.has_failed files.new ≡ (F.has_failed files.old || is_file_fault result) }
+    ensures kept { F.holding files.new ≡ F.holding files.old }
+    ensures names { TellsOf (file path.now) result }
+{
+    if lossy {
+        return Ok(());
+    }
+    let lost = load_losses(alloc, files, path, new)?;
+    if lost == 0 {
+        Ok(())
+    } else {
+        Err(would_lose(alloc, path, lost))
+    }
+}
+
+/// The refusal to lose so many inputs of the book at a path.
+#[tactic(auto, using(flagops_files::proofs::Told::says))]
+fn would_lose(alloc: Global, path: &str, lost: u64) -> Refused
+    ensures refusal { result.refusal ≡ WouldLose lost }
+    ensures names { Says (Names path.now) result.remark }
+{
+    Refused {
+        refusal: BookRefusal::WouldLose(lost),
+        remark: Remark::of(of_losses(
+            alloc,
+            path,
+            lost,
+            "keep them by naming it among the files, or give them up with --replace",
+        )),
+    }
+}
+
+/// The report of a book that may be written, once it was.
+fn saved<F: FileSet>(
     alloc: Global,
     files: &mut F,
     out: &str,
     all: Gathered,
     count: usize,
 ) -> Result<Outcome, Refused>
-    ensures exact { IfSome (F.holding files.old) (λ at. GivesOne outcome_view result (IsStored at (F.holding files.new) out.now (book_text all.book) (counts_text (input_count all.book) count) (is_told (string_bytes all.told)))) }
-    ensures calls { ComesFrom stores_book result }
+    ensures exact { IfSome (F.holding files.old) (λ at. GivesOne outcome_view result (IsStored (Ok tt) at (F.holding files.new) out.now (book_text all.book) (counts_text (input_count all.book) count) (is_told (string_bytes all.told)))) }
+    ensures calls { ComesFrom saves_book result }
     ensures failed { F.has_failed files.new ≡ (F.has_failed files.old || is_file_fault result) }
     ensures others { KeepsOthers (F.holding files.old) (F.holding files.new) out.now }
     ensures kept { KeepsUnlessDone (F.holding files.old) (F.holding files.new) result }
-    ensures names { TellsOfOne ((file out.now, by stores_file) ∷ []) result }
+    ensures names { TellsOf (file out.now) result }
     ensures told { IfOk result (λ o. IfSome o.remark (λ m. m ≡ Lines all.told)) }
 {
     let Gathered { book, told } = all;

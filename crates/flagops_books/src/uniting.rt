@@ -1,13 +1,13 @@
 //! From the paths of books and of files of note lines to the book of all their notes.
 ghost use Rattle.std.specs.Prelude.{◌≡◌, ◌||◌, [], false, true, Ok, map, IfErr, IfOk, IfSome, string_bytes};
 ghost use Rattle.book_core.specs.Reading.{book_of};
+ghost use Rattle.flagops_books.specs.Attempts.{united_attempts};
 ghost use Rattle.flagops_books.specs.Calls.{unites_files};
-ghost use Rattle.flagops_books.specs.Step.{GivesUnited, IsStepOf, IsStopOf};
-ghost use Rattle.flagops_books.specs.Told.{united_subjects};
+ghost use Rattle.flagops_books.specs.Step.{GivesUnited, HaveSucceeded, IsStepOf, IsStopOf};
 ghost use Rattle.flagops_books.specs.Union.{IsLast, IsUnited, IsWithBook, IsWithBytes, IsWithFile, is_one_line, union_refusal};
 ghost use Rattle.flagops_shell.specs.Outcomes.{refused_by};
 ghost use Rattle.flagops_files.specs.Question.{notes_bytes_at};
-ghost use Rattle.flagops_books.specs.Refusal.{ComesFrom, GivesUnlessWant, call_of, is_file_fault, is_unread, is_want, loads_book, TellsOf, TellsOfOne, read_refusal};
+ghost use Rattle.flagops_books.specs.Refusal.{ComesFrom, GivesUnlessWant, call_of, is_file_fault, is_unread, is_want, loads_book, TellsOf, TellsOfFirst, read_refusal};
 ghost use Rattle.flagops_files.specs.Told.{file};
 ghost use Rattle.flagops_shell.specs.Diagnostic.{Says};
 ghost use Rattle.file_diagnostics.specs.Named.{Names};
@@ -50,7 +50,8 @@ pub(crate) fn united<F: FileSet>(
     ensures calls { ComesFrom unites_files result }
     ensures failed { F.has_failed files.new ≡ (F.has_failed files.old || is_file_fault result) }
     ensures kept { F.holding files.new ≡ F.holding files.old }
-    ensures names { TellsOfOne (united_subjects (map (λ p. p.now) paths.now)) result }
+    ensures names { IfSome (F.holding files.old) (λ at. TellsOfFirst (united_attempts at passing [] (map (λ p. p.now) paths.now)) result) }
+    ensures succeed { IfSome (F.holding files.old) (λ at. HaveSucceeded (united_attempts at passing [] (map (λ p. p.now) paths.now)) result) }
 {
     let mut all = Gathered {
         book: Book::new(alloc),

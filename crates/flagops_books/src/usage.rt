@@ -27,5 +27,10 @@ pub fn usage<'a>(alloc: Global) -> Result<Command<'a>, AllocError>
         "torn",
         "Pass over each line of a file of note lines that is none",
     );
-    command.arg(out)?.arg(files)?.arg(torn)
+    let replace = flag(
+        alloc,
+        "replace",
+        "Write OUT also where inputs that it had are lost",
+    );
+    command.arg(out)?.arg(files)?.arg(torn)?.arg(replace)
 }

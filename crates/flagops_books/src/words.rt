@@ -47,5 +47,6 @@ fn uniting_in<'a>(
         out,
         files: files.to_vec(alloc)?,
         torn: flag_in(matches, "torn"),
+        replace: flag_in(matches, "replace"),
     }))
 }

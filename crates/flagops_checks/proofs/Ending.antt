@@ -6,12 +6,12 @@ use Rattle.flagops_checks.specs.Documents.{AreChecked}
 use Rattle.flagops_checks.specs.Printed.{form_of}
 use Rattle.flagops_checks.specs.Report.{IsCheckReport, TellsChecked, check_status, remark_of}
 use Rattle.flagops_checks.specs.Step.{GivesAll, Speaks}
-use Rattle.flagops_checks.specs.Told.{TellsAll, check_subjects}
+use Rattle.flagops_checks.specs.Told.{TellsAll, check_attempts}
 use Rattle.flagops_checks.specs.Words.{Checking, checking_view}
 use Rattle.flagops_checks.specs.declared.asked.Checking as code
 use Rattle.flagops_checks.specs.declared.form.Form.{Form}
 use Rattle.flagops_checks.specs.declared.gathering.Gathered.{Gathered}
-use Rattle.flagops_checks.specs.Refusal.{ComesFrom, Refused, call_name, call_of, is_want, TellsOfOne}
+use Rattle.flagops_checks.specs.Refusal.{ComesFrom, Refused, call_name, call_of, is_want, TellsOfFirst}
 use Rattle.flagops_shell.specs.Outcomes.{IsCallOf}
 use Rattle.flagops_shell.specs.Diagnostic.{Says}
 use Rattle.flagops_shell.specs.Ending.{KeepsUnlessDone, Remarks}
@@ -55,8 +55,8 @@ module _ (c : Checking) where
 
 -- ---- what the command shows of it
 
--- of a report what is told of the documents, and of a refusal the name of the one that is refused
-pub remarks : (files : Option Holding) (c : Checking) (r : Result Outcome Refused) → TellsOfOne (check_subjects c.documents) r → IfSome files (λ at. IfOk r (λ o. IfSome o.remark (Says (TellsChecked at c))))
+-- of a report what is told of the documents, and of a refusal the name of the first that is refused
+pub remarks : (files : Option Holding) (c : Checking) (r : Result Outcome Refused) → IfSome files (λ at. TellsOfFirst (check_attempts at c.documents) r) → IfSome files (λ at. IfOk r (λ o. IfSome o.remark (Says (TellsChecked at c))))
     → IfSome files (λ at. Remarks is_want (remark_of at c) r)
 remarks None c r names notes = tt
 remarks (Some at) c (Ok o) names notes = λ remark is. subst (λ (m : Option Remark). IfSome m (Says (TellsChecked at c))) is notes

@@ -1,5 +1,5 @@
 -- Documents that are checked one after the other.
-use Rattle.std.proofs.Common.{◌≡◌, ◌+◌, arith, inl, inr, suc, zero, ◌<◌, ◌∙◌, ◌||◌, ℕ, Bool, true, false, List, [], ◌∷◌, ◌++◌, Option, Some, None, IfSome, add-one, ap, append-nil, append_assoc, drop, drop-cons, get_or, length, map, refl, subst, sym, string_bytes}
+use Rattle.std.proofs.Common.{◌≡◌, ◌+◌, ◌<◌, ◌∙◌, ◌||◌, ℕ, Bool, true, false, List, [], ◌∷◌, ◌++◌, Option, Some, None, IfSome, add-one, ap, append-nil, append_assoc, drop, drop-cons, get_or, length, map, refl, subst, sym, string_bytes}
 use Rattle.std.proofs.lemmas.Grind.{flat_map-append}
 use Rattle.std.proofs.lemmas.List.Folds.{list_any-append}
 use Rattle.std.specs.Prelude.{Result, Ok, Err}
@@ -8,8 +8,7 @@ use Rattle.flagops_checks.specs.Judged.{Checked, are_wrong, checked, has_broken,
 use Rattle.flagops_checks.specs.Printed.{document_text, report_text}
 use Rattle.flagops_checks.specs.Documents.{AreChecked, IsCheckedAt, IsCheckedOf, IsDocumentAt}
 use Rattle.flagops_checks.specs.Step.{Adds, AddsLines, GivesAll, GivesNext, Holds, HoldsLines}
-use Rattle.flagops_checks.specs.Calls.{check_calls}
-use Rattle.flagops_checks.specs.Told.{TellsAll, TellsDocument, check_subjects}
+use Rattle.flagops_checks.specs.Told.{TellsAll, TellsDocument, check_attempts}
 use Rattle.flagops_checks.specs.declared.form.Form.{Form}
 use Rattle.flagops_checks.specs.declared.gathering.Gathered.{Gathered}
 use Rattle.flagops_checks.specs.declared.remark_lines.RemarkLines.{RemarkLines}
@@ -20,12 +19,12 @@ use Rattle.flagops_files.specs.declared.refusal.Refusal.TheVariants as file
 use Rattle.flagops_shell.specs.Files.{Holding, load_of}
 use Rattle.flagops_files.specs.Loading.{max_text}
 use Rattle.flagops_shell.specs.Outcomes.{◌>>=◌, Lifts, refused_by}
-use Rattle.flagops_files.specs.Told.{NamesOne, NamesSubject, file}
+use Rattle.flagops_files.proofs.Told.{AreLeft, first_of_left, left_after}
+use Rattle.flagops_files.specs.Told.{NamesFirst, NamesSubject, attempt, file}
 use Rattle.flagops_shell.specs.Diagnostic.{Says}
-use Rattle.flagops_checks.specs.Refusal.{is_want, by, Refused}
+use Rattle.flagops_checks.specs.Refusal.{is_want, Refused}
 use Rattle.flagops_checks.specs.declared.refusal.CheckRefusal.{CheckRefusal}
 use Rattle.flagops_checks.specs.declared.refusal.CheckRefusal.TheVariants.{Load}
-use Rattle.flagops_shell.specs.declared.refused.Remark.{Remark}
 
 -- ---- one document
 
@@ -60,16 +59,18 @@ longer_front : (cs : List Checked) (c : Checked) (r : Result (List Checked) Chec
 longer_front cs c (Ok more) = ap Ok (sym (append_assoc cs (c ∷ []) more))
 longer_front cs c (Err e) = refl
 
--- what the paths that are left come to behind what is found so far, all come to
+-- what the paths that are left come to behind what is found so far, all come to; and the first of them that is refused is the first of all
 abbrev pub Goes : Form → Holding → List (List ℕ) → List (List ℕ) → Gathered → Type 0
 Goes form at paths left g =
     (cs : List Checked) × Holds form cs g × ((r : Result (List Checked) CheckRefusal) → AreChecked at left r → AreChecked at paths (r >>= λ more. Ok (cs ++ more)))
+    × AreLeft (check_attempts at left) (check_attempts at paths)
 
 pub starts : (form : Form) (at : Holding) (paths : List (List ℕ)) (g : Gathered) → g.text.items ≡ [] → g.is_wrong ≡ false → string_bytes g.told.lines ≡ [] → Goes form at paths paths g
 starts form at paths g empty right silent = (
   [],
   record { text = empty; wrong = right; told = λ whole. silent },
   λ r is. subst (AreChecked at paths) (sym (no_front r)) is,
+  λ e remark names. names,
 )
 
 told_on : (form : Form) (cs : List Checked) (c : Checked) (lines more whole : List ℕ) → TellsAll form cs lines → TellsDocument form c more → whole ≡ lines ++ more → TellsAll form (cs ++ c ∷ []) whole
@@ -100,17 +101,26 @@ module _ (form : Form) (at : Holding) (paths left rest : List (List ℕ)) (path 
   along : (r : Result (List Checked) CheckRefusal) → AreChecked at (path ∷ rest) r → AreChecked at paths (with_front goes.0 r)
   along r came = goes.2 r (subst (λ (ps : List (List ℕ)). AreChecked at ps r) (sym first) came)
 
+  named_along : AreLeft (check_attempts at (path ∷ rest)) (check_attempts at paths)
+  named_along e remark names = goes.3 e remark (subst (λ (ps : List (List ℕ)). NamesFirst (check_attempts at ps) e remark) (sym first) names)
+
   pub goes_on : (next : Gathered) → GivesNext form g (Ok next) (IsCheckedAt at path) → Goes form at paths rest next
   unfolding AreChecked
   goes_on next gives = (
     goes.0 ++ gives.0 ∷ [],
     held_on form goes.0 gives.0 g next goes.1 gives.2,
     λ r later. subst (AreChecked at paths) (longer_front goes.0 gives.0 r) (along (r >>= λ more. Ok (gives.0 ∷ more)) (Ok gives.0, gives.1, (r, later, refl))),
+    left_after (attempt (file path) (IsCheckedAt at path)) (check_attempts at rest) (check_attempts at paths) named_along (gives.0, gives.1),
   )
 
   pub goes_refused : (e : Refused) → GivesNext form g (Err e) (IsCheckedAt at path) → GivesAll form (Err e) (AreChecked at paths)
   unfolding AreChecked
   goes_refused e gives = λ wanted. along (Err e.refusal) (Err e.refusal, gives wanted, refl)
+
+  pub goes_told : (e : Refused) → GivesNext form g (Err e) (IsCheckedAt at path) → (is_want e.refusal ≡ false → Says (NamesSubject (file path)) e.remark) → is_want e.refusal ≡ false
+      → NamesFirst (check_attempts at paths) e.refusal e.remark
+  goes_told e gives says wanted =
+      first_of_left (attempt (file path) (IsCheckedAt at path)) (check_attempts at rest) (check_attempts at paths) named_along e.refusal e.remark (gives wanted) (says wanted)
 
 pub goes_all : (form : Form) (at : Holding) (paths left : List (List ℕ)) (g : Gathered) → Goes form at paths left g → left ≡ [] → GivesAll form (Ok g) (AreChecked at paths)
 unfolding AreChecked
@@ -152,21 +162,3 @@ pub next_found : (form : Form) (g : Gathered) (path : List ℕ) (h : Option Hold
     → Adds form (checked path bytes flags) g next → IfSome h (λ at. GivesNext form g (Ok next) (IsCheckedAt at path))
 next_found form g path None bytes flags next is loaded adds = tt
 next_found form g path (Some at) bytes flags next is loaded adds = (checked path bytes flags, a_document at path bytes flags loaded is, adds)
-
--- ---- one of the documents is refused
-
-no_less : {Y : Type 0} (i : ℕ) → i < 0 → Y
-no_less i less = absurd (omega (arith, less))
-
-less : (i n : ℕ) → suc i < suc n → i < n
-less i n h = omega (arith, h)
-
-told_at : {X : Type 0} (now : X → List ℕ) (xs : List X) (i : ℕ) (z : X) (e : CheckRefusal) (remark : Remark) → i < length xs → by check_calls e ≡ true → Says (NamesSubject (file (now (get_or xs i z)))) remark
-    → NamesOne (check_subjects (map now xs)) e remark
-told_at now [] i z e remark inside of says = no_less i inside
-told_at now (x ∷ xs) zero z e remark inside of says = inl (of, says)
-told_at now (x ∷ xs) (suc i) z e remark inside of says = inr (told_at now xs i z e remark (less i (length xs) inside) of says)
-
-pub told_of_one : {X : Type 0} (now : X → List ℕ) (xs : List X) (i : ℕ) (z : X) (e : Refused) → i < length xs → by check_calls e.refusal ≡ true → (is_want e.refusal ≡ false → Says (NamesSubject (file (now (get_or xs i z)))) e.remark)
-    → is_want e.refusal ≡ false → NamesOne (check_subjects (map now xs)) e.refusal e.remark
-told_of_one now xs i z e inside of says wanted = told_at now xs i z e.refusal e.remark inside of (says wanted)

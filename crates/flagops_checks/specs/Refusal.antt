@@ -66,21 +66,17 @@ ComesFrom calls r = outcomes.ComesFrom call_of calls r
 abbrev pub is_file_fault : {X : Type 0} → Result X Refused → Bool
 is_file_fault r = shell.is_file_fault is_unread r
 
--- the refusals of these calls
-abbrev pub by : (CheckCall → Bool) → CheckRefusal → Bool
-by calls e = calls (call_of e)
-
--- what may be refused, each with the refusals that are of it
-abbrev pub Subjects : Type 0
-Subjects = told.Subjects CheckRefusal
+-- what is attempted in turn
+abbrev pub Attempts : Type 1
+Attempts = List (told.Attempt CheckRefusal)
 
 -- a refusal is told by the name of what is refused
 abbrev pub TellsOf : {X : Type 0} → told.Subject → Result X Refused → Type 0
 TellsOf subject r = told.TellsOf is_want subject r
 
--- a refusal is told by the name of one of them
-abbrev pub TellsOfOne : {X : Type 0} → Subjects → Result X Refused → Type 0
-TellsOfOne subjects r = told.TellsOfOne is_want subjects r
+-- a refusal is told by the name of what the first of them is about that is refused
+abbrev pub TellsOfFirst : {X : Type 0} → Attempts → Result X Refused → Type 0
+TellsOfFirst attempts r = told.TellsOfFirst is_want attempts r
 
 -- these calls, by which files are read or written
 abbrev pub loads : (Call → Bool) → CheckCall → Bool

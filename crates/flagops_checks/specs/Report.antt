@@ -3,14 +3,14 @@ use Rattle.std.specs.Prelude.{◌≡◌, ℕ, Bool, ◌&&◌, List, if◌then◌
 use Rattle.flagops_checks.specs.Documents.{AreChecked}
 use Rattle.flagops_checks.specs.Judged.{Checked, are_wrong}
 use Rattle.flagops_checks.specs.Printed.{form_of, report_text}
-use Rattle.flagops_checks.specs.Told.{TellsAll, check_subjects}
+use Rattle.flagops_checks.specs.Told.{TellsAll, check_attempts}
 use Rattle.flagops_checks.specs.Words.{Checking}
 use Rattle.flagops_checks.specs.declared.form.Form.{Form}
 use Rattle.flagops_shell.specs.Files.{Holding}
 use Rattle.flagops_shell.specs.Outcomes.{◌>>=◌}
 use Rattle.flagops_checks.specs.Refusal.{Outcomes, Remarks}
 use Rattle.flagops_shell.specs.Report.{Report}
-use Rattle.flagops_files.specs.Told.{NamesOne}
+use Rattle.flagops_files.specs.Told.{NamesFirst}
 use Rattle.flagops_shell.specs.Diagnostic.{Says}
 use Rattle.flagops_checks.specs.declared.refusal.CheckRefusal.{CheckRefusal}
 
@@ -31,7 +31,7 @@ IsCheckReport at c r = (cs : Result (List Checked) CheckRefusal) × AreChecked a
 unfoldable pub TellsChecked : Holding → Checking → List ℕ → Type 0
 TellsChecked at c lines = (cs : List Checked) × AreChecked at c.documents (Ok cs) × TellsAll (form_of c.json c.documents) cs lines
 
--- of a refusal the name of the document that is refused, and else what is broken and what is doubted
+-- of a refusal the name of the first document that is refused, and else what is broken and what is doubted
 abbrev pub remark_of : Holding → Checking → Remarks
 remark_of at c (Ok report) remark = Says (TellsChecked at c) remark
-remark_of at c (Err e) remark = NamesOne (check_subjects c.documents) e remark
+remark_of at c (Err e) remark = NamesFirst (check_attempts at c.documents) e remark

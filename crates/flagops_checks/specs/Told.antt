@@ -5,13 +5,14 @@ use Rattle.flag_doubts.specs.declared.doubt.Doubt.{Doubt}
 use Rattle.flag_doubts.specs.declared.doubt.Doubt.TheVariants.{Doubled, Never, Repeated, Unread, Variant, Weight}
 use Rattle.flag_text.specs.Printing.{text_of}
 use Rattle.flag_text.specs.Shape.{text}
-use Rattle.flagops_checks.specs.Calls.{check_calls}
+use Rattle.flagops_checks.specs.Documents.{IsCheckedAt}
 use Rattle.flagops_checks.specs.Judged.{Checked, Judged, has_broken}
 use Rattle.flagops_checks.specs.declared.form.Form.{Form}
-use Rattle.flagops_files.specs.Told.{file}
+use Rattle.flagops_files.specs.Told.{attempt, file}
 use Rattle.file_diagnostics.specs.Broken.{TellsBroken}
 use Rattle.file_diagnostics.specs.Named.{Names}
-use Rattle.flagops_checks.specs.Refusal.{Subjects, by}
+use Rattle.flagops_checks.specs.Refusal.{Attempts}
+use Rattle.flagops_shell.specs.Files.{Holding}
 
 -- the line of a doubt: the path of the document and the key of the flag as JSON texts, why, and the doubt by its name
 abbrev pub IsDoubtLine : List ℕ → List ℕ → Doubt → List ℕ → Type 0
@@ -68,6 +69,6 @@ abbrev pub TellsAll : Form → List Checked → List ℕ → Type 0
 TellsAll form [] lines = lines ≡ []
 TellsAll form (c ∷ cs) lines = (first more : List ℕ) × TellsDocument form c first × TellsAll form cs more × (lines ≡ first ++ more)
 
--- the documents, each with the refusals that are of it
-abbrev pub check_subjects : List (List ℕ) → Subjects
-check_subjects paths = map (λ path. (file path, by check_calls)) paths
+-- the documents in the order in which they are checked, each before the next
+abbrev pub check_attempts : Holding → List (List ℕ) → Attempts
+check_attempts at paths = map (λ path. attempt (file path) (IsCheckedAt at path)) paths

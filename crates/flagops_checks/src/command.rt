@@ -4,10 +4,10 @@ ghost use Rattle.flagops_checks.specs.Calls.{check_calls};
 ghost use Rattle.flagops_checks.specs.Command.{description};
 ghost use Rattle.flagops_checks.specs.Report.{IsCheckReport, TellsChecked, check_status};
 ghost use Rattle.flagops_checks.specs.Step.{Speaks};
-ghost use Rattle.flagops_checks.specs.Told.{check_subjects};
+ghost use Rattle.flagops_checks.specs.Told.{check_attempts};
 ghost use Rattle.flagops_checks.specs.Words as words;
 ghost use Rattle.flagops_checks.specs.Words.{checking_view};
-ghost use Rattle.flagops_checks.specs.Refusal.{ComesFrom, GivesOne, is_file_fault, TellsOfOne};
+ghost use Rattle.flagops_checks.specs.Refusal.{ComesFrom, GivesOne, is_file_fault, TellsOfFirst};
 ghost use Rattle.flagops_shell.specs.Diagnostic.{Says};
 ghost use Rattle.flagops_shell.specs.Report.{outcome_view, status_number};
 
@@ -61,7 +61,7 @@ fn outcome<R: Threads, F: FileSet>(
     ensures calls { ComesFrom check_calls result }
     ensures failed { F.has_failed files.new ≡ (F.has_failed files.old || is_file_fault result) }
     ensures kept { F.holding files.new ≡ F.holding files.old }
-    ensures names { TellsOfOne (check_subjects (checking_view asked.now).documents) result }
+    ensures names { IfSome (F.holding files.old) (λ at. TellsOfFirst (check_attempts at (checking_view asked.now).documents) result) }
     ensures notes { IfSome (F.holding files.old) (λ at. IfOk result (λ o. IfSome o.remark (Says (TellsChecked at (checking_view asked.now))))) }
 {
     let paths = asked.documents.as_slice();

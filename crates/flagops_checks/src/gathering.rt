@@ -7,8 +7,8 @@ ghost use Rattle.flagops_checks.specs.Calls.{check_calls};
 ghost use Rattle.flagops_checks.specs.Judged.{checked, checked_view};
 ghost use Rattle.flagops_checks.specs.Documents.{AreChecked, IsCheckedAt};
 ghost use Rattle.flagops_checks.specs.Step.{Adds, GivesAll, GivesNext};
-ghost use Rattle.flagops_checks.specs.Told.{check_subjects};
-ghost use Rattle.flagops_checks.specs.Refusal.{ComesFrom, is_file_fault, TellsOf, TellsOfOne};
+ghost use Rattle.flagops_checks.specs.Told.{check_attempts};
+ghost use Rattle.flagops_checks.specs.Refusal.{ComesFrom, is_file_fault, TellsOf, TellsOfFirst};
 ghost use Rattle.flagops_files.specs.Told.{file};
 
 use crate::checked::Checked;
@@ -48,7 +48,7 @@ pub(crate) fn gather<R: Threads, F: FileSet>(
     ensures calls { ComesFrom check_calls result }
     ensures failed { F.has_failed files.new ≡ (F.has_failed files.old || is_file_fault result) }
     ensures kept { F.holding files.new ≡ F.holding files.old }
-    ensures names { TellsOfOne (check_subjects (map (λ p. p.now) paths.now)) result }
+    ensures names { IfSome (F.holding files.old) (λ at. TellsOfFirst (check_attempts at (map (λ p. p.now) paths.now)) result) }
 {
     let mut all = Gathered {
         text: Vec::new(alloc),

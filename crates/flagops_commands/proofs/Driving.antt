@@ -1,5 +1,5 @@
 -- What was loaded in turn, driven and then stored, as the report of `drive`.
-use Rattle.std.proofs.Common.{◌≡◌, ◌≢◌, ℕ, Bool, List, Option, Some, None, true, false, IfSome, is_some, inl, inr, refl, ap, ◌∙◌, subst, sym}
+use Rattle.std.proofs.Common.{◌≡◌, ◌≢◌, ℕ, Bool, List, Option, Some, None, true, false, IfSome, is_some, inl, inr, refl, ap, ◌∙◌, ◌||◌, subst, sym}
 use Rattle.std.specs.Prelude.{IsErrOf, IsOk, Result, Ok, Err, option_map}
 use Rattle.book_core.specs.Book.{Contents}
 use Rattle.flag_defs.specs.Document.{Definitions}
@@ -22,27 +22,15 @@ use Rattle.flagops_commands.specs.declared.refusal.ListedRefusal.TheVariants.{Dr
 use Rattle.flagops_commands.specs.Drive.{AreRead, IsAnswered, IsDriveReport, IsDriveOutputOf, IsWritten, LeavesBook, admitted, before_at, doubt_of_asks, recorded, settle}
 use Rattle.flagops_shell.specs.Ending.{KeepsUnlessDone}
 
--- ---- the book is written
-
-pub book_stored : (old new : Option Holding) (book : List ℕ) (d : DriveOutput) (r : Result Report ListedRefusal) → r ≡ beside true (done d.text) → Stores old new book d.book → KeepsOthers old new book
-    → IfSome old (λ at. IsWritten at new book (Ok d) r)
-book_stored None new book d r is stored kept = tt
-book_stored (Some at) new book d r is stored kept = inl (is, stored, kept)
-
-pub book_refused : (old new : Option Holding) (book : List ℕ) (d : DriveOutput) (e : Refused) → (is_want e.refusal ≡ false → e.refusal ≡ unwritable) → new ≡ old
-    → IfSome old (λ at. is_want e.refusal ≡ false → IsWritten at new book (Ok d) (Err e.refusal))
-book_refused None new book d e fault same = tt
-book_refused (Some at) new book d e fault same = λ wanted. inr (rw (fault wanted) refl, same)
-
 -- ---- the whole
 
 -- what is known of the files at first, where they stayed
 pub at_first : {A : Type 0} (old mid : Option A) (P : A → Type 0) → mid ≡ old → IfSome mid P → IfSome old P
 at_first old mid P same h = subst (λ o. IfSome o P) same h
 
-module _ (path asks : List ℕ) (workers : ℕ) (book : List ℕ) (add strict json : Bool) where
+module _ (path asks : List ℕ) (workers : ℕ) (book : List ℕ) (add replace strict json : Bool) where
   abbrev Is : Option Holding → Option Holding → Result Outcome Refused → Type 0
-  Is old after r = IfSome old (λ at. GivesOne outcome_view r (IsDriveReport at after path asks workers book add strict json))
+  Is old after r = IfSome old (λ at. GivesOne outcome_view r (IsDriveReport at after path asks workers book add replace strict json))
 
   pub no_document : (old after : Option Holding) (e : Refused) → after ≡ old → IfSome old (λ at. is_want e.refusal ≡ false → IsDocumentAt at path (Err e.refusal)) → Is old after (Err e)
   unfolding IsDriveReport
@@ -72,7 +60,7 @@ module _ (path asks : List ℕ) (workers : ℕ) (book : List ℕ) (add strict js
 
         pub driven : (old after : Option Holding) (d : DriveOutput) (r : Result Outcome Refused) → IfSome old (λ at. IsDocumentAt at path (Ok flags)) → IfSome old (λ at. tree_at at asks max_text ≡ Ok t)
             → IfSome old (λ at. before_at at book add ≡ Ok before) → IsDriveOutputOf (Ok flags) (Ok t) (Ok before) workers strict json (Ok d)
-            → IfSome old (λ at. GivesOne outcome_view r (IsWritten at after book (Ok d))) → Is old after r
+            → IfSome old (λ at. GivesOne outcome_view r (IsWritten at after book (add || replace) (Ok d))) → Is old after r
         unfolding IsDriveReport
         driven None after d r document tree had drive_output written = tt
         driven (Some at) after d (Ok o) document tree had drive_output written = (Ok flags, document, Ok d, rw (tree, had) drive_output, written)

@@ -6,6 +6,7 @@ mod Gathered
 pub mod Hexadecimal
 mod Keys
 mod Loaded
+mod Losing
 mod Members
 mod Noted
 pub mod Refusing

@@ -3,7 +3,7 @@ use Rattle.std.specs.Prelude.{Bool, true, false}
 use Rattle.flagops_files.specs.Refusal as files
 use Rattle.flagops_files.specs.declared.refusal.Call.{Call}
 use Rattle.flagops_files.specs.declared.refusal.Call.TheVariants as file
-use Rattle.flagops_commands.specs.Refusal.{loads, loads_file, loads_rule, loads_tree}
+use Rattle.flagops_commands.specs.Refusal.{loads, loads_book, loads_file, loads_rule, loads_tree}
 use Rattle.flagops_commands.specs.declared.refusal.ListedCall.{ListedCall}
 use Rattle.flagops_commands.specs.declared.refusal.ListedCall.TheVariants as call
 
@@ -69,6 +69,16 @@ resolve_calls c = loads loads_flags_and_trees c
 abbrev pub drive_itself : ListedCall → Bool
 drive_itself call.Drive = true
 drive_itself c = false
+
+-- the calls by which it is known that a new book loses nothing
+abbrev pub checks_losses : ListedCall → Bool
+checks_losses call.Drive = true
+checks_losses c = loads_book c
+
+-- the calls that writing a book makes, which may have to lose nothing
+abbrev pub writes_book : ListedCall → Bool
+writes_book (call.Load file.Store) = true
+writes_book c = checks_losses c
 
 -- the calls by which `drive` reads and writes files
 abbrev pub drives_files : Call → Bool

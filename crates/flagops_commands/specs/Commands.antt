@@ -1,5 +1,5 @@
 -- The table of the commands.
-use Rattle.std.specs.Prelude.{◌≡◌, Bool, true, false, Option}
+use Rattle.std.specs.Prelude.{◌≡◌, Bool, Option}
 use Rattle.flagops_rollouts.specs.Apply.{IsApplyReport}
 use Rattle.flagops_commands.specs.Bucket.{bucket_report}
 use Rattle.flagops_commands.specs.Completions.{completions_report}
@@ -24,27 +24,22 @@ use Rattle.flagops_commands.specs.declared.refusal.ListedCall.{ListedCall}
 use Rattle.flagops_commands.specs.declared.refusal.ListedCall.TheVariants as call
 use Rattle.flagops_words.specs.Asked.{Asked, bucket, price, resolve, verify, apply, keep, plan, drive, completions}
 
--- the command waits for others: `drive` for its workers, and no other command
-abbrev pub waits : Asked → Bool
-waits (drive document file workers book add strict json) = true
-waits asked = false
-
 -- what each command comes to over the files, and over those that it leaves
 abbrev pub IsOutcome : Holding → Option Holding → Asked → Outcomes
 IsOutcome at after (bucket rule key json) r = bucket_report at rule key json ≡ r
 IsOutcome at after (price old new request keys json) r = price_report at old new request keys json ≡ r
 IsOutcome at after (resolve document key kind default context moment) r = IsResolveReport at document key kind default context moment r
 IsOutcome at after (verify document request book file refine strict json) r = Lifts Rollout (IsVerifyReport at document request book file refine strict json) r
-IsOutcome at after (apply document file key site) r = Lifts Rollout (IsApplyReport at document file key site) r
+IsOutcome at after (apply document file key site strict) r = Lifts Rollout (IsApplyReport at document file key site strict) r
 IsOutcome at after (keep document file request book write refine strict) r = Lifts Rollout (IsKeepReport at after document file request book write refine strict) r
 IsOutcome at after (plan document request book refine strict explain) r = Lifts Rollout (IsPlanReport at document request book refine strict explain) r
 IsOutcome at after (completions shell) r = completions_report shell ≡ r
-IsOutcome at after (drive document file workers book add strict json) r = IsDriveReport at after document file workers book add strict json r
+IsOutcome at after (drive document file workers book add replace strict json) r = IsDriveReport at after document file workers book add replace strict json r
 
 -- a command leaves the files as they are; `drive` and `apply --keep --write` change the one file that they write, and only where there is something to write
 abbrev pub Leaves : Asked → Option Holding → Option Holding → Type 0
 Leaves (keep document file request book write refine strict) old new = LeavesDocument old new document write
-Leaves (drive document file workers book add strict json) old new = LeavesBook old new document file workers book add strict
+Leaves (drive document file workers book add replace strict json) old new = LeavesBook old new document file workers book add strict
 Leaves asked old new = new ≡ old
 
 -- the calls that each command makes
@@ -53,11 +48,11 @@ calls_of (bucket rule key json) c = bucket_calls c
 calls_of (price old new request keys json) c = price_calls c
 calls_of (resolve document key kind default context moment) c = resolve_calls c
 calls_of (verify document request book file refine strict json) c = rolls verify_calls c
-calls_of (apply document file key site) c = rolls apply_calls c
+calls_of (apply document file key site strict) c = rolls apply_calls c
 calls_of (keep document file request book write refine strict) c = rolls keep_calls c
 calls_of (plan document request book refine strict explain) c = rolls plan_calls c
 calls_of (completions shell) c = completions_calls c
-calls_of (drive document file workers book add strict json) c = drive_calls c
+calls_of (drive document file workers book add replace strict json) c = drive_calls c
 
 -- what is known of these commands
 abbrev pub description : Description Asked ListedRefusal

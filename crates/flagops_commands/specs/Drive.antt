@@ -1,6 +1,8 @@
 -- What the command `drive` answers, and the book that it writes.
-use Rattle.std.specs.Prelude.{◌≡◌, ◌⊎◌, ℕ, ◌==◌, Bool, List, true, false, if◌then◌else◌, Option, Some, None, is_some, IfSome, Result, Ok, Err, IsErrAnd, IsOk, IsOkAnd}
+use Rattle.std.specs.Prelude.{◌≡◌, ◌⊎◌, ◌||◌, ℕ, ◌==◌, Bool, List, true, false, if◌then◌else◌, Option, Some, None, is_some, IfSome, Result, Ok, Err, IsErrAnd, IsOk, IsOkAnd}
 use Rattle.book_core.specs.Book.{Contents}
+use Rattle.book_core.specs.Reading.{book_of}
+use Rattle.book_losses.specs.Losses.{losses_at}
 use Rattle.flag_defs.specs.Document.{Definitions}
 use Rattle.flag_text.specs.Shape.{Shape}
 use Rattle.flagops_drive.specs.Asks.{asks_of}
@@ -18,7 +20,7 @@ use Rattle.flagops_shell.specs.declared.outcome.Outcome.{Outcome}
 use Rattle.flagops_commands.specs.declared.refusal.ListedCall.TheVariants as call
 use Rattle.flagops_commands.specs.declared.refusal.ListedRefusal.{ListedRefusal}
 use Rattle.flagops_rollouts.specs.declared.refusal.Doubt.TheVariants as doubt
-use Rattle.flagops_commands.specs.declared.refusal.ListedRefusal.TheVariants.{Drive, Doubted}
+use Rattle.flagops_commands.specs.declared.refusal.ListedRefusal.TheVariants.{Load, Drive, Doubted, WouldLose}
 
 -- the book that was there before: that of the file where it is added to, and else none, where the file may become another book
 unfoldable pub before_at : Holding → List ℕ → Bool → Result (Option Contents) ListedRefusal
@@ -61,14 +63,29 @@ IsDriveOutputOf (Ok flags) (Err e) before workers strict json r = r ≡ Err e
 IsDriveOutputOf (Ok flags) (Ok t) (Err e) workers strict json r = r ≡ Err e
 IsDriveOutputOf (Ok flags) (Ok t) (Ok before) workers strict json r = IsAnswered (admitted strict (refusal_of (asks_of t) workers) t) flags t before workers strict json r
 
--- The book is written before the output, and no other file changes; none does where there is no book, or where it is refused to be written. A person is told how many asks ended in what, and how many inputs they reached.
-abbrev pub IsWritten : Holding → Option Holding → List ℕ → Result DriveOutput ListedRefusal → Outcomes
-IsWritten at after book (Err e) r = (r ≡ Err e) × (after ≡ Some at)
-IsWritten at after book (Ok d) r = ((r ≡ beside true (done d.text)) × Stores (Some at) after book d.book × KeepsOthers (Some at) after book) ⊎ ((r ≡ Err unwritable) × (after ≡ Some at))
+-- a new book that lacks inputs of the old one is refused
+abbrev pub unless_lost : ℕ → Result (Unit {0}) ListedRefusal
+unless_lost lost = if lost == 0 then Ok tt else Err (WouldLose lost)
 
-unfoldable pub IsDriveReport : Holding → Option Holding → List ℕ → List ℕ → ℕ → List ℕ → Bool → Bool → Bool → Outcomes
-IsDriveReport at after path asks workers book add strict json r =
-    (document : Result Definitions ListedRefusal) × IsDocumentAt at path document × (d : Result DriveOutput ListedRefusal) × IsDriveOutputOf document (tree_at at asks max_text) (before_at at book add) workers strict json d × IsWritten at after book d r
+-- whether a new book may be written over the one at a path: always where inputs may be lost, and else where none is
+unfoldable pub replaces_at : Holding → List ℕ → Bool → Contents → Result (Unit {0}) ListedRefusal
+replaces_at at book true new = Ok tt
+replaces_at at book false new = refused_by Load (losses_at at book new) >>= unless_lost
+
+-- The book is written before the output, and no other file changes; none does where it may not be written, or is refused to be. A person is told how many asks ended in what, and how many inputs they reached.
+abbrev pub IsSaved : Result (Unit {0}) ListedRefusal → Holding → Option Holding → List ℕ → DriveOutput → Outcomes
+IsSaved (Err e) at after book d r = (r ≡ Err e) × (after ≡ Some at)
+IsSaved (Ok free) at after book d r = ((r ≡ beside true (done d.text)) × Stores (Some at) after book d.book × KeepsOthers (Some at) after book) ⊎ ((r ≡ Err unwritable) × (after ≡ Some at))
+
+-- the same of the book that there is, where there is one
+abbrev pub IsWritten : Holding → Option Holding → List ℕ → Bool → Result DriveOutput ListedRefusal → Outcomes
+IsWritten at after book lossy (Err e) r = (r ≡ Err e) × (after ≡ Some at)
+IsWritten at after book lossy (Ok d) r = (new : Contents) × (book_of d.book ≡ Ok new) × IsSaved (replaces_at at book lossy new) at after book d r
+
+-- with `--add` the new book has all that the old one had
+unfoldable pub IsDriveReport : Holding → Option Holding → List ℕ → List ℕ → ℕ → List ℕ → Bool → Bool → Bool → Bool → Outcomes
+IsDriveReport at after path asks workers book add replace strict json r =
+    (document : Result Definitions ListedRefusal) × IsDocumentAt at path document × (d : Result DriveOutput ListedRefusal) × IsDriveOutputOf document (tree_at at asks max_text) (before_at at book add) workers strict json d × IsWritten at after book (add || replace) d r
 
 -- the document and the asks of these files were read, of which nothing is doubted that is refused, and the book that is added to
 abbrev pub AreRead : Holding → List ℕ → List ℕ → List ℕ → Bool → Bool → Type 0

@@ -6,7 +6,7 @@ use Rattle.flagops_shell.specs.Apart.{apart}
 use Rattle.flagops_shell.specs.Report.{IsFileLine}
 use Rattle.flagops_commands.specs.Refusal.{is_unread, line_of}
 use Rattle.flagops_commands.specs.declared.refusal.ListedRefusal.{ListedRefusal}
-use Rattle.flagops_commands.specs.declared.refusal.ListedRefusal.TheVariants.{Load, Rollout, WantOfMemory, ReadRequest, Note, Price, Drive, Doubted}
+use Rattle.flagops_commands.specs.declared.refusal.ListedRefusal.TheVariants.{Load, Rollout, WantOfMemory, ReadRequest, Note, Price, Drive, Doubted, WouldLose}
 
 pub file_line : (r : ListedRefusal) → is_unread r ≡ true → IsFileLine (line_of r)
 file_line (Load e) is = files.file_line e is
@@ -17,3 +17,4 @@ file_line (Note e) is = apart is
 file_line (Price e) is = apart is
 file_line (Drive e) is = apart is
 file_line (Doubted d) is = apart is
+file_line (WouldLose n) is = apart is

@@ -13,6 +13,7 @@ use Rattle.flagops_shell.specs.Ending as shell
 use Rattle.flagops_shell.specs.Given as given
 use Rattle.flagops_shell.specs.Outcomes as outcomes
 use Rattle.flagops_shell.specs.declared.refused.Refused as refusals
+use Rattle.flagops_files.specs.Payload.{number_item}
 use Rattle.flagops_files.specs.Refusal as files
 use Rattle.flagops_files.specs.Refusal.{line_with}
 use Rattle.flagops_files.specs.Told as told
@@ -26,7 +27,7 @@ use Rattle.flagops_rollouts.specs.declared.refusal.RolloutRefusal.{RolloutRefusa
 use Rattle.flagops_commands.specs.declared.refusal.ListedCall.{ListedCall}
 use Rattle.flagops_commands.specs.declared.refusal.ListedCall.TheVariants as call
 use Rattle.flagops_commands.specs.declared.refusal.ListedRefusal.{ListedRefusal}
-use Rattle.flagops_commands.specs.declared.refusal.ListedRefusal.TheVariants.{Load, Rollout, WantOfMemory, ReadRequest, Note, Price, Drive, Doubted}
+use Rattle.flagops_commands.specs.declared.refusal.ListedRefusal.TheVariants.{Load, Rollout, WantOfMemory, ReadRequest, Note, Price, Drive, Doubted, WouldLose}
 use Rattle.flagops_commands.specs.declared.refusal.PriceMismatch.{PriceMismatch}
 use Rattle.flagops_commands.specs.declared.refusal.PriceMismatch.TheVariants.{Weight, BadKeys}
 
@@ -51,6 +52,7 @@ call_of (Note e) = call.Note
 call_of (Price e) = call.Price
 call_of (Drive e) = call.Drive
 call_of (Doubted d) = call.Drive
+call_of (WouldLose n) = call.Drive
 
 -- memory ran out
 abbrev pub is_want : ListedRefusal → Bool
@@ -86,7 +88,11 @@ abbrev pub mismatch_name : PriceMismatch → List ℕ
 mismatch_name Weight = codes "Weight"
 mismatch_name BadKeys = codes "BadKeys"
 
--- `refused`, the call, the number and the name
+-- so many inputs of a book would be lost
+abbrev pub loss_line : ℕ → List ℕ
+loss_line lost = line_with (codes "drive") (decimal 7) (codes "WouldLose") (number_item lost)
+
+-- `refused`, the call, the number and the name, and of a loss how many inputs it is
 abbrev pub line_of : ListedRefusal → List ℕ
 line_of (Load e) = files.line_of e
 line_of (Rollout e) = rollouts.line_of e
@@ -96,6 +102,7 @@ line_of (Note e) = line_with (codes "note") (decimal (books.number_of e)) (books
 line_of (Price e) = line_with (codes "price") (decimal (mismatch_number e)) (mismatch_name e) []
 line_of (Drive e) = line_with (codes "drive") (decimal (drives.number_of e)) (drives.name_of e) []
 line_of (Doubted d) = line_with (codes "drive") (decimal (doubt_number d)) (doubt_name d) []
+line_of (WouldLose lost) = loss_line lost
 
 -- ---- by the type of these refusals
 

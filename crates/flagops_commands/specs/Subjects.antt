@@ -13,7 +13,7 @@ use Rattle.flagops_commands.specs.declared.refusal.ListedCall.{ListedCall}
 use Rattle.flagops_commands.specs.declared.refusal.ListedCall.TheVariants as call
 use Rattle.flagops_commands.specs.declared.refusal.PriceMismatch.TheVariants.{Weight, BadKeys}
 use Rattle.flagops_commands.specs.declared.refusal.ListedRefusal.{ListedRefusal}
-use Rattle.flagops_commands.specs.declared.refusal.ListedRefusal.TheVariants.{Note, Price, Drive, Doubted}
+use Rattle.flagops_commands.specs.declared.refusal.ListedRefusal.TheVariants.{Note, Price, Drive, Doubted, WouldLose}
 use Rattle.flagops_commands.specs.Calls.{loads_request}
 use Rattle.flagops_commands.specs.DriveSummary.{TellsPrinted}
 use Rattle.flagops_rollouts.specs.Doubts.{NamesDoubted}
@@ -69,6 +69,15 @@ abbrev pub is_of_adding : ListedRefusal → Bool
 is_of_adding (Drive driving.PageFull) = true
 is_of_adding e = false
 
+-- a book that is written over would lose inputs
+abbrev pub is_of_losing : ListedRefusal → Bool
+is_of_losing (WouldLose n) = true
+is_of_losing e = false
+
+-- what is refused of the book that is written
+abbrev pub written_subjects : List ℕ → Subjects
+written_subjects book = (file book, by loads_book) ∷ (file book, by stores_file) ∷ (file book, is_of_losing) ∷ []
+
 -- what is said of asks that are refused
 abbrev pub NamesDriven : List ℕ → List ℕ → DriveRefusal → List ℕ → Type 0
 NamesDriven asks book driving.BadAsks lines = Names asks lines
@@ -80,7 +89,7 @@ abbrev pub driven_subjects : List ℕ → List ℕ → Subjects
 driven_subjects asks book = (file asks, is_of_asks) ∷ (word the_workers, is_of_driving) ∷ (file book, is_of_adding) ∷ []
 
 abbrev pub drive_subjects : List ℕ → List ℕ → List ℕ → Subjects
-drive_subjects document asks book = (file document, by loads_flags) ∷ (file book, by loads_book) ∷ (file book, by stores_file) ∷ driven_subjects asks book
+drive_subjects document asks book = (file document, by loads_flags) ∷ (file book, by loads_book) ∷ (file book, by stores_file) ∷ (file book, is_of_losing) ∷ driven_subjects asks book
 
 abbrev pub subjects_of : Asked → Subjects
 subjects_of (bucket rule key json) = bucket_subjects rule
@@ -88,24 +97,25 @@ subjects_of (price old new request keys json) = price_subjects old new request k
 subjects_of (resolve document key kind default context moment) = resolve_subjects document context
 subjects_of (verify document request book answer refine strict json) = rolled (verify_subjects document request book answer)
 subjects_of (plan document request book refine strict explain) = rolled (plan_subjects document request book)
-subjects_of (apply document answer key site) = rolled (apply_subjects document answer)
+subjects_of (apply document answer key site strict) = rolled (apply_subjects document answer)
 subjects_of (keep document answer request book write refine strict) = rolled (keep_subjects document answer request book)
-subjects_of (drive document asks workers book add strict json) = drive_subjects document asks book
+subjects_of (drive document asks workers book add replace strict json) = drive_subjects document asks book
 subjects_of (completions shell) = []
 
 -- what a person is told beside the report of a command that was not refused: what is doubted of a
--- request or of an answer to it, and what the asks ended in
+-- request or of an answer to it, what is left out of a document, and what the asks ended in
 abbrev pub notes_of : Asked → List ℕ → Type 0
 notes_of (price old new request keys json) = Names request
 notes_of (verify document request book answer refine strict json) = NamesDoubted request book
 notes_of (plan document request book refine strict explain) = NamesDoubted request book
+notes_of (apply document answer key site strict) = Names document
 notes_of (keep document answer request book write refine strict) = NamesDoubted request book
-notes_of (drive document asks workers book add strict json) = Names asks
+notes_of (drive document asks workers book add replace strict json) = Names asks
 notes_of asked = λ lines. Unit {0}
 
 -- and the numbers that are told: of `drive`, those of what it printed
 abbrev pub numbers_of : Asked → Holding → Report → List ℕ → Type 0
-numbers_of (drive document asks workers book add strict json) at report = TellsPrinted at asks book add json report.text
+numbers_of (drive document asks workers book add replace strict json) at report = TellsPrinted at asks book add json report.text
 numbers_of asked at report = λ lines. Unit {0}
 
 -- the remark on what a command comes to over these files

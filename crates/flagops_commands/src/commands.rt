@@ -1,6 +1,6 @@
 //! The table of the commands, and what each answers.
-ghost use Rattle.std.specs.Prelude.{◌≡◌, ◌||◌, false, IfOk, IfSome};
-ghost use Rattle.flagops_commands.specs.Commands.{calls_of, IsOutcome, Leaves, waits};
+ghost use Rattle.std.specs.Prelude.{◌≡◌, ◌||◌, IfOk, IfSome};
+ghost use Rattle.flagops_commands.specs.Commands.{calls_of, IsOutcome, Leaves};
 ghost use Rattle.flagops_shell.specs.Ending.{KeepsUnlessDone};
 ghost use Rattle.flagops_words.specs.Asked.{asked_view};
 ghost use Rattle.flagops_commands.specs.Refusal.{ComesFrom, GivesOne, is_file_fault, TellsOfOne};
@@ -21,8 +21,7 @@ use std::alloc::Global;
 use std::sync::Wait;
 use std::thread::Threads;
 
-/// What the command answers, or why it is refused. `drive` waits for its workers; each other command is done without a
-/// handle to wait by, so it returns.
+/// What the command answers, or why it is refused. `drive` alone waits, for its workers.
 #[tactic(auto, using(crate::proofs::Noted::nothing, crate::proofs::Noted::no_numbers, crate::proofs::Refusing::all_kept))]
 pub fn outcome<R: Threads + Wait + Sync, F: FileSet>(
     rt: &R,
@@ -38,39 +37,6 @@ pub fn outcome<R: Threads + Wait + Sync, F: FileSet>(
     ensures names { TellsOfOne (subjects_of (asked_view asked.now)) result }
     ensures notes { IfOk result (λ o. IfSome o.remark (Says (notes_of (asked_view asked.now)))) }
     ensures numbers { IfOk result (λ o. IfSome (F.holding files.old) (λ at. IfSome o.remark (Says (numbers_of (asked_view asked.now) at (outcome_view o))))) }
-{
-    match asked {
-        Asked::Drive {
-            document,
-            asks,
-            workers,
-            book,
-            add,
-            strict,
-            json,
-        } => drive(
-            rt, alloc, files, document, asks, *workers, book, *add, *strict, *json,
-        ),
-        _ => outcome_at_once(rt, alloc, files, asked),
-    }
-}
-
-/// The same of a command that waits for nobody.
-#[tactic(auto, using(crate::proofs::Noted::nothing, crate::proofs::Refusing::all_kept))]
-fn outcome_at_once<R: Threads + Sync, F: FileSet>(
-    rt: &R,
-    alloc: Global,
-    files: &mut F,
-    asked: &Asked<'_>,
-) -> Result<Outcome, Refused>
-    requires { waits (asked_view asked.now) ≡ false }
-    ensures exact { IfSome (F.holding files.old) (λ at. GivesOne outcome_view result (IsOutcome at (F.holding files.new) (asked_view asked.now))) }
-    ensures calls { ComesFrom (calls_of (asked_view asked.now)) result }
-    ensures failed { F.has_failed files.new ≡ (F.has_failed files.old || is_file_fault result) }
-    ensures left { Leaves (asked_view asked.now) (F.holding files.old) (F.holding files.new) }
-    ensures kept { KeepsUnlessDone (F.holding files.old) (F.holding files.new) result }
-    ensures names { TellsOfOne (subjects_of (asked_view asked.now)) result }
-    ensures notes { IfOk result (λ o. IfSome o.remark (Says (notes_of (asked_view asked.now)))) }
 {
     match asked {
         Asked::Bucket { rule, key, json } => bucket(alloc, files, rule, key, *json),
@@ -118,7 +84,8 @@ fn outcome_at_once<R: Threads + Sync, F: FileSet>(
             plan,
             key,
             site,
-        } => apply(alloc, files, document, plan, key, *site),
+            strict,
+        } => apply(alloc, files, document, plan, key, *site, *strict),
         Asked::Keep {
             document,
             plan,
@@ -130,6 +97,17 @@ fn outcome_at_once<R: Threads + Sync, F: FileSet>(
         } => keep(
             rt, alloc, files, document, plan, request, book, *write, *refine, *strict,
         ),
-        Asked::Drive { .. } => unreachable!(),
+        Asked::Drive {
+            document,
+            asks,
+            workers,
+            book,
+            add,
+            replace,
+            strict,
+            json,
+        } => drive(
+            rt, alloc, files, document, asks, *workers, book, *add, *replace, *strict, *json,
+        ),
     }
 }

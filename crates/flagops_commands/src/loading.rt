@@ -1,5 +1,6 @@
 //! Files that are loaded and written for a listed command, where each refusal is one of these commands.
 ghost use Rattle.std.specs.Prelude.{◌≡◌, ◌||◌, false, true, IfErr, IfOk, IfSome, OnErr, OnOk};
+ghost use Rattle.book_losses.specs.Losses.{losses_at};
 ghost use Rattle.flag_defs.specs.Flags.{flags_view};
 ghost use Rattle.flag_text.specs.Shape.{is_whole};
 ghost use Rattle.flag_text.specs.View.{view};
@@ -7,14 +8,17 @@ ghost use Rattle.flagops_files.specs.Told.{file};
 ghost use Rattle.flagops_shell.specs.Files.{KeepsOthers, Stores};
 ghost use Rattle.flagops_commands.specs.Loaded.{IsDocumentAt, book_at, bytes_at, choice_at, replaceable_at, rule_at, tree_at};
 ghost use Rattle.flagops_commands.specs.Refusal.{ComesFrom, GivesOne, GivesUnlessWant, TellsOf, is_file_fault, is_want, loads_book, loads_file, loads_flags, loads_rule, loads_tree, stores_file, unwritable};
+ghost use Rattle.flagops_commands.specs.declared.refusal.ListedRefusal.TheVariants.{Load};
+ghost use Rattle.flagops_shell.specs.Outcomes.{refused_by};
 ghost use Rattle.rule_text.specs.Choosing.{choice_view};
 
 use crate::refusal::Refused;
 use book_core::Book;
+use book_losses::losses_at;
 use bucket_core::Rule;
 use flag_defs::Flags;
 use flag_text::Tree;
-use flagops_files::{TEXT_LIMIT, load};
+use flagops_files::{TEXT_LIMIT, load, load_document};
 use flagops_shell::FileSet;
 use rule_text::Choice;
 use std::alloc::Global;
@@ -111,8 +115,8 @@ pub(crate) fn load_flags<F: FileSet>(
     ensures kept { F.holding files.new ≡ F.holding files.old }
     ensures names { TellsOf (file path.now) result }
 {
-    match flagops_files::load_flags(alloc, files, path) {
-        Ok(flags) => Ok(flags),
+    match load_document(alloc, files, path) {
+        Ok(document) => Ok(document.flags),
         Err(refused) => Err(Refused::of(refused)),
     }
 }
@@ -150,6 +154,26 @@ pub(crate) fn check_replaceable<F: FileSet>(
 {
     match flagops_files::check_replaceable(alloc, files, path) {
         Ok(()) => Ok(()),
+        Err(refused) => Err(Refused::of(refused)),
+    }
+}
+
+/// How many inputs of the book in the file at a path a new book does not have.
+#[tactic(auto, using(crate::proofs::Loaded::told, crate::proofs::Loaded::comes, crate::proofs::Loaded::failed_load))]
+pub(crate) fn load_losses<F: FileSet>(
+    alloc: Global,
+    files: &mut F,
+    path: &str,
+    new: &Book,
+) -> Result<u64, Refused>
+    ensures exact { IfSome (F.holding files.old) (λ at. GivesUnlessWant (λ n. n) result (refused_by Load (losses_at at path.now new.now))) }
+    ensures calls { ComesFrom loads_book result }
+    ensures failed { F.has_failed files.new ≡ (F.has_failed files.old || is_file_fault result) }
+    ensures kept { F.holding files.new ≡ F.holding files.old }
+    ensures names { TellsOf (file path.now) result }
+{
+    match losses_at(alloc, files, path, new) {
+        Ok(lost) => Ok(lost),
         Err(refused) => Err(Refused::of(refused)),
     }
 }

@@ -1,14 +1,14 @@
 //! Why the listed commands refuse, and the line that each refusal is written as.
-ghost use Rattle.std.specs.Prelude.{◌≡◌};
+ghost use Rattle.std.specs.Prelude.{◌≡◌, IfOk, string_bytes};
 ghost use Rattle.flagops_commands.specs.FileLines.{file_line};
-ghost use Rattle.flagops_commands.specs.Refusal.{call_name, call_of, is_unread, is_want, line_of, mismatch_name, mismatch_number};
+ghost use Rattle.flagops_commands.specs.Refusal.{call_name, call_of, is_unread, is_want, line_of, loss_line, mismatch_name, mismatch_number};
 ghost use Rattle.flagops_commands.specs.declared.refusal.ListedRefusal.TheVariants.{Load, Rollout};
 ghost use Rattle.flagops_shell.specs.declared.refused.Remark.TheVariants.{Short};
 
 use book_core::BookFault;
 use book_share::DriveFault;
 use flagops_drive::DriveRefusal;
-use flagops_files::{Call, Refusal, fault_line};
+use flagops_files::{Call, Refusal, fault_line, number_item};
 use flagops_rollouts::{Doubt, RolloutCall, RolloutRefusal};
 use flagops_shell::{CommandRefusal, Remark};
 use price_core::PriceFault;
@@ -106,6 +106,8 @@ pub enum ListedRefusal {
     Drive(DriveRefusal),
     /// What `drive` answers is doubted, and what is doubted is to be refused.
     Doubted(Doubt),
+    /// The book that `drive` would write lacks so many inputs of the one that it would be written over.
+    WouldLose(u64),
 }
 
 impl ListedRefusal {
@@ -120,7 +122,9 @@ impl ListedRefusal {
             ListedRefusal::ReadRequest(_) => ListedCall::ReadRequest,
             ListedRefusal::Note(_) => ListedCall::Note,
             ListedRefusal::Price(_) => ListedCall::Price,
-            ListedRefusal::Drive(_) | ListedRefusal::Doubted(_) => ListedCall::Drive,
+            ListedRefusal::Drive(_) | ListedRefusal::Doubted(_) | ListedRefusal::WouldLose(_) => {
+                ListedCall::Drive
+            }
         }
     }
 }
@@ -196,8 +200,17 @@ impl CommandRefusal for ListedRefusal {
             ListedRefusal::Doubted(doubt) => {
                 fault_line(alloc, "drive", doubt.number(), doubt.name(), "")
             }
+            ListedRefusal::WouldLose(lost) => loss_line(alloc, *lost),
         }
     }
 
     ghost unread_lines = { file_line };
+}
+
+/// The line of a refusal to lose so many inputs.
+fn loss_line(alloc: Global, lost: u64) -> Result<String, AllocError>
+    ensures { IfOk result (λ s. string_bytes s ≡ loss_line lost) }
+{
+    let items = number_item(alloc, lost)?;
+    fault_line(alloc, "drive", 7, "WouldLose", items.as_str())
 }

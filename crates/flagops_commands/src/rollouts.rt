@@ -1,5 +1,6 @@
 //! The commands on rollouts, where each refusal is one of the listed commands.
 ghost use Rattle.std.specs.Prelude.{◌≡◌, ◌||◌, IfOk, IfSome, option_map};
+ghost use Rattle.file_diagnostics.specs.Named.{Names};
 ghost use Rattle.flagops_commands.specs.Refusal.{ComesFrom, GivesOne, TellsOfOne, is_file_fault, rolled, rolls};
 ghost use Rattle.flagops_commands.specs.declared.refusal.ListedRefusal.TheVariants.{Rollout};
 ghost use Rattle.flagops_rollouts.specs.Apply.{IsApplyReport};
@@ -86,14 +87,16 @@ pub(crate) fn apply<F: FileSet>(
     plan: &str,
     key: &str,
     site: u32,
+    strict: bool,
 ) -> Result<Outcome, Refused>
-    ensures exact { IfSome (F.holding files.old) (λ at. GivesOne outcome_view result (Lifts Rollout (IsApplyReport at document.now plan.now key.now site))) }
+    ensures exact { IfSome (F.holding files.old) (λ at. GivesOne outcome_view result (Lifts Rollout (IsApplyReport at document.now plan.now key.now site strict))) }
     ensures calls { ComesFrom (rolls apply_calls) result }
     ensures failed { F.has_failed files.new ≡ (F.has_failed files.old || is_file_fault result) }
     ensures kept { F.holding files.new ≡ F.holding files.old }
     ensures names { TellsOfOne (rolled (apply_subjects document.now plan.now)) result }
+    ensures notes { IfOk result (λ o. IfSome o.remark (Says (Names document.now))) }
 {
-    match flagops_rollouts::apply(alloc, files, document, plan, key, site) {
+    match flagops_rollouts::apply(alloc, files, document, plan, key, site, strict) {
         Ok(outcome) => Ok(outcome),
         Err(refused) => Err(Refused::of(refused)),
     }

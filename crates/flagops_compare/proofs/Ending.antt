@@ -11,8 +11,8 @@ use Rattle.flagops_shell.specs.Files.{Holding}
 use Rattle.flagops_shell.specs.declared.outcome.Outcome.{Outcome}
 use Rattle.flagops_shell.specs.declared.refused.Remark.{Remark}
 
--- of a report the pages that have no rules to compare, and of a refusal the name of the file that is refused
-pub remarks : (files : Option Holding) (a : Comparing) (r : Result Outcome Told) → TellsRefused a r → IfSome files (λ at. IfOk r (λ o. IfSome o.remark (Says (TellsLeft at a))))
+-- of a report the pages that have no rules to compare, and of a refusal the name of the first file that is refused
+pub remarks : (files : Option Holding) (a : Comparing) (r : Result Outcome Told) → IfSome files (λ at. TellsRefused at a r) → IfSome files (λ at. IfOk r (λ o. IfSome o.remark (Says (TellsLeft at a))))
     → IfSome files (λ at. Remarks is_want (remark_of at a) r)
 remarks None a r names notes = tt
 remarks (Some at) a (Ok o) names notes = λ remark is. subst (λ (m : Option Remark). IfSome m (Says (TellsLeft at a))) is notes

@@ -2,10 +2,10 @@
 use Rattle.std.proofs.Common.{◌≡◌, ◌∙◌, true, false, Bool, ℕ, List, Option, None, Some, IfSome, IfOk, sym, ap, subst, string_bytes}
 use Rattle.std.specs.Prelude.{Result, Ok, Err}
 use Rattle.flagops_compare.specs.Compared.{IsComparedOn}
-use Rattle.flagops_compare.specs.Loaded.{IsLoadedAt, Loaded, compare_subjects}
+use Rattle.flagops_compare.specs.Loaded.{IsLoadedAt, Loaded, compare_attempts}
 use Rattle.flagops_compare.specs.Refusal.{is_want}
 use Rattle.flagops_compare.specs.Report.{IsCompareReport, IsWithLoaded, NamesRefused, TellsLeft, TellsOfLoaded, compare_report}
-use Rattle.flagops_compare.specs.Step.{GivesOne, TellsRefused, Told}
+use Rattle.flagops_compare.specs.Step.{GivesOne, TellsRefused, TellsTally, Told}
 use Rattle.flagops_compare.specs.Told.{note_lines}
 use Rattle.flagops_compare.specs.Words.{Comparing}
 use Rattle.flagops_compare.specs.declared.refusal.CompareRefusal.{CompareRefusal}
@@ -13,7 +13,7 @@ use Rattle.flagops_compare.specs.declared.refusal.CompareRefusal.TheVariants.{Wa
 use Rattle.flagops_files.specs.Lines.{NamesFile}
 use Rattle.flagops_files.specs.Refusal as files
 use Rattle.flagops_files.specs.Refusal.{Refused}
-use Rattle.flagops_files.specs.Told.{NamesOne}
+use Rattle.flagops_files.specs.Told.{NamesFirst}
 use Rattle.flagops_shell.specs.Diagnostic.{Says}
 use Rattle.flagops_shell.specs.Files.{Holding}
 use Rattle.flagops_shell.specs.declared.outcome.Outcome.{Outcome}
@@ -68,14 +68,24 @@ module _ (a : Comparing) where
 
   -- ---- what is told
 
-  pub named : (e : Refused) (t : Told) → t.refusal ≡ Load e.refusal → t.remark ≡ e.remark → (files.is_want e.refusal ≡ false → NamesOne (compare_subjects a.old a.new a.book) e.refusal e.remark) → TellsRefused a (Err t)
-  named e t is same names = λ no_want.
-      subst (λ (r : CompareRefusal). NamesRefused a r t.remark) (sym is) (subst (λ (m : Remark). NamesOne (compare_subjects a.old a.new a.book) e.refusal m) (sym same) (names (not_want t e is no_want)))
+  named_at : (at : Holding) (e : Refused) (t : Told) → t.refusal ≡ Load e.refusal → t.remark ≡ e.remark → (files.is_want e.refusal ≡ false → NamesFirst (compare_attempts at a.old a.new a.book) e.refusal e.remark) → TellsRefused at a (Err t)
+  named_at at e t is same names = λ no_want.
+      subst (λ (r : CompareRefusal). NamesRefused at a r t.remark) (sym is) (subst (λ (m : Remark). NamesFirst (compare_attempts at a.old a.new a.book) e.refusal m) (sym same) (names (not_want t e is no_want)))
 
-  pub tally_named : (t : Told) → t.refusal ≡ OtherTally → Says (NamesFile a.book) t.remark → TellsRefused a (Err t)
-  tally_named t is says = λ no_want. subst (λ (r : CompareRefusal). NamesRefused a r t.remark) (sym is) says
+  pub named : (holding : Option Holding) (e : Refused) (t : Told) → t.refusal ≡ Load e.refusal → t.remark ≡ e.remark
+      → IfSome holding (λ at. files.is_want e.refusal ≡ false → NamesFirst (compare_attempts at a.old a.new a.book) e.refusal e.remark) → IfSome holding (λ at. TellsRefused at a (Err t))
+  named None e t is same names = tt
+  named (Some at) e t is same names = named_at at e t is same names
 
-  pub want_named : (t : Told) → t.refusal ≡ WantOfMemory → TellsRefused a (Err t)
+  tally_told_at : (at : Holding) (r : Result Outcome Told) → TellsTally a r → TellsRefused at a r
+  tally_told_at at (Ok o) tells = tt
+  tally_told_at at (Err t) tells = λ no_want. let p = tells no_want in subst (λ (r : CompareRefusal). NamesRefused at a r t.remark) (sym p.0) p.1
+
+  pub tally_told : (holding : Option Holding) (r : Result Outcome Told) → TellsTally a r → IfSome holding (λ at. TellsRefused at a r)
+  tally_told None r tells = tt
+  tally_told (Some at) r tells = tally_told_at at r tells
+
+  pub want_named : (t : Told) → t.refusal ≡ WantOfMemory → TellsTally a (Err t)
   want_named t is = λ no_want. absurd (differ (ap is_want is) no_want)
     where
       differ : {b : Bool} → b ≡ true → b ≡ false → ⊥

@@ -5,8 +5,8 @@ use Rattle.flag_defs.specs.Flags.{flags_view}
 use Rattle.flagops_compare.specs.declared.loading.Loaded as program
 use Rattle.flagops_files.specs.Documents.{IsDocumentAt}
 use Rattle.flagops_files.specs.Question.{IsEvidenceAt}
-use Rattle.flagops_files.specs.Refusal.{Subjects, by, loads_evidence, loads_flags}
-use Rattle.flagops_files.specs.Told.{file}
+use Rattle.flagops_files.specs.Refusal.{Attempts}
+use Rattle.flagops_files.specs.Told.{attempt, file}
 use Rattle.flagops_files.specs.declared.evidence.Evidence.{Evidence}
 use Rattle.flagops_files.specs.declared.refusal.Refusal.{Refusal}
 use Rattle.flagops_shell.specs.Files.{Holding}
@@ -36,6 +36,6 @@ IsWithOld at (Ok old) new book r = (document : Result Definitions Refusal) × Is
 unfoldable pub IsLoadedAt : Holding → List ℕ → List ℕ → List ℕ → Result Loaded Refusal → Type 0
 IsLoadedAt at old new book r = (document : Result Definitions Refusal) × IsDocumentAt at old document × IsWithOld at document new book r
 
--- the files, each with the refusals that are of it
-abbrev pub compare_subjects : List ℕ → List ℕ → List ℕ → Subjects
-compare_subjects old new book = (file old, by loads_flags) ∷ (file new, by loads_flags) ∷ (file book, by loads_evidence) ∷ []
+-- the files in the order in which they are read, each before the next
+abbrev pub compare_attempts : Holding → List ℕ → List ℕ → List ℕ → Attempts
+compare_attempts at old new book = attempt (file old) (IsDocumentAt at old) ∷ attempt (file new) (IsDocumentAt at new) ∷ attempt (file book) (IsEvidenceAt at book) ∷ []

@@ -1,14 +1,14 @@
 -- What `compare` comes to.
 use Rattle.std.specs.Prelude.{◌≡◌, ℕ, nat_lt, Bool, ◌&&◌, List, if◌then◌else◌, Result, Ok, Err}
 use Rattle.flagops_compare.specs.Compared.{IsComparedOn}
-use Rattle.flagops_compare.specs.Loaded.{Loaded, IsLoadedAt, compare_subjects}
+use Rattle.flagops_compare.specs.Loaded.{Loaded, IsLoadedAt, compare_attempts}
 use Rattle.flagops_compare.specs.Printed.{report_text}
 use Rattle.flagops_compare.specs.Told.{note_lines}
 use Rattle.flagops_compare.specs.Words.{Comparing}
 use Rattle.flagops_compare.specs.declared.refusal.CompareRefusal.{CompareRefusal}
 use Rattle.flagops_compare.specs.declared.refusal.CompareRefusal.TheVariants.{WantOfMemory, Load, OtherTally}
 use Rattle.flagops_files.specs.Lines.{NamesFile}
-use Rattle.flagops_files.specs.Told.{NamesOne}
+use Rattle.flagops_files.specs.Told.{NamesFirst}
 use Rattle.flagops_files.specs.declared.refusal.Refusal.{Refusal}
 use Rattle.flagops_shell.specs.Diagnostic.{Says}
 use Rattle.flagops_shell.specs.Files.{Holding}
@@ -56,12 +56,12 @@ TellsOfLoaded a l lines = (pages : List PageFound) × IsComparedOn l a.flag (Ok 
 unfoldable pub TellsLeft : Holding → Comparing → List ℕ → Type 0
 TellsLeft at a lines = (l : Loaded) × IsLoadedAt at a.old a.new a.book (Ok l) × TellsOfLoaded a l lines
 
--- of a refusal the name of the file that is refused
-abbrev pub NamesRefused : Comparing → CompareRefusal → Remark → Type 0
-NamesRefused a WantOfMemory remark = ⊥
-NamesRefused a (Load e) remark = NamesOne (compare_subjects a.old a.new a.book) e remark
-NamesRefused a OtherTally remark = Says (NamesFile a.book) remark
+-- of a refusal the name of the first file that is refused
+abbrev pub NamesRefused : Holding → Comparing → CompareRefusal → Remark → Type 0
+NamesRefused at a WantOfMemory remark = ⊥
+NamesRefused at a (Load e) remark = NamesFirst (compare_attempts at a.old a.new a.book) e remark
+NamesRefused at a OtherTally remark = Says (NamesFile a.book) remark
 
 abbrev pub remark_of : Holding → Comparing → Came → Remark → Type 0
 remark_of at a (Ok report) remark = Says (TellsLeft at a) remark
-remark_of at a (Err e) remark = NamesRefused a e remark
+remark_of at a (Err e) remark = NamesRefused at a e remark

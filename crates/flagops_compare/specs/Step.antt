@@ -4,7 +4,11 @@ use Rattle.flagops_compare.specs.Refusal.{is_unread, is_want}
 use Rattle.flagops_compare.specs.Report.{Came, NamesRefused}
 use Rattle.flagops_compare.specs.Words.{Comparing}
 use Rattle.flagops_compare.specs.declared.refusal.CompareRefusal.{CompareRefusal}
+use Rattle.flagops_compare.specs.declared.refusal.CompareRefusal.TheVariants.{OtherTally}
+use Rattle.flagops_files.specs.Lines.{NamesFile}
+use Rattle.flagops_shell.specs.Diagnostic.{Says}
 use Rattle.flagops_shell.specs.Ending as ending
+use Rattle.flagops_shell.specs.Files.{Holding}
 use Rattle.flagops_shell.specs.Given as given
 use Rattle.flagops_shell.specs.Report.{outcome_view}
 use Rattle.flagops_shell.specs.declared.outcome.Outcome.{Outcome}
@@ -21,7 +25,12 @@ GivesOne r Wanted = given.GivesOne is_want outcome_view r Wanted
 abbrev pub is_file_fault : {X : Type 0} → Result X Told → Bool
 is_file_fault r = ending.is_file_fault is_unread r
 
--- a refusal is told by the name of the file that is refused
-abbrev pub TellsRefused : Comparing → Result Outcome Told → Type 0
-TellsRefused a (Ok o) = Unit {0}
-TellsRefused a (Err t) = is_want t.refusal ≡ false → NamesRefused a t.refusal t.remark
+-- a refusal is told by the name of the first file that is refused
+abbrev pub TellsRefused : Holding → Comparing → Result Outcome Told → Type 0
+TellsRefused at a (Ok o) = Unit {0}
+TellsRefused at a (Err t) = is_want t.refusal ≡ false → NamesRefused at a t.refusal t.remark
+
+-- a refusal of what was loaded is told by the name of what was recorded
+abbrev pub TellsTally : Comparing → Result Outcome Told → Type 0
+TellsTally a (Ok o) = Unit {0}
+TellsTally a (Err t) = is_want t.refusal ≡ false → (t.refusal ≡ OtherTally) × Says (NamesFile a.book) t.remark

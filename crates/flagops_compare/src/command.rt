@@ -3,7 +3,7 @@ ghost use Rattle.std.specs.Prelude.{◌≡◌, ◌||◌, false, is_some, IfErr, 
 ghost use Rattle.flagops_compare.specs.Command.{description};
 ghost use Rattle.flagops_compare.specs.Loaded.{loaded_view};
 ghost use Rattle.flagops_compare.specs.Report.{IsCompareReport, IsWithLoaded, TellsLeft, TellsOfLoaded, compare_report, compare_status, has_left};
-ghost use Rattle.flagops_compare.specs.Step.{GivesOne, TellsRefused, is_file_fault};
+ghost use Rattle.flagops_compare.specs.Step.{GivesOne, TellsRefused, TellsTally, is_file_fault};
 ghost use Rattle.flagops_compare.specs.Told.{note_lines};
 ghost use Rattle.flagops_compare.specs.Words as words;
 ghost use Rattle.flagops_compare.specs.Words.{comparing_view};
@@ -60,7 +60,7 @@ impl<'w, R: Threads, F: FileSet> Command<'w, R, F> for Comparing<'w> {
 }
 
 /// What the files at the paths come to.
-#[tactic(auto, using(crate::proofs::Reported::reported, crate::proofs::Reported::refused, crate::proofs::Reported::named, crate::proofs::Reported::noted))]
+#[tactic(auto, using(crate::proofs::Reported::reported, crate::proofs::Reported::refused, crate::proofs::Reported::named, crate::proofs::Reported::tally_told, crate::proofs::Reported::noted))]
 fn outcome<R: Threads, F: FileSet>(
     rt: &R,
     alloc: Global,
@@ -70,7 +70,7 @@ fn outcome<R: Threads, F: FileSet>(
     ensures exact { IfSome (F.holding files.old) (λ at. GivesOne result (IsCompareReport at (comparing_view asked.now))) }
     ensures failed { F.has_failed files.new ≡ (F.has_failed files.old || is_file_fault result) }
     ensures kept { F.holding files.new ≡ F.holding files.old }
-    ensures names { TellsRefused (comparing_view asked.now) result }
+    ensures names { IfSome (F.holding files.old) (λ at. TellsRefused at (comparing_view asked.now) result) }
     ensures notes { IfSome (F.holding files.old) (λ at. IfOk result (λ o. IfSome o.remark (Says (TellsLeft at (comparing_view asked.now))))) }
 {
     match load_both(rt, alloc, files, asked.old, asked.new, asked.book) {
@@ -80,7 +80,7 @@ fn outcome<R: Threads, F: FileSet>(
 }
 
 /// The report of what was loaded.
-#[tactic(auto, using(crate::proofs::Reported::shown_so, crate::proofs::Reported::tally_refused, crate::proofs::Reported::wanted, crate::proofs::Reported::tally_named, crate::proofs::Reported::want_named, crate::proofs::Reported::noted_so))]
+#[tactic(auto, using(crate::proofs::Reported::shown_so, crate::proofs::Reported::tally_refused, crate::proofs::Reported::wanted, crate::proofs::Reported::want_named, crate::proofs::Reported::noted_so))]
 fn reported(
     alloc: Global,
     asked: &Comparing<'_>,
@@ -88,7 +88,7 @@ fn reported(
 ) -> Result<Outcome, Refused<CompareRefusal>>
     ensures exact { GivesOne result (IsWithLoaded (comparing_view asked.now) (Ok (loaded_view loaded.now))) }
     ensures read { is_file_fault result ≡ false }
-    ensures names { TellsRefused (comparing_view asked.now) result }
+    ensures names { TellsTally (comparing_view asked.now) result }
     ensures notes { IfOk result (λ o. IfSome o.remark (Says (TellsOfLoaded (comparing_view asked.now) (loaded_view loaded.now)))) }
 {
     let edit = Edit {

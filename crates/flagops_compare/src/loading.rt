@@ -1,7 +1,7 @@
 //! Both documents, and what was recorded.
 ghost use Rattle.std.specs.Prelude.{◌≡◌, ◌||◌, IfSome};
-ghost use Rattle.flagops_compare.specs.Loaded.{IsLoadedAt, compare_subjects, loaded_view};
-ghost use Rattle.flagops_files.specs.Refusal.{GivesOne, TellsOfOne, is_file_fault};
+ghost use Rattle.flagops_compare.specs.Loaded.{IsLoadedAt, compare_attempts, loaded_view};
+ghost use Rattle.flagops_files.specs.Refusal.{GivesOne, TellsOfFirst, is_file_fault};
 
 use flag_defs::Flags;
 use flagops_files::{Evidence, Refused, load_evidence, load_flags};
@@ -30,7 +30,7 @@ pub(crate) fn load_both<R: Threads, F: FileSet>(
     ensures exact { IfSome (F.holding files.old) (λ at. GivesOne loaded_view result (IsLoadedAt at old.now new.now book.now)) }
     ensures failed { F.has_failed files.new ≡ (F.has_failed files.old || is_file_fault result) }
     ensures kept { F.holding files.new ≡ F.holding files.old }
-    ensures names { TellsOfOne (compare_subjects old.now new.now book.now) result }
+    ensures names { IfSome (F.holding files.old) (λ at. TellsOfFirst (compare_attempts at old.now new.now book.now) result) }
 {
     let old = load_flags(alloc, files, old)?;
     let new = load_flags(alloc, files, new)?;

@@ -1,5 +1,6 @@
 //! The command over what it read.
-ghost use Rattle.std.specs.Prelude.{◌≡◌, ◌<◌, ◌^◌, true, IfErr, IfOk, IsErrOf, Some};
+ghost use Rattle.std.specs.Prelude.{◌≡◌, ◌<◌, ◌^◌, true, IfErr, IfOk, IsErrOf, Ok, Some};
+ghost use Rattle.book_core.specs.Reading.{book_of};
 ghost use Rattle.book_share.specs.DriveFault.{workers_fault};
 ghost use Rattle.flag_defs.specs.Flags.{flags_view};
 ghost use Rattle.flag_text.specs.Shape.{is_whole, items_are_whole};
@@ -42,7 +43,8 @@ pub struct DriveOutput {
 #[derive(Drop)]
 pub struct Rest {
     answers: Vec<Resolution>,
-    book: Book,
+    /// The book that the file is of.
+    pub book: Book,
 }
 
 /// Why the asks of a file are not driven by so many workers, as far as it is known without taking memory: they are no asks,
@@ -80,6 +82,7 @@ pub fn drive_asks<R: Threads + Wait + Sync>(
     requires { is_whole (file_view asks.now) ≡ true }
     ensures driven { Drives (flags_view flags.now) (asks_of_shape (file_view asks.now)) workers before json result }
     ensures tally { IfOk result (IsTallied before json) }
+    ensures file { IfOk result (λ d. book_of d.book.items ≡ Ok d.rest.book) }
     ensures refused { (e : Refusal) → refusal_of (asks_of_shape (file_view asks.now)) workers ≡ Some e → IsErrOf result e }
 {
     let Some(items) = ask_items(asks) else {
@@ -106,6 +109,7 @@ fn drive_items<R: Threads + Wait + Sync>(
     requires few { count_of items < 2 ^ 32 }
     ensures driven { Drives (flags_view flags.now) (asks_in (items_of items.entry)) workers before json result }
     ensures tally { IfOk result (IsTallied before json) }
+    ensures file { IfOk result (λ d. book_of d.book.items ≡ Ok d.rest.book) }
 {
     let asks = asks_in(alloc, items)?;
     let gate = CountingGate::new(meter, asks.len());
@@ -138,6 +142,7 @@ fn output_of(
 ) -> Result<DriveOutput, DriveRefusal>
     ensures output { IfOk result (λ d. IsOutput before json (reached_view driven) (drive_output_view d)) }
     ensures tally { IfOk result (IsTallied before json) }
+    ensures file { IfOk result (λ d. book_of d.book.items ≡ Ok d.rest.book) }
     ensures refused { IfErr result (IsUnadded before driven.book) }
 {
     let Driven {

@@ -1,13 +1,15 @@
 -- What was recorded is not loaded for a question.
-use Rattle.std.proofs.Common.{◌≡◌, ◌∙◌, ◌||◌, ap, ℕ, Bool, true, false, List, Option, Some, None, IfSome, refl, sym, subst}
+use Rattle.std.proofs.Common.{◌≡◌, ◌∙◌, ◌||◌, ap, ℕ, Bool, true, false, List, Option, Some, None, IfSome, inl, inr, refl, sym, subst}
 use Rattle.std.specs.Prelude.{Result, Ok, Err}
 use Rattle.flag_defs.specs.Document.{Definitions}
 use Rattle.flagops_shell.specs.Files.{Holding, load_of}
 use Rattle.flagops_shell.specs.Outcomes.{refused_by}
 use Rattle.flagops_files.specs.Documents.{IsDocumentAt}
 use Rattle.flagops_files.specs.Loading.{max_text}
-use Rattle.flagops_files.specs.Question.{IsBookQuestionAt, IsEvidenceAt, IsQuestionAt, IsQuestionWith, book_at, book_question_view, question_view}
-use Rattle.flagops_files.specs.Refusal.{GivesOne, Refused, is_file_fault, is_unread, is_want}
+use Rattle.flagops_files.specs.Question.{IsBookQuestionAt, IsEvidenceAt, IsQuestionAt, IsQuestionWith, book_at, book_question_attempts, book_question_view, question_attempts, question_view}
+use Rattle.flagops_files.specs.Refusal.{GivesOne, Refused, TellsOfFirst, is_file_fault, is_unread, is_want}
+use Rattle.flagops_files.specs.Told.{NamesFirst, NamesSubject, file}
+use Rattle.flagops_shell.specs.Diagnostic.{Says}
 use Rattle.flagops_files.specs.declared.book_question.BookQuestion as program_book
 use Rattle.flagops_files.specs.declared.question.Question as program
 use Rattle.flagops_files.specs.declared.refusal.Refusal.{Refusal}
@@ -57,3 +59,27 @@ module _ (path request recorded : List ℕ) (flags : Definitions) (bytes : List 
   no_book old mid last r is first second document loaded refused =
       subst (λ (s : Result program_book.BookQuestion Refused). IfSome old (λ at. GivesOne book_question_view s (IsBookQuestionAt at path request recorded))) (sym is)
       (stayed old mid last first second document loaded refused no_book_at)
+
+  -- ---- it is the first that is refused
+
+  first_evidence_at : (at : Holding) → IsDocumentAt at path (Ok flags) → refused_by Load (load_of at request max_text) ≡ Ok bytes → (is_want e.refusal ≡ false → IsEvidenceAt at recorded (Err e.refusal))
+      → (is_want e.refusal ≡ false → Says (NamesSubject (file recorded)) e.remark) → is_want e.refusal ≡ false → NamesFirst (question_attempts at path request recorded) e.refusal e.remark
+  first_evidence_at at document loaded refused says no_want = inr ((flags, document), inr ((bytes, loaded), inl (refused no_want, says no_want)))
+
+  first_book_at : (at : Holding) → IsDocumentAt at path (Ok flags) → refused_by Load (load_of at request max_text) ≡ Ok bytes → (is_want e.refusal ≡ false → book_at at recorded ≡ Err e.refusal)
+      → (is_want e.refusal ≡ false → Says (NamesSubject (file recorded)) e.remark) → is_want e.refusal ≡ false → NamesFirst (book_question_attempts at path request recorded) e.refusal e.remark
+  first_book_at at document loaded refused says no_want = inr ((flags, document), inr ((bytes, loaded), inl (refused no_want, says no_want)))
+
+  pub first_evidence : (old mid last : Option Holding) (r : Result program.Question Refused) → r ≡ Err e → mid ≡ old → last ≡ mid → IfSome old (λ at. IsDocumentAt at path (Ok flags))
+      → IfSome mid (λ at. refused_by Load (load_of at request max_text) ≡ Ok bytes) → IfSome last (λ at. is_want e.refusal ≡ false → IsEvidenceAt at recorded (Err e.refusal))
+      → (is_want e.refusal ≡ false → Says (NamesSubject (file recorded)) e.remark) → IfSome old (λ at. TellsOfFirst (question_attempts at path request recorded) r)
+  first_evidence old mid last r is first second document loaded refused says =
+      subst (λ (s : Result program.Question Refused). IfSome old (λ at. TellsOfFirst (question_attempts at path request recorded) s)) (sym is)
+      (stayed old mid last first second document loaded refused (λ at d l n. first_evidence_at at d l n says))
+
+  pub first_book : (old mid last : Option Holding) (r : Result program_book.BookQuestion Refused) → r ≡ Err e → mid ≡ old → last ≡ mid → IfSome old (λ at. IsDocumentAt at path (Ok flags))
+      → IfSome mid (λ at. refused_by Load (load_of at request max_text) ≡ Ok bytes) → IfSome last (λ at. is_want e.refusal ≡ false → book_at at recorded ≡ Err e.refusal)
+      → (is_want e.refusal ≡ false → Says (NamesSubject (file recorded)) e.remark) → IfSome old (λ at. TellsOfFirst (book_question_attempts at path request recorded) r)
+  first_book old mid last r is first second document loaded refused says =
+      subst (λ (s : Result program_book.BookQuestion Refused). IfSome old (λ at. TellsOfFirst (book_question_attempts at path request recorded) s)) (sym is)
+      (stayed old mid last first second document loaded refused (λ at d l n. first_book_at at d l n says))

@@ -1,3 +1,4 @@
 mod Asked
 mod Recorded
+pub mod Succeeded
 pub mod Told

@@ -9,8 +9,8 @@ use Rattle.flagops_shell.specs.Beginning.{first_line}
 use Rattle.flagops_files.specs.Evidence.{IsEvidenceOf}
 use Rattle.flagops_shell.specs.Files.{Holding, first_piece, load_book_of, load_notes_of, load_of}
 use Rattle.flagops_files.specs.Loading.{max_text}
-use Rattle.flagops_files.specs.Refusal.{loads_book, loads_evidence, loads_file, loads_flags, Subjects, by}
-use Rattle.flagops_files.specs.Told.{file}
+use Rattle.flagops_files.specs.Refusal.{Attempts, loads_book, loads_evidence, loads_file, loads_flags, Subjects, by}
+use Rattle.flagops_files.specs.Told.{attempt, attempt_of, file}
 use Rattle.flagops_files.specs.declared.book_question.BookQuestion as program_book
 use Rattle.flagops_files.specs.declared.evidence.Evidence.{Evidence}
 use Rattle.flagops_files.specs.declared.question.Question as program
@@ -109,6 +109,16 @@ question_subjects document request evidence = (file document, by loads_flags) �
 -- the same over a book
 abbrev pub book_question_subjects : List ℕ → List ℕ → List ℕ → Subjects
 book_question_subjects document request book = (file document, by loads_flags) ∷ (file request, by loads_file) ∷ (file book, by loads_book) ∷ []
+
+-- the files of a question in the order in which they are read, each before the next
+abbrev pub question_attempts : Holding → List ℕ → List ℕ → List ℕ → Attempts
+question_attempts at document request evidence =
+    attempt (file document) (IsDocumentAt at document) ∷ attempt_of (file request) (refused_by Load (load_of at request max_text)) ∷ attempt (file evidence) (IsEvidenceAt at evidence) ∷ []
+
+-- the same over a book
+abbrev pub book_question_attempts : Holding → List ℕ → List ℕ → List ℕ → Attempts
+book_question_attempts at document request book =
+    attempt (file document) (IsDocumentAt at document) ∷ attempt_of (file request) (refused_by Load (load_of at request max_text)) ∷ attempt_of (file book) (book_at at book) ∷ []
 
 -- the question of the files at these paths, or why there is none
 unfoldable pub IsQuestionAt : Holding → List ℕ → List ℕ → List ℕ → Result Question Refusal → Type 0

@@ -1,5 +1,5 @@
 -- Why a file is not read or written, and the line that a refusal is written as.
-use Rattle.std.specs.Prelude.{◌≡◌, ℕ, Bool, true, false, List, [], ◌∷◌, ◌++◌, codes, decimal, Result}
+use Rattle.std.specs.Prelude.{ℕ, Bool, true, false, List, [], ◌++◌, codes, decimal, Result}
 use Rattle.flag_text.specs.Fault as texts
 use Rattle.flag_text.specs.declared.fault.TextFault.TheVariants as text
 use Rattle.bucket_core.specs.Fault as rules
@@ -189,6 +189,14 @@ TellsOf subject r = told.TellsOf is_want subject r
 -- a refusal is told by the name of one of them
 abbrev pub TellsOfOne : {X : Type 0} → Subjects → Result X Refused → Type 0
 TellsOfOne subjects r = told.TellsOfOne is_want subjects r
+
+-- what is attempted in turn
+abbrev pub Attempts : Type 1
+Attempts = List (told.Attempt Refusal)
+
+-- a refusal is told by the name of what the first of them is about that is refused
+abbrev pub TellsOfFirst : {X : Type 0} → Attempts → Result X Refused → Type 0
+TellsOfFirst attempts r = told.TellsOfFirst is_want attempts r
 
 -- a file could not be read or written
 abbrev pub is_unread : Refusal → Bool

@@ -2,8 +2,8 @@
 ghost use Rattle.std.specs.Prelude.{◌≡◌, ◌<◌, ◌||◌, IfOk, IfSome, Ok};
 ghost use Rattle.flagops_shell.specs.Files.{load_of};
 ghost use Rattle.flagops_files.specs.Loading.{max_text};
-ghost use Rattle.flagops_files.specs.Question.{IsBookQuestionAt, book_at, book_question_subjects, book_question_view};
-ghost use Rattle.flagops_files.specs.Refusal.{ComesFrom, GivesOne, GivesUnlessWant, is_file_fault, loads_book, loads_book_question, TellsOf, TellsOfOne};
+ghost use Rattle.flagops_files.specs.Question.{IsBookQuestionAt, book_at, book_question_attempts, book_question_subjects, book_question_view};
+ghost use Rattle.flagops_files.specs.Refusal.{ComesFrom, GivesOne, GivesUnlessWant, is_file_fault, loads_book, loads_book_question, TellsOf, TellsOfFirst, TellsOfOne};
 ghost use Rattle.flagops_files.specs.Told.{file};
 
 use crate::books::load_book_bytes;
@@ -48,6 +48,7 @@ pub fn load_book_question<R: Threads, F: FileSet>(
     ensures failed { F.has_failed files.new ≡ (F.has_failed files.old || is_file_fault result) }
     ensures kept { F.holding files.new ≡ F.holding files.old }
     ensures names { TellsOfOne (book_question_subjects document.now request.now book.now) result }
+    ensures first { IfSome (F.holding files.old) (λ at. TellsOfFirst (book_question_attempts at document.now request.now book.now) result) }
 {
     let Document { bytes, flags } = load_document(alloc, files, document)?;
     let request = load_request(alloc, files, request)?;

@@ -2,8 +2,8 @@
 ghost use Rattle.std.specs.Prelude.{◌≡◌, ◌<◌, ◌||◌, IfOk, IfSome, Ok};
 ghost use Rattle.flagops_shell.specs.Files.{load_of};
 ghost use Rattle.flagops_files.specs.Loading.{max_text};
-ghost use Rattle.flagops_files.specs.Question.{IsQuestionAt, question_subjects, question_view};
-ghost use Rattle.flagops_files.specs.Refusal.{ComesFrom, GivesOne, is_file_fault, loads_question, TellsOfOne};
+ghost use Rattle.flagops_files.specs.Question.{IsQuestionAt, question_attempts, question_subjects, question_view};
+ghost use Rattle.flagops_files.specs.Refusal.{ComesFrom, GivesOne, is_file_fault, loads_question, TellsOfFirst, TellsOfOne};
 
 use crate::documents::{Document, load_document};
 use crate::evidence::{Evidence, load_evidence};
@@ -45,6 +45,7 @@ pub fn load_question<R: Threads, F: FileSet>(
     ensures failed { F.has_failed files.new ≡ (F.has_failed files.old || is_file_fault result) }
     ensures kept { F.holding files.new ≡ F.holding files.old }
     ensures names { TellsOfOne (question_subjects document.now request.now evidence.now) result }
+    ensures first { IfSome (F.holding files.old) (λ at. TellsOfFirst (question_attempts at document.now request.now evidence.now) result) }
 {
     let Document { bytes, flags } = load_document(alloc, files, document)?;
     let request = load_request(alloc, files, request)?;

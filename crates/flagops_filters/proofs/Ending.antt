@@ -15,7 +15,7 @@ use Rattle.flagops_shell.specs.declared.refused.Remark.{Remark}
 use Rattle.flagops_filters.specs.Command.{tally_description}
 use Rattle.flagops_filters.specs.Refusal.{is_unread, is_want, line_of}
 use Rattle.flagops_filters.specs.Beside.{Reads, tally_beside}
-use Rattle.flagops_filters.specs.Remarks.{NamesRefused, join_remark, tally_remark}
+use Rattle.flagops_filters.specs.Remarks.{NamesRefused, RemarksUnjoinedOf, join_remark, tally_remark}
 use Rattle.flagops_filters.specs.Report.{Told}
 use Rattle.flagops_filters.specs.Tally.{IsTallyReport, tally_call}
 use Rattle.flagops_filters.specs.Words.{Tallying}
@@ -31,9 +31,9 @@ not_both b one other = cc
 nothing_said : {X : Type 0} (o : Option Remark) (remark : Remark) → o ≡ None → o ≡ Some remark → X
 nothing_said o remark none some = cc
 
--- of a refusal the file that is refused, and else nothing
-pub join_remarks : (holding : Option Holding) (paths : List (List ℕ)) (r : Result Outcome Told) → (IfErr r (λ t. is_want t.refusal ≡ false → join_remark paths (Err t.refusal) t.remark)) → IfOk r (λ o. o.remark ≡ None)
-    → IfSome holding (λ at. Remarks is_want (join_remark paths) r)
+-- of a refusal the first file that is refused, and else nothing
+pub join_remarks : (holding : Option Holding) (paths : List (List ℕ)) (r : Result Outcome Told) → IfSome holding (λ at. RemarksUnjoinedOf at paths r) → IfOk r (λ o. o.remark ≡ None)
+    → IfSome holding (λ at. Remarks is_want (join_remark at paths) r)
 join_remarks None paths r names quiet = tt
 join_remarks (Some at) paths (Ok o) names quiet = λ remark is. nothing_said o.remark remark quiet is
 join_remarks (Some at) paths (Err t) names quiet = names

@@ -1,12 +1,14 @@
 -- Files of tallies, read and joined one after another.
-use Rattle.std.proofs.Common.{◌≡◌, ◌+◌, ◌<◌, ℕ, List, [], ◌∷◌, Vec, Global, Option, None, Some, Result, Ok, Err, add-one, drop, get_or, length, map, refl, ap, subst, sym, inl, inr}
+use Rattle.std.proofs.Common.{◌≡◌, false, ◌+◌, ◌<◌, ℕ, List, [], ◌∷◌, Vec, Global, Option, None, Some, Result, Ok, Err, add-one, drop, get_or, length, map, refl, ap, subst, sym, inl, inr}
 use Rattle.std.proofs.Math.Seq.{drop-cons}
 use Rattle.std.specs.Prelude.{IfSome}
 use Rattle.flagops_shell.specs.Files.{Holding, load_of}
 use Rattle.flagops_files.specs.Loading.{max_rule}
 use Rattle.flagops_shell.specs.Outcomes.{refused_by}
 use Rattle.flagops_files.specs.Refusal as files
+use Rattle.flagops_shell.specs.Diagnostic.{Says}
 use Rattle.flagops_shell.specs.declared.outcome.Outcome.{Outcome}
+use Rattle.flagops_shell.specs.declared.refused.Remark.{Remark}
 use Rattle.flagops_files.specs.declared.refusal.Refusal.{Refusal}
 use Rattle.flagops_files.specs.declared.refusal.Refusal.TheVariants.{Load as Unread, ReadTally}
 use Rattle.flagops_files.specs.Refusal.{Refused}
@@ -15,6 +17,8 @@ use Rattle.tally_text.specs.Reading.{ReadsTally}
 use Rattle.tally_text.specs.declared.fault.TallyFileFault.{TallyFileFault}
 use Rattle.flagops_filters.specs.Join.{IsJoinReport, IsTallyIn, IsTallyOf, JoinsAllFiles, JoinsFiles, report_joined}
 use Rattle.flagops_filters.specs.Joined.{JoinsNext, JoinsTwo, JoinsUnless}
+use Rattle.flagops_filters.specs.Refusal.{is_want}
+use Rattle.flagops_filters.specs.Remarks.{NamesPath, NamesUnjoined, RemarksUnjoined, RemarksUnjoinedOf}
 use Rattle.flagops_filters.specs.Report.{GivesOne, Told}
 use Rattle.flagops_filters.specs.declared.refusal.FilterRefusal.{FilterRefusal}
 use Rattle.flagops_filters.specs.declared.refusal.FilterRefusal.TheVariants.{Load}
@@ -65,25 +69,27 @@ module _ (one : PageTally) (path : List ℕ) where
 
 -- ---- several files
 
--- what is joined of one and of the files that are left is what is joined of all
+-- what is joined of one and of the files that are left is what is joined of all, and the first of them that is refused is the first of all
 abbrev pub Leads : Holding → PageTally → List (List ℕ) → PageTally → List (List ℕ) → Type 0
-Leads at first all one paths = (r : Result PageTally FilterRefusal) → JoinsFiles at one paths r → JoinsFiles at first all r
+Leads at first all one paths =
+    ((r : Result PageTally FilterRefusal) → JoinsFiles at one paths r → JoinsFiles at first all r)
+    × ((e : FilterRefusal) (remark : Remark) → NamesUnjoined at one paths e remark → NamesUnjoined at first all e remark)
 
 abbrev pub Known : Option Holding → PageTally → List (List ℕ) → PageTally → List (List ℕ) → Type 0
 Known holding first all one paths = IfSome holding (λ at. Leads at first all one paths)
 
 pub leads_all : (holding : Option Holding) (first : PageTally) (all : List (List ℕ)) → Known holding first all first all
 leads_all None first all = tt
-leads_all (Some at) first all = λ r joins. joins
+leads_all (Some at) first all = (λ r joins. joins, λ e remark names. names)
 
 module _ (first : PageTally) (all : List (List ℕ)) where
   module _ (at : Holding) (one : PageTally) (path : List ℕ) (paths : List (List ℕ)) (leads : Leads at first all one (path ∷ paths)) where
     leads_next : (both : PageTally) → JoinsNext at one path (Ok both) → Leads at first all both paths
-    leads_next both is = λ r later. leads r (inl (is.0, both, is.1, is.2, later))
+    leads_next both is = (λ r later. leads.0 r (inl (is.0, both, is.1, is.2, later)), λ e remark names. leads.1 e remark (inr (both, is, names)))
 
     leads_none : (e : FilterRefusal) → JoinsNext at one path (Err e) → JoinsFiles at first all (Err e)
-    leads_none e (inl two) = leads (Err e) (inr (inl (two.0, two.2.0, two.1, two.2.1, ap Err two.2.2)))
-    leads_none e (inr unread) = leads (Err e) (inr (inr (e, unread, refl)))
+    leads_none e (inl two) = leads.0 (Err e) (inr (inl (two.0, two.2.0, two.1, two.2.1, ap Err two.2.2)))
+    leads_none e (inr unread) = leads.0 (Err e) (inr (inr (e, unread, refl)))
 
   pub next_file : (holding now : Option Holding) (one both : PageTally) (path : List ℕ) (paths left : List (List ℕ)) → now ≡ holding → Known holding first all one left → IfSome now (λ at. JoinsUnless (Ok both) (JoinsNext at one path)) → left ≡ path ∷ paths
       → Known holding first all both paths
@@ -99,9 +105,19 @@ module _ (first : PageTally) (all : List (List ℕ)) where
       let next = subst (λ (h : Option Holding). IfSome h (λ at. JoinsUnless (Err told) (JoinsNext at one path))) same is in
       leads_none at one path paths (subst (λ (ps : List (List ℕ)). Leads at first all one ps) split known) told.refusal (next no_want)
 
+  pub no_next_named : (holding now : Option Holding) (one : PageTally) (told : Told) (path : List ℕ) (paths left : List (List ℕ)) → now ≡ holding → Known holding first all one left → IfSome now (λ at. JoinsUnless (Err told) (JoinsNext at one path)) → left ≡ path ∷ paths
+      → (is_want told.refusal ≡ false → Says (NamesPath path) told.remark) → IfSome holding (λ at. is_want told.refusal ≡ false → NamesUnjoined at first all told.refusal told.remark)
+  no_next_named None now one told path paths left same known is split names = tt
+  no_next_named (Some at) now one told path paths left same known is split names = λ no_want.
+      let next = subst (λ (h : Option Holding). IfSome h (λ at. JoinsUnless (Err told) (JoinsNext at one path))) same is in
+      let leads = subst (λ (ps : List (List ℕ)). Leads at first all one ps) split known in
+      leads.1 told.refusal told.remark (inl (next no_want, names no_want))
+
   pub all_files : (holding : Option Holding) (one : PageTally) (left : List (List ℕ)) → left ≡ [] → Known holding first all one left → IfSome holding (λ at. JoinsUnless (Ok one) (JoinsFiles at first all))
   all_files None one left none known = tt
-  all_files (Some at) one left none known = subst (λ (ps : List (List ℕ)). Leads at first all one ps) none known (Ok one) refl
+  all_files (Some at) one left none known =
+      let leads = subst (λ (ps : List (List ℕ)). Leads at first all one ps) none known in
+      leads.0 (Ok one) refl
 
 module _ (path : List ℕ) (paths : List (List ℕ)) where
   joins_at : (at : Holding) (one : PageTally) (r : Result PageTally Told) → IsTallyOf at path (Ok one) → JoinsUnless r (JoinsFiles at one paths) → JoinsUnless r (JoinsAllFiles at (path ∷ paths))
@@ -116,6 +132,20 @@ module _ (path : List ℕ) (paths : List (List ℕ)) where
   pub no_first : (holding : Option Holding) (told : Told) → IfSome holding (λ at. JoinsUnless (Err told) (IsTallyOf at path)) → IfSome holding (λ at. JoinsUnless (Err told) (JoinsAllFiles at (path ∷ paths)))
   no_first None told is = tt
   no_first (Some at) told is = λ no_want. inr (told.refusal, is no_want, refl)
+
+  named_at : (at : Holding) (one : PageTally) (r : Result PageTally Told) → IsTallyOf at path (Ok one) → RemarksUnjoined at one paths r → RemarksUnjoinedOf at (path ∷ paths) r
+  named_at at one (Ok t) is names = tt
+  named_at at one (Err told) is names = λ no_want. inr (one, is, names no_want)
+
+  pub from_first_named : (holding now : Option Holding) (one : PageTally) (r : Result PageTally Told) → now ≡ holding → IfSome holding (λ at. JoinsUnless (Ok one) (IsTallyOf at path)) → IfSome now (λ at. RemarksUnjoined at one paths r)
+      → IfSome holding (λ at. RemarksUnjoinedOf at (path ∷ paths) r)
+  from_first_named None now one r same is names = tt
+  from_first_named (Some at) now one r same is names = named_at at one r is (subst (λ (h : Option Holding). IfSome h (λ at. RemarksUnjoined at one paths r)) same names)
+
+  pub no_first_named : (holding : Option Holding) (told : Told) → IfSome holding (λ at. JoinsUnless (Err told) (IsTallyOf at path)) → (is_want told.refusal ≡ false → Says (NamesPath path) told.remark)
+      → IfSome holding (λ at. is_want told.refusal ≡ false → NamesUnjoinedOf at (path ∷ paths) told.refusal told.remark)
+  no_first_named None told is names = tt
+  no_first_named (Some at) told is names = λ no_want. inl (is no_want, names no_want)
 
 -- ---- the report
 

@@ -1,14 +1,15 @@
 -- Of which file a person is told.
-use Rattle.std.proofs.Common.{◌≡◌, ◌<◌, ℕ, zero, suc, false, List, [], ◌∷◌, IfErr, Result, Ok, Err, arith, ap, get_or, length, map, inl, inr, refl, string_bytes, subst, sym}
+use Rattle.std.proofs.Common.{◌≡◌, ◌∙◌, ◌++◌, ℕ, false, List, IfErr, Result, Ok, Err, ap, append_assoc, inl, refl, string_bytes, subst, sym}
+use Rattle.std.specs.Prelude.{codes}
 use Rattle.flagops_files.specs.Refusal as files
 use Rattle.flagops_files.specs.Refusal.{Refused}
-use Rattle.file_diagnostics.specs.Named.{Names}
+use Rattle.file_diagnostics.specs.Named.{Names, NamesWord}
 use Rattle.flagops_shell.specs.Diagnostic.{Says}
 use Rattle.flagops_shell.specs.declared.refused.Remark.{Remark}
 use Rattle.flagops_shell.specs.declared.refused.Remark.TheVariants.{Short, Lines}
 use Rattle.rollout_checks.specs.declared.fault.RolloutFault.{RolloutFault}
 use Rattle.flagops_filters.specs.Refusal.{is_unread, is_want}
-use Rattle.flagops_filters.specs.Remarks.{NamesOnePath, NamesPath, NamesRefused, RemarksBy, RemarksOnePath}
+use Rattle.flagops_filters.specs.Remarks.{NamesPath, NamesRefused, RemarksBy}
 use Rattle.flagops_filters.specs.Report.{Told, is_file_fault}
 use Rattle.flagops_filters.specs.Stopping.{IsStopped}
 use Rattle.flagops_filters.specs.declared.refusal.FilterRefusal.{FilterRefusal}
@@ -30,30 +31,6 @@ pub document_named : (path : List ℕ) (e : Refused) (t : Told) → t.refusal �
     → Says (NamesRefused path t.refusal) t.remark
 document_named path e t is same names no_want = subst (λ (r : FilterRefusal). Says (NamesRefused path r) t.remark) (sym is) (loaded_named path e t is same names no_want)
 
--- ---- one of several files
-
-no_less : {Y : Type 0} (i : ℕ) → i < 0 → Y
-no_less i less = absurd (omega (arith, less))
-
-less : (i n : ℕ) → suc i < suc n → i < n
-less i n h = omega (arith, h)
-
-named_at : {X : Type 0} (now : X → List ℕ) (xs : List X) (i : ℕ) (z : X) (lines : List ℕ) → i < length xs → NamesPath (now (get_or xs i z)) lines → NamesOnePath (map now xs) lines
-named_at now [] i z lines inside names = no_less i inside
-named_at now (x ∷ xs) zero z lines inside names = inl names
-named_at now (x ∷ xs) (suc i) z lines inside names = inr (named_at now xs i z lines (less i (length xs) inside) names)
-
-pub one_named : {X : Type 0} (now : X → List ℕ) (xs : List X) (i : ℕ) (z : X) (t : Told) → i < length xs → (is_want t.refusal ≡ false → Says (NamesPath (now (get_or xs i z))) t.remark) → is_want t.refusal ≡ false → Says (NamesOnePath (map now xs)) t.remark
-one_named now xs i z t inside names no_want =
-    says_so (NamesPath (now (get_or xs i z))) (NamesOnePath (map now xs)) t.remark (λ lines named. named_at now xs i z lines inside named) (names no_want)
-
-pub first_named : (path : List ℕ) (paths : List (List ℕ)) (t : Told) → (is_want t.refusal ≡ false → Says (NamesPath path) t.remark) → is_want t.refusal ≡ false → Says (NamesOnePath (path ∷ paths)) t.remark
-first_named path paths t names no_want = says_so (NamesPath path) (NamesOnePath (path ∷ paths)) t.remark (λ lines named. inl named) (names no_want)
-
-pub all_named : {X : Type 0} (path : List ℕ) (paths : List (List ℕ)) (r : Result X Told) → RemarksOnePath paths r → RemarksOnePath (path ∷ paths) r
-all_named path paths (Ok x) names = tt
-all_named path paths (Err t) names = λ no_want. says_so (NamesOnePath paths) (NamesOnePath (path ∷ paths)) t.remark (λ lines named. inr named) (names no_want)
-
 -- ---- a flag, or the standard input
 
 pub flag_named : (path : List ℕ) (t : Told) (e : RolloutFault) → t.refusal ≡ Flag e → Says (NamesPath path) t.remark → is_want t.refusal ≡ false → Says (NamesRefused path t.refusal) t.remark
@@ -67,3 +44,9 @@ stream_named path (Err t) stops = λ no_want. subst (λ (r : FilterRefusal). Say
 pub stream_read : {X : Type 0} (r : Result X Told) → IfErr r IsStopped → is_file_fault r ≡ false
 stream_read (Ok x) stops = refl
 stream_read (Err t) stops = ap is_unread stops.0.1
+
+-- lines behind those that name a word
+pub named_before : (word lines more : List ℕ) → NamesWord word lines → NamesWord word (lines ++ more)
+unfolding NamesWord
+named_before word lines more (rest, is) =
+    (rest ++ more, ap (λ (l : List ℕ). l ++ more) is ∙ (append_assoc (codes "error: ") (word ++ rest) more ∙ ap (λ (l : List ℕ). codes "error: " ++ l) (append_assoc word rest more)))

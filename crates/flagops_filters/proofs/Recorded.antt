@@ -1,5 +1,5 @@
 -- What `record` came to, as the console shows it.
-use Rattle.std.proofs.Common.{◌≡◌, ◌≢◌, true, false, ℕ, Bool, List, length, Option, None, Some, IfSome, Ok, Err, unwrap_or, refl, ap, ◌∙◌, subst, sym, inl, inr, arith}
+use Rattle.std.proofs.Common.{◌≡◌, ◌≢◌, true, false, ℕ, Bool, List, length, Option, None, Some, IfSome, Ok, Err, refl, ap, ◌∙◌, subst, sym, inl, inr, arith}
 use Rattle.std.proofs.Math.Seq.{take-length}
 use Rattle.std.specs.Io.KnownBytes.{Appends}
 use Rattle.std.specs.Map.{lookup}
@@ -29,10 +29,12 @@ use Rattle.flagops_filters.specs.Refusal.{is_unread, is_want, line_of}
 use Rattle.flagops_filters.specs.Beside.{PutsIf, PutsNoted, is_noted, record_lines}
 use Rattle.flagops_filters.specs.Remarks.{NamesInput, NamesPath}
 use Rattle.flagops_filters.specs.Report.{Told}
+use Rattle.flagops_filters.specs.Start.{moment_of, start_of}
 use Rattle.flagops_filters.specs.Stopping.{GivesUp, is_broken_off}
 use Rattle.flagops_filters.specs.Words.{Recording}
 use Rattle.flagops_filters.specs.Writing.{Refuses, RefusesOrWants, with_output}
 use Rattle.flagops_filters.specs.declared.refusal.FilterRefusal.{FilterRefusal}
+use Rattle.flagops_filters.specs.declared.start.Start.{Start}
 use Rattle.flagops_filters.specs.declared.refusal.FilterRefusal.TheVariants.{Load, Flag, Record}
 use Rattle.flagops_filters.proofs.Ending.{not_both, refused_so}
 use Rattle.flagops_filters.proofs.Naming.{loaded_named}
@@ -51,18 +53,18 @@ given_quietly old stop same broken = subst (GivesUp old old 1 stop) (sym broken)
 module _ (old new : Shown) (status : ℕ) where
   -- ---- a stream
 
-  module _ (s : Scene) (is_cut : Bool) where
+  module _ (s : Scene) (start : Start) (is_cut : Bool) where
     abbrev Came : Option (List ℕ) → Type 0
-    Came given = IfSome given (λ bytes. RecordEnds old new status (recorded_of s bytes) bytes is_cut)
+    Came given = IfSome given (λ bytes. RecordEnds old new status (recorded_of s bytes) start bytes is_cut)
 
     -- the lines on what was counted are told
     abbrev TellsCounted : Counted → Type 0
-    TellsCounted c = PutsIf (is_noted c.empty c.long c.torn) (record_lines c.empty c.long c.torn) old.reported new.reported new.is_mute
+    TellsCounted c = PutsIf (is_noted start c.empty c.long c.torn) (record_lines start c.empty c.long c.torn) old.reported new.reported new.is_mute
 
-    told_of : (bytes : List ℕ) (c : Counted) → TellsOf (recorded_of s bytes) bytes c → TellsCounted c → PutsNoted bytes c.long old.reported new.reported new.is_mute
+    told_of : (bytes : List ℕ) (c : Counted) → TellsOf (recorded_of s bytes) bytes c → TellsCounted c → PutsNoted start bytes c.long old.reported new.reported new.is_mute
     told_of bytes c tells notes =
-        subst (λ (torn : Bool). PutsIf (is_noted (is_empty bytes) c.long torn) (record_lines (is_empty bytes) c.long torn) old.reported new.reported new.is_mute) tells.1
-        (subst (λ (empty : Bool). PutsIf (is_noted empty c.long c.torn) (record_lines empty c.long c.torn) old.reported new.reported new.is_mute) tells.2 notes)
+        subst (λ (torn : Bool). PutsIf (is_noted start (is_empty bytes) c.long torn) (record_lines start (is_empty bytes) c.long torn) old.reported new.reported new.is_mute) tells.1
+        (subst (λ (empty : Bool). PutsIf (is_noted start empty c.long c.torn) (record_lines start empty c.long c.torn) old.reported new.reported new.is_mute) tells.2 notes)
 
     pub all_recorded : (given : Option (List ℕ)) (counted : Counted) → IfSome given (λ bytes. RecordsStream (recorded_of s bytes) (length bytes) is_cut old.printed new.printed (Ok counted)) → IfSome given (λ bytes. TellsOf (recorded_of s bytes) bytes counted)
         → new.is_broken ≡ false → status ≡ 0 → TellsCounted counted → Came given
@@ -110,38 +112,39 @@ module _ (old new : Shown) (status : ℕ) where
 
   -- ---- a flag
 
-  module _ (path : List ℕ) (flags : Definitions) (key : List ℕ) (moment : ℕ) (is_cut : Bool) where
-    pub over_scene : (s : Scene) (given : Option (List ℕ)) → IsSceneOf flags key moment s → Came s is_cut given → IfSome given (λ bytes. RecordOver old new status path flags key moment bytes is_cut)
+  module _ (path : List ℕ) (flags : Definitions) (key : List ℕ) (asked : Option ℕ) (now : ℕ) (is_cut : Bool) where
+    pub over_scene : (s : Scene) (given : Option (List ℕ)) → IsSceneOf flags key (moment_of asked (start_of flags key asked now)) s → Came s (start_of flags key asked now) is_cut given
+        → IfSome given (λ bytes. RecordOver old new status path flags key asked now bytes is_cut)
     over_scene s None scene came = tt
     over_scene s (Some bytes) scene came = inl (s, scene, came)
 
     not_recorded : (bytes : List ℕ) (fault : RecordFault) → (fault ≢ recording.WantOfMemory → refusal_for (lookup (bytes_eq key) flags) ≡ Some fault)
-        → RefusesOrWants old new status record_call (NamesPath path) (Flag (of_record fault)) → RecordOver old new status path flags key moment bytes is_cut
+        → RefusesOrWants old new status record_call (NamesPath path) (Flag (of_record fault)) → RecordOver old new status path flags key asked now bytes is_cut
     not_recorded bytes fault refused (inl ends) =
         let other : fault ≢ recording.WantOfMemory = λ want. not_both (is_want (Flag (of_record fault))) (ap (λ (f : RecordFault). is_want (Flag (of_record f))) want) ends.0 in
         inr (inl (fault, refused other, ends.1))
     not_recorded bytes fault refused (inr ends) = inr (inr ends)
 
     pub unrecorded : (given : Option (List ℕ)) (fault : RecordFault) (t : Told) → (fault ≢ recording.WantOfMemory → refusal_for (lookup (bytes_eq key) flags) ≡ Some fault) → t.refusal ≡ Flag (of_record fault) → Says (NamesPath path) t.remark
-        → ShowsRefusal old new status is_want line_of record_call t.refusal t.remark → IfSome given (λ bytes. RecordOver old new status path flags key moment bytes is_cut)
+        → ShowsRefusal old new status is_want line_of record_call t.refusal t.remark → IfSome given (λ bytes. RecordOver old new status path flags key asked now bytes is_cut)
     unrecorded None fault t refused is says shows = tt
     unrecorded (Some bytes) fault t refused is says shows =
         not_recorded bytes fault refused (refused_so old new status record_call (NamesPath path) t.refusal (Flag (of_record fault)) t.remark shows is (λ no_want. says))
 
   -- ---- a document
 
-  module _ (a : Recording) (is_cut has_failed : Bool) where
+  module _ (a : Recording) (now : ℕ) (is_cut has_failed : Bool) where
     abbrev Answer : Option Holding → Option (List ℕ) → Type 0
-    Answer holding given = IfSome holding (λ at. IfSome given (λ bytes. RecordAnswers old new status at has_failed a bytes is_cut))
+    Answer holding given = IfSome holding (λ at. IfSome given (λ bytes. RecordAnswers old new status at has_failed a now bytes is_cut))
 
-    pub over_document : (holding : Option Holding) (given : Option (List ℕ)) (flags : Definitions) (moment : ℕ) → IfSome holding (λ at. IsDocumentAt at a.document (Ok flags)) → moment ≡ unwrap_or a.moment 0
-        → IfSome given (λ bytes. RecordOver old new status a.document flags a.key moment bytes is_cut) → Answer holding given
-    over_document None given flags moment document is over = tt
-    over_document (Some at) None flags moment document is over = tt
-    over_document (Some at) (Some bytes) flags moment document is over = inl (Ok flags, document, subst (λ (m : ℕ). RecordOver old new status a.document flags a.key m bytes is_cut) is over)
+    pub over_document : (holding : Option Holding) (given : Option (List ℕ)) (flags : Definitions) → IfSome holding (λ at. IsDocumentAt at a.document (Ok flags))
+        → IfSome given (λ bytes. RecordOver old new status a.document flags a.key a.moment now bytes is_cut) → Answer holding given
+    over_document None given flags document over = tt
+    over_document (Some at) None flags document over = tt
+    over_document (Some at) (Some bytes) flags document over = inl (Ok flags, document, over)
 
     no_document : (at : Holding) (bytes : List ℕ) (e : Refused) → files.GivesOne flags_view (Err e) (IsDocumentAt at a.document) → (is_unread (Load e.refusal) ≡ true → has_failed ≡ true)
-        → RefusesOrWants old new status record_call (NamesPath a.document) (Load e.refusal) → RecordAnswers old new status at has_failed a bytes is_cut
+        → RefusesOrWants old new status record_call (NamesPath a.document) (Load e.refusal) → RecordAnswers old new status at has_failed a now bytes is_cut
     no_document at bytes e document fails (inl ends) = inl (Err e.refusal, document ends.0, (ends.1, fails))
     no_document at bytes e document fails (inr ends) = inr ends
 

@@ -1,8 +1,9 @@
 -- What a filter tells beside an answer, by what the standard input has: a line for each cause that holds, and nothing where none does.
-use Rattle.std.specs.Prelude.{◌≡◌, ◌||◌, ◌++◌, ℕ, nat_lt, Bool, true, false, List, [], Option, Some, codes, decimal, if◌then◌else◌}
+use Rattle.std.specs.Prelude.{◌≡◌, ◌||◌, ◌++◌, ℕ, nat_lt, Bool, true, false, List, [], Option, Some, None, codes, decimal, if◌then◌else◌, is_some}
 use Rattle.flagops_shell.specs.Diagnostic.{PutsRemark, Says}
 use Rattle.flagops_shell.specs.declared.refused.Remark.{Remark}
 use Rattle.note_streams.specs.Rest.{is_empty, is_torn}
+use Rattle.flagops_filters.specs.declared.start.Start.{Start}
 
 -- lines are this text
 abbrev pub Reads : List ℕ → List ℕ → Type 0
@@ -44,19 +45,27 @@ line_if is_so words = if is_so then record_line words else []
 abbrev pub long_line : ℕ → List ℕ
 long_line n = if nat_lt 0 n then codes "record: " ++ (decimal n ++ codes " inputs have more than 1024 bytes and are not noted\n") else []
 
--- where the standard input is empty, so many inputs are too long, or a line is torn
-abbrev pub record_lines : Bool → ℕ → Bool → List ℕ
-record_lines empty long torn = line_if empty (codes "the standard input is empty, and nothing is recorded") ++ (long_line long ++ line_if torn torn_words)
+-- the clock's second is the moment
+abbrev pub clock_line : Option ℕ → List ℕ
+clock_line None = []
+clock_line (Some now) = codes "record: the targeting reads $flagd.timestamp and no --moment is given: the moment is " ++ (decimal now ++ codes ", the clock's second\n")
+
+-- where the moment is the clock's, the targeting has no site, the standard input is empty, so many inputs are too long, or a line is torn
+abbrev pub record_lines : Start → Bool → ℕ → Bool → List ℕ
+record_lines start empty long torn =
+    clock_line start.clock
+    ++ (line_if start.is_siteless (codes "the targeting has no fractional, and nothing is recorded")
+    ++ (line_if empty (codes "the standard input is empty, and nothing is recorded") ++ (long_line long ++ line_if torn torn_words)))
 
 -- there is such a line
-abbrev pub is_noted : Bool → ℕ → Bool → Bool
-is_noted empty long torn = (empty || nat_lt 0 long) || torn
+abbrev pub is_noted : Start → Bool → ℕ → Bool → Bool
+is_noted start empty long torn = is_some start.clock || (start.is_siteless || (empty || (nat_lt 0 long || torn)))
 
 -- nothing is told, or these lines; where there was no memory for them, the sentence in their place
 abbrev pub PutsIf : Bool → List ℕ → Option (List ℕ) → Option (List ℕ) → Bool → Type 0
 PutsIf false lines old new is_broken = new ≡ old
 PutsIf true lines old new is_broken = (remark : Remark) × Says (Reads lines) remark × PutsRemark old new is_broken (Some remark)
 
--- the same of so many inputs that are too long, of a standard input of these bytes
-abbrev pub PutsNoted : List ℕ → ℕ → Option (List ℕ) → Option (List ℕ) → Bool → Type 0
-PutsNoted bytes long old new is_broken = PutsIf (is_noted (is_empty bytes) long (is_torn bytes)) (record_lines (is_empty bytes) long (is_torn bytes)) old new is_broken
+-- the same of a start, and of so many inputs that are too long, of a standard input of these bytes
+abbrev pub PutsNoted : Start → List ℕ → ℕ → Option (List ℕ) → Option (List ℕ) → Bool → Type 0
+PutsNoted start bytes long old new is_broken = PutsIf (is_noted start (is_empty bytes) long (is_torn bytes)) (record_lines start (is_empty bytes) long (is_torn bytes)) old new is_broken

@@ -14,10 +14,10 @@ use Rattle.flagops_filters.specs.Tally.{tally_call}
 use Rattle.flagops_filters.specs.Words.{Recording, Tallying, record_by, record_faults, tally_by, tally_faults}
 
 module _ (old new : Shown) (status : ℕ) (words : List Text) where
-  -- over files and a standard input whose bytes are known; where `is_cut`, a read of it failed
+  -- over files and a standard input whose bytes are known, where the clock shows some second; where `is_cut`, a read of it failed
   abbrev pub AnswersRecord : Option Holding → Bool → Option (List ℕ) → Bool → Type 0
-  AnswersRecord files has_failed given is_cut = IfSome (record_by words) (λ a. IfSome files (λ at. IfSome given (λ bytes.
-      RecordAnswers old new status at has_failed a bytes is_cut ⊎ ShowsWordsWant old new status)))
+  AnswersRecord files has_failed given is_cut = (now : ℕ) × IfSome (record_by words) (λ a. IfSome files (λ at. IfSome given (λ bytes.
+      RecordAnswers old new status at has_failed a now bytes is_cut ⊎ ShowsWordsWant old new status)))
 
   abbrev pub AnswersTally : Option Holding → Option Holding → Bool → Option (List ℕ) → Bool → Type 0
   AnswersTally files after has_failed given is_cut =

@@ -1,4 +1,4 @@
--- What is joined, in private contracts alone.
+-- What is joined, a file after the other.
 use Rattle.std.specs.Prelude.{◌≡◌, ◌⊎◌, ℕ, List, Result, Ok, Err}
 use Rattle.flagops_shell.specs.Files.{Holding}
 use Rattle.flagops_shell.specs.Given.{GivesOne}

@@ -5,11 +5,13 @@ pub mod FileLines
 pub mod Join
 pub mod Joined
 pub mod Law
+pub mod Moment
 pub mod Place
 pub mod Record
 pub mod Refusal
 pub mod Remarks
 pub mod Report
+pub mod Start
 pub mod Stopping
 pub mod Tally
 pub mod Words

@@ -1,5 +1,5 @@
 -- What the command `record` comes to.
-use Rattle.std.specs.Prelude.{◌≡◌, ◌<◌, ◌⊎◌, ℕ, nat_lt, Bool, true, false, List, length, unwrap_or, Some, Result, Ok, Err, codes}
+use Rattle.std.specs.Prelude.{◌≡◌, ◌<◌, ◌⊎◌, ℕ, nat_lt, Bool, true, false, List, length, Option, Some, Result, Ok, Err, codes}
 use Rattle.std.specs.Io.KnownBytes.{Appends}
 use Rattle.std.specs.Map.{lookup}
 use Rattle.std.specs.Str.{bytes_eq}
@@ -20,8 +20,10 @@ use Rattle.rollout_checks.specs.declared.fault.RolloutFault.TheVariants as rollo
 use Rattle.flagops_filters.specs.Refusal.{is_unread}
 use Rattle.flagops_filters.specs.Beside.{PutsNoted}
 use Rattle.flagops_filters.specs.Remarks.{NamesInput, NamesPath}
+use Rattle.flagops_filters.specs.Start.{moment_of, start_of}
 use Rattle.flagops_filters.specs.Words.{Recording}
 use Rattle.flagops_filters.specs.Writing.{After, AfterPart, Refuses, Wants}
+use Rattle.flagops_filters.specs.declared.start.Start.{Start}
 use Rattle.flagops_filters.specs.declared.refusal.FilterRefusal.TheVariants.{Load, Flag, Record}
 
 -- a flag that is not recorded is refused as `plan` refuses it: unknown, or without sites as it is broken
@@ -38,37 +40,39 @@ module _ (old new : Shown) (status : ℕ) where
   abbrev pub BreaksOff : List ℕ → Type 0
   BreaksOff text = AppendsPart old.printed new.printed text × (new.is_broken ≡ true) × (status ≡ 1) × (new.reported ≡ old.reported)
 
-  -- the whole text was written, and a person is told what was passed over of these bytes: some inputs just where one is too long to be noted
-  abbrev pub Ends : Recorded → List ℕ → Type 0
-  Ends r bytes =
+  -- the whole text was written, and a person is told of the start, and what was passed over of these bytes: some inputs just where one is
+  -- too long to be noted
+  abbrev pub Ends : Recorded → Start → List ℕ → Type 0
+  Ends r start bytes =
       Appends old.printed new.printed r.text × (new.is_broken ≡ false) × (status ≡ 0)
-      × ((long : ℕ) × (nat_lt 0 long ≡ r.long) × PutsNoted bytes long old.reported new.reported new.is_mute)
+      × ((long : ℕ) × (nat_lt 0 long ≡ r.long) × PutsNoted start bytes long old.reported new.reported new.is_mute)
 
   -- Of what is recorded of a stream of these bytes: all its lines; or those up to the line that is no context, whose number is told;
   -- or a front of them, where a write or a read failed, the stream is too long or memory ran out.
-  abbrev pub RecordEnds : Recorded → List ℕ → Bool → Type 0
-  RecordEnds r bytes is_cut =
-      ((r.refused ≡ false) × Ends r bytes)
+  abbrev pub RecordEnds : Recorded → Start → List ℕ → Bool → Type 0
+  RecordEnds r start bytes is_cut =
+      ((r.refused ≡ false) × Ends r start bytes)
       ⊎ ((r.refused ≡ true) × After old r.text (λ mid. Refuses mid new status NamesInput (Record (Line r.lines))))
       ⊎ BreaksOff r.text
       ⊎ ((is_cut ≡ true) × AfterPart old r.text (λ mid. Refuses mid new status NamesInput (Record Unreadable)))
       ⊎ ((most_bytes < length bytes) × AfterPart old r.text (λ mid. Refuses mid new status NamesInput (Record TooLong)))
       ⊎ AfterPart old r.text (λ mid. Wants mid new status record_call)
 
-  -- of a flag of these flags, which a document at a path has, over a stream of these bytes
-  abbrev pub RecordOver : List ℕ → Definitions → List ℕ → ℕ → List ℕ → Bool → Type 0
-  RecordOver path flags key moment bytes is_cut =
-      ((s : Scene) × IsSceneOf flags key moment s × RecordEnds (recorded_of s bytes) bytes is_cut)
+  -- of a flag of these flags, which a document at a path has, at the moment that is asked for, if there is one, over a stream of these
+  -- bytes, where the clock shows this second
+  abbrev pub RecordOver : List ℕ → Definitions → List ℕ → Option ℕ → ℕ → List ℕ → Bool → Type 0
+  RecordOver path flags key asked now bytes is_cut =
+      ((s : Scene) × IsSceneOf flags key (moment_of asked (start_of flags key asked now)) s × RecordEnds (recorded_of s bytes) (start_of flags key asked now) bytes is_cut)
       ⊎ ((fault : RecordFault) × (refusal_for (lookup (bytes_eq key) flags) ≡ Some fault) × Refuses old new status (NamesPath path) (Flag (of_record fault)))
       ⊎ Wants old new status record_call
 
   -- of what was read as a document; it cannot be read only where a call has failed
-  abbrev pub RecordIn : Bool → List ℕ → Result Definitions Refusal → List ℕ → ℕ → List ℕ → Bool → Type 0
-  RecordIn has_failed path (Err e) key moment bytes is_cut = Refuses old new status (NamesPath path) (Load e) × (is_unread (Load e) ≡ true → has_failed ≡ true)
-  RecordIn has_failed path (Ok flags) key moment bytes is_cut = RecordOver path flags key moment bytes is_cut
+  abbrev pub RecordIn : Bool → List ℕ → Result Definitions Refusal → List ℕ → Option ℕ → ℕ → List ℕ → Bool → Type 0
+  RecordIn has_failed path (Err e) key asked now bytes is_cut = Refuses old new status (NamesPath path) (Load e) × (is_unread (Load e) ≡ true → has_failed ≡ true)
+  RecordIn has_failed path (Ok flags) key asked now bytes is_cut = RecordOver path flags key asked now bytes is_cut
 
   -- of the document at a path
-  abbrev pub RecordAnswers : Holding → Bool → Recording → List ℕ → Bool → Type 0
-  RecordAnswers at has_failed a bytes is_cut =
-      ((document : Result Definitions Refusal) × IsDocumentAt at a.document document × RecordIn has_failed a.document document a.key (unwrap_or a.moment 0) bytes is_cut)
+  abbrev pub RecordAnswers : Holding → Bool → Recording → ℕ → List ℕ → Bool → Type 0
+  RecordAnswers at has_failed a now bytes is_cut =
+      ((document : Result Definitions Refusal) × IsDocumentAt at a.document document × RecordIn has_failed a.document document a.key a.moment now bytes is_cut)
       ⊎ Wants old new status record_call

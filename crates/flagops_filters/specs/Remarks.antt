@@ -3,8 +3,12 @@ use Rattle.std.specs.Prelude.{◌≡◌, ◌⊎◌, ℕ, false, List, [], ◌∷
 use Rattle.flagops_files.specs.Lines.{NamesFile}
 use Rattle.file_diagnostics.specs.Named.{Names, NamesWord}
 use Rattle.flagops_shell.specs.Diagnostic.{Says}
+use Rattle.flagops_shell.specs.Files.{Holding}
 use Rattle.flagops_shell.specs.declared.refused.Remark.{Remark}
+use Rattle.tally_core.specs.Tally.{PageTally}
 use Rattle.flagops_filters.specs.Beside.{Reads, tally_beside}
+use Rattle.flagops_filters.specs.Join.{IsTallyOf}
+use Rattle.flagops_filters.specs.Joined.{JoinsNext}
 use Rattle.flagops_filters.specs.Refusal.{is_want}
 use Rattle.flagops_filters.specs.Report.{Came, Told}
 use Rattle.flagops_filters.specs.declared.refusal.FilterRefusal.{FilterRefusal}
@@ -15,11 +19,6 @@ use Rattle.flagops_filters.specs.declared.refusal.FilterRefusal.TheVariants.{Loa
 -- lines begin with the path of a file, by what is shown of a long one, or as a JSON text
 abbrev pub NamesPath : List ℕ → List ℕ → Type 0
 NamesPath path lines = Names path lines ⊎ NamesFile path lines
-
--- that of one of these files
-abbrev pub NamesOnePath : List (List ℕ) → List ℕ → Type 0
-NamesOnePath [] lines = ⊥
-NamesOnePath (path ∷ paths) lines = NamesPath path lines ⊎ NamesOnePath paths lines
 
 -- with the words for the standard input
 abbrev pub NamesInput : List ℕ → Type 0
@@ -40,10 +39,22 @@ abbrev pub tally_remark : List ℕ → List ℕ → Came → Remark → Type 0
 tally_remark bytes document (Ok report) remark = Says (Reads (tally_beside bytes)) remark
 tally_remark bytes document (Err e) remark = Says (NamesRefused document e) remark
 
--- of one that went well nothing is told
-abbrev pub join_remark : List (List ℕ) → Came → Remark → Type 0
-join_remark paths (Ok report) remark = ⊥
-join_remark paths (Err e) remark = Says (NamesOnePath paths) remark
+-- of files that are joined to one in turn, the first that is refused so: it has no tally, or one that does not join those before it
+abbrev pub NamesUnjoined : Holding → PageTally → List (List ℕ) → FilterRefusal → Remark → Type 0
+NamesUnjoined at one [] e remark = ⊥
+NamesUnjoined at one (path ∷ paths) e remark =
+    (JoinsNext at one path (Err e) × Says (NamesPath path) remark) ⊎ ((both : PageTally) × JoinsNext at one path (Ok both) × NamesUnjoined at both paths e remark)
+
+-- of all files
+abbrev pub NamesUnjoinedOf : Holding → List (List ℕ) → FilterRefusal → Remark → Type 0
+NamesUnjoinedOf at [] e remark = ⊥
+NamesUnjoinedOf at (path ∷ paths) e remark =
+    (IsTallyOf at path (Err e) × Says (NamesPath path) remark) ⊎ ((one : PageTally) × IsTallyOf at path (Ok one) × NamesUnjoined at one paths e remark)
+
+-- of `join` that went well nothing is told, and of a refusal the name of the first file that is refused
+abbrev pub join_remark : Holding → List (List ℕ) → Came → Remark → Type 0
+join_remark at paths (Ok report) remark = ⊥
+join_remark at paths (Err e) remark = NamesUnjoinedOf at paths e remark
 
 -- ---- of what calls give, in private contracts
 
@@ -52,9 +63,15 @@ abbrev pub RemarksBy : {X : Type 0} → (FilterRefusal → List ℕ → Type 0) 
 RemarksBy MaySay (Ok x) = Unit {0}
 RemarksBy MaySay (Err told) = is_want told.refusal ≡ false → Says (MaySay told.refusal) told.remark
 
--- by that of the file at a path, or of one of several
+-- by that of the file at a path
 abbrev pub RemarksPath : {X : Type 0} → List ℕ → Result X Told → Type 0
 RemarksPath path r = RemarksBy (λ e. NamesPath path) r
 
-abbrev pub RemarksOnePath : {X : Type 0} → List (List ℕ) → Result X Told → Type 0
-RemarksOnePath paths r = RemarksBy (λ e. NamesOnePath paths) r
+-- by that of the first file that is refused, of those that are joined to one, and of all
+abbrev pub RemarksUnjoined : Holding → PageTally → List (List ℕ) → Result PageTally Told → Type 0
+RemarksUnjoined at one paths (Ok both) = Unit {0}
+RemarksUnjoined at one paths (Err told) = is_want told.refusal ≡ false → NamesUnjoined at one paths told.refusal told.remark
+
+abbrev pub RemarksUnjoinedOf : {X : Type 0} → Holding → List (List ℕ) → Result X Told → Type 0
+RemarksUnjoinedOf at paths (Ok x) = Unit {0}
+RemarksUnjoinedOf at paths (Err told) = is_want told.refusal ≡ false → NamesUnjoinedOf at paths told.refusal told.remark

@@ -6,7 +6,7 @@ ghost use Rattle.flagops_filters.specs.Command.{join_description};
 ghost use Rattle.flagops_filters.specs.Join.{IsJoinReport, IsTallyIn, IsTallyOf, JoinsAllFiles, JoinsFiles, report_joined};
 ghost use Rattle.flagops_filters.specs.Joined.{JoinsNext, JoinsTwo, JoinsUnless};
 ghost use Rattle.flagops_filters.specs.Refusal.{is_want};
-ghost use Rattle.flagops_filters.specs.Remarks.{NamesPath, RemarksOnePath, RemarksPath};
+ghost use Rattle.flagops_filters.specs.Remarks.{NamesPath, RemarksPath, RemarksUnjoined, RemarksUnjoinedOf};
 ghost use Rattle.flagops_filters.specs.Report.{GivesOne, is_file_fault};
 ghost use Rattle.flagops_filters.specs.Words as words;
 ghost use Rattle.flagops_filters.specs.Words.{joining_view};
@@ -69,7 +69,7 @@ fn reported<F: FileSet>(
     ensures exact { IfSome (F.holding files.old) (λ at. GivesOne result (IsJoinReport at (joining_view asked.now).tallies)) }
     ensures failed { F.has_failed files.new ≡ (F.has_failed files.old || is_file_fault result) }
     ensures kept { F.holding files.new ≡ F.holding files.old }
-    ensures names { RemarksOnePath (joining_view asked.now).tallies result }
+    ensures names { IfSome (F.holding files.old) (λ at. RemarksUnjoinedOf at (joining_view asked.now).tallies result) }
     ensures quiet { IfOk result (λ o. o.remark ≡ None) }
 {
     match all_of(alloc, files, asked.first, asked.others.as_slice()) {
@@ -113,7 +113,7 @@ fn all_of<F: FileSet>(
     ensures exact { IfSome (F.holding files.old) (λ at. JoinsUnless result (JoinsAllFiles at (first.now ∷ map (λ p. p.now) others.now))) }
     ensures failed { F.has_failed files.new ≡ (F.has_failed files.old || is_file_fault result) }
     ensures kept { F.holding files.new ≡ F.holding files.old }
-    ensures names { RemarksOnePath (first.now ∷ map (λ p. p.now) others.now) result }
+    ensures names { IfSome (F.holding files.old) (λ at. RemarksUnjoinedOf at (first.now ∷ map (λ p. p.now) others.now) result) }
 {
     let one = one_of(alloc, files, first)?;
     all_with(alloc, files, one, others)
@@ -130,7 +130,7 @@ fn all_with<F: FileSet>(
     ensures alone { length paths.now ≡ 0 → result ≡ Ok one }
     ensures failed { F.has_failed files.new ≡ (F.has_failed files.old || is_file_fault result) }
     ensures kept { F.holding files.new ≡ F.holding files.old }
-    ensures names { RemarksOnePath (map (λ p. p.now) paths.now) result }
+    ensures names { IfSome (F.holding files.old) (λ at. RemarksUnjoined at one (map (λ p. p.now) paths.now) result) }
 {
     let mut all = one;
     for path in paths {

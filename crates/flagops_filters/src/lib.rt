@@ -27,12 +27,15 @@
 #![tactic(auto)]
 
 mod asked;
+mod clock;
 mod joining;
 mod laws;
+mod moment;
 mod opening;
 mod recording;
 mod refusal;
 mod remarks;
+mod start;
 mod tallying;
 mod target;
 mod usage;

@@ -1,5 +1,5 @@
 //! The command `record`.
-ghost use Rattle.std.specs.Prelude.{◌≡◌, ◌<◌, ◌^◌, unwrap_or, false, true, length, map, option_map, IfOk, IfSome, string_bytes};
+ghost use Rattle.std.specs.Prelude.{◌≡◌, ◌<◌, ◌^◌, false, true, length, map, option_map, IfOk, IfSome, string_bytes};
 ghost use Rattle.flag_defs.specs.Flags.{flags_view};
 ghost use Rattle.flagops_shell.specs.Console.{IsOpen};
 ghost use Rattle.flagops_shell.specs.Diagnostic.{Says};
@@ -15,16 +15,17 @@ ghost use Rattle.note_streams.specs.Recorded.{recorded_of};
 ghost use Rattle.record_lines.specs.Scene.{scene_of};
 
 use crate::asked::Recording;
+use crate::clock::second;
 use crate::opening::Opening;
 use crate::refusal::FilterRefusal;
-use crate::remarks::{counted_lines, flag_line, input_line, is_noted, marked_line};
+use crate::remarks::{clock_line, counted_lines, flag_line, input_line, is_noted, marked_line};
+use crate::start::Start;
 use crate::words::read_record;
 use file_diagnostics::Ends as FileEnds;
 use flag_defs::Flags;
 use flag_text::Outlet;
 use flagops_files::load_flags;
 use flagops_shell::{Console, FileSet, Refused, Remark, refuse, report_usage, tell};
-use flagops_words::Moment;
 use line_batches::Inlet;
 use note_streams::{Counted, RecordStop, record_stream};
 use record_lines::{RecordFault, Recorder};
@@ -32,6 +33,7 @@ use rollout_checks::RolloutFault;
 use std::alloc::{AllocError, Global};
 use std::convert::AsStr;
 use std::thread::Threads;
+use std::time::Clock;
 
 /// The name of the call that a want of memory is reported of.
 const RECORD: &str = "record";
@@ -49,7 +51,7 @@ pub fn record<R, S, I, F, O, E>(
     console: &mut Console<O, E>,
 ) -> u8
 where
-    R: AllocGlobal + Threads + Sync,
+    R: AllocGlobal + Clock + Threads + Sync,
     S: AsStr,
     I: Inlet + Opening,
     F: FileSet,
@@ -65,29 +67,31 @@ where
 {
     let alloc = rt.alloc();
     match read_record(alloc, words) {
-        Ok(asked) => recorded(rt, alloc, &asked, input, files, console),
+        Ok(asked) => recorded(rt, alloc, &asked, second(rt), input, files, console),
         Err(error) => report_usage(alloc, &error, console),
     }
 }
 
-/// The note lines of what is asked for.
+/// The note lines of what is asked for, where the clock shows this second.
 fn recorded<R: Threads + Sync, I: Inlet + Opening, F: FileSet, O: Outlet, E: Outlet>(
     rt: &R,
     alloc: Global,
     asked: &Recording<'_>,
+    now: u64,
     input: &mut I,
     files: &mut F,
     console: &mut Console<O, E>,
 ) -> u8
+    requires small { now < 2 ^ 53 }
     requires in_whole { I.is_broken input.old ≡ false }
     requires open { IsOpen console.old }
     ensures answers { IfSome (F.holding files.old) (λ at. IfSome (I.bytes input.old) (λ bytes.
-        RecordAnswers console.old console.new result at (F.has_failed files.new) (recording_view asked.now) bytes (I.is_broken input.new))) }
+        RecordAnswers console.old console.new result at (F.has_failed files.new) (recording_view asked.now) now bytes (I.is_broken input.new))) }
     ensures unread { F.has_failed files.old ≡ false → F.has_failed files.new ≡ true → ShowsUnread console.old console.new result (λ name. name ≡ record_call) }
     ensures kept { F.holding files.new ≡ F.holding files.old }
 {
     match load_flags(alloc, files, asked.document) {
-        Ok(flags) => over(rt, alloc, asked, &flags, input, console),
+        Ok(flags) => over(rt, alloc, asked, &flags, now, input, console),
         Err(unread) => refuse(alloc, Refused::<FilterRefusal>::of(unread), RECORD, console),
     }
 }
@@ -98,15 +102,18 @@ fn over<R: Threads + Sync, I: Inlet + Opening, O: Outlet, E: Outlet>(
     alloc: Global,
     asked: &Recording<'_>,
     flags: &Flags,
+    now: u64,
     input: &mut I,
     console: &mut Console<O, E>,
 ) -> u8
+    requires small { now < 2 ^ 53 }
     requires in_whole { I.is_broken input.old ≡ false }
     requires open { IsOpen console.old }
-    ensures { IfSome (I.bytes input.old) (λ bytes. RecordOver console.old console.new result asked.now.document.now (flags_view flags.now) asked.now.key.now (unwrap_or (option_map (λ m. m.number) asked.now.moment) 0) bytes (I.is_broken input.new)) }
+    ensures { IfSome (I.bytes input.old) (λ bytes. RecordOver console.old console.new result asked.now.document.now (flags_view flags.now) asked.now.key.now (option_map (λ m. m.number) asked.now.moment) now bytes (I.is_broken input.new)) }
 {
-    match Recorder::new(alloc, flags, asked.key, moment_of(asked.moment)) {
-        Ok(recorder) => stream(rt, alloc, &recorder, asked.workers, input, console),
+    let start = Start::of(flags, asked.key, asked.moment, now);
+    match Recorder::new(alloc, flags, asked.key, start.moment(asked.moment)) {
+        Ok(recorder) => stream(rt, alloc, &recorder, asked.workers, start, input, console),
         Err(fault) => refuse(alloc, unrecorded(alloc, asked, fault), RECORD, console),
     }
 }
@@ -117,19 +124,20 @@ fn stream<R: Threads + Sync, I: Inlet + Opening, O: Outlet, E: Outlet>(
     alloc: Global,
     recorder: &Recorder<'_>,
     workers: usize,
+    start: Start,
     input: &mut I,
     console: &mut Console<O, E>,
 ) -> u8
     requires in_whole { I.is_broken input.old ≡ false }
     requires open { IsOpen console.old }
-    ensures { IfSome (I.bytes input.old) (λ bytes. RecordEnds console.old console.new result (recorded_of (scene_of recorder.now) bytes) bytes (I.is_broken input.new)) }
+    ensures { IfSome (I.bytes input.old) (λ bytes. RecordEnds console.old console.new result (recorded_of (scene_of recorder.now) bytes) start bytes (I.is_broken input.new)) }
 {
     match record_stream(rt, alloc, recorder, workers, input, &mut console.out) {
         Ok(counted) => {
-            tell_counted(alloc, counted, &mut console.err);
+            tell_counted(alloc, start, counted, &mut console.err);
             0
         }
-        Err(stop) => give_up(alloc, stop, input.opening(), console),
+        Err(stop) => give_up(alloc, stop, start, input.opening(), console),
     }
 }
 
@@ -137,6 +145,7 @@ fn stream<R: Threads + Sync, I: Inlet + Opening, O: Outlet, E: Outlet>(
 fn give_up<O: Outlet, E: Outlet>(
     alloc: Global,
     stop: RecordStop,
+    start: Start,
     opening: FileEnds,
     console: &mut Console<O, E>,
 ) -> u8
@@ -147,7 +156,7 @@ fn give_up<O: Outlet, E: Outlet>(
     if is_broken_off(&stop) {
         return 1;
     }
-    refuse(alloc, stopped(alloc, stop, opening), RECORD, console)
+    refuse(alloc, stopped(alloc, stop, start, opening), RECORD, console)
 }
 
 /// Whether the output has failed.
@@ -160,17 +169,6 @@ fn is_broken_off(stop: &RecordStop) -> bool
         RecordStop::Unreadable => false,
         RecordStop::TooLong => false,
         RecordStop::Broken => true,
-    }
-}
-
-/// The moment of the evaluations, 0 where none is given.
-fn moment_of(moment: Option<Moment>) -> u64
-    ensures small { result < 2 ^ 53 }
-    ensures value { result ≡ unwrap_or (option_map (λ m. m.number) moment) 0 }
-{
-    match moment {
-        Some(moment) => moment.number,
-        None => 0,
     }
 }
 
@@ -209,14 +207,34 @@ fn fault_of(fault: RecordFault) -> RolloutFault
 
 /// A stream that is not recorded to its end.
 #[tactic(auto, using(flagops_files::proofs::Told::says))]
-fn stopped(alloc: Global, stop: RecordStop, opening: FileEnds) -> Refused<FilterRefusal>
+fn stopped(
+    alloc: Global,
+    stop: RecordStop,
+    start: Start,
+    opening: FileEnds,
+) -> Refused<FilterRefusal>
     ensures refusal { result.refusal ≡ Record stop }
     ensures names { Says NamesInput result.remark }
 {
     Refused {
         refusal: FilterRefusal::Record(stop),
-        remark: Remark::of(stop_line(alloc, stop, opening)),
+        remark: Remark::of(stop_lines(alloc, stop, start, opening)),
     }
+}
+
+/// What is told of it, and behind it that its moment is the clock's.
+#[tactic(auto, using(crate::proofs::Naming::named_before))]
+fn stop_lines(
+    alloc: Global,
+    stop: RecordStop,
+    start: Start,
+    opening: FileEnds,
+) -> Result<String, AllocError>
+    ensures { IfOk result (λ s. NamesInput (string_bytes s)) }
+{
+    let line = stop_line(alloc, stop, opening)?;
+    let clock = clock_line(alloc, start.clock)?;
+    format!(in alloc; "{line}{clock}")
 }
 
 /// What is told of it, by what the input began with.
@@ -231,21 +249,21 @@ fn stop_line(alloc: Global, stop: RecordStop, opening: FileEnds) -> Result<Strin
 }
 
 /// Tells what was not noted, where there is something to tell.
-fn tell_counted<E: Outlet>(alloc: Global, counted: Counted, err: &mut E)
+fn tell_counted<E: Outlet>(alloc: Global, start: Start, counted: Counted, err: &mut E)
     requires { E.is_broken err.old ≡ false }
-    ensures { PutsIf (is_noted counted.empty counted.long counted.torn) (record_lines counted.empty counted.long counted.torn) (E.bytes err.old) (E.bytes err.new) (E.is_broken err.new) }
+    ensures { PutsIf (is_noted start counted.empty counted.long counted.torn) (record_lines start counted.empty counted.long counted.torn) (E.bytes err.old) (E.bytes err.new) (E.is_broken err.new) }
 {
-    if is_noted(counted) {
-        tell_noted(alloc, counted, err);
+    if is_noted(start, counted) {
+        tell_noted(alloc, start, counted, err);
     }
 }
 
 /// Tells what was not noted.
-fn tell_noted<E: Outlet>(alloc: Global, counted: Counted, err: &mut E)
+fn tell_noted<E: Outlet>(alloc: Global, start: Start, counted: Counted, err: &mut E)
     requires { E.is_broken err.old ≡ false }
-    ensures { PutsIf true (record_lines counted.empty counted.long counted.torn) (E.bytes err.old) (E.bytes err.new) (E.is_broken err.new) }
+    ensures { PutsIf true (record_lines start counted.empty counted.long counted.torn) (E.bytes err.old) (E.bytes err.new) (E.is_broken err.new) }
 {
-    match counted_lines(alloc, counted) {
+    match counted_lines(alloc, start, counted) {
         Ok(lines) => tell(err, lines.as_str()),
         Err(AllocError) => tell(err, "error: out of memory\n"),
     }

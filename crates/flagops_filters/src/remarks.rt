@@ -2,9 +2,10 @@
 ghost use Rattle.std.specs.Prelude.{◌≡◌, IfOk, string_bytes};
 ghost use Rattle.file_diagnostics.specs.Named.{NamesWord};
 ghost use Rattle.flagops_files.specs.Lines.{NamesFile};
-ghost use Rattle.flagops_filters.specs.Beside.{is_noted, line_if, long_line, record_lines};
+ghost use Rattle.flagops_filters.specs.Beside.{clock_line, is_noted, line_if, long_line, record_lines};
 ghost use Rattle.flagops_filters.specs.Remarks.{NamesInput};
 
+use crate::start::Start;
 use flagops_files::quoted;
 use note_streams::Counted;
 use std::alloc::{AllocError, Global};
@@ -52,17 +53,27 @@ fn word_line(alloc: Global, word: &str, reason: &str) -> Result<String, AllocErr
 }
 
 /// Whether something is told of contexts that were all recorded.
-pub(crate) fn is_noted(counted: Counted) -> bool
-    ensures { result ≡ is_noted counted.empty counted.long counted.torn }
+pub(crate) fn is_noted(start: Start, counted: Counted) -> bool
+    ensures { result ≡ is_noted start counted.empty counted.long counted.torn }
 {
-    counted.empty || counted.long > 0 || counted.torn
+    start.clock.is_some() || start.is_siteless || counted.empty || counted.long > 0 || counted.torn
 }
 
-/// What is told of contexts that were all recorded: that there were none, the inputs that were not noted, and the bytes that
-/// were passed over.
-pub(crate) fn counted_lines(alloc: Global, counted: Counted) -> Result<String, AllocError>
-    ensures { IfOk result (λ s. string_bytes s ≡ record_lines counted.empty counted.long counted.torn) }
+/// What is told of contexts that were all recorded: that their moment is the clock's, that no input is reached, that there were
+/// none, the inputs that were not noted, and the bytes that were passed over.
+pub(crate) fn counted_lines(
+    alloc: Global,
+    start: Start,
+    counted: Counted,
+) -> Result<String, AllocError>
+    ensures { IfOk result (λ s. string_bytes s ≡ record_lines start counted.empty counted.long counted.torn) }
 {
+    let clock = clock_line(alloc, start.clock)?;
+    let siteless = line_if(
+        alloc,
+        start.is_siteless,
+        "the targeting has no fractional, and nothing is recorded",
+    )?;
     let empty = line_if(
         alloc,
         counted.empty,
@@ -74,7 +85,19 @@ pub(crate) fn counted_lines(alloc: Global, counted: Counted) -> Result<String, A
         counted.torn,
         "the last line has no end and is passed over",
     )?;
-    format!(in alloc; "{empty}{long}{torn}")
+    format!(in alloc; "{clock}{siteless}{empty}{long}{torn}")
+}
+
+/// A line on the moment, where it is the clock's second.
+pub(crate) fn clock_line(alloc: Global, clock: Option<u64>) -> Result<String, AllocError>
+    ensures { IfOk result (λ s. string_bytes s ≡ clock_line clock) }
+{
+    match clock {
+        Some(now) => format!(in alloc;
+            "record: the targeting reads $flagd.timestamp and no --moment is given: the moment is {now}, the clock's second\n"
+        ),
+        None => Ok(String::new(alloc)),
+    }
 }
 
 /// A line of `record`, where it is so.

@@ -89,7 +89,7 @@ fn moment<'a>(alloc: Global) -> Arg<'a>
         alloc,
         "MOMENT",
         "moment",
-        "The time of the evaluations, in seconds since 1970; 0 where it is left out",
+        "The time of the evaluations, in seconds since 1970; without it the clock's, where the targeting reads it",
         0,
         LATEST_MOMENT,
     )

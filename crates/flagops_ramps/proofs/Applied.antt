@@ -3,68 +3,93 @@ use Rattle.std.proofs.Common.{◌≡◌, ◌≤◌, ◌-◌, false, ℕ, zero, s
 use Rattle.std.specs.Prelude.{IfOk, IfSome}
 use Rattle.std.specs.Slice.{IsItemAt}
 use Rattle.std.proofs.lemmas.Option.{slice_get-map, slice_get_past, slice_get_read}
+use Rattle.file_diagnostics.specs.Named.{Names}
 use Rattle.flag_defs.specs.Flags.{flags_view}
 use Rattle.flag_defs.specs.Document.{Definitions}
-use Rattle.flagops_rollouts.specs.Apply.{IsLocalReport, applied_report}
+use Rattle.flagops_rollouts.specs.Apply.{IsLocalReport, told_report}
+use Rattle.flagops_rollouts.specs.Omitted.{TellsOmitted}
+use Rattle.flagops_rollouts.specs.Refusal as rolling
 use Rattle.flagops_files.specs.Documents.{IsDocumentAt}
-use Rattle.flagops_shell.specs.Files.{Holding}
+use Rattle.flagops_files.specs.Loading.{max_text}
+use Rattle.flagops_shell.specs.Diagnostic.{Says}
+use Rattle.flagops_shell.specs.Files.{Holding, load_of}
 use Rattle.flagops_files.specs.Refusal as files
+use Rattle.flagops_shell.proofs.Lifted as lifted
 use Rattle.flagops_shell.specs.Report.{outcome_view}
 use Rattle.flagops_shell.specs.declared.outcome.Outcome.{Outcome}
+use Rattle.flagops_shell.specs.declared.refused.Remark.{Remark}
+use Rattle.flagops_shell.specs.declared.refused.Remark.TheVariants.{Short, Lines}
 use Rattle.flagops_files.specs.Refusal.{Refused}
 use Rattle.plan_text.specs.Answer.{Answer, planned_view}
 use Rattle.plan_text.specs.declared.planned.Planned.{Planned}
-use Rattle.flagops_ramps.specs.Apply.{IsStepApplied, IsStepPut, IsStepReport, answer_to, as_came}
+use Rattle.flagops_ramps.specs.Apply.{IsStepOver, IsStepPut, IsStepReport, TellsOmittedAt, answer_to}
 use Rattle.flagops_ramps.specs.Refusal.{is_want}
-use Rattle.flagops_ramps.specs.Report.{GivesOne, GivesUnlessWant, Told}
+use Rattle.flagops_ramps.specs.Report.{GivesOne, Told}
 use Rattle.flagops_ramps.specs.Judging.{answers_at}
+use Rattle.flagops_ramps.specs.Words.{Applying}
 use Rattle.flagops_ramps.specs.declared.refusal.RampRefusal.{RampRefusal}
-use Rattle.flagops_ramps.specs.declared.refusal.RampRefusal.TheVariants.{Load, NoStep}
+use Rattle.flagops_ramps.specs.declared.refusal.RampRefusal.TheVariants.{Load, NoStep, Rollout}
 use Rattle.flagops_ramps.proofs.Loaded.{not_want}
 
-module _ (document path key : List ℕ) (site step : ℕ) where
-  unread_at : (at : Holding) (e : Refused) (t : Told) → t.refusal ≡ Load e.refusal → files.GivesOne flags_view (Err e) (IsDocumentAt at document) → GivesOne outcome_view (Err t) (IsStepReport at document path key site step)
+module _ (a : Applying) where
+  unread_at : (at : Holding) (e : Refused) (t : Told) → t.refusal ≡ Load e.refusal → files.GivesOne flags_view (Err e) (IsDocumentAt at a.document) → GivesOne outcome_view (Err t) (IsStepReport at a)
   unfolding IsStepReport
   unread_at at e t is asked = λ no_want. (Err e.refusal, asked (not_want t e is no_want), ap Err is)
 
-  pub unread : (holding : Option Holding) (e : Refused) (t : Told) → t.refusal ≡ Load e.refusal → IfSome holding (λ at. files.GivesOne flags_view (Err e) (IsDocumentAt at document)) → IfSome holding (λ at. GivesOne outcome_view (Err t) (IsStepReport at document path key site step))
+  pub unread : (holding : Option Holding) (e : Refused) (t : Told) → t.refusal ≡ Load e.refusal → IfSome holding (λ at. files.GivesOne flags_view (Err e) (IsDocumentAt at a.document)) → IfSome holding (λ at. GivesOne outcome_view (Err t) (IsStepReport at a))
   unread None e t is asked = tt
   unread (Some at) e t is asked = unread_at at e t is asked
 
-  read_at : (at : Holding) (flags : Definitions) (r : Result Outcome Told) → IsDocumentAt at document (Ok flags) → GivesOne outcome_view r (IsStepApplied key site step (Ok flags) (answers_at at path)) → GivesOne outcome_view r (IsStepReport at document path key site step)
-  unfolding IsStepReport
-  read_at at flags (Ok o) asked gives = (Ok flags, asked, gives)
-  read_at at flags (Err t) asked gives = λ no_want. (Ok flags, asked, gives no_want)
+  module _ (document : List ℕ) (flags : Definitions) where
+    read_at : (at : Holding) (r : Result Outcome Told) → IsDocumentAt at a.document (Ok flags) → load_of at a.document max_text ≡ Ok document → GivesOne outcome_view r (IsStepOver a document flags (answers_at at a.ramp)) → GivesOne outcome_view r (IsStepReport at a)
+    unfolding IsStepReport
+    read_at at (Ok o) asked bytes gives = (Ok flags, asked, (document, bytes, gives))
+    read_at at (Err t) asked bytes gives = λ no_want. (Ok flags, asked, (document, bytes, gives no_want))
 
-  pub read : (old kept : Option Holding) (flags : Definitions) (r : Result Outcome Told) → kept ≡ old → IfSome old (λ at. IsDocumentAt at document (Ok flags))
-      → IfSome kept (λ at. GivesOne outcome_view r (IsStepApplied key site step (Ok flags) (answers_at at path))) → IfSome old (λ at. GivesOne outcome_view r (IsStepReport at document path key site step))
-  read None kept flags r same asked gives = tt
-  read (Some at) kept flags r same asked gives = read_at at flags r asked (subst (λ (h : Option Holding). IfSome h (λ it. GivesOne outcome_view r (IsStepApplied key site step (Ok flags) (answers_at it path)))) same gives)
+    pub read : (old kept : Option Holding) (r : Result Outcome Told) → kept ≡ old → IfSome old (λ at. IsDocumentAt at a.document (Ok flags)) → IfSome old (λ at. load_of at a.document max_text ≡ Ok document)
+        → IfSome kept (λ at. GivesOne outcome_view r (IsStepOver a document flags (answers_at at a.ramp))) → IfSome old (λ at. GivesOne outcome_view r (IsStepReport at a))
+    read None kept r same asked bytes gives = tt
+    read (Some at) kept r same asked bytes gives = read_at at r asked bytes (subst (λ (h : Option Holding). IfSome h (λ it. GivesOne outcome_view r (IsStepOver a document flags (answers_at it a.ramp)))) same gives)
 
-module _ (key : List ℕ) (site step : ℕ) (flags : Definitions) where
-  -- answers that were not read
-  pub unanswered : (holding : Option Holding) (path : List ℕ) (t : Told) → IfSome holding (λ at. is_want t.refusal ≡ false → answers_at at path ≡ Err t.refusal) → IfSome holding (λ at. GivesOne outcome_view (Err t) (IsStepApplied key site step (Ok flags) (answers_at at path)))
-  unanswered None path t answers = tt
-  unanswered (Some at) path t answers = λ no_want. subst (λ (x : Result (List Answer) RampRefusal). IsStepApplied key site step (Ok flags) x (Err t.refusal)) (sym (answers no_want)) refl
+    -- answers that were not read
+    pub unanswered : (holding : Option Holding) (t : Told) → IfSome holding (λ at. is_want t.refusal ≡ false → answers_at at a.ramp ≡ Err t.refusal) → IfSome holding (λ at. GivesOne outcome_view (Err t) (IsStepOver a document flags (answers_at at a.ramp)))
+    unanswered None t answers = tt
+    unanswered (Some at) t answers = λ no_want. subst (λ (x : Result (List Answer) RampRefusal). IsStepOver a document flags x (Err t.refusal)) (sym (answers no_want)) refl
 
-  -- answers that were read
-  pub answered_so : (holding : Option Holding) (path : List ℕ) (answers : List Answer) (r : Result Outcome Told) → IfSome holding (λ at. answers_at at path ≡ Ok answers) → GivesOne outcome_view r (IsStepApplied key site step (Ok flags) (Ok answers))
-      → IfSome holding (λ at. GivesOne outcome_view r (IsStepApplied key site step (Ok flags) (answers_at at path)))
-  answered_so None path answers r is gives = tt
-  answered_so (Some at) path answers r is gives = subst (λ (x : Result (List Answer) RampRefusal). GivesOne outcome_view r (IsStepApplied key site step (Ok flags) x)) (sym is) gives
+    -- answers that were read
+    pub answered_so : (holding : Option Holding) (answers : List Answer) (r : Result Outcome Told) → IfSome holding (λ at. answers_at at a.ramp ≡ Ok answers) → GivesOne outcome_view r (IsStepOver a document flags (Ok answers))
+        → IfSome holding (λ at. GivesOne outcome_view r (IsStepOver a document flags (answers_at at a.ramp)))
+    answered_so None answers r is gives = tt
+    answered_so (Some at) answers r is gives = subst (λ (x : Result (List Answer) RampRefusal). GivesOne outcome_view r (IsStepOver a document flags x)) (sym is) gives
 
-  put_as : (answer : Answer) (r : Result Outcome Told) → GivesUnlessWant outcome_view r (as_came (applied_report flags key site answer)) → IfOk r (λ o. IsLocalReport flags key site answer (outcome_view o)) → GivesOne outcome_view r (IsStepPut flags key site (Some answer))
-  put_as answer (Ok o) gives local = (sym gives, local)
-  put_as answer (Err t) gives local = λ no_want. (sym (gives no_want), tt)
+    -- the answer to the step, which is put
+    pub put_so : (answers : List Answer) (answer : Answer) (o : Outcome) → Some answer ≡ answer_to answers a.step → told_report document flags a.key a.site a.strict answer ≡ Ok (outcome_view o) → IsLocalReport flags a.key a.site answer (outcome_view o)
+        → IsStepOver a document flags (Ok answers) (Ok (outcome_view o))
+    put_so answers answer o is gives local = subst (λ (x : Option Answer). IsStepPut a document flags x (Ok (outcome_view o))) is (Ok (outcome_view o), (sym gives, local), refl)
 
-  -- the answer to the step
-  pub put_so : (answers : List Answer) (answer : Answer) (r : Result Outcome Told) → Some answer ≡ answer_to answers step → GivesUnlessWant outcome_view r (as_came (applied_report flags key site answer)) → IfOk r (λ o. IsLocalReport flags key site answer (outcome_view o))
-      → GivesOne outcome_view r (IsStepApplied key site step (Ok flags) (Ok answers))
-  put_so answers answer r is gives local = subst (λ (o : Option Answer). GivesOne outcome_view r (IsStepPut flags key site o)) is (put_as answer r gives local)
+    -- or is refused
+    pub refused_so : (answers : List Answer) (answer : Answer) (e : rolling.Refused) (t : Told) → t.refusal ≡ Rollout e.refusal → Some answer ≡ answer_to answers a.step
+        → (rolling.is_want e.refusal ≡ false → told_report document flags a.key a.site a.strict answer ≡ Err e.refusal) → is_want t.refusal ≡ false → IsStepOver a document flags (Ok answers) (Err t.refusal)
+    refused_so answers answer e t same is gives no_want =
+        let wanted = lifted.not_want rolling.is_want is_want Rollout (λ x. refl) e t same no_want in
+        subst (λ (x : Option Answer). IsStepPut a document flags x (Err t.refusal)) is (Err e.refusal, (sym (gives wanted), tt), ap Err same)
 
-  -- there is none
-  pub no_step : (answers : List Answer) → None ≡ answer_to answers step → IsStepApplied key site step (Ok flags) (Ok answers) (Err NoStep)
-  no_step answers is = subst (λ (o : Option Answer). IsStepPut flags key site o (Err NoStep)) is refl
+    -- there is none
+    pub no_step : (answers : List Answer) → None ≡ answer_to answers a.step → IsStepOver a document flags (Ok answers) (Err NoStep)
+    no_step answers is = subst (λ (o : Option Answer). IsStepPut a document flags o (Err NoStep)) is refl
+
+-- what is told of flags is told of the document that they are of
+told_at : (at : Holding) (path : List ℕ) (flags : Definitions) (o : Option Remark) → IsDocumentAt at path (Ok flags) → IfSome o (Says (TellsOmitted path flags)) → IfSome o (Says (TellsOmittedAt at path))
+unfolding TellsOmittedAt
+told_at at path flags None there told = tt
+told_at at path flags (Some Short) there told = tt
+told_at at path flags (Some (Lines lines)) there told = (flags, there, told)
+
+pub told_of : (old : Option Holding) (path : List ℕ) (flags : Definitions) (r : Result Outcome Told) → IfSome old (λ at. IsDocumentAt at path (Ok flags)) → IfOk r (λ o. IfSome o.remark (Says (TellsOmitted path flags)))
+    → IfSome old (λ at. IfOk r (λ o. IfSome o.remark (Says (TellsOmittedAt at path))))
+told_of None path flags r there told = tt
+told_of (Some at) path flags (Ok o) there told = told_at at path flags o.remark there told
+told_of (Some at) path flags (Err t) there told = tt
 
 -- ---- the answer to a step, by its number
 

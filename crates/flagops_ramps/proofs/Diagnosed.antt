@@ -11,6 +11,8 @@ use Rattle.flagops_files.specs.Refusal as files
 use Rattle.flagops_files.specs.Refusal.{by, loads_file, loads_flags}
 use Rattle.flagops_files.specs.Told.{NamesOne, file}
 use Rattle.flagops_files.specs.declared.refusal.Call.{Call}
+use Rattle.flagops_rollouts.specs.Refusal as rolling
+use Rattle.flagops_rollouts.specs.Subjects.{applied_subjects, is_of_kept_document}
 use Rattle.flagops_rollouts.specs.declared.refusal.Doubt.{Doubt}
 use Rattle.flagops_files.specs.declared.refusal.Refusal.{Refusal}
 use Rattle.flagops_files.proofs.Told.{told_left, told_right}
@@ -22,15 +24,17 @@ use Rattle.flagops_shell.specs.Report.{outcome_view}
 use Rattle.flagops_shell.specs.declared.outcome.Outcome.{Outcome}
 use Rattle.flagops_shell.specs.declared.refused.Remark.{Remark}
 use Rattle.flagops_shell.specs.declared.refused.Remark.TheVariants.{Short, Lines}
-use Rattle.flagops_ramps.specs.Commands.{ramp_told, step_told, verify_told}
-use Rattle.flagops_ramps.specs.Diagnostics.{Diagnoses, Diagnosis, IsOfAnswers, IsOfDoubted, IsOfRamp, IsOfSize, IsOfStep, IsOfVerify, NamesPath, NamesStep, answered_subjects, is_of_rule, judged_path, told_by}
+use Rattle.flagops_ramps.specs.Apply.{TellsOmittedAt}
+use Rattle.flagops_ramps.specs.Commands.{keep_told, ramp_told, step_told, verify_told}
+use Rattle.flagops_ramps.specs.Diagnostics.{Diagnoses, Diagnosis, IsOfAnswers, IsOfDoubted, IsOfKeep, IsOfRamp, IsOfSize, IsOfStep, IsOfVerify, NamesPath, NamesStep, answered_subjects, judged_path, put_subjects, told_by}
 use Rattle.flagops_ramps.specs.Refusal.{is_unread, is_want}
 use Rattle.flagops_ramps.specs.Judging.{refused_as}
 use Rattle.flagops_ramps.proofs.Loaded.{not_want}
+use Rattle.flagops_shell.proofs.Lifted as lifted
 use Rattle.rollout_checks.specs.declared.fault.RolloutFault.{RolloutFault}
 use Rattle.rollout_checks.specs.declared.verify_fault.VerifyFault.TheVariants as verdict
 use Rattle.flagops_ramps.specs.Report.{Told}
-use Rattle.flagops_ramps.specs.Words.{Applying, Ramping, Verifying}
+use Rattle.flagops_ramps.specs.Words.{Applying, Keeping, Ramping, Verifying}
 use Rattle.flagops_ramps.specs.declared.refusal.RampRefusal.{RampRefusal}
 use Rattle.flagops_ramps.specs.declared.refusal.RampRefusal.TheVariants as refusal
 
@@ -112,6 +116,7 @@ of_answers v (refusal.Print f) remark named = absurd named
 of_answers v (refusal.Verify f) remark named = absurd named
 of_answers v refusal.Lines remark named = absurd named
 of_answers v refusal.NoStep remark named = absurd named
+of_answers v refusal.OtherRule remark named = absurd named
 of_answers v (refusal.Rollout e) remark named = absurd named
 of_answers v (refusal.Doubted c d) remark named = absurd named
 
@@ -127,6 +132,7 @@ step_answers a (refusal.Print f) remark named = absurd named
 step_answers a (refusal.Verify f) remark named = absurd named
 step_answers a refusal.Lines remark named = absurd named
 step_answers a refusal.NoStep remark named = absurd named
+step_answers a refusal.OtherRule remark named = absurd named
 step_answers a (refusal.Rollout e) remark named = absurd named
 step_answers a (refusal.Doubted c d) remark named = absurd named
 
@@ -140,6 +146,7 @@ ramp_doubted a (refusal.Read f) remark named = absurd named
 ramp_doubted a (refusal.Verify f) remark named = absurd named
 ramp_doubted a refusal.Lines remark named = absurd named
 ramp_doubted a refusal.NoStep remark named = absurd named
+ramp_doubted a refusal.OtherRule remark named = absurd named
 ramp_doubted a (refusal.Rollout e) remark named = absurd named
 
 pub verify_doubted : (v : Verifying) (e : RampRefusal) (remark : Remark) → IsOfDoubted v.rollout.steps v.rollout.book e remark → IsOfVerify v e remark
@@ -151,6 +158,7 @@ verify_doubted v (refusal.Read f) remark named = absurd named
 verify_doubted v (refusal.Verify f) remark named = absurd named
 verify_doubted v refusal.Lines remark named = absurd named
 verify_doubted v refusal.NoStep remark named = absurd named
+verify_doubted v refusal.OtherRule remark named = absurd named
 verify_doubted v (refusal.Rollout e) remark named = absurd named
 
 pub ramp_large : (a : Ramping) (e : RampRefusal) (remark : Remark) → IsOfSize e remark → IsOfRamp a e remark
@@ -161,8 +169,13 @@ ramp_large a (refusal.Read f) remark named = absurd named
 ramp_large a (refusal.Verify f) remark named = absurd named
 ramp_large a refusal.Lines remark named = absurd named
 ramp_large a refusal.NoStep remark named = absurd named
+ramp_large a refusal.OtherRule remark named = absurd named
 ramp_large a (refusal.Rollout e) remark named = absurd named
 ramp_large a (refusal.Doubted c d) remark named = absurd named
+
+-- steps that are refused before their answers are judged
+pub verify_steps : (v : Verifying) (t : Told) (f : RolloutFault) → t.refusal ≡ refusal.Verify (verdict.Request f) → Says (NamesPath v.rollout.steps) t.remark → IsOfVerify v t.refusal t.remark
+verify_steps v t f is said = subst (λ (x : RampRefusal). IsOfVerify v x t.remark) (sym is) said
 
 -- a step that is refused
 pub ramp_refused : (a : Ramping) (t : Told) (f : RolloutFault) → t.refusal ≡ refusal.Ramp f → Says (NamesPath a.steps) t.remark → IsOfRamp a t.refusal t.remark
@@ -175,6 +188,62 @@ ramp_read t f is = ap is_unread is
 pub step_said : (path : List ℕ) (step : ℕ) (remark : Remark) → Says (NamesStep path step) remark → Says (NamesPath path) remark
 step_said path step Short said = tt
 step_said path step (Lines lines) said = step_path path step _ said
+
+-- ---- a document with the rule of a step
+
+-- what refuses answers refuses to put one
+pub keep_wrong : (k : Keeping) (e : RampRefusal) (remark : Remark) → IsOfVerify k.answered e remark → IsOfKeep k e remark
+keep_wrong k (refusal.Load e) remark named = named
+keep_wrong k (refusal.Ramp f) remark named = named
+keep_wrong k (refusal.Print f) remark named = named
+keep_wrong k (refusal.Read f) remark named = named
+keep_wrong k (refusal.Verify f) remark named = named
+keep_wrong k refusal.Lines remark named = named
+keep_wrong k refusal.NoStep remark named = absurd named
+keep_wrong k refusal.OtherRule remark named = absurd named
+keep_wrong k (refusal.Rollout e) remark named = absurd named
+keep_wrong k (refusal.Doubted c d) remark named = named
+
+pub keep_loaded : (k : Keeping) (t : Told) (e : files.Refused) → t.refusal ≡ refusal.Load e.refusal → t.remark ≡ e.remark
+    → (files.is_want e.refusal ≡ false → NamesOne (book_question_subjects k.answered.rollout.document k.answered.rollout.steps k.answered.rollout.book) e.refusal e.remark) → is_want t.refusal ≡ false → IsOfKeep k t.refusal t.remark
+keep_loaded k t e is same named no_want = keep_wrong k t.refusal t.remark (verify_loaded k.answered t e is same named no_want)
+
+pub keep_answers : {X : Type 0} (k : Keeping) (t : Told) (r : Result X Told) → r ≡ Err t → (is_want t.refusal ≡ false → IsOfAnswers k.answered.ramp t.refusal t.remark) → Diagnoses (IsOfKeep k) r
+keep_answers {X} k t r is named = subst (λ (s : Result X Told). Diagnoses (IsOfKeep k) s) (sym is) (λ wanted. keep_wrong k t.refusal t.remark (of_answers k.answered t.refusal t.remark (named wanted)))
+
+pub keep_steps : (k : Keeping) (t : Told) (f : RolloutFault) → t.refusal ≡ refusal.Verify (verdict.Request f) → Says (NamesPath k.answered.rollout.steps) t.remark → IsOfKeep k t.refusal t.remark
+keep_steps k t f is said = keep_wrong k t.refusal t.remark (verify_steps k.answered t f is said)
+
+pub keep_doubted : (k : Keeping) (e : RampRefusal) (remark : Remark) → IsOfDoubted k.answered.rollout.steps k.answered.rollout.book e remark → IsOfKeep k e remark
+keep_doubted k e remark named = keep_wrong k e remark (verify_doubted k.answered e remark named)
+
+-- what `apply` refuses of a step
+pub step_rolled : (a : Applying) (t : Told) (e : rolling.Refused) → t.refusal ≡ refusal.Rollout e.refusal → t.remark ≡ e.remark → (rolling.is_want e.refusal ≡ false → NamesOne (applied_subjects a.document a.ramp) e.refusal e.remark) → is_want t.refusal ≡ false
+    → IsOfStep a t.refusal t.remark
+step_rolled a t e is same named no_want =
+    let wanted = lifted.not_want rolling.is_want is_want refusal.Rollout (λ x. refl) e t is no_want in
+    subst (λ (x : RampRefusal). IsOfStep a x t.remark) (sym is) (subst (λ (m : Remark). NamesOne (applied_subjects a.document a.ramp) e.refusal m) (sym same) (named wanted))
+
+-- no file could not be read where it was refused so
+pub rolled_read : (t : Told) (e : rolling.Refused) → t.refusal ≡ refusal.Rollout e.refusal → rolling.is_unread e.refusal ≡ false → is_unread t.refusal ≡ false
+rolled_read t e is read = ap is_unread is ∙ read
+
+-- what refuses to put a rule is told as `apply --keep` tells it
+rolled : (k : Keeping) (t : Told) (e : rolling.Refused) → t.refusal ≡ refusal.Rollout e.refusal → t.remark ≡ e.remark → (rolling.is_want e.refusal ≡ false → NamesOne (put_subjects k) e.refusal e.remark) → is_want t.refusal ≡ false → IsOfKeep k t.refusal t.remark
+rolled k t e is same named no_want =
+    let wanted = lifted.not_want rolling.is_want is_want refusal.Rollout (λ x. refl) e t is no_want in
+    subst (λ (x : RampRefusal). IsOfKeep k x t.remark) (sym is) (subst (λ (m : Remark). NamesOne (put_subjects k) e.refusal m) (sym same) (named wanted))
+
+pub keep_rolled : (k : Keeping) (t : Told) (e : rolling.Refused) → t.refusal ≡ refusal.Rollout e.refusal → t.remark ≡ e.remark → (rolling.is_want e.refusal ≡ false → NamesOne (put_subjects k) e.refusal e.remark) → is_want t.refusal ≡ false
+    → IsOfKeep k t.refusal t.remark
+keep_rolled = rolled
+
+pub keep_stored : (k : Keeping) (t : Told) (e : rolling.Refused) → t.refusal ≡ refusal.Rollout e.refusal → t.remark ≡ e.remark
+    → (rolling.is_want e.refusal ≡ false → NamesOne ((file k.answered.rollout.document, is_of_kept_document) ∷ []) e.refusal e.remark) → is_want t.refusal ≡ false → IsOfKeep k t.refusal t.remark
+keep_stored k t e is same named = rolled k t e is same (λ wanted. inr (named wanted))
+
+pub failed_put : (old new : Bool) (t : Told) (e : rolling.Refused) → t.refusal ≡ refusal.Rollout e.refusal → new ≡ (old || rolling.is_unread e.refusal) → new ≡ (old || is_unread t.refusal)
+failed_put old new t e is failed = failed ∙ ap (λ b. old || b) (sym (ap is_unread is))
 
 -- ---- what a command tells of what it comes to
 
@@ -189,12 +258,13 @@ ramp_remarks a files r names notes = remarks (NamesDoubted a.steps a.book) (IsOf
 pub verify_remarks : (v : Verifying) (files : Option Holding) (r : Result Outcome Told) → Diagnoses (IsOfVerify v) r → IfOk r (λ o. IfSome o.remark (Says (NamesDoubted v.rollout.steps v.rollout.book))) → IfSome files (λ at. Remarks is_want (verify_told v) r)
 verify_remarks v files r names notes = remarks (NamesDoubted v.rollout.steps v.rollout.book) (IsOfVerify v) files r names notes
 
-no_remark : (r : Result Outcome Told) → IfOk r (λ o. o.remark ≡ None) → IfOk r (λ o. IfSome o.remark (Says (λ lines. ⊥)))
-no_remark (Ok o) none = subst (λ (m : Option Remark). IfSome m (Says (λ lines. ⊥))) (sym none) tt
-no_remark (Err t) none = tt
+pub keep_remarks : (k : Keeping) (files : Option Holding) (r : Result Outcome Told) → Diagnoses (IsOfKeep k) r → IfOk r (λ o. IfSome o.remark (Says (NamesDoubted k.answered.rollout.steps k.answered.rollout.book))) → IfSome files (λ at. Remarks is_want (keep_told k) r)
+keep_remarks k files r names notes = remarks (NamesDoubted k.answered.rollout.steps k.answered.rollout.book) (IsOfKeep k) files r names notes
 
-pub step_remarks : (a : Applying) (files : Option Holding) (r : Result Outcome Told) → Diagnoses (IsOfStep a) r → IfOk r (λ o. o.remark ≡ None) → IfSome files (λ at. Remarks is_want (step_told a) r)
-step_remarks a files r names none = remarks (λ lines. ⊥) (IsOfStep a) files r names (no_remark r none)
+pub step_remarks : (a : Applying) (files : Option Holding) (r : Result Outcome Told) → Diagnoses (IsOfStep a) r → IfSome files (λ at. IfOk r (λ o. IfSome o.remark (Says (TellsOmittedAt at a.document))))
+    → IfSome files (λ at. Remarks is_want (step_told a at) r)
+step_remarks a None r names notes = tt
+step_remarks a (Some at) r names notes = remarks (TellsOmittedAt at a.document) (IsOfStep a) (Some at) r names notes
 
 -- each want of memory is reported by the command's name
 pub wants : {X E : Type 0} (name : List ℕ) (r : Result X E) → IfErr r (λ e. name ≡ name)
@@ -204,8 +274,3 @@ wants name (Err e) = refl
 -- files that stay
 pub all_kept : {E : Type 0} (old new : Option Holding) (r : Result Outcome E) → new ≡ old → KeepsUnlessDone old new r
 all_kept old new r same = inl same
-
--- an outcome of which nothing is told has no remark
-pub plain : (o : Option Remark) → is_some o ≡ false → o ≡ None
-plain None is = refl
-plain (Some remark) is = cc

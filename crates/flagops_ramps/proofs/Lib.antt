@@ -1,6 +1,7 @@
 mod Applied
 mod Besides
 pub mod Diagnosed
+mod Kept
 mod Loaded
 pub mod Matched
 mod Stepped

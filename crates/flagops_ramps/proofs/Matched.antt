@@ -1,7 +1,7 @@
 -- The commands on steps are such as `clap` is proved for.
 use Rattle.std.proofs.Common.{◌≡◌, true, refl}
 use Rattle.clap.specs.Words.{is_simple, is_simple_and_free}
-use Rattle.flagops_ramps.specs.Words.{ramp_app, step_app, verify_app}
+use Rattle.flagops_ramps.specs.Words.{keep_app, ramp_app, step_app, verify_app}
 
 pub ramp_plain : is_simple ramp_app ≡ true
 unfolding ramp_app
@@ -26,3 +26,11 @@ step_plain = refl
 pub step_free : is_simple_and_free step_app ≡ true
 unfolding step_app
 step_free = refl
+
+pub keep_plain : is_simple keep_app ≡ true
+unfolding keep_app
+keep_plain = refl
+
+pub keep_free : is_simple_and_free keep_app ≡ true
+unfolding keep_app
+keep_free = refl

@@ -31,10 +31,10 @@ use Rattle.flagops_ramps.specs.declared.refusal.StepCall.TheVariants as call
 other_ramp : (t : RampRefusal) (f : RolloutFault) → t ≡ Ramp f → is_want t ≡ false → f ≢ WantOfMemory
 other_ramp t f is no_want = λ want. let one : is_want t ≡ true = ap is_want is ∙ ap (λ x. is_want (Ramp x)) want in cc
 
-other_verify : (t : RampRefusal) (f : RolloutFault) → t ≡ Verify (Request f) → is_want t ≡ false → f ≢ WantOfMemory
+pub other_verify : (t : RampRefusal) (f : RolloutFault) → t ≡ Verify (Request f) → is_want t ≡ false → f ≢ WantOfMemory
 other_verify t f is no_want = λ want. let one : is_want t ≡ true = ap is_want is ∙ ap (λ x. is_want (Verify (Request x))) want in cc
 
-other_steps : (e : StepsFault) → of_steps e ≢ WantOfMemory → e ≢ steps.WantOfMemory
+pub other_steps : (e : StepsFault) → of_steps e ≢ WantOfMemory → e ≢ steps.WantOfMemory
 other_steps e other = λ want. other (ap of_steps want)
 
 module _ (strict : Bool) (refine : Option ℕ) (q : BookQuestion) where

@@ -3,15 +3,17 @@ use Rattle.std.specs.Prelude.{◌≡◌, List, ℕ, Option, codes}
 use Rattle.clap.specs.Kinds.{Kinds}
 use Rattle.clap.specs.Walk.{Text}
 use Rattle.flagops_rollouts.specs.Doubts.{NamesDoubted}
+use Rattle.flagops_rollouts.specs.Keep.{LeavesDocument}
 use Rattle.flagops_shell.specs.Diagnostic.{RemarksOf}
 use Rattle.flagops_shell.specs.Files.{Holding}
 use Rattle.flagops_shell.specs.Running.{Description}
-use Rattle.flagops_ramps.specs.Apply.{IsStepReport}
-use Rattle.flagops_ramps.specs.Diagnostics.{IsOfRamp, IsOfStep, IsOfVerify, told_by}
+use Rattle.flagops_ramps.specs.Apply.{IsStepReport, TellsOmittedAt}
+use Rattle.flagops_ramps.specs.Diagnostics.{IsOfKeep, IsOfRamp, IsOfStep, IsOfVerify, told_by}
+use Rattle.flagops_ramps.specs.Keep.{IsKeepReport}
 use Rattle.flagops_ramps.specs.Ramp.{IsRampReport}
 use Rattle.flagops_ramps.specs.Report.{Came}
 use Rattle.flagops_ramps.specs.Verify.{IsVerdictReport}
-use Rattle.flagops_ramps.specs.Words.{Applying, Ramping, Verifying, ramp_by, ramp_faults, step_by, step_faults, verify_by, verify_faults}
+use Rattle.flagops_ramps.specs.Words.{Applying, Keeping, Ramping, Verifying, keep_by, keep_faults, ramp_by, ramp_faults, step_by, step_faults, verify_by, verify_faults}
 use Rattle.flagops_ramps.specs.declared.refusal.RampRefusal.{RampRefusal}
 
 -- a command that leaves all files as they are, and reports each want of memory by its own name
@@ -27,15 +29,18 @@ reading name asked_by faults_of MayCome MayTell = record {
   IsDone = λ status. status ≡ 0;
 }
 
--- what a person is told of each command; beside a document nothing is
+-- what a person is told of each command
 abbrev pub ramp_told : Ramping → RemarksOf RampRefusal
 ramp_told a = told_by (NamesDoubted a.steps a.book) (IsOfRamp a)
 
 abbrev pub verify_told : Verifying → RemarksOf RampRefusal
 verify_told v = told_by (NamesDoubted v.rollout.steps v.rollout.book) (IsOfVerify v)
 
-abbrev pub step_told : Applying → RemarksOf RampRefusal
-step_told a = told_by (λ lines. ⊥) (IsOfStep a)
+abbrev pub step_told : Applying → Holding → RemarksOf RampRefusal
+step_told a at = told_by (TellsOmittedAt at a.document) (IsOfStep a)
+
+abbrev pub keep_told : Keeping → RemarksOf RampRefusal
+keep_told k = told_by (NamesDoubted k.answered.rollout.steps k.answered.rollout.book) (IsOfKeep k)
 
 abbrev pub ramp_description : Description Ramping RampRefusal
 ramp_description = reading (codes "ramp") ramp_by ramp_faults (λ a at. IsRampReport at a) ramp_told
@@ -44,4 +49,17 @@ abbrev pub verify_description : Description Verifying RampRefusal
 verify_description = reading (codes "verify-ramp") verify_by verify_faults (λ v at. IsVerdictReport at v) verify_told
 
 abbrev pub step_description : Description Applying RampRefusal
-step_description = reading (codes "apply") step_by step_faults (λ a at. IsStepReport at a.document a.ramp a.key a.site a.step) step_told
+step_description = record (reading (codes "apply") step_by step_faults (λ a at. IsStepReport at a) (λ a. told_by (λ lines. ⊥) (IsOfStep a))) { MayTell = step_told }
+
+-- `apply --step --keep`, which changes the document alone, and only where it is to be written and nothing is refused
+abbrev pub keep_description : Description Keeping RampRefusal
+keep_description = record {
+  asked_by = keep_by;
+  faults_of = keep_faults;
+  MayCome = λ k at after. IsKeepReport at after k;
+  MayTell = λ k at. keep_told k;
+  call_of = λ k e. codes "apply";
+  MayWant = λ k call. call ≡ codes "apply";
+  MayLeave = λ k old new. LeavesDocument old new k.answered.rollout.document k.write;
+  IsDone = λ status. status ≡ 0;
+}

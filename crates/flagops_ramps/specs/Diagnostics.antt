@@ -4,13 +4,12 @@ use Rattle.flag_text.specs.Printing.{text_of}
 use Rattle.flag_text.specs.Shape.{text}
 use Rattle.flagops_rollouts.specs.Doubts.{NamesDoubt}
 use Rattle.flagops_files.specs.Lines.{NamesFile}
-use Rattle.flagops_rollouts.specs.Subjects.{the_plan}
+use Rattle.flagops_rollouts.specs.Subjects.{applied_subjects, is_of_kept_answer, is_of_kept_document, the_plan}
+use Rattle.flagops_rollouts.specs.Refusal as rolling
 use Rattle.flagops_files.specs.Question.{book_question_subjects}
 use Rattle.flagops_files.specs.Refusal as files
 use Rattle.flagops_files.specs.Refusal.{by, loads_file, loads_flags}
 use Rattle.flagops_files.specs.Told.{NamesOne, file}
-use Rattle.flagops_rollouts.specs.declared.refusal.RolloutRefusal.{RolloutRefusal}
-use Rattle.flagops_rollouts.specs.declared.refusal.RolloutRefusal.TheVariants.{Apply}
 use Rattle.file_diagnostics.specs.Named.{Names, NamesWord}
 use Rattle.flagops_shell.specs.Diagnostic.{RemarksOf, Says}
 use Rattle.flagops_shell.specs.declared.refused.Remark.{Remark}
@@ -18,9 +17,9 @@ use Rattle.rollout_checks.specs.declared.verify_fault.VerifyFault.{VerifyFault}
 use Rattle.rollout_checks.specs.declared.verify_fault.VerifyFault.TheVariants.{Check, Request}
 use Rattle.flagops_ramps.specs.Refusal.{is_want}
 use Rattle.flagops_ramps.specs.Report.{Told}
-use Rattle.flagops_ramps.specs.Words.{Applying, Ramping, Verifying}
+use Rattle.flagops_ramps.specs.Words.{Applying, Keeping, Ramping, Verifying}
 use Rattle.flagops_ramps.specs.declared.refusal.RampRefusal.{RampRefusal}
-use Rattle.flagops_ramps.specs.declared.refusal.RampRefusal.TheVariants.{Load, Rollout, Ramp, Print, Read, Verify, Lines, NoStep, Doubted}
+use Rattle.flagops_ramps.specs.declared.refusal.RampRefusal.TheVariants.{Load, Rollout, Ramp, Print, Read, Verify, Lines, NoStep, OtherRule, Doubted}
 
 -- lines begin with the path of a file as a JSON text, or with what is shown of a long one
 abbrev pub NamesPath : List ℕ → List ℕ → Type 0
@@ -83,18 +82,24 @@ IsOfVerify v Lines remark = Says (NamesPath v.ramp) remark
 IsOfVerify v (Doubted c d) remark = Says (NamesDoubt v.rollout.steps v.rollout.book d) remark
 IsOfVerify v e remark = ⊥
 
--- a rule that cannot be put at the site
-abbrev pub is_of_rule : RolloutRefusal → Bool
-is_of_rule (Apply e) = true
-is_of_rule e = false
-
--- `apply --step` is refused by one of its files, or by the step that its answers lack
+-- `apply --step` is refused by one of its files, by the step that its answers lack, or as `apply` is
 abbrev pub IsOfStep : Applying → Diagnosis
 IsOfStep a (Load e) remark = NamesOne ((file a.document, by loads_flags) ∷ (file a.ramp, by loads_file) ∷ []) e remark
-IsOfStep a (Rollout e) remark = NamesOne ((file a.ramp, is_of_rule) ∷ []) e remark
+IsOfStep a (Rollout e) remark = NamesOne (applied_subjects a.document a.ramp) e remark
 IsOfStep a (Read e) remark = Says (NamesPath a.ramp) remark
 IsOfStep a NoStep remark = Says (NamesStep a.ramp a.step) remark
 IsOfStep a e remark = ⊥
+
+-- a rule that is not put into the document is refused by its own file, or by the document
+abbrev pub put_subjects : Keeping → rolling.Subjects
+put_subjects k = (file k.answered.ramp, is_of_kept_answer) ∷ (file k.answered.rollout.document, is_of_kept_document) ∷ []
+
+-- `apply --step --keep` is refused as `verify-ramp` is, by the step that its answers lack, by the rule that the document has, or where the new one is put
+abbrev pub IsOfKeep : Keeping → Diagnosis
+IsOfKeep k (Rollout e) remark = NamesOne (put_subjects k) e remark
+IsOfKeep k NoStep remark = Says (NamesStep k.answered.ramp k.step) remark
+IsOfKeep k OtherRule remark = Says (NamesPath k.answered.rollout.document) remark
+IsOfKeep k e remark = IsOfVerify k.answered e remark
 
 -- what is told of what a command comes to: such lines beside a report, and such a remark on a refusal
 abbrev pub told_by : (List ℕ → Type 0) → Diagnosis → RemarksOf RampRefusal

@@ -5,7 +5,7 @@ use Rattle.flagops_rollouts.specs.FileLines as rollouts
 use Rattle.flagops_shell.specs.Report.{IsFileLine}
 use Rattle.flagops_ramps.specs.Refusal.{is_unread, line_of}
 use Rattle.flagops_ramps.specs.declared.refusal.RampRefusal.{RampRefusal}
-use Rattle.flagops_ramps.specs.declared.refusal.RampRefusal.TheVariants.{Load, Rollout, Ramp, Print, Read, Verify, Lines, NoStep, Doubted}
+use Rattle.flagops_ramps.specs.declared.refusal.RampRefusal.TheVariants.{Load, Rollout, Ramp, Print, Read, Verify, Lines, NoStep, OtherRule, Doubted}
 
 pub file_line : (r : RampRefusal) → is_unread r ≡ true → IsFileLine (line_of r)
 file_line (Load e) is = files.file_line e is
@@ -16,4 +16,5 @@ file_line (Read e) is = cc
 file_line (Verify e) is = cc
 file_line Lines is = cc
 file_line NoStep is = cc
+file_line OtherRule is = cc
 file_line (Doubted c d) is = cc

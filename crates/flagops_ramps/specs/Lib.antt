@@ -4,6 +4,7 @@ pub mod Diagnostics
 pub mod Doubts
 pub mod FileLines
 pub mod Judging
+pub mod Keep
 pub mod Ramp
 pub mod Refusal
 pub mod Report

@@ -16,13 +16,14 @@ use Rattle.rollout_checks.specs.Fault as rollouts
 use Rattle.rollout_checks.specs.VerifyFault as verdicts
 use Rattle.rollout_checks.specs.declared.fault.RolloutFault.TheVariants as rollout
 use Rattle.flagops_ramps.specs.declared.refusal.RampRefusal.{RampRefusal}
-use Rattle.flagops_ramps.specs.declared.refusal.RampRefusal.TheVariants.{Load, Rollout, Ramp, Print, Read, Verify, Lines, NoStep, Doubted}
+use Rattle.flagops_ramps.specs.declared.refusal.RampRefusal.TheVariants.{Load, Rollout, Ramp, Print, Read, Verify, Lines, NoStep, OtherRule, Doubted}
 use Rattle.flagops_ramps.specs.declared.refusal.StepCall.{StepCall}
 use Rattle.flagops_ramps.specs.declared.refusal.StepCall.TheVariants as call
 
 abbrev pub call_name : StepCall → List ℕ
 call_name call.Ramp = codes "ramp"
 call_name call.VerifyRamp = codes "verify-ramp"
+call_name call.Apply = codes "apply"
 
 -- memory ran out
 abbrev pub is_want : RampRefusal → Bool
@@ -55,4 +56,5 @@ line_of (Read e) = line_with (codes "read_ramp") (decimal (ramp_files.number_of 
 line_of (Verify e) = line_with (codes "verify-ramp") (decimal (verdicts.number_of e)) (verdicts.name_of e) (verify_items e)
 line_of Lines = line_with (codes "verify-ramp") (decimal 14) (codes "Lines") []
 line_of NoStep = line_with (codes "apply") (decimal 15) (codes "NoStep") []
+line_of OtherRule = line_with (codes "apply") (decimal 20) (codes "OtherRule") []
 line_of (Doubted c d) = line_with (call_name c) (decimal (doubt_number d)) (doubt_name d) []

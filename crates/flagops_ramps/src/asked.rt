@@ -20,6 +20,18 @@ pub struct Applying<'a> {
     pub key: &'a str,
     pub site: u32,
     pub step: u32,
+    /// Whether it is refused, and not only told, that what is printed leaves something of the document out.
+    pub strict: bool,
+}
+
+/// What `apply --step --keep` is asked for: a document with the rule of the answer to a step, and all else as it was.
+#[derive(Clone, Copy, Debug)]
+pub struct Keeping<'a> {
+    pub answered: Verifying<'a>,
+    /// The number of the step, from 1.
+    pub step: u32,
+    /// Whether the text is written over the document, and not printed.
+    pub write: bool,
 }
 
 /// What `verify-ramp` is asked for: whether the answers of a file are right for a rollout in steps.

@@ -2,11 +2,15 @@
 ghost use Rattle.std.specs.Prelude.{◌≡◌, ◌≤◌, ◌||◌, false, true, length, map, option_map, string_bytes, IfOk, IfSome, Ok};
 ghost use Rattle.flagops_files.specs.Lines.{NamesFile};
 ghost use Rattle.flagops_files.specs.Question.{book_question_view};
+ghost use Rattle.flagops_shell.specs.Diagnostic.{Says};
 ghost use Rattle.flagops_ramps.specs.Judging.{AreRightAnswers, IsFoundAt, IsFoundOf, IsFoundOver, answered_view, answers_at, read_as, refused_as};
 ghost use Rattle.flagops_ramps.specs.Refusal.{is_unread, is_want};
-ghost use Rattle.flagops_ramps.specs.Diagnostics.{Diagnoses, IsOfAnswers, IsOfVerify, NamesStep, judged_path};
+ghost use Rattle.flagops_ramps.specs.Diagnostics.{Diagnoses, IsOfAnswers, IsOfVerify, NamesPath, NamesStep, judged_path};
+ghost use Rattle.flagops_ramps.specs.Ramp.{of_steps};
 ghost use Rattle.flagops_ramps.specs.Report.{GivesOne, GivesUnlessWant, is_file_fault};
 ghost use Rattle.flagops_ramps.specs.Words.{verifying_view};
+ghost use Rattle.flagops_ramps.specs.declared.refusal.RampRefusal.TheVariants.{Verify};
+ghost use Rattle.rollout_checks.specs.declared.verify_fault.VerifyFault.TheVariants.{Request};
 ghost use Rattle.plan_text.specs.Answer.{planned_view};
 ghost use Rattle.ramp_steps.specs.Lines.{ramp_of};
 ghost use Rattle.ramp_steps.specs.Steps.{most_steps, requests_view};
@@ -21,7 +25,7 @@ use flagops_shell::{FileSet, Refused, Remark};
 use flagops_words::{factor_number, factor_of};
 use plan_text::Planned;
 use ramp::{RampFault, verify_steps};
-use ramp_steps::{RampFileFault, read_ramp, read_steps};
+use ramp_steps::{RampFileFault, StepsFault, read_ramp, read_steps};
 use rollout_checks::{RolloutFault, VerifyFault};
 use std::alloc::{AllocError, Global};
 use std::thread::Threads;
@@ -67,7 +71,7 @@ pub fn load_answers<R: Threads + Sync, F: FileSet>(
 }
 
 /// The same to a question, whose answers stand in a file.
-#[tactic(auto, using(flagops_files::proofs::Told::says, crate::proofs::Diagnosed::verify_answers))]
+#[tactic(auto, using(crate::proofs::Diagnosed::verify_answers, crate::proofs::Diagnosed::verify_steps))]
 fn against<R: Threads + Sync, F: FileSet>(
     rt: &R,
     alloc: Global,
@@ -84,13 +88,26 @@ fn against<R: Threads + Sync, F: FileSet>(
     let answers = load_ramp(alloc, files, asked.ramp)?;
     match read_steps(alloc, question.request.bytes()) {
         Ok(steps) => over(rt, alloc, asked, question, steps, answers),
-        Err(fault) => {
-            let fault = of_steps(fault);
-            Err(Refused {
-                refusal: RampRefusal::Verify(VerifyFault::Request(fault.fault)),
-                remark: Remark::of(of_steps_in(alloc, asked.rollout.steps, &question, fault)),
-            })
-        }
+        Err(fault) => Err(steps_refused(alloc, asked.rollout.steps, &question, fault)),
+    }
+}
+
+/// Steps of a file that are refused, which a person is told of.
+#[tactic(auto, using(flagops_files::proofs::Told::says))]
+pub(crate) fn steps_refused(
+    alloc: Global,
+    path: &str,
+    question: &BookQuestion,
+    fault: StepsFault,
+) -> Refused<RampRefusal>
+    ensures refusal { result.refusal ≡ Verify (Request (of_steps fault)) }
+    ensures read { is_unread result.refusal ≡ false }
+    ensures names { Says (NamesPath path.now) result.remark }
+{
+    let fault = of_steps(fault);
+    Refused {
+        refusal: RampRefusal::Verify(VerifyFault::Request(fault.fault)),
+        remark: Remark::of(of_steps_in(alloc, path, question, fault)),
     }
 }
 
@@ -181,7 +198,7 @@ pub fn out_of_memory() -> Refused<RampRefusal>
 
 /// Answers that are not right, which a person is told of.
 #[tactic(auto, using(flagops_files::proofs::Told::says, crate::proofs::Diagnosed::step_said, crate::proofs::Diagnosed::file_path))]
-fn wrong(alloc: Global, asked: &Verifying<'_>, fault: RampFault) -> Refused<RampRefusal>
+pub(crate) fn wrong(alloc: Global, asked: &Verifying<'_>, fault: RampFault) -> Refused<RampRefusal>
     ensures refusal { result.refusal ≡ refused_as fault }
     ensures read { is_unread result.refusal ≡ false }
     ensures names { IsOfVerify (verifying_view asked.now) result.refusal result.remark }

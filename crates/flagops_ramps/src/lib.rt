@@ -1,7 +1,8 @@
 //! The commands on a rollout in steps: `ramp` plans each step on the rule that the step before left, `verify-ramp` checks the
-//! answers apart from the planner, and `apply --step` gives the document with the rule that a step left.
+//! answers apart from the planner, and `apply --step` gives the document with the rule that a step left; with `--keep` nothing
+//! else of its text is changed, and the answers from that step on have to be right for the document.
 //!
-//! [`Ramping`], [`Verifying`] and [`Applying`] are commands with their words, which `flagops_shell::run` reads by `clap`, does and
+//! [`Ramping`], [`Verifying`], [`Applying`] and [`Keeping`] are commands with their words, which `flagops_shell::run` reads by `clap`, does and
 //! reports. What they do with the files that they load is `ramp_steps` and `ramp`. [`load_answers`] loads and judges the answers
 //! that a command takes; what draws them uses it too.
 //!
@@ -17,8 +18,8 @@
 //! ```
 //!
 //! Proved of each command (`specs/Commands.antt`): over files whose bytes are known it comes to what the files at the paths make
-//! (`Ramp`, `Judging`, `Verify`, `Apply`), unless memory ran out; a file that could not be read is what it is refused for; files
-//! are only read; what `ramp` prints reads back as the answers, and `verify-ramp` tells of it that they are valid
+//! (`Ramp`, `Judging`, `Verify`, `Apply`, `Keep`), unless memory ran out; a file that could not be read is what it is refused
+//! for; files are only read, but for the document that `apply --step --keep --write` writes, and no other; what `ramp` prints reads back as the answers, and `verify-ramp` tells of it that they are valid
 //! ([`printed_ramps_are_valid`]); and a person is told of a refusal by the file or the step that was refused, and beside a report of what is doubted
 //! of the answers to steps (`Diagnostics`, `Doubts`). `flagops_shell` has what is then written.
 #![tactic(auto)]
@@ -27,6 +28,7 @@ mod applying;
 mod asked;
 mod doubts;
 mod judging;
+mod keeping;
 mod laws;
 mod ramping;
 mod refusal;
@@ -35,7 +37,7 @@ mod usage;
 mod verifying;
 mod words;
 
-pub use asked::{Applying, Ramping, Verifying};
+pub use asked::{Applying, Keeping, Ramping, Verifying};
 pub use doubts::{doubted, first_of};
 pub use judging::{RightAnswers, load_answers, out_of_memory};
 pub use laws::printed_ramps_are_valid;

@@ -189,6 +189,7 @@ pub(crate) fn count<R: Threads>(
 ) -> Result<(), BookFileFault>
     requires { 0 < factor }
     ensures kept { book_question_view question.new ≡ book_question_view question.old }
+    ensures document { question.new.document ≡ question.old.document }
     ensures wants { GivesUnless BookFileFault.WantOfMemory (λ _. question.old.book) result (Ok question.old.book) }
 {
     let refining = Refining::Times(factor);

@@ -19,6 +19,8 @@ pub enum StepCall {
     Ramp,
     /// `verify-ramp`.
     VerifyRamp,
+    /// `apply --step --keep`.
+    Apply,
 }
 
 impl StepCall {
@@ -29,6 +31,7 @@ impl StepCall {
         match self {
             StepCall::Ramp => "ramp",
             StepCall::VerifyRamp => "verify-ramp",
+            StepCall::Apply => "apply",
         }
     }
 }
@@ -52,6 +55,8 @@ pub enum RampRefusal {
     Lines,
     /// There is no answer to the step that is applied.
     NoStep,
+    /// The document has another rule than the one that the step before left.
+    OtherRule,
     /// The answers are doubted, and that is to be refused.
     Doubted(StepCall, Doubt),
 }
@@ -103,6 +108,7 @@ impl CommandRefusal for RampRefusal {
             RampRefusal::Verify(fault) => verify_line(alloc, fault),
             RampRefusal::Lines => fault_line(alloc, "verify-ramp", 14, "Lines", ""),
             RampRefusal::NoStep => fault_line(alloc, "apply", 15, "NoStep", ""),
+            RampRefusal::OtherRule => fault_line(alloc, "apply", 20, "OtherRule", ""),
             RampRefusal::Doubted(call, doubt) => {
                 fault_line(alloc, call.name(), doubt.number(), doubt.name(), "")
             }

@@ -39,6 +39,13 @@ fn of_step(alloc: Global, path: &str, fault: StepFault) -> Result<String, AllocE
     step_line(alloc, path, fault.step, reason.as_str())
 }
 
+/// Of a step to which a file has no answer.
+pub(crate) fn of_no_step(alloc: Global, path: &str, step: u32) -> Result<String, AllocError>
+    ensures { IfOk result (λ s. NamesStep path.now step (string_bytes s)) }
+{
+    step_line(alloc, path, step, "the file has no answer to it")
+}
+
 /// A line that names a file, the number of a step and what is the matter with it.
 pub fn step_line(alloc: Global, path: &str, step: u32, reason: &str) -> Result<String, AllocError>
     ensures { IfOk result (λ s. NamesStep path.now step (string_bytes s)) }

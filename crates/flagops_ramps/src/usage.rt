@@ -1,18 +1,25 @@
-//! What `ramp`, `verify-ramp` and `apply --step` take, in the terms of `clap`.
+//! What `ramp`, `verify-ramp`, `apply --step` and `apply --step --keep` take, in the terms of `clap`.
 ghost use Rattle.std.specs.Prelude.{◌≡◌, IfOk, codes, false};
 ghost use Rattle.clap.specs.Simple.{new_app, with_rule};
 ghost use Rattle.clap.specs.Words.{app_of, rule_of};
 ghost use Rattle.flagops_words.specs.Words.{required};
-ghost use Rattle.flagops_ramps.specs.Words.{ramp_app, step_app, step_option, verify_app, with_steps};
+ghost use Rattle.flagops_ramps.specs.Words.{keep_app, kept_step, kept_words, ramp_app, step_app, step_option, verify_app, with_steps};
 
 use clap::builder::ValueParser;
 use clap::{Arg, Command};
-use flagops_words::arguments::{refine, required, site, strict};
+use flagops_words::arguments::{flag, refine, required, site, strict};
 use flagops_words::{LARGEST_32, about};
 use std::alloc::{AllocError, Global};
 
 /// What the book of a rollout is.
 const BOOK: &str = "The book of the hash inputs that were recorded";
+
+/// What the file of the answers is.
+const RAMP: &str = "The file that ramp printed";
+
+/// What the file of the steps is.
+const STEPS: &str =
+    "The file of the rollout request, with \"steps\", a list of totals, for \"totals\"";
 
 /// What `--refine` does to a rollout in steps.
 const REFINED: &str =
@@ -48,7 +55,7 @@ fn verified<'a>(alloc: Global) -> Result<Command<'a>, AllocError>
     let command = Command::new(alloc, "verify-ramp")
         .bin_name("flagops verify-ramp")?
         .about(about::VERIFY_RAMP);
-    let answers = required(alloc, "RAMP", "The file that ramp printed");
+    let answers = required(alloc, "RAMP", RAMP);
     with_steps(alloc, command, BOOK)?.arg(answers)
 }
 
@@ -59,7 +66,8 @@ pub fn step<'a>(alloc: Global) -> Result<Command<'a>, AllocError>
 {
     let site = site(alloc);
     let number = step_number(alloc);
-    applied(alloc)?.arg(site)?.arg(number)
+    let strict = strict(alloc);
+    applied(alloc)?.arg(site)?.arg(number)?.arg(strict)
 }
 
 /// The words that `apply --step` begins with.
@@ -67,14 +75,71 @@ fn applied<'a>(alloc: Global) -> Result<Command<'a>, AllocError>
     ensures { IfOk result (λ c. app_of c ≡ with_rule (with_rule (with_rule (new_app (codes "apply")) (required (codes "DOC"))) (required (codes "RAMP"))) (required (codes "FLAG"))) }
 {
     let document = required(alloc, "DOC", "The flag document");
-    let ramp = required(alloc, "RAMP", "The file that ramp printed");
+    let ramp = required(alloc, "RAMP", RAMP);
     let flag = required(alloc, "FLAG", "The flag's key");
     Command::new(alloc, "apply")
         .bin_name("flagops apply")?
-        .about("Prints a document with the rule that a step of a rollout left at a site of a flag")
+        .about(
+            "Prints a document with the rule that a step of a rollout left at a site of a flag; with --keep nothing else of its text is changed",
+        )
         .arg(document)?
         .arg(ramp)?
         .arg(flag)
+}
+
+/// `apply --step --keep`. The first of its words is its own name.
+#[tactic(auto, unfolding(crate::specs::Words::keep_app))]
+pub fn keep<'a>(alloc: Global) -> Result<Command<'a>, AllocError>
+    ensures { IfOk result (λ c. app_of c ≡ keep_app) }
+{
+    let write = flag(
+        alloc,
+        "write",
+        "Write the text over DOC in place of printing it",
+    );
+    let factor = refine(alloc, "The factor that the first step was planned with");
+    let strict = strict(alloc);
+    let doubted = flag(
+        alloc,
+        "doubted",
+        "With --write: write what is doubted, too, which is else refused",
+    );
+    kept_step(alloc)?
+        .arg(write)?
+        .arg(factor)?
+        .arg(strict)?
+        .arg(doubted)
+}
+
+/// The words that `apply --step --keep` begins with, and the step.
+fn kept_step<'a>(alloc: Global) -> Result<Command<'a>, AllocError>
+    ensures { IfOk result (λ c. app_of c ≡ kept_step) }
+{
+    let number = step_number(alloc);
+    let keep = flag(
+        alloc,
+        "keep",
+        "Verify the steps from this one on, and keep the text of the document but for the buckets that are replaced",
+    );
+    kept_words(alloc)?.arg(number)?.arg(keep)
+}
+
+fn kept_words<'a>(alloc: Global) -> Result<Command<'a>, AllocError>
+    ensures { IfOk result (λ c. app_of c ≡ kept_words) }
+{
+    let document = required(alloc, "DOC", "The flag document");
+    let ramp = required(alloc, "RAMP", RAMP);
+    let steps = required(alloc, "STEPS", STEPS);
+    let book = required(alloc, "BOOK", BOOK);
+    Command::new(alloc, "apply")
+        .bin_name("flagops apply")?
+        .about(
+            "Puts the rule of a step of a rollout into a document of which nothing else is changed",
+        )
+        .arg(document)?
+        .arg(ramp)?
+        .arg(steps)?
+        .arg(book)
 }
 
 /// The words that a command on the steps of a rollout begins with. `book` says what the book is.
@@ -86,11 +151,7 @@ pub fn with_steps<'a>(
     ensures { IfOk result (λ c. app_of c ≡ with_steps (app_of command.entry)) }
 {
     let document = required(alloc, "DOC", "The flag document");
-    let steps = required(
-        alloc,
-        "STEPS",
-        "The file of the rollout request, with \"steps\", a list of totals, for \"totals\"",
-    );
+    let steps = required(alloc, "STEPS", STEPS);
     let book = required(alloc, "BOOK", book);
     command.arg(document)?.arg(steps)?.arg(book)
 }

@@ -1,15 +1,15 @@
-//! What the words of `ramp`, `verify-ramp` and `apply --step` ask for, as `clap` reads them.
+//! What the words of `ramp`, `verify-ramp`, `apply --step` and `apply --step --keep` ask for, as `clap` reads them.
 ghost use Rattle.std.specs.Prelude.{◌≡◌, IfErr, IfOk, Some, map, option_map};
 ghost use Rattle.clap.specs.Words.{found_of, kind_of, rows_of};
 ghost use Rattle.flagops_words.specs.Alone.{IsToldBy};
-ghost use Rattle.flagops_ramps.specs.Words.{applying_view, number_of_step, ramp_by, ramp_faults, ramp_in, ramping_view, step_by, step_faults, step_in, verify_by, verify_faults, verify_in, verifying_view};
+ghost use Rattle.flagops_ramps.specs.Words.{applying_view, keep_by, keep_faults, keep_in, keeping_view, number_of_step, ramp_by, ramp_faults, ramp_in, ramping_view, step_by, step_faults, step_in, verify_by, verify_faults, verify_in, verifying_view, refusing};
 
-use crate::asked::{Applying, Ramping, Verifying};
-use crate::usage::{ramp, step, verify};
+use crate::asked::{Applying, Keeping, Ramping, Verifying};
+use crate::usage::{keep, ramp, step, verify};
 use clap::{ArgMatches, Error};
 use flagops_words::Factor;
 use flagops_words::arguments::missing_value;
-use flagops_words::matches::{is_strict, refine_in, site_in};
+use flagops_words::matches::{flag_in, is_strict, refine_in, refuses_doubts, site_in};
 use std::alloc::Global;
 use std::convert::AsStr;
 
@@ -95,6 +95,7 @@ fn applying_in<'a>(matches: &ArgMatches<'a>) -> Option<Applying<'a>>
         key,
         site,
         step,
+        strict: is_strict(matches),
     })
 }
 
@@ -106,4 +107,38 @@ fn number_of_step(matches: &ArgMatches<'_>) -> Option<u32>
     let word = matches.get_str("N")?;
     let step = Factor::spelled(word)?;
     Some(step.number)
+}
+
+/// What the words after the program's name ask of `apply --step --keep`, whose name `apply` is the first of them.
+#[tactic(auto, unfolding(crate::specs::Words::keep_by, crate::specs::Words::keep_faults))]
+pub fn read_keep<'a, S: AsStr>(alloc: Global, words: &'a [S]) -> Result<Keeping<'a>, Error>
+    ensures ok { IfOk result (λ k. keep_by (map S.text words.entry.now) ≡ Some (keeping_view k)) }
+    ensures err { IfErr result (λ e. IsToldBy (keep_faults (map S.text words.entry.now)) (keep_by (map S.text words.entry.now)) (kind_of e)) }
+{
+    let matches = keep(alloc)?.try_get_matches_from(words)?;
+    match keeping_in(&matches) {
+        Some(keeping) => Ok(keeping),
+        None => Err(missing_value(alloc, keep(alloc)?)?),
+    }
+}
+
+fn keeping_in<'a>(matches: &ArgMatches<'a>) -> Option<Keeping<'a>>
+    ensures { option_map keeping_view result ≡ keep_in (rows_of (found_of matches.now)) }
+{
+    let answered = verifying_in(matches)?;
+    let step = number_of_step(matches)?;
+    Some(Keeping {
+        answered: refusing(answered, refuses_doubts(matches)),
+        step,
+        write: flag_in(matches, "write"),
+    })
+}
+
+/// The same answers, of which what is doubted is refused, or not.
+fn refusing(answered: Verifying<'_>, strict: bool) -> Verifying<'_>
+    ensures { verifying_view result ≡ refusing strict (verifying_view answered.entry) }
+{
+    let mut answered = answered;
+    answered.rollout.strict = strict;
+    answered
 }

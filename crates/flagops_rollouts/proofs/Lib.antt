@@ -1,7 +1,9 @@
 mod Asked
 pub mod Doubting
-mod Edited
+pub mod Edited
+mod Edits
 mod Loaded
+mod Omissions
 mod Passed
 mod Tallies
 pub mod Telling

@@ -3,9 +3,10 @@ use Rattle.std.proofs.Common.{◌≡◌, ◌∙◌, ◌||◌, ap, refl, true, fa
 use Rattle.std.specs.Prelude.{Result, Ok, Err}
 use Rattle.flag_defs.specs.Document.{Definitions}
 use Rattle.plan_text.specs.Answer.{Answer}
-use Rattle.flagops_rollouts.specs.Apply.{IsApplyReport, IsLocalReport, applied_report}
+use Rattle.flagops_files.specs.Loading.{max_text}
+use Rattle.flagops_rollouts.specs.Apply.{IsApplyReport, IsLocalReport, told_report}
 use Rattle.flagops_rollouts.specs.Loaded.{IsDocumentAt, plan_at, IsQuestionAt}
-use Rattle.flagops_shell.specs.Files.{Holding}
+use Rattle.flagops_shell.specs.Files.{Holding, load_of}
 use Rattle.flagops_rollouts.specs.Plan.{IsPlanOf, IsPlanReport}
 use Rattle.flagops_rollouts.specs.Refusal.{GivesOne, GivesUnlessWant, Refused, is_file_fault, is_unread, is_want}
 use Rattle.flagops_files.specs.Question.{Question}
@@ -68,13 +69,17 @@ module _ (document request book : List ℕ) (refine : Option ℕ) (strict explai
   planned None r asked told = tt
   planned (Some at) r asked told = planned_over at r asked told
 
-module _ (path plan key : List ℕ) (site : ℕ) (flags : Definitions) (answer : Answer) where
-  applied_over : (at : Holding) (r : Result Outcome Refused) → IsDocumentAt at path (Ok flags) → plan_at at plan ≡ Ok answer
-      → GivesUnlessWant outcome_view r (applied_report flags key site answer) → IfOk r (λ o. IsLocalReport flags key site answer (outcome_view o)) → GivesOne outcome_view r (IsApplyReport at path plan key site)
+module _ (path plan key : List ℕ) (site : ℕ) (strict : Bool) (document : List ℕ) (flags : Definitions) (answer : Answer) where
+  applied_over : (at : Holding) (r : Result Outcome Refused) → IsDocumentAt at path (Ok flags) → load_of at path max_text ≡ Ok document → plan_at at plan ≡ Ok answer
+      → GivesUnlessWant outcome_view r (told_report document flags key site strict answer) → IfOk r (λ o. IsLocalReport flags key site answer (outcome_view o)) → GivesOne outcome_view r (IsApplyReport at path plan key site strict)
   unfolding IsApplyReport
-  applied_over at (Ok o) loaded answered told local = (Ok flags, loaded, rw answered (sym told, local))
-  applied_over at (Err e) loaded answered told local = λ no. (Ok flags, loaded, rw answered (sym (told no), tt))
+  applied_over at (Ok o) loaded bytes answered told local = (Ok flags, loaded, rw answered (document, bytes, (sym told, local)))
+  applied_over at (Err e) loaded bytes answered told local = λ no. (Ok flags, loaded, rw answered (document, bytes, (sym (told no), tt)))
 
-  pub applied : (old kept : Option Holding) (r : Result Outcome Refused) → kept ≡ old → IfSome old (λ at. IsDocumentAt at path (Ok flags)) → IfSome kept (λ at. plan_at at plan ≡ Ok answer)
-      → GivesUnlessWant outcome_view r (applied_report flags key site answer) → IfOk r (λ o. IsLocalReport flags key site answer (outcome_view o)) → IfSome old (λ at. GivesOne outcome_view r (IsApplyReport at path plan key site))
-  applied old kept r same loaded answered told local = joined old kept same loaded answered (λ at a b. applied_over at r a b told local)
+  pub applied : (old kept : Option Holding) (r : Result Outcome Refused) → kept ≡ old → IfSome old (λ at. IsDocumentAt at path (Ok flags)) → IfSome old (λ at. load_of at path max_text ≡ Ok document) → IfSome kept (λ at. plan_at at plan ≡ Ok answer)
+      → GivesUnlessWant outcome_view r (told_report document flags key site strict answer) → IfOk r (λ o. IsLocalReport flags key site answer (outcome_view o)) → IfSome old (λ at. GivesOne outcome_view r (IsApplyReport at path plan key site strict))
+  applied old kept r same loaded bytes answered told local = go old loaded bytes (subst (λ (h : Option Holding). IfSome h (λ at. plan_at at plan ≡ Ok answer)) same answered)
+    where
+      go : (h : Option Holding) → IfSome h (λ at. IsDocumentAt at path (Ok flags)) → IfSome h (λ at. load_of at path max_text ≡ Ok document) → IfSome h (λ at. plan_at at plan ≡ Ok answer) → IfSome h (λ at. GivesOne outcome_view r (IsApplyReport at path plan key site strict))
+      go None loaded bytes answered = tt
+      go (Some at) loaded bytes answered = applied_over at r loaded bytes answered told local

@@ -1,12 +1,14 @@
 -- What the command `apply` answers.
-use Rattle.std.specs.Prelude.{◌≡◌, ℕ, false, List, ◌++◌, codes, IfOk, Result, Ok, Err}
+use Rattle.std.specs.Prelude.{◌≡◌, ℕ, Bool, false, List, ◌++◌, codes, IfOk, Result, Ok, Err}
 use Rattle.flag_defs.specs.Document.{Definitions, printed}
 use Rattle.plan_text.specs.Answer.{Answer, emit, none_exists}
 use Rattle.rollout.specs.Applied.{applied}
 use Rattle.rollout.specs.Change.{IsLocal}
+use Rattle.flagops_files.specs.Loading.{max_text}
 use Rattle.flagops_rollouts.specs.Loaded.{IsDocumentAt, plan_at}
-use Rattle.flagops_shell.specs.Files.{Holding}
-use Rattle.flagops_shell.specs.Outcomes.{◌>>=◌, refused_by, done}
+use Rattle.flagops_rollouts.specs.Omitted.{is_omitting, settle_omitted}
+use Rattle.flagops_shell.specs.Files.{Holding, load_of}
+use Rattle.flagops_shell.specs.Outcomes.{◌>>=◌, beside, refused_by, done}
 use Rattle.flagops_rollouts.specs.Refusal.{Outcomes}
 use Rattle.flagops_rollouts.specs.declared.refusal.RolloutRefusal.{RolloutRefusal}
 use Rattle.flagops_shell.specs.Report.{Report}
@@ -25,17 +27,27 @@ unfoldable pub applied_report : Definitions → List ℕ → ℕ → Answer → 
 applied_report flags key site (emit rule c) = refused_by Apply (applied flags key site rule) >>= λ changed. done (document_line changed)
 applied_report flags key site (none_exists kind names) = Ok none_report
 
+-- The same of the flags that the bytes of a document mean: a person is told what of the document is left out, or that is refused.
+unfoldable pub told_report : List ℕ → Definitions → List ℕ → ℕ → Bool → Answer → Result Report RolloutRefusal
+told_report document flags key site strict (emit rule c) =
+    applied_report flags key site (emit rule c) >>= λ report. settle_omitted strict (is_omitting document flags) >>= λ told. beside told (Ok report)
+told_report document flags key site strict (none_exists kind names) = Ok none_report
+
 -- What is printed is the document of flags of which one is changed, at the site alone: the others, and what chooses alike by both
 -- rules, resolve as before.
 abbrev pub IsLocalReport : Definitions → List ℕ → ℕ → Answer → Report → Type 0
 IsLocalReport before key site (emit rule c) report = (after : Definitions) × (report.text ≡ document_line after) × IsLocal before key site rule after
 IsLocalReport before key site (none_exists kind names) report = Unit {0}
 
--- the report of what was read, the document before the plan
-abbrev pub IsApplied : List ℕ → ℕ → Result Definitions RolloutRefusal → Result Answer RolloutRefusal → Outcomes
-IsApplied key site (Err e) answer r = r ≡ Err e
-IsApplied key site (Ok flags) (Err e) r = r ≡ Err e
-IsApplied key site (Ok flags) (Ok answer) r = (r ≡ applied_report flags key site answer) × IfOk r (IsLocalReport flags key site answer)
+-- the report of these bytes and the flags that they mean
+abbrev pub IsToldReport : List ℕ → Definitions → List ℕ → ℕ → Bool → Answer → Outcomes
+IsToldReport document flags key site strict answer r = (r ≡ told_report document flags key site strict answer) × IfOk r (IsLocalReport flags key site answer)
 
-unfoldable pub IsApplyReport : Holding → List ℕ → List ℕ → List ℕ → ℕ → Outcomes
-IsApplyReport at path plan key site r = (document : Result Definitions RolloutRefusal) × IsDocumentAt at path document × IsApplied key site document (plan_at at plan) r
+-- the report of what was read, the document before the plan
+abbrev pub IsApplied : Holding → List ℕ → List ℕ → ℕ → Bool → Result Definitions RolloutRefusal → Result Answer RolloutRefusal → Outcomes
+IsApplied at path key site strict (Err e) answer r = r ≡ Err e
+IsApplied at path key site strict (Ok flags) (Err e) r = r ≡ Err e
+IsApplied at path key site strict (Ok flags) (Ok answer) r = (document : List ℕ) × (load_of at path max_text ≡ Ok document) × IsToldReport document flags key site strict answer r
+
+unfoldable pub IsApplyReport : Holding → List ℕ → List ℕ → List ℕ → ℕ → Bool → Outcomes
+IsApplyReport at path plan key site strict r = (document : Result Definitions RolloutRefusal) × IsDocumentAt at path document × IsApplied at path key site strict document (plan_at at plan) r

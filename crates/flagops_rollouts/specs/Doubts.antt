@@ -1,5 +1,5 @@
 -- What is doubted of an answer to a rollout request, and what becomes of it.
-use Rattle.std.specs.Prelude.{ℕ, Bool, true, false, List, [], ◌∷◌, Option, Some, None, is_some, if◌then◌else◌, Result, Ok, Err}
+use Rattle.std.specs.Prelude.{◌≡◌, ◌++◌, ℕ, Bool, true, false, List, [], ◌∷◌, string_bytes, Option, Some, None, is_some, if◌then◌else◌, Result, Ok, Err}
 use Rattle.book_core.specs.Book.{Contents}
 use Rattle.book_core.specs.Page.{PageName}
 use Rattle.flag_text.specs.Reading.{tree_of}
@@ -19,6 +19,8 @@ use Rattle.flagops_rollouts.specs.declared.refusal.Doubt.TheVariants as doubt
 use Rattle.flagops_rollouts.specs.declared.refusal.RolloutCall.{RolloutCall}
 use Rattle.flagops_rollouts.specs.declared.refusal.RolloutRefusal.{RolloutRefusal}
 use Rattle.file_diagnostics.specs.Named.{Names}
+use Rattle.flagops_shell.specs.declared.refused.Remark.{Remark}
+use Rattle.flagops_shell.specs.declared.refused.Remark.TheVariants.{Short, Lines}
 use Rattle.flagops_rollouts.specs.declared.refusal.RolloutRefusal.TheVariants.{Doubted}
 
 -- a tree has a member that the reader of requests passes over
@@ -60,6 +62,12 @@ NamesDoubt request book doubt.Foreign lines = Names book lines
 -- and so does what is said beside an answer, of one of the two
 abbrev pub NamesDoubted : List ℕ → List ℕ → List ℕ → Type 0
 NamesDoubted request book lines = (d : Doubt) × NamesDoubt request book d lines
+
+-- what is told goes on behind what was told
+abbrev pub IsLonger : Remark → Remark → Type 0
+IsLonger remark Short = Unit {0}
+IsLonger Short (Lines lines) = ⊥
+IsLonger (Lines lines) (Lines longer) = (more : List ℕ) × (string_bytes longer ≡ string_bytes lines ++ more)
 
 abbrev pub is_of_unread : RolloutRefusal → Bool
 is_of_unread (Doubted c doubt.Unread) = true

@@ -5,7 +5,7 @@ use Rattle.flagops_shell.specs.Apart.{apart}
 use Rattle.flagops_shell.specs.Report.{IsFileLine}
 use Rattle.flagops_rollouts.specs.Refusal.{is_unread, line_of}
 use Rattle.flagops_rollouts.specs.declared.refusal.RolloutRefusal.{RolloutRefusal}
-use Rattle.flagops_rollouts.specs.declared.refusal.RolloutRefusal.TheVariants.{Load, WantOfMemory, Verify, Apply, Keep, Plan, PrintPlanned, Doubted}
+use Rattle.flagops_rollouts.specs.declared.refusal.RolloutRefusal.TheVariants.{Load, WantOfMemory, Verify, Apply, Keep, Omitted, Plan, PrintPlanned, Doubted}
 
 pub file_line : (r : RolloutRefusal) → is_unread r ≡ true → IsFileLine (line_of r)
 file_line (Load e) is = files.file_line e is
@@ -13,6 +13,7 @@ file_line (WantOfMemory c) is = apart is
 file_line (Verify e) is = apart is
 file_line (Apply e) is = apart is
 file_line (Keep e) is = apart is
+file_line Omitted is = apart is
 file_line (Plan e) is = apart is
 file_line (PrintPlanned e) is = apart is
 file_line (Doubted c d) is = apart is

@@ -1,4 +1,5 @@
 pub mod Apply
+pub mod ByHand
 pub mod Calls
 pub mod Doubts
 pub mod FileLines
@@ -6,10 +7,12 @@ pub mod Foreign
 pub mod Keep
 pub mod Keeping
 pub mod Loaded
+pub mod Omitted
 pub mod Passed
 pub mod Payload
 pub mod Plan
 pub mod Refusal
+pub mod Standing
 pub mod Subjects
 pub mod Tallies
 pub mod Unrecorded

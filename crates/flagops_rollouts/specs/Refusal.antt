@@ -29,7 +29,7 @@ use Rattle.flagops_rollouts.specs.declared.refusal.Doubt.TheVariants.{Unread, Un
 use Rattle.flagops_rollouts.specs.declared.refusal.RolloutCall.{RolloutCall}
 use Rattle.flagops_rollouts.specs.declared.refusal.RolloutCall.TheVariants as call
 use Rattle.flagops_rollouts.specs.declared.refusal.RolloutRefusal.{RolloutRefusal}
-use Rattle.flagops_rollouts.specs.declared.refusal.RolloutRefusal.TheVariants.{Load, WantOfMemory, Verify, Apply, Keep, Plan, PrintPlanned, Doubted}
+use Rattle.flagops_rollouts.specs.declared.refusal.RolloutRefusal.TheVariants.{Load, WantOfMemory, Verify, Apply, Keep, Omitted, Plan, PrintPlanned, Doubted}
 
 abbrev pub call_name : RolloutCall → List ℕ
 call_name (call.Load c) = files.call_name c
@@ -45,6 +45,7 @@ call_of (WantOfMemory c) = c
 call_of (Verify e) = call.Verify
 call_of (Apply e) = call.Apply
 call_of (Keep e) = call.Apply
+call_of Omitted = call.Apply
 call_of (Plan e) = call.Plan
 call_of (PrintPlanned e) = call.PrintPlanned
 call_of (Doubted c d) = c
@@ -104,6 +105,7 @@ line_of (WantOfMemory c) = line_with (call_name c) (decimal 0) (codes "WantOfMem
 line_of (Verify e) = verify_line e
 line_of (Apply e) = rollout_line (codes "apply") e
 line_of (Keep e) = keep_line e
+line_of Omitted = line_with (codes "apply") (decimal 19) (codes "Omitted") []
 line_of (Plan e) = rollout_line (codes "plan") e
 line_of (PrintPlanned e) = line_with (codes "print_planned") (decimal (plan_files.number_of e)) (plan_files.name_of e) []
 line_of (Doubted c d) = line_with (call_name c) (decimal (doubt_number d)) (doubt_name d) []

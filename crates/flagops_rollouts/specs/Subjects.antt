@@ -6,7 +6,7 @@ use Rattle.flagops_rollouts.specs.Refusal.{loads_flags, loads_plan, stores_file,
 use Rattle.flagops_files.specs.Told.{file, word}
 use Rattle.flagops_rollouts.specs.declared.keep_refusal.KeepRefusal.TheVariants as keeping
 use Rattle.flagops_rollouts.specs.declared.refusal.RolloutRefusal.{RolloutRefusal}
-use Rattle.flagops_rollouts.specs.declared.refusal.RolloutRefusal.TheVariants.{Plan, PrintPlanned, Verify, Apply, Keep}
+use Rattle.flagops_rollouts.specs.declared.refusal.RolloutRefusal.TheVariants.{Plan, PrintPlanned, Verify, Apply, Keep, Omitted}
 use Rattle.file_diagnostics.specs.Named.{Names}
 use Rattle.flagops_rollouts.specs.Doubts.{doubt_subjects}
 use Rattle.rollout_checks.specs.declared.verify_fault.VerifyFault.{VerifyFault}
@@ -35,8 +35,16 @@ abbrev pub is_of_plan : RolloutRefusal → Bool
 is_of_plan (Apply e) = true
 is_of_plan e = by loads_plan e
 
+-- a document is refused where it is printed, for what is left out of it
+abbrev pub is_of_printed : RolloutRefusal → Bool
+is_of_printed Omitted = true
+is_of_printed e = false
+
+abbrev pub applied_subjects : List ℕ → List ℕ → Subjects
+applied_subjects document answer = (file document, is_of_printed) ∷ (file answer, is_of_plan) ∷ []
+
 abbrev pub apply_subjects : List ℕ → List ℕ → Subjects
-apply_subjects document answer = (file document, by loads_flags) ∷ (file answer, is_of_plan) ∷ []
+apply_subjects document answer = (file document, by loads_flags) ∷ applied_subjects document answer
 
 -- a document that is to keep what else it has is refused with its request, with its plan, or by itself
 abbrev pub is_of_kept_request : RolloutRefusal → Bool

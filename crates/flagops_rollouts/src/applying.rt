@@ -1,26 +1,33 @@
 //! The command `apply`: a document with the rule of a plan file at a site.
-ghost use Rattle.std.specs.Prelude.{◌≡◌, ◌||◌, [], ◌∷◌, false, Ok, IfOk, IfSome};
+ghost use Rattle.std.specs.Prelude.{◌≡◌, ◌||◌, [], ◌∷◌, false, is_some, Ok, IfErr, IfOk, IfSome};
 ghost use Rattle.flag_defs.specs.Flags.{flags_view};
 ghost use Rattle.plan_text.specs.Answer.{planned_view};
-ghost use Rattle.flagops_rollouts.specs.Apply.{IsApplyReport, IsLocalReport, applied_report, document_line, none_report};
+ghost use Rattle.flagops_rollouts.specs.Apply.{IsApplyReport, IsLocalReport, document_line, none_report, told_report};
 ghost use Rattle.flagops_rollouts.specs.Calls.{apply_calls, apply_itself};
+ghost use Rattle.flagops_rollouts.specs.Omitted.{TellsOmitted};
 ghost use Rattle.flagops_rollouts.specs.Refusal.{ComesFrom, GivesOne, GivesUnlessWant, is_file_fault, TellsOfOne};
-ghost use Rattle.flagops_shell.specs.Outcomes.{done};
+ghost use Rattle.flagops_shell.specs.Diagnostic.{Says};
+ghost use Rattle.flagops_shell.specs.Outcomes.{beside, done};
 ghost use Rattle.flagops_shell.specs.Report.{outcome_view};
-ghost use Rattle.flagops_files.specs.Told.{file};
-ghost use Rattle.flagops_rollouts.specs.Subjects.{apply_subjects, is_of_plan};
+ghost use Rattle.flagops_rollouts.specs.Subjects.{applied_subjects, apply_subjects};
+ghost use Rattle.file_diagnostics.specs.Named.{Names};
+ghost use Rattle.flagops_rollouts.specs.declared.refusal.RolloutCall.TheVariants.{Apply};
+ghost use Rattle.flagops_rollouts.specs.declared.refusal.RolloutRefusal.TheVariants.{WantOfMemory};
 
-use crate::loading::{load_flags, load_planned};
+use crate::loading::{load_document, load_planned};
+use crate::omitted::settled_omissions;
 use crate::refusal::{Refused, RolloutCall, RolloutRefusal, out_of_memory};
 use flag_defs::{Flags, print_flags};
+use flagops_files::Document;
 use flagops_shell::{FileSet, Outcome, Remark, Status};
 use plan_text::Planned;
 use rollout_diagnostics::of_applied;
 use std::alloc::{AllocError, Global};
 
 /// The document with the rule of a plan file as the buckets of a flag's site, as a line; `none` where the plan has no
-/// rule, whatever the flag and the site are.
-#[tactic(auto, unfolding(crate::specs::Apply::IsApplyReport))]
+/// rule, whatever the flag and the site are. What the line leaves out of the document is told, or refused where that is asked
+/// for.
+#[tactic(auto, using(crate::proofs::Omissions::told_names_of), unfolding(crate::specs::Apply::IsApplyReport))]
 pub fn apply<F: FileSet>(
     alloc: Global,
     files: &mut F,
@@ -28,55 +35,67 @@ pub fn apply<F: FileSet>(
     plan: &str,
     key: &str,
     site: u32,
+    strict: bool,
 ) -> Result<Outcome, Refused>
-    ensures exact { IfSome (F.holding files.old) (λ at. GivesOne outcome_view result (IsApplyReport at document.now plan.now key.now site)) }
+    ensures exact { IfSome (F.holding files.old) (λ at. GivesOne outcome_view result (IsApplyReport at document.now plan.now key.now site strict)) }
     ensures calls { ComesFrom apply_calls result }
     ensures failed { F.has_failed files.new ≡ (F.has_failed files.old || is_file_fault result) }
     ensures kept { F.holding files.new ≡ F.holding files.old }
     ensures names { TellsOfOne (apply_subjects document.now plan.now) result }
+    ensures notes { IfOk result (λ o. IfSome o.remark (Says (Names document.now))) }
 {
-    let flags = load_flags(alloc, files, document)?;
+    let loaded = load_document(alloc, files, document)?;
     let planned = load_planned(alloc, files, plan)?;
-    applied(alloc, &flags, key, site, plan, &planned)
+    applied(alloc, document, &loaded, key, site, plan, &planned, strict)
 }
 
-#[tactic(auto, using(flagops_files::proofs::Told::says), unfolding(crate::specs::Apply::applied_report))]
-fn applied(
+/// The same of a document and an answer that were loaded from these paths.
+#[tactic(auto, using(flagops_files::proofs::Told::says), unfolding(crate::specs::Apply::told_report, crate::specs::Apply::applied_report))]
+pub fn applied(
     alloc: Global,
-    flags: &Flags,
+    path: &str,
+    document: &Document,
     key: &str,
     site: u32,
-    path: &str,
+    plan: &str,
     planned: &Planned,
+    strict: bool,
 ) -> Result<Outcome, Refused>
-    ensures exact { GivesUnlessWant outcome_view result (applied_report (flags_view flags.now) key.now site (planned_view planned.now)) }
-    ensures local { IfOk result (λ o. IsLocalReport (flags_view flags.now) key.now site (planned_view planned.now) (outcome_view o)) }
+    ensures exact { GivesUnlessWant outcome_view result (told_report document.now.bytes.items (flags_view document.now.flags) key.now site strict (planned_view planned.now)) }
+    ensures local { IfOk result (λ o. IsLocalReport (flags_view document.now.flags) key.now site (planned_view planned.now) (outcome_view o)) }
     ensures calls { ComesFrom apply_itself result }
     ensures read { is_file_fault result ≡ false }
-    ensures names { TellsOfOne ((file path.now, is_of_plan) ∷ []) result }
+    ensures names { TellsOfOne (applied_subjects path.now plan.now) result }
+    ensures notes { IfOk result (λ o. IfSome o.remark (Says (TellsOmitted path.now (flags_view document.now.flags)))) }
 {
-    match planned {
-        Planned::Emit(rule, _) => {
-            match rollout::apply(alloc, flags, key, site, rule) {
-                Ok(changed) => document(alloc, &changed),
-                Err(fault) => Err(Refused {
-                    refusal: RolloutRefusal::Apply(fault),
-                    remark: Remark::of(of_applied(alloc, path, flags, key, site, rule, fault)),
-                }),
-            }
+    let Planned::Emit(rule, _) = planned else {
+        return none(alloc);
+    };
+    let flags = &document.flags;
+    match rollout::apply(alloc, flags, key, site, rule) {
+        Ok(changed) => {
+            let remark = settled_omissions(alloc, path, document, strict)?;
+            printed(alloc, &changed, remark)
         }
-        Planned::NoneExists(_) => none(alloc),
+        Err(fault) => Err(Refused {
+            refusal: RolloutRefusal::Apply(fault),
+            remark: Remark::of(of_applied(alloc, plan, flags, key, site, rule, fault)),
+        }),
     }
 }
 
 /// The report of the changed document.
-fn document(alloc: Global, flags: &Flags) -> Result<Outcome, Refused>
-    ensures exact { GivesUnlessWant outcome_view result (done (document_line (flags_view flags.now))) }
-    ensures calls { ComesFrom apply_itself result }
-    ensures read { is_file_fault result ≡ false }
+fn printed(alloc: Global, flags: &Flags, remark: Option<Remark>) -> Result<Outcome, Refused>
+    ensures exact { GivesUnlessWant outcome_view result (beside (is_some remark) (done (document_line (flags_view flags.now)))) }
+    ensures wants { IfErr result (λ r. r.refusal ≡ WantOfMemory Apply) }
+    ensures remark { IfOk result (λ o. o.remark ≡ remark) }
 {
     match document_line(alloc, flags) {
-        Ok(text) => Ok(Outcome::plain(text, Status::Done)),
+        Ok(text) => Ok(Outcome {
+            text,
+            status: Status::Done,
+            remark,
+        }),
         Err(AllocError) => Err(out_of_memory(RolloutCall::Apply)),
     }
 }
@@ -84,8 +103,8 @@ fn document(alloc: Global, flags: &Flags) -> Result<Outcome, Refused>
 /// The report of a plan without a rule.
 fn none(alloc: Global) -> Result<Outcome, Refused>
     ensures exact { GivesUnlessWant outcome_view result (Ok none_report) }
-    ensures calls { ComesFrom apply_itself result }
-    ensures read { is_file_fault result ≡ false }
+    ensures wants { IfErr result (λ r. r.refusal ≡ WantOfMemory Apply) }
+    ensures remark { IfOk result (λ o. is_some o.remark ≡ false) }
 {
     match Vec::from_slice(alloc, b"none\n") {
         Ok(text) => Ok(Outcome::plain(text, Status::NoneExists)),

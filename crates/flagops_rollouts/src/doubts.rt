@@ -1,6 +1,6 @@
 //! What is doubted of an answer to a rollout request: a person is told, and `--strict` refuses it.
 ghost use Rattle.std.specs.Prelude.{◌≡◌, false, is_some, IfErr, IfOk, IfSome, Ok, option_map};
-ghost use Rattle.flagops_rollouts.specs.Doubts.{NamesDoubt, NamesDoubted, doubt_of, doubt_subjects, first_doubt, has_unread, is_unread, settle};
+ghost use Rattle.flagops_rollouts.specs.Doubts.{IsLonger, NamesDoubt, NamesDoubted, doubt_of, doubt_subjects, first_doubt, has_unread, is_unread, settle};
 ghost use Rattle.flag_text.specs.View.{view};
 ghost use Rattle.flagops_files.specs.Question.{question_view};
 ghost use Rattle.flagops_rollouts.specs.Refusal.{GivesUnlessWant, call_of, is_file_fault, TellsOfOne};
@@ -129,7 +129,8 @@ pub fn remark_in(noted: Option<NotedDoubt>) -> Option<Remark>
 #[tactic(auto, using(crate::proofs::Doubting::named_still))]
 pub fn joined(name: &str, remark: Remark, more: Option<Remark>) -> Remark
     requires { Says (Names name.now) remark }
-    ensures { Says (Names name.now) result }
+    ensures names { Says (Names name.now) result }
+    ensures longer { IsLonger remark result }
 {
     match (remark, more) {
         (Remark::Lines(mut lines), Some(Remark::Lines(more))) => {

@@ -1,10 +1,14 @@
 //! The answer to a request in words: what its rule changes, or what stands in the way of any.
-ghost use Rattle.std.specs.Prelude.{◌≡◌, ◌||◌, is_some, IfOk, IfSome, string_bytes};
+ghost use Rattle.std.specs.Prelude.{◌≡◌, ◌||◌, is_some, option_map, true, unwrap_or, IfOk, IfSome, string_bytes};
 ghost use Rattle.bucket_core.specs.Rule.{IsRuleTotal};
+ghost use Rattle.flagops_files.specs.Question.{question_view};
+ghost use Rattle.flagops_rollouts.specs.ByHand.{TellsEdit};
 ghost use Rattle.flagops_rollouts.specs.Doubts.{NamesDoubted};
 ghost use Rattle.flagops_shell.specs.Diagnostic.{Says};
 ghost use Rattle.file_diagnostics.specs.Named.{Names};
+ghost use Rattle.plan_text.specs.Answer.{planned_view};
 
+use crate::by_hand::edit_of;
 use crate::doubts::joined;
 use crate::recorded::page_asked;
 use flagops_files::{Evidence, Question};
@@ -18,7 +22,7 @@ use std::thread::Threads;
 
 /// What a person is told beside an answer to the request of a path: what is noted of it, and before that, where it is asked
 /// for, the answer in words.
-#[tactic(auto, using(crate::proofs::Doubting::of_request))]
+#[tactic(auto, using(crate::proofs::Doubting::of_request, crate::proofs::Edits::still))]
 pub fn told(
     rt: &(impl Threads + Sync),
     alloc: Global,
@@ -33,6 +37,7 @@ pub fn told(
     requires { IfSome noted (Says (NamesDoubted request.now book.now)) }
     ensures told { is_some result ≡ (explain || is_some noted) }
     ensures notes { IfSome result (Says (NamesDoubted request.now book.now)) }
+    ensures edit { explain ≡ true → IfSome result (Says (TellsEdit request.now (question_view question.now) (unwrap_or (option_map (λ m. m.number) refine) 1) (planned_view planned.now))) }
 {
     if explain {
         let words = explained(rt, alloc, request, question, planned, refine);
@@ -43,7 +48,7 @@ pub fn told(
 }
 
 /// The answer in words.
-#[tactic(auto, using(flagops_files::proofs::Told::says))]
+#[tactic(auto, using(flagops_files::proofs::Told::says, crate::proofs::Edits::names))]
 fn explained(
     rt: &(impl Threads + Sync),
     alloc: Global,
@@ -52,12 +57,31 @@ fn explained(
     planned: &Planned,
     refine: Option<Factor>,
 ) -> Remark
-    ensures { Says (Names path.now) result }
+    ensures names { Says (Names path.now) result }
+    ensures edit { Says (TellsEdit path.now (question_view question.now) (unwrap_or (option_map (λ m. m.number) refine) 1) (planned_view planned.now)) result }
 {
     Remark::of(lines(rt, alloc, path, question, planned, refine))
 }
 
+/// The answer in words, and what the edit by hand would switch beside it.
+#[tactic(auto, using(crate::proofs::Edits::tells))]
 fn lines(
+    rt: &(impl Threads + Sync),
+    alloc: Global,
+    path: &str,
+    question: &Question,
+    planned: &Planned,
+    refine: Option<Factor>,
+) -> Result<String, AllocError>
+    ensures { IfOk result (λ s. TellsEdit path.now (question_view question.now) (unwrap_or (option_map (λ m. m.number) refine) 1) (planned_view planned.now) (string_bytes s)) }
+{
+    let mut lines = answer_lines(rt, alloc, path, question, planned, refine)?;
+    let edit = edit_of(rt, alloc, question, factor_of(refine), planned)?;
+    lines.push_str(edit.as_str())?;
+    Ok(lines)
+}
+
+fn answer_lines(
     rt: &(impl Threads + Sync),
     alloc: Global,
     path: &str,

@@ -100,7 +100,7 @@ fn answer<F: FileSet>(
 }
 
 /// Puts the text where it goes: to the output, or over the document; `none` where there is no text.
-fn put<F: FileSet>(
+pub fn put<F: FileSet>(
     alloc: Global,
     files: &mut F,
     document: &str,

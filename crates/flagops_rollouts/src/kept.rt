@@ -96,7 +96,7 @@ fn kept_for(
 
 /// The text with a rule at a site of a flag, of bytes that mean these flags.
 #[tactic(auto, using(flagops_files::proofs::Told::says))]
-fn kept_at(
+pub fn kept_at(
     alloc: Global,
     document: &str,
     plan: &str,

@@ -16,11 +16,13 @@
 //!
 //! Proved: what a command comes to is what its definition (`specs/Plan.antt`, `Verify`, `Apply`, `Keep`) gives over the files, unless
 //! memory ran out. `plan` and `verify` answer on a tally as on the book whose inputs it counts ([`tallies_answer_as_books`]). What
-//! is doubted of an answer is told, or refused with `--strict` (`specs/Doubts.antt`), and what a person is told of a refusal begins with
-//! the path or the word that was refused (`specs/Subjects.antt`).
+//! is doubted of an answer is told, or refused with `--strict` (`specs/Doubts.antt`), and so is what the printed form of a document
+//! leaves out (`specs/Omitted.antt`). What a person is told of a refusal begins with the path or the word that was refused
+//! (`specs/Subjects.antt`).
 #![tactic(auto)]
 
 mod applying;
+mod by_hand;
 mod doubts;
 mod explained;
 mod keep_refusal;
@@ -28,20 +30,24 @@ mod keeping;
 mod kept;
 mod laws;
 mod loading;
+mod omitted;
 mod payload;
 mod planning;
 mod recorded;
 mod refusal;
+mod standing;
 mod verifying;
 
-pub use applying::apply;
+pub use applying::{applied, apply};
 pub use doubts::{NotedDoubt, joined, remark_in, unread, unread_in_file};
 pub use keep_refusal::KeepRefusal;
-pub use keeping::keep;
+pub use keeping::{keep, put as put_document};
+pub use kept::kept_at as document_with_rule;
 pub use laws::{printed_plans_are_valid, tallies_answer_as_books, unread_members_are_passed_over};
 pub use loading::{load_book_question, load_planned, store};
 pub use payload::verify_items;
 pub use planning::{answer as plan_answer, plan};
 pub use recorded::doubt_in_book;
 pub use refusal::{Doubt, Refused, RolloutCall, RolloutRefusal, is_want_of_verify, out_of_memory};
+pub use standing::has_rule;
 pub use verifying::verify;

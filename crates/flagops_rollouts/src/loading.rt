@@ -10,24 +10,28 @@ ghost use Rattle.flagops_rollouts.specs.Loaded.{IsBookQuestionAt, IsDocumentAt, 
 ghost use Rattle.flagops_rollouts.specs.Refusal.{ComesFrom, GivesOne, GivesUnlessWant, TellsOf, TellsOfOne, is_file_fault, is_want, loads_book_question, loads_flags, loads_plan, loads_question, stores_file, unwritable};
 
 use crate::refusal::Refused;
-use flag_defs::Flags;
-use flagops_files::{BookQuestion, Question};
+use flagops_files::{BookQuestion, Document, Question};
 use flagops_shell::FileSet;
 use plan_text::Planned;
 use std::alloc::Global;
 use std::thread::Threads;
 
-/// The flags of the document at a path.
+/// The document at a path.
 #[tactic(auto, using(crate::proofs::Loaded::told, crate::proofs::Loaded::comes, crate::proofs::Loaded::failed_load))]
-pub fn load_flags<F: FileSet>(alloc: Global, files: &mut F, path: &str) -> Result<Flags, Refused>
-    ensures exact { IfSome (F.holding files.old) (λ at. GivesOne flags_view result (IsDocumentAt at path.now)) }
+pub fn load_document<F: FileSet>(
+    alloc: Global,
+    files: &mut F,
+    path: &str,
+) -> Result<Document, Refused>
+    ensures exact { IfSome (F.holding files.old) (λ at. GivesOne (λ d. flags_view d.flags) result (IsDocumentAt at path.now)) }
+    ensures bytes { IfSome (F.holding files.old) (λ at. IfOk result (λ d. load_of at path.now max_text ≡ Ok d.bytes.items)) }
     ensures calls { ComesFrom loads_flags result }
     ensures failed { F.has_failed files.new ≡ (F.has_failed files.old || is_file_fault result) }
     ensures kept { F.holding files.new ≡ F.holding files.old }
     ensures names { TellsOf (file path.now) result }
 {
-    match flagops_files::load_flags(alloc, files, path) {
-        Ok(flags) => Ok(flags),
+    match flagops_files::load_document(alloc, files, path) {
+        Ok(document) => Ok(document),
         Err(refused) => Err(Refused::of(refused)),
     }
 }

@@ -1,7 +1,8 @@
 //! The command `plan`: the answer of the planner to a rollout request.
-ghost use Rattle.std.specs.Prelude.{◌≡◌, ◌<◌, ◌||◌, [], ◌∷◌, false, true, is_some, Ok, IfOk, IfSome, option_map, string_bytes};
+ghost use Rattle.std.specs.Prelude.{◌≡◌, ◌<◌, ◌||◌, [], ◌∷◌, false, true, is_some, Ok, IfOk, IfSome, option_map, string_bytes, unwrap_or};
 ghost use Rattle.plan_text.specs.Answer.{IsOrdered, planned_view};
 ghost use Rattle.plan_text.specs.PlanFile.{IsWhole};
+ghost use Rattle.flagops_rollouts.specs.ByHand.{TellsPlanned, TellsPlannedAt};
 ghost use Rattle.flagops_rollouts.specs.Plan.{Holds, IsPlanOf, IsPlanReport, IsPlannedOn, MayBePlanned, plan_report, plan_status};
 ghost use Rattle.flag_defs.specs.Flags.{flags_view};
 ghost use Rattle.flagops_files.specs.Question.{question_view};
@@ -51,6 +52,7 @@ pub fn plan<R: Threads + Sync, F: FileSet>(
     ensures kept { F.holding files.new ≡ F.holding files.old }
     ensures names { TellsOfOne (plan_subjects document.now request.now book.now) result }
     ensures notes { IfOk result (λ o. IfSome o.remark (Says (NamesDoubted request.now book.now))) }
+    ensures edit { explain ≡ true → IfSome (F.holding files.old) (λ at. IfOk result (λ o. IfSome o.remark (Says (TellsPlannedAt at document.now request.now book.now (unwrap_or (option_map (λ m. m.number) refine) 1) o.text.items)))) }
 {
     let question = load_question(rt, alloc, files, document, request, book, factor_of(refine))?;
     let outcome = answer(rt, alloc, request, book, &question, refine, strict, explain);
@@ -60,7 +62,7 @@ pub fn plan<R: Threads + Sync, F: FileSet>(
 }
 
 /// The report on a question, which was loaded from these paths.
-#[tactic(auto, using(flagops_files::proofs::Told::says, crate::proofs::Doubting::plan_doubted, crate::proofs::Doubting::plan_told))]
+#[tactic(auto, using(flagops_files::proofs::Told::says, crate::proofs::Doubting::plan_doubted, crate::proofs::Doubting::plan_told, crate::proofs::Edits::planned))]
 pub fn answer(
     rt: &(impl Threads + Sync),
     alloc: Global,
@@ -76,6 +78,7 @@ pub fn answer(
     ensures read { is_file_fault result ≡ false }
     ensures names { TellsOfOne ((file request.now, is_of_request) ∷ (word the_plan, is_of_size) ∷ doubt_subjects request.now book.now) result }
     ensures notes { IfOk result (λ o. IfSome o.remark (Says (NamesDoubted request.now book.now))) }
+    ensures edit { explain ≡ true → IfOk result (λ o. IfSome o.remark (Says (TellsPlanned request.now (question_view question.now) (unwrap_or (option_map (λ m. m.number) refine) 1) o.text.items))) }
 {
     let planned = match planned(rt, alloc, question, refine) {
         Ok(planned) => planned,

@@ -93,6 +93,8 @@ pub enum RolloutRefusal {
     Apply(RolloutFault),
     /// The rule of a plan file is not put into the document.
     Keep(KeepRefusal),
+    /// The printed form of the document leaves something out, which is to be refused.
+    Omitted,
     /// The request is refused, or no answer to it was found.
     Plan(RolloutFault),
     /// The answer is too large for a plan file.
@@ -110,7 +112,9 @@ impl RolloutRefusal {
             RolloutRefusal::Load(refusal) => RolloutCall::Load(refusal.call()),
             RolloutRefusal::WantOfMemory(call) | RolloutRefusal::Doubted(call, _) => *call,
             RolloutRefusal::Verify(_) => RolloutCall::Verify,
-            RolloutRefusal::Apply(_) | RolloutRefusal::Keep(_) => RolloutCall::Apply,
+            RolloutRefusal::Apply(_) | RolloutRefusal::Keep(_) | RolloutRefusal::Omitted => {
+                RolloutCall::Apply
+            }
             RolloutRefusal::Plan(_) => RolloutCall::Plan,
             RolloutRefusal::PrintPlanned(_) => RolloutCall::PrintPlanned,
         }
@@ -170,6 +174,7 @@ impl CommandRefusal for RolloutRefusal {
             RolloutRefusal::Verify(fault) => verify_line(alloc, fault),
             RolloutRefusal::Apply(fault) => rollout_line(alloc, "apply", fault),
             RolloutRefusal::Keep(refusal) => keep_line(alloc, refusal),
+            RolloutRefusal::Omitted => fault_line(alloc, "apply", 19, "Omitted", ""),
             RolloutRefusal::Plan(fault) => rollout_line(alloc, "plan", fault),
             RolloutRefusal::PrintPlanned(fault) => {
                 fault_line(alloc, "print_planned", fault.number(), fault.name(), "")

@@ -21,7 +21,7 @@ use Rattle.flagops_words.specs.Kinds.{kind_spelled}
 use Rattle.flagops_words.specs.Shell.{shell_named}
 use Rattle.flagops_words.specs.declared.shell.Shell.{Shell}
 use Rattle.flagops_words.specs.Numbers.{max_16, max_32, max_moment, number_in}
-use Rattle.flagops_words.specs.Words.{apply_app, asked_in, asked_of, bucket_app, completions_app, drive_app, flag_in, flagops_app, is_json, is_stray, is_strict, kind_fault, mistake_of, plan_app, price_app, refine_in, resolve_app, verify_app}
+use Rattle.flagops_words.specs.Words.{apply_app, asked_in, asked_of, bucket_app, completions_app, drive_app, flag_in, flagops_app, is_json, is_stray, is_strict, kind_fault, mistake_of, plan_app, price_app, refine_in, refuses_doubts, resolve_app, verify_app}
 use Rattle.flagops_words.proofs.Filled.{Each, Filled, IsFull, Stores, filled_level, none_both, stores}
 use Rattle.flagops_words.proofs.Unhelped.{IsNoHelp, no_help}
 
@@ -225,11 +225,11 @@ apply_read : (name : Text) (rows : List Row) (document file third fourth : Text)
     → first_of (codes "SITE|BOOK") rows ≡ Some fourth → refine_in rows ≡ Some refine → number_in 0 max_32 fourth ≡ site → flag_in (codes "keep") rows ≡ keeps → is_stray rows ≡ stray
     → IsRead (Some (name, rows))
 apply_read name rows document file third fourth refine site true stray is document_is file_is third_is fourth_is refine_is site_is keeps_is stray_is =
-    inl (keep document file third fourth (flag_in (codes "write") rows) refine (is_strict rows), rw (is, keeps_is, document_is, file_is, third_is, fourth_is, refine_is) refl)
+    inl (keep document file third fourth (flag_in (codes "write") rows) refine (refuses_doubts rows), rw (is, keeps_is, document_is, file_is, third_is, fourth_is, refine_is) refl)
 apply_read name rows document file third fourth refine site false true is document_is file_is third_is fourth_is refine_is site_is keeps_is stray_is =
     inr (rw (is, keeps_is, stray_is) refl)
 apply_read name rows document file third fourth refine (Some site) false false is document_is file_is third_is fourth_is refine_is site_is keeps_is stray_is =
-    inl (apply document file third site, rw (is, keeps_is, stray_is, document_is, file_is, third_is, fourth_is, site_is) refl)
+    inl (apply document file third site (is_strict rows), rw (is, keeps_is, stray_is, document_is, file_is, third_is, fourth_is, site_is) refl)
 apply_read name rows document file third fourth refine None false false is document_is file_is third_is fourth_is refine_is site_is keeps_is stray_is =
     inr (rw (is, keeps_is, stray_is, fourth_is, site_is) refl)
 
@@ -252,7 +252,7 @@ Workers = IsNumber (codes "WORKERS") 0 max_16
 
 drive_read : (name : Text) (rows : List Row) (document file number book : Text) (workers : ℕ) (add : Bool) → name ≡ codes "drive" → first_of (codes "DOC") rows ≡ Some document
     → first_of (codes "ASKS") rows ≡ Some file → first_of (codes "WORKERS") rows ≡ Some number → number_in 0 max_16 number ≡ Some workers → first_of (codes "BOOK") rows ≡ Some book
-    → flag_in (codes "add") rows ≡ add → asked_in (name, rows) ≡ Some (drive document file workers book add (is_strict rows) (is_json rows))
+    → flag_in (codes "add") rows ≡ add → asked_in (name, rows) ≡ Some (drive document file workers book add (flag_in (codes "replace") rows) (is_strict rows) (is_json rows))
 drive_read name rows document file number book workers add is document_is file_is number_is workers_is book_is add_is =
     rw (is, document_is, file_is, number_is, workers_is, book_is, add_is) refl
 
@@ -269,7 +269,7 @@ drive_asks s name stored given words e =
     let book = value_taken Workers (codes "BOOK") rows full all.3 in
     let workers = number_read 0 max_16 word.0 (word.2 refl) in
     inl (
-      drive document.0 file.0 workers.0 book.0 (flag_in (codes "add") rows) (is_strict rows) (is_json rows),
+      drive document.0 file.0 workers.0 book.0 (flag_in (codes "add") rows) (flag_in (codes "replace") rows) (is_strict rows) (is_json rows),
       drive_read s.name rows document.0 file.0 word.0 book.0 workers.0 (flag_in (codes "add") rows) name document.1 file.1 word.1 workers.1 book.1 refl,
     )
 
@@ -389,7 +389,7 @@ each = (
               (document.0, request.0, book.0, file.0)),
           (
             λ _ _ _. apply_asks _ refl
-                ((refl, λ v e h. cc), ((refl, λ v e h. cc), ((refl, λ v e h. cc), ((refl, λ v e h. cc), ((refl, λ v e h. cc), ((refl, λ v e h. cc), ((refl, λ v e h. passes _ _ e), ((refl, λ v e h. cc), ((refl, λ v e h. cc), tt)))))))))
+                ((refl, λ v e h. cc), ((refl, λ v e h. cc), ((refl, λ v e h. cc), ((refl, λ v e h. cc), ((refl, λ v e h. cc), ((refl, λ v e h. cc), ((refl, λ v e h. passes _ _ e), ((refl, λ v e h. cc), ((refl, λ v e h. cc), ((refl, λ v e h. cc), tt))))))))))
                 (λ rows e.
                 let document = needed _ _ e in
                 let file = needed _ _ document.1 in
@@ -398,7 +398,7 @@ each = (
                 (document.0, file.0, key.0, site.0)),
             (
               λ _ _ _. drive_asks _ refl
-                  ((refl, λ v e h. cc), ((refl, λ v e h. cc), ((refl, λ v e h. passes _ _ e), ((refl, λ v e h. cc), ((refl, λ v e h. cc), ((refl, λ v e h. cc), ((refl, λ v e h. cc), ((refl, λ v e h. cc), tt))))))))
+                  ((refl, λ v e h. cc), ((refl, λ v e h. cc), ((refl, λ v e h. passes _ _ e), ((refl, λ v e h. cc), ((refl, λ v e h. cc), ((refl, λ v e h. cc), ((refl, λ v e h. cc), ((refl, λ v e h. cc), ((refl, λ v e h. cc), tt)))))))))
                   (λ rows e.
                   let document = needed _ _ e in
                   let file = needed _ _ document.1 in

@@ -18,14 +18,14 @@ pub data Asked : Type 0 where
   -- a document, a request and a book, the factor of a refinement if there is one, whether what is doubted is refused, and
   -- whether the plan is told in words
   plan : List ℕ → List ℕ → List ℕ → Option ℕ → Bool → Bool → Asked
-  -- a document, a plan, a flag and a site
-  apply : List ℕ → List ℕ → List ℕ → ℕ → Asked
+  -- a document, a plan, a flag and a site, and whether it is refused that something of the document is left out
+  apply : List ℕ → List ℕ → List ℕ → ℕ → Bool → Asked
   -- a document, a plan, a request and a book, whether the document is written over, the factor of a refinement if there is one,
   -- and whether what is doubted is refused
   keep : List ℕ → List ℕ → List ℕ → List ℕ → Bool → Option ℕ → Bool → Asked
   -- a document, asks, a number of workers and a book, whether the book keeps what it has, whether what is doubted is refused, and
   -- whether the answer is printed as JSON
-  drive : List ℕ → List ℕ → ℕ → List ℕ → Bool → Bool → Bool → Asked
+  drive : List ℕ → List ℕ → ℕ → List ℕ → Bool → Bool → Bool → Bool → Asked
   -- a shell
   completions : Shell → Asked
 
@@ -35,8 +35,8 @@ asked_view (code.Bucket rule key json) = bucket rule.now key.now json
 asked_view (code.Price old new request keys json) = price old.now new.now request.now keys.now json
 asked_view (code.Resolve document key kind default context moment) = resolve document.now key.now kind default.now context.now moment.number
 asked_view (code.Verify document request book file refine strict json) = verify document.now request.now book.now file.now (option_map (λ m. m.number) refine) strict json
-asked_view (code.Apply document file key site) = apply document.now file.now key.now site
+asked_view (code.Apply document file key site strict) = apply document.now file.now key.now site strict
 asked_view (code.Keep document file request book write refine strict) = keep document.now file.now request.now book.now write (option_map (λ m. m.number) refine) strict
-asked_view (code.Drive document file workers book add strict json) = drive document.now file.now workers book.now add strict json
+asked_view (code.Drive document file workers book add replace strict json) = drive document.now file.now workers book.now add replace strict json
 asked_view (code.Completions shell) = completions shell
 asked_view (code.Plan document request book refine strict explain) = plan document.now request.now book.now (option_map (λ m. m.number) refine) strict explain

@@ -1,5 +1,5 @@
 -- Which command the words ask for, by what `clap` reads of them.
-use Rattle.std.specs.Prelude.{◌≡◌, ◌⊎◌, ◌||◌, ℕ, Bool, true, false, is_some, List, [], ◌∷◌, codes, Option, Some, None, option_and_then, option_map, if◌then◌else◌}
+use Rattle.std.specs.Prelude.{◌≡◌, ◌⊎◌, ◌&&◌, ◌||◌, ℕ, Bool, true, false, not, is_some, List, [], ◌∷◌, codes, Option, Some, None, option_and_then, option_map, if◌then◌else◌}
 use Rattle.std.specs.Str.{bytes_eq}
 use Rattle.clap.specs.Lexer.{usize_max}
 use Rattle.clap.specs.Walk.{Row, Rule, Text, all_of, first_of}
@@ -44,6 +44,10 @@ price_app =
 abbrev pub strict_flag : Rule
 strict_flag = flag (codes "strict")
 
+-- `--doubted`: what is doubted is written all the same
+abbrev pub doubted_flag : Rule
+doubted_flag = flag (codes "doubted")
+
 -- a number within bounds that has to be there
 abbrev pub number_within : Text → ℕ → ℕ → Rule
 number_within id least most = record (required id) { parser = Some (Unsigned least most) }
@@ -85,17 +89,17 @@ abbrev pub apply_begun : App
 apply_begun =
     with_rule (with_rule (with_rule (with_rule (new_app (codes "apply")) (required (codes "DOC"))) (required (codes "PLAN"))) (required (codes "FLAG|REQUEST"))) (required (codes "SITE|BOOK"))
 
--- the same with `--keep`, `--write`, `--refine M` and `--strict`
+-- the same with `--keep`, `--write`, `--refine M`, `--strict` and `--doubted`
 unfoldable pub apply_app : App
-apply_app = with_rule (with_rule (with_rule (with_rule apply_begun (flag (codes "keep"))) (flag (codes "write"))) refine_option) strict_flag
+apply_app = with_rule (with_rule (with_rule (with_rule (with_rule apply_begun (flag (codes "keep"))) (flag (codes "write"))) refine_option) strict_flag) doubted_flag
 
 -- `drive DOC ASKS WORKERS BOOK`
 abbrev pub drive_begun : App
 drive_begun = with_rule (with_rule (with_rule (with_rule (new_app (codes "drive")) (required (codes "DOC"))) (required (codes "ASKS"))) (number (codes "WORKERS") max_16)) (required (codes "BOOK"))
 
--- the same with `--add`, `--strict` and `--json`
+-- the same with `--add`, `--replace`, `--strict` and `--json`
 unfoldable pub drive_app : App
-drive_app = with_rule (with_rule (with_rule drive_begun (flag (codes "add"))) strict_flag) json_flag
+drive_app = with_rule (with_rule (with_rule (with_rule drive_begun (flag (codes "add"))) (flag (codes "replace"))) strict_flag) json_flag
 
 -- one word or more
 abbrev pub some_words : Text → Rule
@@ -145,6 +149,10 @@ flag_in id rows = is_true (first_of id rows)
 
 abbrev pub is_strict : List Row → Bool
 is_strict rows = flag_in (codes "strict") rows
+
+-- What is doubted is refused: where that is asked for, and where a file is written over, unless it is to be written all the same.
+abbrev pub refuses_doubts : List Row → Bool
+refuses_doubts rows = is_strict rows || (flag_in (codes "write") rows && not (flag_in (codes "doubted") rows))
 
 abbrev pub is_json : List Row → Bool
 is_json rows = flag_in (codes "json") rows
@@ -216,9 +224,9 @@ plan_in rows = do
   factor ← refine_in rows
   Some (plan document request book factor (is_strict rows) (flag_in (codes "explain") rows))
 
--- a word of `--keep` is given
+-- a word is given that goes with `--keep`
 abbrev pub is_stray : List Row → Bool
-is_stray rows = flag_in (codes "write") rows || (is_strict rows || is_some (first_of (codes "M") rows))
+is_stray rows = flag_in (codes "write") rows || (flag_in (codes "doubted") rows || is_some (first_of (codes "M") rows))
 
 abbrev pub site_in : List Row → Option ℕ
 site_in rows = number_at (codes "SITE|BOOK") 0 max_32 rows
@@ -229,7 +237,7 @@ applied_in rows = do
   document ← first_of (codes "DOC") rows
   file ← first_of (codes "PLAN") rows
   key ← first_of (codes "FLAG|REQUEST") rows
-  Some (apply document file key site)
+  Some (apply document file key site (is_strict rows))
 
 abbrev pub keep_in : List Row → Option Asked
 keep_in rows = do
@@ -238,9 +246,9 @@ keep_in rows = do
   request ← first_of (codes "FLAG|REQUEST") rows
   book ← first_of (codes "SITE|BOOK") rows
   factor ← refine_in rows
-  Some (keep document file request book (flag_in (codes "write") rows) factor (is_strict rows))
+  Some (keep document file request book (flag_in (codes "write") rows) factor (refuses_doubts rows))
 
--- `--write`, `--refine M` and `--strict` go with `--keep` alone
+-- `--write`, `--refine M` and `--doubted` go with `--keep` alone
 abbrev pub apply_in : List Row → Option Asked
 apply_in rows = if flag_in (codes "keep") rows then keep_in rows else (if is_stray rows then None else applied_in rows)
 
@@ -251,7 +259,7 @@ drive_in rows = do
   word ← first_of (codes "WORKERS") rows
   workers ← number_in 0 max_16 word
   book ← first_of (codes "BOOK") rows
-  Some (drive document file workers book (flag_in (codes "add") rows) (is_strict rows) (is_json rows))
+  Some (drive document file workers book (flag_in (codes "add") rows) (flag_in (codes "replace") rows) (is_strict rows) (is_json rows))
 
 -- texts, where there are any
 abbrev pub if_any : List Text → Option (List Text)

@@ -59,6 +59,8 @@ pub enum Asked<'a> {
         plan: &'a str,
         key: &'a str,
         site: u32,
+        /// Whether it is refused, and not only told, that what is printed leaves something of the document out.
+        strict: bool,
     },
     /// The text of the document with the buckets of the request's site replaced by the rule of a plan file that is right.
     Keep {
@@ -80,6 +82,8 @@ pub enum Asked<'a> {
         book: &'a str,
         /// Whether the book keeps what it has.
         add: bool,
+        /// Whether what it has may be lost.
+        replace: bool,
         /// Whether what is doubted is refused, and not only told.
         strict: bool,
         /// Whether the answer is printed as JSON.

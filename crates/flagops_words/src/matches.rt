@@ -3,7 +3,7 @@ ghost use Rattle.std.specs.Prelude.{◌≡◌, ◌≤◌, ◌<◌, IfSome, codes
 ghost use Rattle.clap.specs.Walk.{first_of};
 ghost use Rattle.clap.specs.Words.{found_of, rows_of};
 ghost use Rattle.flagops_words.specs.Numbers.{max_32};
-ghost use Rattle.flagops_words.specs.Words.{flag_in, is_json, is_strict, number_at, number_or, refine_in, texts_at};
+ghost use Rattle.flagops_words.specs.Words.{flag_in, is_json, is_strict, number_at, number_or, refine_in, refuses_doubts, texts_at};
 
 use crate::numbers::{Factor, LARGEST_32, spelled};
 use clap::ArgMatches;
@@ -24,6 +24,13 @@ pub fn is_strict(words: &ArgMatches<'_>) -> bool
     ensures { result ≡ is_strict (rows_of (found_of words.now)) }
 {
     flag_in(words, "strict")
+}
+
+/// Whether what is doubted is refused: with `--strict`, and with `--write` unless `--doubted` is given.
+pub fn refuses_doubts(words: &ArgMatches<'_>) -> bool
+    ensures { result ≡ refuses_doubts (rows_of (found_of words.now)) }
+{
+    is_strict(words) || (flag_in(words, "write") && !flag_in(words, "doubted"))
 }
 
 /// Whether the answer is to be printed as JSON.

@@ -54,10 +54,10 @@ _flagops() {
         ramp:-* | verify-ramp:-*) COMPREPLY=($(compgen -W "--refine --strict --help" -- "$word")) ;;
         tally:-*) COMPREPLY=($(compgen -W "--refine --help" -- "$word")) ;;
         record:-*) COMPREPLY=($(compgen -W "--moment --workers --help" -- "$word")) ;;
-        apply:-*) COMPREPLY=($(compgen -W "--keep --write --refine --strict --step --help" -- "$word")) ;;
-        book:-*) COMPREPLY=($(compgen -W "--torn --help" -- "$word")) ;;
+        apply:-*) COMPREPLY=($(compgen -W "--keep --write --refine --strict --doubted --step --help" -- "$word")) ;;
+        book:-*) COMPREPLY=($(compgen -W "--torn --replace --help" -- "$word")) ;;
         ofrep:-*) COMPREPLY=($(compgen -W "--listen --log --remember --without-record --stream --workers --poll --broken --help" -- "$word")) ;;
-        drive:-*) COMPREPLY=($(compgen -W "--add --strict --json --help" -- "$word")) ;;
+        drive:-*) COMPREPLY=($(compgen -W "--add --replace --strict --json --help" -- "$word")) ;;
         serve:-* | follow:-*) COMPREPLY=($(compgen -W "--wait --help" -- "$word")) ;;
         *:-*) COMPREPLY=($(compgen -W "--help" -- "$word")) ;;
         completions:*) COMPREPLY=($(compgen -W "bash fish zsh" -- "$word")) ;;
@@ -121,7 +121,9 @@ complete -c flagops -n '__fish_seen_subcommand_from ofrep' -l broken -x -a 'refu
 complete -c flagops -n '__fish_seen_subcommand_from apply' -l keep -d 'Verify the plan and keep the rest of the text'
 complete -c flagops -n '__fish_seen_subcommand_from apply' -l write -d 'With --keep: write over the document'
 complete -c flagops -n '__fish_seen_subcommand_from apply' -l refine -x -d 'With --keep: the factor of the plan'
+complete -c flagops -n '__fish_seen_subcommand_from apply' -l doubted -d 'With --write: write what is doubted, too'
 complete -c flagops -n '__fish_seen_subcommand_from drive' -l add -d 'Keep what the book has'
+complete -c flagops -n '__fish_seen_subcommand_from drive book' -l replace -d 'Write also where inputs are lost'
 complete -c flagops -n '__fish_seen_subcommand_from serve follow' -l wait -x -d 'The most seconds to wait'
 complete -c flagops -n '__fish_seen_subcommand_from completions' -f -a 'bash fish zsh'
 "#;
@@ -186,10 +188,14 @@ _flagops() {
             ;;
         apply)
             _arguments '--keep[verify the plan and keep the rest of the text]' '--write[with --keep\: write over the document]' \
-                '--refine[with --keep\: the factor of the plan]:M:' '--strict[with --keep\: refuse what is else only told]' \
+                '--refine[with --keep\: the factor of the plan]:M:' '--strict[refuse what is else only told]' \
+                '--doubted[with --write\: write what is doubted, too]' \
                 '--step[the step whose rule is put]:N:' '--help[print help]' '*:file:_files'
             ;;
-        book) _arguments '--torn[pass over lines that are no notes]' '--help[print help]' '*:file:_files' ;;
+        book)
+            _arguments '--torn[pass over lines that are no notes]' '--replace[write also where inputs are lost]' \
+                '--help[print help]' '*:file:_files'
+            ;;
         ofrep)
             _arguments '--listen[the address and port of the service]:ADDRESS\:PORT:' '--log[the folder of the logs]:folder:_files -/' \
                 '--remember[the lines of the logs that are remembered]:N:' \
@@ -200,7 +206,8 @@ _flagops() {
                 '--help[print help]' '*:file:_files'
             ;;
         drive)
-            _arguments '--add[keep what the book has]' '--strict[refuse what is else only told]' '--json[print the answer as JSON]' \
+            _arguments '--add[keep what the book has]' '--replace[write also where inputs are lost]' \
+                '--strict[refuse what is else only told]' '--json[print the answer as JSON]' \
                 '--help[print help]' '*:file:_files'
             ;;
         serve | follow) _arguments '--wait[the most seconds to wait]:S:' '--help[print help]' '*:file:_files' ;;

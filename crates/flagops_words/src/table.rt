@@ -188,7 +188,11 @@ const RULE_AND_PLACE: &[Word] = &[
     ),
     Word::Flag(
         "strict",
-        "With --keep: refuse what is doubted, which is else only told",
+        "Refuse what is else only told: with --keep what is doubted, and without it what is printed without it",
+    ),
+    Word::Flag(
+        "doubted",
+        "With --keep --write: write what is doubted, too, which is else refused",
     ),
 ];
 
@@ -205,6 +209,10 @@ const DRIVE: Usage = Usage {
         ),
         Word::Text("BOOK", "The book file that is written"),
         Word::Flag("add", "Read BOOK first, and write it with what it had"),
+        Word::Flag(
+            "replace",
+            "Write BOOK also where inputs that it had are lost",
+        ),
         STRICT,
         JSON,
     ],

@@ -6,7 +6,7 @@ ghost use Rattle.flagops_words.specs.Words.{IsToldBy, applied_in, apply_in, aske
 
 use crate::asked::Asked;
 use crate::kinds::kind_spelled;
-use crate::matches::{flag_in, is_json, is_strict, refine_in};
+use crate::matches::{flag_in, is_json, is_strict, refine_in, refuses_doubts};
 use crate::numbers::{Moment, spelled_16, spelled_32};
 use crate::shell::Shell;
 use crate::usage::{
@@ -179,12 +179,12 @@ fn apply_in<'a>(words: &ArgMatches<'a>) -> Option<Asked<'a>>
     }
 }
 
-/// Whether a word of `--keep` is given: `--write`, `--strict` or `--refine`.
+/// Whether a word is given that goes with `--keep`: `--write`, `--doubted` or `--refine`.
 #[tactic(auto, using(crate::proofs::Matched::rows))]
 fn is_stray(words: &ArgMatches<'_>) -> bool
     ensures { result ≡ is_stray (rows_of (found_of words.now)) }
 {
-    flag_in(words, "write") || is_strict(words) || words.get_str("M").is_some()
+    flag_in(words, "write") || flag_in(words, "doubted") || words.get_str("M").is_some()
 }
 
 #[tactic(auto, using(crate::proofs::Matched::rows))]
@@ -200,6 +200,7 @@ fn applied_in<'a>(words: &ArgMatches<'a>) -> Option<Asked<'a>>
         plan,
         key,
         site,
+        strict: is_strict(words),
     })
 }
 
@@ -219,7 +220,7 @@ fn keep_in<'a>(words: &ArgMatches<'a>) -> Option<Asked<'a>>
         book,
         write: flag_in(words, "write"),
         refine,
-        strict: is_strict(words),
+        strict: refuses_doubts(words),
     })
 }
 
@@ -237,6 +238,7 @@ fn drive_in<'a>(words: &ArgMatches<'a>) -> Option<Asked<'a>>
         workers,
         book,
         add: flag_in(words, "add"),
+        replace: flag_in(words, "replace"),
         strict: is_strict(words),
         json: is_json(words),
     })

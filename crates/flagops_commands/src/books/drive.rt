@@ -2,8 +2,9 @@
 ghost use Rattle.std.specs.Prelude.{◌≡◌, ◌||◌, true, IfOk, IfSome, Ok, Some, [], ◌∷◌};
 ghost use Rattle.flagops_drive.specs.Driven.{drive_output_view, workers_refusal};
 ghost use Rattle.flagops_drive.specs.declared.fault.DriveRefusal.{DriveRefusal as Reason};
-ghost use Rattle.flagops_commands.specs.Calls.{drive_calls};
-ghost use Rattle.flagops_commands.specs.Drive.{HasNoAsks, HasUnreadAsk, IsDriveReport, IsRefusedByName, IsWritten, LeavesBook, before_at};
+ghost use Rattle.book_core.specs.Reading.{book_of};
+ghost use Rattle.flagops_commands.specs.Calls.{checks_losses, drive_calls, writes_book};
+ghost use Rattle.flagops_commands.specs.Drive.{HasNoAsks, HasUnreadAsk, IsDriveReport, IsRefusedByName, IsSaved, IsWritten, LeavesBook, before_at, replaces_at};
 ghost use Rattle.flagops_shell.specs.Ending.{KeepsUnlessDone};
 ghost use Rattle.flagops_shell.specs.Files.{KeepsOthers};
 ghost use Rattle.flagops_commands.specs.Refusal.{ComesFrom, GivesOne, GivesUnlessWant, is_file_fault, loads_book, stores_file, TellsOf, TellsOfOne, by};
@@ -12,13 +13,15 @@ ghost use Rattle.flagops_files.specs.Told.{file};
 ghost use Rattle.flagops_shell.specs.Diagnostic.{Says};
 ghost use Rattle.file_diagnostics.specs.Named.{Names};
 ghost use Rattle.flagops_commands.specs.DriveSummary.{TellsPrinted};
-ghost use Rattle.flagops_commands.specs.Subjects.{drive_subjects};
+ghost use Rattle.flagops_commands.specs.Subjects.{drive_subjects, written_subjects};
+ghost use Rattle.flagops_commands.specs.declared.refusal.ListedRefusal.TheVariants.{WouldLose};
 
 use crate::books::asks::load_asks;
 use crate::books::driving::{drive_output, remark_on};
-use crate::loading::{check_replaceable, load_book, load_flags, store};
-use crate::refusal::Refused;
+use crate::loading::{check_replaceable, load_book, load_flags, load_losses, store};
+use crate::refusal::{ListedRefusal, Refused};
 use book_core::Book;
+use book_losses::of_losses;
 use flagops_drive::DriveOutput;
 use flagops_shell::{FileSet, Outcome, Remark, Status};
 use json::Scratch;
@@ -28,9 +31,10 @@ use std::sync::Wait;
 use std::thread::Threads;
 
 /// The resolutions of the asks of a file, in their order, and the counts of the book that they make, a line each or as an
-/// object in one line. The book is written first; where it is added to, it keeps what it had. A person is told how many asks
-/// ended in what, how many inputs they reached, and the first member of an ask that is not read. With `strict` asks with such
-/// a member are refused before one is answered, and asks that reached no input before the book is written.
+/// object in one line. The book is written first; where it is added to, it keeps what it had, and else it is not written over
+/// one of which it lacks an input, unless with `replace`. A person is told how many asks ended in what, how many inputs they
+/// reached, and the first member of an ask that is not read. With `strict` asks with such a member are refused before one is
+/// answered, and asks that reached no input before the book is written.
 pub fn drive<R: Threads + Wait + Sync, F: FileSet>(
     rt: &R,
     alloc: Global,
@@ -40,10 +44,11 @@ pub fn drive<R: Threads + Wait + Sync, F: FileSet>(
     workers: u16,
     book: &str,
     add: bool,
+    replace: bool,
     strict: bool,
     json: bool,
 ) -> Result<Outcome, Refused>
-    ensures exact { IfSome (F.holding files.old) (λ at. GivesOne outcome_view result (IsDriveReport at (F.holding files.new) document.now asks.now workers book.now add strict json)) }
+    ensures exact { IfSome (F.holding files.old) (λ at. GivesOne outcome_view result (IsDriveReport at (F.holding files.new) document.now asks.now workers book.now add replace strict json)) }
     ensures calls { ComesFrom drive_calls result }
     ensures failed { F.has_failed files.new ≡ (F.has_failed files.old || is_file_fault result) }
     ensures left { LeavesBook (F.holding files.old) (F.holding files.new) document.now asks.now workers book.now add strict }
@@ -77,7 +82,7 @@ pub fn drive<R: Threads + Wait + Sync, F: FileSet>(
     let remark = remark_on(alloc, asks, &loaded, &drive_output.tally);
     // The program ends soon, and its memory with it.
     mem::forget((flags, loaded));
-    written(alloc, files, book, drive_output, remark)
+    written(alloc, files, book, drive_output, remark, add || replace)
 }
 
 /// The book that was there before: that of the file at a path where it is added to, and else none; then a file that is no
@@ -103,15 +108,81 @@ fn book_before<F: FileSet>(
     }
 }
 
-/// The report of a book with what is printed and what is told beside it, once it was written.
+/// The report of a book with what is printed and what is told beside it, once it was written: where inputs of the book that is
+/// there may not be lost, it is written only where none is.
 fn written<F: FileSet>(
     alloc: Global,
     files: &mut F,
     book: &str,
     drive_output: DriveOutput,
     remark: Remark,
+    lossy: bool,
 ) -> Result<Outcome, Refused>
-    ensures exact { IfSome (F.holding files.old) (λ at. GivesOne outcome_view result (IsWritten at (F.holding files.new) book.now (Ok (drive_output_view drive_output)))) }
+    requires { book_of drive_output.book.items ≡ Ok drive_output.rest.book }
+    ensures exact { IfSome (F.holding files.old) (λ at. GivesOne outcome_view result (IsWritten at (F.holding files.new) book.now lossy (Ok (drive_output_view drive_output)))) }
+    ensures calls { ComesFrom writes_book result }
+    ensures failed { F.has_failed files.new ≡ (F.has_failed files.old || is_file_fault result) }
+    ensures others { KeepsOthers (F.holding files.old) (F.holding files.new) book.now }
+    ensures kept { KeepsUnlessDone (F.holding files.old) (F.holding files.new) result }
+    ensures names { TellsOfOne (written_subjects book.now) result }
+    ensures remark { IfOk result (λ o. (o.remark ≡ Some remark) × (o.text.items ≡ drive_output.text.items)) }
+{
+    check_losses(alloc, files, book, &drive_output.rest.book, lossy)?;
+    saved(alloc, files, book, drive_output, remark)
+}
+
+/// That a new book may be written over the one at a path.
+#[tactic(auto, using(crate::proofs::Losing::free, crate::proofs::Losing::none_lost, crate::proofs::Losing::some_lost, crate::proofs::Losing::unknown, crate::proofs::Losing::checks, crate::proofs::Losing::loses))]
+fn check_losses<F: FileSet>(
+    alloc: Global,
+    files: &mut F,
+    path: &str,
+    new: &Book,
+    lossy: bool,
+) -> Result<(), Refused>
+    ensures exact { IfSome (F.holding files.old) (λ at. GivesUnlessWant (λ u. u) result (replaces_at at path.now lossy new.now)) }
+    ensures calls { ComesFrom checks_losses result }
+    ensures failed { F.has_failed files.new ≡ (F.has_failed files.old || is_file_fault result) }
+    ensures kept { F.holding files.new ≡ F.holding files.old }
+    ensures names { TellsOfOne (written_subjects path.now) result }
+{
+    if lossy {
+        return Ok(());
+    }
+    let lost = load_losses(alloc, files, path, new)?;
+    if lost == 0 {
+        Ok(())
+    } else {
+        Err(would_lose(alloc, path, lost))
+    }
+}
+
+/// The refusal to lose so many inputs of the book at a path.
+#[tactic(auto, using(flagops_files::proofs::Told::says))]
+fn would_lose(alloc: Global, path: &str, lost: u64) -> Refused
+    ensures refusal { result.refusal ≡ WouldLose lost }
+    ensures names { Says (Names path.now) result.remark }
+{
+    Refused {
+        refusal: ListedRefusal::WouldLose(lost),
+        remark: Remark::of(of_losses(
+            alloc,
+            path,
+            lost,
+            "keep them with --add, or give them up with --replace",
+        )),
+    }
+}
+
+/// The report of a book that may be written, once it was.
+fn saved<F: FileSet>(
+    alloc: Global,
+    files: &mut F,
+    book: &str,
+    drive_output: DriveOutput,
+    remark: Remark,
+) -> Result<Outcome, Refused>
+    ensures exact { IfSome (F.holding files.old) (λ at. GivesOne outcome_view result (IsSaved (Ok tt) at (F.holding files.new) book.now (drive_output_view drive_output))) }
     ensures calls { ComesFrom stores_file result }
     ensures failed { F.has_failed files.new ≡ (F.has_failed files.old || is_file_fault result) }
     ensures others { KeepsOthers (F.holding files.old) (F.holding files.new) book.now }

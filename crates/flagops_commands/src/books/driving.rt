@@ -1,5 +1,6 @@
 //! Asks that were read: what is refused of them, what they come to, and what a person is told of it.
 ghost use Rattle.std.specs.Prelude.{◌≡◌, false, true, IfErr, IfOk, IsErrAnd, IsOk, OnOk, Err, Ok, [], ◌∷◌, string_bytes};
+ghost use Rattle.book_core.specs.Reading.{book_of};
 ghost use Rattle.flag_defs.specs.Flags.{flags_view};
 ghost use Rattle.flag_text.specs.Shape.{is_whole};
 ghost use Rattle.flagops_drive.specs.Asks.{asks_of};
@@ -56,6 +57,7 @@ pub fn drive_output<R: Threads + Wait + Sync>(
     ensures refused { (e : Reason) → admitted strict (refusal_of (asks_of (file_view asks.now)) workers) (file_view asks.now) ≡ Err e → IsErrAnd result (λ r. r.refusal ≡ e) }
     ensures names { TellsOfOne (driven_subjects path.now book.now) result }
     ensures tally { IfOk result (IsTallied before json) }
+    ensures file { IfOk result (λ d. book_of d.book.items ≡ Ok d.rest.book) }
 {
     let workers = usize::from(workers);
     check_members(alloc, path, asks, workers, book, strict)?;

@@ -54,6 +54,13 @@ returns-in-ApplyStep g c =
     (sym c.in-ApplyStep.is ∙ c.family_of.ensures)
     (c.run-in-ApplyStep.ensures.answers, c.run-in-ApplyStep.ensures.unread, c.run-in-ApplyStep.ensures.tells, c.run-in-ApplyStep.ensures.left, c.run-in-ApplyStep.ensures.stored)
 
+pub returns-in-KeepStep : goal.returns-in-KeepStep
+returns-in-KeepStep g c =
+    subst (λ (f : Family). Comes c.args.console.now c.run-in-KeepStep.new.console (g.F.FileSet.holding c.args.files.now) (g.F.FileSet.holding c.run-in-KeepStep.new.files) (g.F.FileSet.has_failed c.args.files.now) (g.F.FileSet.has_failed c.run-in-KeepStep.new.files)
+    c.run-in-KeepStep.result (g.I.Inlet.bytes c.args.input.now) (g.I.Inlet.is_broken c.args.input.now) f (map g.S.AsStr.text c.args.words.now))
+    (sym c.in-KeepStep.is ∙ c.family_of.ensures)
+    (c.run-in-KeepStep.ensures.answers, c.run-in-KeepStep.ensures.unread, c.run-in-KeepStep.ensures.tells, c.run-in-KeepStep.ensures.left, c.run-in-KeepStep.ensures.stored)
+
 pub returns-in-Join : goal.returns-in-Join
 returns-in-Join g c =
     subst (λ (f : Family). Comes c.args.console.now c.run-in-Join.new.console (g.F.FileSet.holding c.args.files.now) (g.F.FileSet.holding c.run-in-Join.new.files) (g.F.FileSet.has_failed c.args.files.now) (g.F.FileSet.has_failed c.run-in-Join.new.files)

@@ -5,8 +5,10 @@ use Rattle.std.specs.Prelude.{Result}
 use Rattle.flagops_checks.specs.Documents.{AreChecked}
 use Rattle.flagops_checks.specs.Step.{GivesAll}
 use Rattle.flagops_checks.specs.declared.gathering.Gathered.{Gathered}
-use Rattle.flagops_checks.proofs.Following.{Goes, both_known, everywhere, first_left, goes_all, goes_on, goes_refused, starts, told_of_one, where_known}
-use Rattle.flagops_checks.specs.Refusal.{Refused}
+use Rattle.flagops_checks.specs.Told.{check_attempts}
+use Rattle.flagops_checks.proofs.Following.{Goes, both_known, everywhere, first_left, goes_all, goes_on, goes_refused, goes_told, starts, where_known}
+use Rattle.flagops_checks.specs.Refusal.{Refused, TellsOfFirst, is_want}
+use Rattle.flagops_files.specs.Told.{NamesFirst}
 use Rattle.flagops_checks.proofs.gathering.gather.Goals as goal
 
 pub loop-path-init : goal.loop-path-init
@@ -39,8 +41,21 @@ returns-in_err-all-clause-exact g c =
 
 pub returns-in_err-all-clause-names : goal.returns-in_err-all-clause-names
 returns-in_err-all-clause-names g c =
+    let before = c.loop-path in
+    let paths = c.args.paths.now in
+    let all = map (λ p. p.now) paths in
     let refused = c.in_err-all.field-0.0 in
-    let told = told_of_one (λ p. p.now) c.args.paths.now c.loop-path.path-index _ refused (omega arith) c.in_err-all.ensures.calls c.in_err-all.ensures.names in search rules
+    let p = err_from_is_err_and c.from_residual.result c.from_residual.ensures.1 in
+    let is : c.from_residual.result ≡ Err refused = p.1 ∙ ap Err p.2 in
+    let told =
+    both_known (g.F.FileSet.holding c.args.files.now) (g.F.FileSet.holding before.files)
+    (λ at. Goes c.args.form at all (map (λ p. p.now) (drop before.path-index paths)) before.all)
+    (λ at. is_want refused.refusal ≡ false → NamesFirst (check_attempts at all) refused.refusal refused.remark)
+    before.invariant.kept before.invariant.goes c.in_err-all.ensures.exact
+    (λ at goes gives.
+    goes_told c.args.form at all (map (λ p. p.now) (drop before.path-index paths)) (map (λ p. p.now) (drop (before.path-index + 1) paths)) _ before.all goes
+    (first_left (λ p. p.now) paths before.path-index _ (omega arith)) refused gives c.in_err-all.ensures.names) in
+    subst (λ (r : Result Gathered Refused). IfSome (g.F.FileSet.holding c.args.files.now) (λ at. TellsOfFirst (check_attempts at all) r)) (sym is) told
 
 pub loop-path-preserved : goal.loop-path-preserved
 loop-path-preserved g c =

@@ -3,7 +3,7 @@ use Rattle.flagops_commands.proofs.Loaded.{not_rolled, rolled_there}
 use Rattle.flagops_commands.proofs.rollouts.apply.Goals as goal
 
 pub returns-in-Ok-clause-exact : goal.returns-in-Ok-clause-exact
-returns-in-Ok-clause-exact g c = rolled_there (λ at. IsApplyReport at c.args.document.now c.args.plan.now c.args.key.now c.args.site) (g.F.FileSet.holding c.args.files.now) c.in-Ok.outcome c.in-Ok.ensures.exact
+returns-in-Ok-clause-exact g c = rolled_there (λ at. IsApplyReport at c.args.document.now c.args.plan.now c.args.key.now c.args.site c.args.strict) (g.F.FileSet.holding c.args.files.now) c.in-Ok.outcome c.in-Ok.ensures.exact
 
 pub returns-in-Err-clause-exact : goal.returns-in-Err-clause-exact
-returns-in-Err-clause-exact g c = not_rolled (λ at. IsApplyReport at c.args.document.now c.args.plan.now c.args.key.now c.args.site) (g.F.FileSet.holding c.args.files.now) c.in-Err.refused c.of.result c.of.ensures.refusal c.in-Err.ensures.exact
+returns-in-Err-clause-exact g c = not_rolled (λ at. IsApplyReport at c.args.document.now c.args.plan.now c.args.key.now c.args.site c.args.strict) (g.F.FileSet.holding c.args.files.now) c.in-Err.refused c.of.result c.of.ensures.refusal c.in-Err.ensures.exact

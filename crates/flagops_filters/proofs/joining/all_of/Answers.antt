@@ -1,11 +1,11 @@
-use Rattle.std.proofs.Common.{rules, ◌≡◌, ◌∷◌, ◌∙◌, IfSome, map, Result, Err, ap, sym, subst}
+use Rattle.std.proofs.Common.{◌≡◌, ◌∷◌, ◌∙◌, IfSome, map, Result, Err, ap, sym, subst}
 use Rattle.std.proofs.lemmas.Result.{err_from_is_err_and}
 use Rattle.tally_core.specs.Tally.{PageTally}
 use Rattle.flagops_filters.specs.Join.{JoinsAllFiles}
 use Rattle.flagops_filters.specs.Joined.{JoinsUnless}
 use Rattle.flagops_filters.specs.Report.{Told}
-use Rattle.flagops_filters.proofs.Joins.{from_first, no_first}
-use Rattle.flagops_filters.proofs.Naming.{all_named, first_named}
+use Rattle.flagops_filters.specs.Remarks.{RemarksUnjoinedOf}
+use Rattle.flagops_filters.proofs.Joins.{from_first, from_first_named, no_first, no_first_named}
 use Rattle.flagops_filters.proofs.joining.all_of.Goals as goal
 
 pub returns-in_err-one-clause-exact : goal.returns-in_err-one-clause-exact
@@ -24,8 +24,15 @@ returns-clause-exact g c =
 
 pub returns-in_err-one-clause-names : goal.returns-in_err-one-clause-names
 returns-in_err-one-clause-names g c =
+    let h = g.F.FileSet.holding c.args.files.now in
     let told = c.in_err-one.field-0.0 in
-    let named = first_named c.args.first.now (map (λ p. p.now) c.args.others.now) told c.in_err-one.ensures.names in search rules
+    let p = err_from_is_err_and c.from_residual.result c.from_residual.ensures.1 in
+    let is : c.from_residual.result ≡ Err told = p.1 ∙ ap Err p.2 in
+    let paths = map (λ p. p.now) c.args.others.now in
+    subst (λ (r : Result PageTally Told). IfSome h (λ at. RemarksUnjoinedOf at (c.args.first.now ∷ paths) r)) (sym is)
+    (no_first_named c.args.first.now paths h told c.in_err-one.ensures.exact c.in_err-one.ensures.names)
 
 pub returns-clause-names : goal.returns-clause-names
-returns-clause-names g c = all_named c.args.first.now (map (λ p. p.now) c.args.others.now) c.all_with.result c.all_with.ensures.names
+returns-clause-names g c =
+    from_first_named c.args.first.now (map (λ p. p.now) c.args.others.now) (g.F.FileSet.holding c.args.files.now) (g.F.FileSet.holding c.one_of.new.files) c.in_ok-one.one c.all_with.result
+    c.one_of.ensures.kept c.in_ok-one.ensures.exact c.all_with.ensures.names

@@ -4,9 +4,9 @@ use Rattle.std.proofs.lemmas.Result.{err_from_is_err_and}
 use Rattle.tally_core.specs.Tally.{PageTally}
 use Rattle.flagops_filters.specs.Join.{JoinsFiles}
 use Rattle.flagops_filters.specs.Joined.{JoinsUnless}
+use Rattle.flagops_filters.specs.Remarks.{RemarksUnjoined}
 use Rattle.flagops_filters.specs.Report.{Told}
-use Rattle.flagops_filters.proofs.Joins.{all_files, first_left, leads_all, next_file, no_next}
-use Rattle.flagops_filters.proofs.Naming.{one_named}
+use Rattle.flagops_filters.proofs.Joins.{all_files, first_left, leads_all, next_file, no_next, no_next_named}
 use Rattle.flagops_filters.proofs.joining.all_with.Goals as goal
 
 pub loop-path-init : goal.loop-path-init
@@ -49,8 +49,15 @@ returns-clause-exact g c =
 
 pub returns-in_err-all-clause-names : goal.returns-in_err-all-clause-names
 returns-in_err-all-clause-names g c =
+    let before = c.loop-path in
+    let paths = c.args.paths.now in
+    let h = g.F.FileSet.holding c.args.files.now in
     let told = c.in_err-all.field-0.0 in
-    let named = one_named (λ p. p.now) c.args.paths.now c.loop-path.path-index _ told (omega arith) c.in_err-all.ensures.names in search rules
+    let p = err_from_is_err_and c.from_residual.result c.from_residual.ensures.1 in
+    let is : c.from_residual.result ≡ Err told = p.1 ∙ ap Err p.2 in
+    subst (λ (r : Result PageTally Told). IfSome h (λ at. RemarksUnjoined at c.args.one (map (λ p. p.now) paths) r)) (sym is)
+    (no_next_named c.args.one (map (λ p. p.now) paths) h (g.F.FileSet.holding before.files) before.all told _ (map (λ p. p.now) (drop (before.path-index + 1) paths)) (map (λ p. p.now) (drop before.path-index paths))
+    before.invariant.kept before.invariant.leads c.in_err-all.ensures.exact (first_left (λ p. p.now) paths before.path-index _ (omega arith)) c.in_err-all.ensures.names)
 
 pub returns-in_err-all-clause-alone : goal.returns-in_err-all-clause-alone
 returns-in_err-all-clause-alone g c = λ none. absurd (omega (arith, none))

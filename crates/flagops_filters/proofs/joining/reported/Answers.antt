@@ -2,7 +2,7 @@ use Rattle.std.proofs.Common.{Bor, ◌∷◌, ℕ, List, IfSome, Ok, Err, map, s
 use Rattle.tally_core.specs.Tally.{PageTally}
 use Rattle.flagops_filters.specs.Join.{JoinsAllFiles}
 use Rattle.flagops_filters.specs.Joined.{JoinsUnless}
-use Rattle.flagops_filters.specs.Remarks.{RemarksOnePath}
+use Rattle.flagops_filters.specs.Remarks.{RemarksUnjoinedOf}
 use Rattle.flagops_filters.specs.Words.{joining_view}
 use Rattle.flagops_filters.proofs.Joins.{refused, reported}
 use Rattle.flagops_filters.proofs.joining.reported.Goals as goal
@@ -23,4 +23,5 @@ returns-in-Err-clause-exact g c =
 
 pub returns-in-Err-clause-names : goal.returns-in-Err-clause-names
 returns-in-Err-clause-names g c =
-    subst (λ (ps : List (Bor (List ℕ))). RemarksOnePath {X = PageTally} (c.args.asked.now.first.now ∷ map (λ p. p.now) ps) (Err c.in-Err.told)) c.as_slice.ensures.value c.in-Err.ensures.names
+    let h = g.F.FileSet.holding c.args.files.now in
+    subst (λ (ps : List (Bor (List ℕ))). IfSome h (λ at. RemarksUnjoinedOf {X = PageTally} at (c.args.asked.now.first.now ∷ map (λ p. p.now) ps) (Err c.in-Err.told))) c.as_slice.ensures.value c.in-Err.ensures.names

@@ -1,4 +1,4 @@
-use Rattle.std.proofs.Common.{ap, option_map, refl, unwrap_or, ◌∙◌}
+use Rattle.std.proofs.Common.{ap, ◌∙◌}
 use Rattle.flag_defs.specs.Flags.{flags_view}
 use Rattle.flagops_files.specs.Refusal as files
 use Rattle.flagops_filters.specs.Record.{record_call}
@@ -10,13 +10,13 @@ use Rattle.flagops_filters.proofs.recording.recorded.Goals as goal
 
 pub returns-in-Ok-clause-answers : goal.returns-in-Ok-clause-answers
 returns-in-Ok-clause-answers g c =
-    over_document c.args.console.now c.over.new.console c.over.result (recording_view c.args.asked.now) (g.I.Inlet.is_broken c.over.new.input) (g.F.FileSet.has_failed c.load_flags.new.files)
-    (g.F.FileSet.holding c.args.files.now) (g.I.Inlet.bytes c.args.input.now) (flags_view c.in-Ok.flags) (unwrap_or (option_map (λ m. m.number) c.args.asked.now.moment) 0) c.in-Ok.ensures.exact refl c.over.ensures
+    over_document c.args.console.now c.over.new.console c.over.result (recording_view c.args.asked.now) c.args.now (g.I.Inlet.is_broken c.over.new.input) (g.F.FileSet.has_failed c.load_flags.new.files)
+    (g.F.FileSet.holding c.args.files.now) (g.I.Inlet.bytes c.args.input.now) (flags_view c.in-Ok.flags) c.in-Ok.ensures.exact c.over.ensures
 
 pub returns-in-Err-clause-answers : goal.returns-in-Err-clause-answers
 returns-in-Err-clause-answers g c =
     let e = c.in-Err.unread in
-    unloaded c.args.console.now c.refuse.new.console c.refuse.result (recording_view c.args.asked.now) (g.I.Inlet.is_broken c.args.input.now) (g.F.FileSet.has_failed c.load_flags.new.files)
+    unloaded c.args.console.now c.refuse.new.console c.refuse.result (recording_view c.args.asked.now) c.args.now (g.I.Inlet.is_broken c.args.input.now) (g.F.FileSet.has_failed c.load_flags.new.files)
     (g.F.FileSet.holding c.args.files.now) (g.I.Inlet.bytes c.args.input.now) e c.of.result c.in-Err.ensures.exact c.of.ensures.refusal c.of.ensures.remark c.in-Err.ensures.names
     (fails_so (g.F.FileSet.has_failed c.args.files.now) (g.F.FileSet.has_failed c.load_flags.new.files) (files.is_unread e.refusal) c.in-Err.ensures.failed) c.refuse.ensures
 

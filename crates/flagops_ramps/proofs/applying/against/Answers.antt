@@ -3,19 +3,20 @@ use Rattle.flag_defs.specs.Flags.{flags_view}
 use Rattle.flagops_shell.specs.Report.{outcome_view}
 use Rattle.plan_text.specs.Answer.{planned_view}
 use Rattle.plan_text.specs.declared.planned.Planned.{Planned}
-use Rattle.flagops_ramps.specs.Apply.{IsStepApplied}
+use Rattle.flagops_ramps.specs.Apply.{IsStepOver}
 use Rattle.flagops_ramps.specs.Report.{GivesOne}
+use Rattle.flagops_ramps.specs.Words.{applying_view}
 use Rattle.flagops_ramps.proofs.Applied.{answered_so, unanswered}
 use Rattle.flagops_ramps.proofs.applying.against.Goals as goal
 
 pub returns-in-Ok-clause-exact : goal.returns-in-Ok-clause-exact
 returns-in-Ok-clause-exact g c =
-    let a = c.args.asked.now in
-    let flags = flags_view c.args.flags.now in
-    let gives = subst (λ (xs : List Planned). GivesOne outcome_view c.put.result (IsStepApplied a.key.now a.site a.step (Ok flags) (Ok (map planned_view xs)))) c.as_slice.ensures.value c.put.ensures.exact in
-    answered_so a.key.now a.site a.step flags (g.F.FileSet.holding c.args.files.now) a.ramp.now (map planned_view c.in-Ok.answers.items) c.put.result c.in-Ok.ensures.exact gives
+    let a = applying_view c.args.asked.now in
+    let document = c.args.document.now.bytes.items in
+    let flags = flags_view c.args.document.now.flags in
+    let gives = subst (λ (xs : List Planned). GivesOne outcome_view c.put.result (IsStepOver a document flags (Ok (map planned_view xs)))) c.as_slice.ensures.value c.put.ensures.exact in
+    answered_so a document flags (g.F.FileSet.holding c.args.files.now) (map planned_view c.in-Ok.answers.items) c.put.result c.in-Ok.ensures.exact gives
 
 pub returns-in-Err-clause-exact : goal.returns-in-Err-clause-exact
 returns-in-Err-clause-exact g c =
-    let a = c.args.asked.now in
-    unanswered a.key.now a.site a.step (flags_view c.args.flags.now) (g.F.FileSet.holding c.args.files.now) a.ramp.now c.in-Err.told c.in-Err.ensures.exact
+    unanswered (applying_view c.args.asked.now) c.args.document.now.bytes.items (flags_view c.args.document.now.flags) (g.F.FileSet.holding c.args.files.now) c.in-Err.told c.in-Err.ensures.exact

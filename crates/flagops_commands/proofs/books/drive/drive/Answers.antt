@@ -4,6 +4,7 @@ use Rattle.flagops_drive.specs.File.{file_view}
 use Rattle.flagops_commands.specs.Refusal.{loads_book, loads_flags, loads_tree}
 use Rattle.flagops_commands.specs.Drive.{HasNoAsks, HasUnreadAsk}
 use Rattle.flagops_commands.proofs.Driving.{at_first, driven, left_by_storing, no_asks, no_book, no_document, not_driven}
+use Rattle.flagops_commands.proofs.Losing.{driven_by, told_written}
 use Rattle.flagops_commands.proofs.Summary.{told_numbers}
 use Rattle.flagops_shell.proofs.Kept.{kept_after, others_after}
 use Rattle.flagops_commands.proofs.Refusing.{by_another, by_name, failed_last, for_no_asks, for_unread, in_any_case, in_any_mode, none_driven, wrong_workers}
@@ -12,7 +13,7 @@ use Rattle.flagops_commands.proofs.books.drive.drive.Goals as goal
 
 pub returns-in_err-flags-clause-exact : goal.returns-in_err-flags-clause-exact
 returns-in_err-flags-clause-exact g c =
-    let told = no_document c.args.document.now c.args.asks.now c.args.workers c.args.book.now c.args.add c.args.strict c.args.json _ _ c.in_err-flags.field-0.0 c.load_flags.ensures.kept c.in_err-flags.ensures.exact in search rules
+    let told = no_document c.args.document.now c.args.asks.now c.args.workers c.args.book.now c.args.add c.args.replace c.args.strict c.args.json _ _ c.in_err-flags.field-0.0 c.load_flags.ensures.kept c.in_err-flags.ensures.exact in search rules
 
 pub returns-in_err-flags-clause-left : goal.returns-in_err-flags-clause-left
 returns-in_err-flags-clause-left g c = inl c.load_flags.ensures.kept
@@ -35,7 +36,7 @@ returns-in_err-flags-clause-unread g c =
 pub returns-in_err-loaded-clause-exact : goal.returns-in_err-loaded-clause-exact
 returns-in_err-loaded-clause-exact g c =
     let told =
-    no_asks c.args.document.now c.args.asks.now c.args.workers c.args.book.now c.args.add c.args.strict c.args.json (flags_view c.in_ok-flags.flags) _ _ c.in_err-loaded.field-0.0 (c.load_asks.ensures.kept ∙ c.load_flags.ensures.kept) c.in_ok-flags.ensures.exact
+    no_asks c.args.document.now c.args.asks.now c.args.workers c.args.book.now c.args.add c.args.replace c.args.strict c.args.json (flags_view c.in_ok-flags.flags) _ _ c.in_err-loaded.field-0.0 (c.load_asks.ensures.kept ∙ c.load_flags.ensures.kept) c.in_ok-flags.ensures.exact
     (at_first _ _ _ c.load_flags.ensures.kept c.in_err-loaded.ensures.exact) in
     search rules
 
@@ -60,7 +61,7 @@ returns-in_err-loaded-clause-unread g c =
 pub returns-in_err-before-clause-exact : goal.returns-in_err-before-clause-exact
 returns-in_err-before-clause-exact g c =
     let told =
-    no_book c.args.document.now c.args.asks.now c.args.workers c.args.book.now c.args.add c.args.strict c.args.json (flags_view c.in_ok-flags.flags) (file_view c.in_ok-loaded.loaded) _ _ c.in_err-before.field-0.0 (c.book_before.ensures.kept ∙ (c.load_asks.ensures.kept ∙ c.load_flags.ensures.kept))
+    no_book c.args.document.now c.args.asks.now c.args.workers c.args.book.now c.args.add c.args.replace c.args.strict c.args.json (flags_view c.in_ok-flags.flags) (file_view c.in_ok-loaded.loaded) _ _ c.in_err-before.field-0.0 (c.book_before.ensures.kept ∙ (c.load_asks.ensures.kept ∙ c.load_flags.ensures.kept))
     c.in_ok-flags.ensures.exact (at_first _ _ _ c.load_flags.ensures.kept c.in_ok-loaded.ensures.exact) (at_first _ _ _ (c.load_asks.ensures.kept ∙ c.load_flags.ensures.kept) c.in_err-before.ensures.exact) in
     search rules
 
@@ -85,7 +86,7 @@ returns-in_err-before-clause-unread g c =
 pub returns-in_err-drive_output-clause-exact : goal.returns-in_err-drive_output-clause-exact
 returns-in_err-drive_output-clause-exact g c =
     let told =
-    not_driven c.args.document.now c.args.asks.now c.args.workers c.args.book.now c.args.add c.args.strict c.args.json (flags_view c.in_ok-flags.flags) (file_view c.in_ok-loaded.loaded) c.in_ok-before.before _ _ c.in_err-drive_output.field-0.0 (c.book_before.ensures.kept ∙ (c.load_asks.ensures.kept ∙ c.load_flags.ensures.kept))
+    not_driven c.args.document.now c.args.asks.now c.args.workers c.args.book.now c.args.add c.args.replace c.args.strict c.args.json (flags_view c.in_ok-flags.flags) (file_view c.in_ok-loaded.loaded) c.in_ok-before.before _ _ c.in_err-drive_output.field-0.0 (c.book_before.ensures.kept ∙ (c.load_asks.ensures.kept ∙ c.load_flags.ensures.kept))
     c.in_ok-flags.ensures.exact (at_first _ _ _ c.load_flags.ensures.kept c.in_ok-loaded.ensures.exact) (at_first _ _ _ (c.load_asks.ensures.kept ∙ c.load_flags.ensures.kept) c.in_ok-before.ensures.exact) c.in_err-drive_output.ensures.exact in
     search rules
 
@@ -111,7 +112,7 @@ returns-in_err-drive_output-clause-unread g c =
 
 pub returns-clause-exact : goal.returns-clause-exact
 returns-clause-exact g c =
-    driven c.args.document.now c.args.asks.now c.args.workers c.args.book.now c.args.add c.args.strict c.args.json (flags_view c.in_ok-flags.flags) (file_view c.in_ok-loaded.loaded) c.in_ok-before.before _ _ (drive_output_view c.in_ok-drive_output.drive_output) _
+    driven c.args.document.now c.args.asks.now c.args.workers c.args.book.now c.args.add c.args.replace c.args.strict c.args.json (flags_view c.in_ok-flags.flags) (file_view c.in_ok-loaded.loaded) c.in_ok-before.before _ _ (drive_output_view c.in_ok-drive_output.drive_output) _
     c.in_ok-flags.ensures.exact (at_first _ _ _ c.load_flags.ensures.kept c.in_ok-loaded.ensures.exact) (at_first _ _ _ (c.load_asks.ensures.kept ∙ c.load_flags.ensures.kept) c.in_ok-before.ensures.exact) c.in_ok-drive_output.ensures.exact (at_first _ _ _ (c.book_before.ensures.kept ∙ (c.load_asks.ensures.kept ∙ c.load_flags.ensures.kept)) c.written.ensures.exact)
 
 pub returns-clause-left : goal.returns-clause-left
@@ -143,3 +144,9 @@ pub returns-clause-numbers : goal.returns-clause-numbers
 returns-clause-numbers g c =
     told_numbers c.args.asks.now c.args.book.now c.args.add c.args.json (file_view c.in_ok-loaded.loaded) c.in_ok-before.before c.in_ok-drive_output.drive_output.text.items c.in_ok-drive_output.drive_output.tally c.remark_on-remark.result _ _
     (at_first _ _ _ c.load_flags.ensures.kept c.in_ok-loaded.ensures.exact) (at_first _ _ _ (c.load_asks.ensures.kept ∙ c.load_flags.ensures.kept) c.in_ok-before.ensures.exact) c.in_ok-drive_output.ensures.tally c.remark_on-remark.ensures.numbers c.written.ensures.remark
+
+pub returns-clause-calls : goal.returns-clause-calls
+returns-clause-calls g c = driven_by c.written.result c.written.ensures.calls
+
+pub returns-clause-names : goal.returns-clause-names
+returns-clause-names g c = told_written c.args.document.now c.args.asks.now c.args.book.now c.written.result c.written.ensures.names

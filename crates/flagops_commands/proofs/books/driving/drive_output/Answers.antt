@@ -1,4 +1,5 @@
 use Rattle.std.proofs.Common.{◌≡◌, ◌∙◌, ℕ, Ok, Err, ap, sym, subst, false}
+use Rattle.book_core.specs.Reading.{book_of}
 use Rattle.flagops_drive.specs.Asks.{asks_of}
 use Rattle.flagops_drive.specs.Driven.{drive_output_view, refusal_of}
 use Rattle.flagops_drive.specs.File.{file_view}
@@ -43,3 +44,6 @@ returns-in-Ok-clause-refused g c = λ e is.
 
 pub returns-in-Ok-clause-tally : goal.returns-in-Ok-clause-tally
 returns-in-Ok-clause-tally g c = if_same c.recorded.result c.in-Ok.drive_output (IsTallied c.args.before c.args.json) c.recorded.ensures.same c.in-Ok.ensures.tally
+
+pub returns-in-Ok-clause-file : goal.returns-in-Ok-clause-file
+returns-in-Ok-clause-file g c = if_same c.recorded.result c.in-Ok.drive_output (λ d. book_of d.book.items ≡ Ok d.rest.book) c.recorded.ensures.same c.in-Ok.ensures.file

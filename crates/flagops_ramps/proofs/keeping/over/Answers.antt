@@ -1,0 +1,12 @@
+use Rattle.std.proofs.Common.{ap, inl, map, refl, ℕ, Vec, Global}
+use Rattle.flagops_files.specs.Question.{book_question_view}
+use Rattle.plan_text.specs.Answer.{planned_view}
+use Rattle.ramp_steps.specs.Steps.{requests_view}
+use Rattle.flagops_ramps.specs.Words.{keeping_view}
+use Rattle.flagops_ramps.proofs.Kept.{over_counted, over_want}
+use Rattle.flagops_ramps.proofs.keeping.over.Goals as goal
+
+pub returns-clause-exact : goal.returns-clause-exact
+returns-clause-exact g c =
+    over_counted (keeping_view c.args.asked.now) c.args.question.document.items (book_question_view c.args.question) (map planned_view c.args.answers.now) (requests_view c.args.steps.now) _ _ c.count.new.question.document.items
+    (book_question_view c.count.new.question) c.counted.result (ap (λ (v : Vec ℕ Global). v.items) c.count.ensures.document) c.count.ensures.kept c.counted.ensures.exact
