@@ -41,12 +41,18 @@ class SourcesTest(unittest.TestCase):
     def test_nothing_is_forgotten(self):
         """No clause refuses a body that loses memory, so no body calls what does. One takes a box apart, which another makes again."""
         found = []
-        for crate in ("held_box", "kept_lines", "library_seat", "flagops_c"):
+        for crate in ("held_box", "kept_lines", "library_seat", "library_rollouts", "flagops_c"):
             folder = os.path.join(ROOT, "crates", crate, "src")
             for name in sorted(os.listdir(folder)):
                 with open(os.path.join(folder, name), encoding="utf-8") as file:
                     found += [(crate, word) for word in re.findall(r"\b(?:forget|\w*leak\w*|into_raw\w*|ManuallyDrop)\b", file.read())]
         self.assertEqual(found, [("held_box", "into_raw_with_allocator")])
+
+    def test_few_calls(self):
+        """The header has 20 calls at most."""
+        with open(os.path.join(ROOT, "library", "flagops.h"), encoding="utf-8") as file:
+            calls = re.findall(r"^(?:uint32_t|void) flagops_\w+\(", file.read(), re.M)
+        self.assertLessEqual(len(calls), 20)
 
 
 class LibraryTest(WithLibrary):
@@ -63,6 +69,12 @@ class LibraryTest(WithLibrary):
     def test_answers(self):
         self.assert_passes("answers", "cc")
 
+    def test_rollouts(self):
+        self.assert_passes("rollouts", "cc")
+
+    def test_examples(self):
+        self.assert_passes("examples", "cc")
+
     def test_threads(self):
         self.assert_passes("threads", "cc")
 
@@ -74,6 +86,9 @@ class LibraryTest(WithLibrary):
 
     def test_it_agrees_with_the_program(self):
         self.assert_passes("agree")
+
+    def test_rollouts_agree_with_the_program(self):
+        self.assert_passes("plans")
 
     def test_the_header_is_the_shipped_one(self):
         for name in ("flagops.h", "flagops.pc"):
