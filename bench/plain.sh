@@ -132,6 +132,14 @@ old, new = put("old.json", [[name, 1000] for name in names]), put("new.json", [[
 prices = put("prices.json", {"plan": 1, "flag": "f", "totals": {}, "prices": [[names[i], names[i + 1], i % 100] for i in range(999)]})
 keys = put("keys.json", [f"checkoutuser-{i:06}" for i in range(175_000)])
 both("`price`, 175,000 keys", ["price", old, new, prices, keys])
+for count in (8, 64):
+    document, _ = rollout(count, 1_000_000)
+    with open(document) as file:
+        edited = json.load(file)
+    buckets = edited["flags"]["checkout"]["targeting"]["fractional"]
+    for place, bucket in enumerate(buckets):
+        bucket[1] += 1000 if place % 2 else -1000
+    both(f"`compare`, total 10^6, {count} names, 1,000,000 inputs", ["compare", document, put("edited.json", edited), recorded, "--flag", "checkout"])
 both("start", ["--version"])
 document, request = rollout(8, 1_000_000)
 for inputs in (100_000, 1_000_000, 4_000_000):

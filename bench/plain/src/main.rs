@@ -1,8 +1,9 @@
-//! The commands `bucket`, `price`, `check`, `plan`, `verify`, `record`, `tally` and `ofrep` of `flagops` in plain Rust, unproved:
+//! The commands `bucket`, `price`, `check`, `compare`, `plan`, `verify`, `record`, `tally` and `ofrep` of `flagops` in plain Rust, unproved:
 //! what the proved program is timed beside. It knows the files that the scripts of `bench/` make, and stops with a message at any
 //! other.
 mod book;
 mod check;
+mod compare;
 mod flow;
 mod ofrep;
 mod plan;
@@ -65,6 +66,7 @@ fn run(words: &[&str]) -> Result<String, Fault> {
         ["bucket", rule, key] => bucket(rule, key),
         ["price", old, new, request, keys] => price(old, new, request, keys),
         ["check", document] => check::check(&load(document)?),
+        ["compare", old, new, book, "--flag", flag] => compare::compare(&load(old)?, &load(new)?, flag, book),
         ["plan", document, request, book] => plan::plan(&load(document)?, &load(request)?, book),
         ["verify", document, request, book, plan] => {
             plan::verify(&load(document)?, &load(request)?, book, &load(plan)?)
