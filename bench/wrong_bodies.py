@@ -1,0 +1,70 @@
+#!/usr/bin/env python3
+"""Writes docs/WRONG_BODIES.md: each wrong body of the repository, the function that it changes, and the clause that refuses it.
+
+    bench/wrong_bodies.py            writes the page
+    bench/wrong_bodies.py --check    writes nothing; status 1 where the page is not what would be written
+
+A wrong body is an edit, `crates/CRATE/must-fail/NAME.edit` where the gate tries it, or `bench/wrong/CRATE/NAME.edit` where
+bench/wrong.sh does. Its line `clause:` says which clause refuses it; the prover passes over that line.
+"""
+import glob
+import os
+import re
+import sys
+
+TOP = os.path.dirname(os.path.dirname(os.path.realpath(__file__)))
+PAGE = os.path.join(TOP, "docs", "WRONG_BODIES.md")
+HEAD = """# Wrong bodies
+
+Each line is an edit of one function that the prover refuses, since a clause of a contract is false of it. `rt ci` tries those of the gate, `bench/wrong.sh [CRATE ..]` the others; [CHECKS.md](CHECKS.md#wrong-bodies) says when. A clause is named as "clause of function", or by the function alone where it has only one. This page is written by `bench/wrong_bodies.py`.
+"""
+
+
+def crates():
+    """The groups of crates.txt with the crates of each, in their order."""
+    groups = []
+    with open(os.path.join(TOP, "crates.txt"), encoding="utf-8") as file:
+        for line in file.read().splitlines()[1:]:
+            if line.startswith("# "):
+                groups.append((line[2:], []))
+            elif line and groups:
+                groups[-1][1].append(re.split("[ :]", line)[0])
+    return groups
+
+
+def edits(crate):
+    """The name of each edit of a crate, where it is tried, the file that it changes, and its clause."""
+    for where, folder in ("gate", f"crates/{crate}/must-fail"), ("by hand", f"bench/wrong/{crate}"):
+        for path in sorted(glob.glob(os.path.join(TOP, folder, "*.edit"))):
+            with open(path, encoding="utf-8") as file:
+                lines = file.read().splitlines()
+            said = {key: line[len(key) :].strip() for line in reversed(lines) for key in ("clause: ", "file: ") if line.startswith(key)}
+            yield os.path.basename(path)[: -len(".edit")], where, said.get("file: ", ""), said.get("clause: ", "")
+
+
+def page():
+    """The text of the page."""
+    text = HEAD
+    for group, names in crates():
+        rows = [(crate, *edit) for crate in names for edit in edits(crate)]
+        if rows:
+            text += f"\n## {group.split(':')[0]}\n\n| crate | wrong body | tried | file | refused by |\n|---|---|---|---|---|\n"
+            text += "".join(f"| `{crate}` | {name} | {where} | `{file}` | {clause} |\n" for crate, name, where, file, clause in rows)
+    return text
+
+
+def main(words):
+    text = page()
+    if words == ["--check"]:
+        with open(PAGE, encoding="utf-8") as file:
+            if file.read() != text:
+                print("docs/WRONG_BODIES.md is not the page of the edits that are here: run bench/wrong_bodies.py", file=sys.stderr)
+                return 1
+        return 0
+    with open(PAGE, "w", encoding="utf-8") as file:
+        file.write(text)
+    return 0
+
+
+if __name__ == "__main__":
+    sys.exit(main(sys.argv[1:]))
