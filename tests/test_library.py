@@ -48,6 +48,12 @@ class SourcesTest(unittest.TestCase):
                     found += [(crate, word) for word in re.findall(r"\b(?:forget|\w*leak\w*|into_raw\w*|ManuallyDrop)\b", file.read())]
         self.assertEqual(found, [("held_box", "into_raw_with_allocator")])
 
+    def test_few_calls(self):
+        """The header has 20 calls at most."""
+        with open(os.path.join(ROOT, "library", "flagops.h"), encoding="utf-8") as file:
+            calls = re.findall(r"^(?:uint32_t|void) flagops_\w+\(", file.read(), re.M)
+        self.assertLessEqual(len(calls), 20)
+
 
 class LibraryTest(WithLibrary):
     def assert_passes(self, part, tool=None):
@@ -62,6 +68,9 @@ class LibraryTest(WithLibrary):
 
     def test_answers(self):
         self.assert_passes("answers", "cc")
+
+    def test_examples(self):
+        self.assert_passes("examples", "cc")
 
     def test_threads(self):
         self.assert_passes("threads", "cc")

@@ -1,0 +1,5 @@
+mod InTurn
+mod Kept
+mod Lines
+mod Made
+mod Planned

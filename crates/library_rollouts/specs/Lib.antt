@@ -1,0 +1,13 @@
+pub use Rattle.bucket_core.specs.Rule
+pub use Rattle.flag_defs.specs.Document
+pub use Rattle.line_tally.specs.Lines
+pub use Rattle.library_seat.specs.Room
+pub mod Apply
+pub mod Plan
+pub mod Reading
+pub mod Refusal
+pub mod Tally
+pub mod Target
+pub mod Verify
+pub mod View
+pub mod Writing
