@@ -6,5 +6,5 @@ ghost use Rattle.library_seat.specs.About.{about_text};
 pub fn about() -> &'static str
     ensures { result.now ≡ about_text }
 {
-    "libflagops 0.1.0\nproved with rattle-kit-13f logic dac8208d650f15bf\n"
+    "libflagops 0.1.0\nproved with rattle-kit-13b logic dac8208d650f15bf\n"
 }
