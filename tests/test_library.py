@@ -41,7 +41,7 @@ class SourcesTest(unittest.TestCase):
     def test_nothing_is_forgotten(self):
         """No clause refuses a body that loses memory, so no body calls what does. One takes a box apart, which another makes again."""
         found = []
-        for crate in ("held_box", "kept_lines", "library_seat", "flagops_c"):
+        for crate in ("held_box", "kept_lines", "library_seat", "library_rollouts", "flagops_c"):
             folder = os.path.join(ROOT, "crates", crate, "src")
             for name in sorted(os.listdir(folder)):
                 with open(os.path.join(folder, name), encoding="utf-8") as file:
@@ -69,6 +69,9 @@ class LibraryTest(WithLibrary):
     def test_answers(self):
         self.assert_passes("answers", "cc")
 
+    def test_rollouts(self):
+        self.assert_passes("rollouts", "cc")
+
     def test_examples(self):
         self.assert_passes("examples", "cc")
 
@@ -83,6 +86,9 @@ class LibraryTest(WithLibrary):
 
     def test_it_agrees_with_the_program(self):
         self.assert_passes("agree")
+
+    def test_rollouts_agree_with_the_program(self):
+        self.assert_passes("plans")
 
     def test_the_header_is_the_shipped_one(self):
         for name in ("flagops.h", "flagops.pc"):

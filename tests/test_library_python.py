@@ -86,6 +86,50 @@ class PackageTest(WithLibrary):
         return client
 
 
+class RolloutsTest(PackageTest):
+    REQUEST = b'{"plan":1,"flag":"color","totals":{"red":40,"blue":60}}'
+
+    def test_the_whole_way(self):
+        client, rollouts, document = self.client(most=1 << 20), self.flagops.rollouts, DOCUMENT.encode()
+        client.open(DOCUMENT)
+        for user in range(300):
+            client.resolve("color", "x", {"targetingKey": str(user)})
+        lines = b"".join(sorted(set(client.notes().splitlines(keepends=True))))
+        counts = rollouts.tally(document, self.REQUEST, lines)
+        self.assertIn(b'"inputs":300,', counts)
+        plan = rollouts.plan(document, self.REQUEST, counts)
+        self.assertTrue(plan.has_rule)
+        rollouts.verify(document, self.REQUEST, counts, plan.file)
+        changed = json.loads(rollouts.apply(document, self.REQUEST, counts, plan.file))
+        totals = {"red": 0, "blue": 0}
+        for name, weight in changed["flags"]["color"]["targeting"]["fractional"]:
+            totals[name] += weight
+        self.assertEqual(totals, {"red": 40, "blue": 60})
+        files = {"d": DOCUMENT, "r": self.REQUEST.decode(), "t": counts.decode()}
+        self.assertEqual(run(["plan", "d", "r", "t"], files).out.encode(), plan.file)
+
+    def test_no_rule(self):
+        rollouts, document = self.flagops.rollouts, DOCUMENT.encode()
+        never = b'{"plan":1,"flag":"color","totals":{"red":100},"forbid":[["blue","red"]]}'
+        counts = rollouts.tally(document, never, b"")
+        plan = rollouts.plan(document, never, counts)
+        self.assertFalse(plan.has_rule)
+        with self.assertRaises(self.flagops.Refused) as refused:
+            rollouts.apply(document, never, counts, plan.file)
+        self.assertEqual(refused.exception.number, 9)
+
+    def test_refusals(self):
+        rollouts, document = self.flagops.rollouts, DOCUMENT.encode()
+        for act, number in (
+            (lambda: rollouts.tally(b"{", b"", b""), 11), (lambda: rollouts.tally(document, b"", b""), 51),
+            (lambda: rollouts.tally(document, self.REQUEST, b"x\n"), 71), (lambda: rollouts.plan(document, self.REQUEST, b""), 81),
+            (lambda: rollouts.verify(document, self.REQUEST, rollouts.tally(document, self.REQUEST, b""), b"x"), 91),
+        ):
+            with self.assertRaises(self.flagops.Refused) as refused:
+                act()
+            self.assertEqual(refused.exception.number, number)
+
+
 class ResolveTest(PackageTest):
     def test_answers(self):
         client = self.client()

@@ -48,7 +48,7 @@ static void fresh(room *r, uint8_t size) {
     r->written = 0x5a5a5a5a;
 }
 
-/* 0 (or FULL), ROOM, or a refusal: the room is written up to `written`, or left alone. */
+/* 0 (or what comes beside a text), ROOM, or a refusal: the room is written up to `written`, or left alone. */
 static void wrote(const room *r, uint32_t number, bool done) {
     size_t end = done ? r->written : 0;
     must(end <= r->room, "no more is written than there is room");
@@ -96,13 +96,34 @@ static void feed(flagops_seat *seat) {
     free(piece.bytes);
 }
 
+static void rollout(unsigned call) {
+    room r;
+    fresh(&r, byte());
+    part document = next_part(), request = next_part(), third = next_part(), plan = { NULL, 0 };
+    uint32_t number;
+    if (call == 8) number = flagops_tally(document.bytes, document.len, request.bytes, request.len, third.bytes, third.len, r.bytes, r.room, &r.written);
+    else if (call == 9) number = flagops_plan(document.bytes, document.len, request.bytes, request.len, third.bytes, third.len, r.bytes, r.room, &r.written);
+    else {
+        plan = next_part();
+        if (call == 10) number = flagops_verify(document.bytes, document.len, request.bytes, request.len, third.bytes, third.len, plan.bytes, plan.len);
+        else number = flagops_apply(document.bytes, document.len, request.bytes, request.len, third.bytes, third.len, plan.bytes, plan.len, r.bytes, r.room, &r.written);
+    }
+    must(number != FLAGOPS_MEMORY, "there is memory");
+    wrote(&r, number, call != 10 && (!number || (call == 9 && number == FLAGOPS_NO_RULE)));
+    reach(call, number, 0);
+    free(document.bytes);
+    free(request.bytes);
+    free(third.bytes);
+    free(plan.bytes);
+}
+
 int LLVMFuzzerTestOneInput(const uint8_t *data, size_t size) {
     flagops_seat seat = FLAGOPS_NONE, other = FLAGOPS_NONE;
     rest = data;
     left = size;
     must(!flagops_new(&seat) && !flagops_record(&seat, 512), "a seat");
     for (int i = 0; i < 32 && left; i++) {
-        unsigned call = byte() % 8;
+        unsigned call = byte() % 12;
         room r;
         part p;
         uint32_t n;
@@ -113,7 +134,8 @@ int LLVMFuzzerTestOneInput(const uint8_t *data, size_t size) {
         case 4: p = next_part(); n = flagops_context(&seat, p.bytes, p.len); reach(4, n, 0); free(p.bytes); break;
         case 5: fresh(&r, byte()); n = flagops_keys(&seat, r.bytes, r.room, &r.written); wrote(&r, n, !n); reach(5, n, 0); break;
         case 6: fresh(&r, byte()); n = flagops_notes(&seat, r.bytes, r.room, &r.written); wrote(&r, n, !n || n == FLAGOPS_FULL); reach(6, n, 0); break;
-        default: must(!flagops_share(&seat, &other) && !flagops_connect(&seat), "seats that share"); reach(7, 0, 0);
+        case 7: must(!flagops_share(&seat, &other) && !flagops_connect(&seat), "seats that share"); reach(7, 0, 0); break;
+        default: rollout(call);
         }
     }
     flagops_close(&seat);

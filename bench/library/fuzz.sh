@@ -17,11 +17,16 @@ CUT = b"\xfe"
 with open(os.path.join(here, "library", "tests", "flags.json"), "rb") as file:
     flags = file.read()
 frame = struct.pack(">IQ", 8 + len(flags), 1) + flags
-ann = b'{"targetingKey":"ann","email":"a@example.com"}'
+ann, request = b'{"targetingKey":"ann","email":"a@example.com"}', b'{"plan":1,"flag":"checkout","totals":{"on":30,"off":70}}'
+lines = b'["checkout",0,null,"checkoutann"]\n["checkout",0,null,"checkoutbob"]\n'
+counts = b'{"tally":1}\n{"by":null,"first":null,"flag":"checkout","inputs":0,"last":null,"site":0,"total":100}\n'
+plan = b'{"alpha":[["off",0,0],["on",0,0]],"beta":[["off",0],["on",0]],"cost":0,"plan":1,"rule":[["on",30],["off",70]]}'
 asks = b"".join(bytes([0, 255, kind, 1, 1]) + CUT.join((key, fallback, ann)) + CUT for kind, key, fallback in ((0, b"checkout", b"false"), (1, b"banner", b'"x"'), (2, b"limit", b"7"), (3, b"theme", b"{}"), (2, b"odd", b"7")))
 kept = b"\x04" + ann + CUT + bytes([1, 255, 0, 1, 1]) + b"checkout" + CUT + b"false" + CUT
 for name, data in {
     "open": b"\x03" + flags + CUT + asks + kept + b"\x05\xff\x06\xff\x07", "feed": b"\x02" + frame[:40] + CUT + b"\x02" + frame[40:] + CUT + asks,
+    "tally": b"\x08\xff" + CUT.join((flags, request, lines)) + CUT, "plan": b"\x09\xff" + CUT.join((flags, request, counts)) + CUT,
+    "verify": b"\x0a" + b"\xff" + CUT.join((flags, request, counts, plan)) + CUT, "apply": b"\x0b" + b"\xff" + CUT.join((flags, request, counts, plan)) + CUT,
 }.items():
     with open(os.path.join(seeds, name), "wb") as file:
         file.write(data)

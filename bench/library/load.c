@@ -1,4 +1,5 @@
-/* THREADS threads resolve, note and take their notes, beside documents that are replaced and snapshots that come by a stream, for so many seconds. Each tenth of the time it prints the memory that is held; the last line says whether it is flat: the most
+/* THREADS threads resolve, note and take their notes, beside documents that are replaced, snapshots that come by a stream and rollouts that
+   are planned, for so many seconds. Each tenth of the time it prints the memory that is held; the last line says whether it is flat: the most
    of the second half is at most a twentieth above that of the first.
      load DOCUMENT SECONDS */
 #include "tests/seats.h"
@@ -54,6 +55,16 @@ static size_t frame_of(uint8_t *frame, uint64_t number, const uint8_t *document,
     return 12 + len;
 }
 
+static void plan_once(const uint8_t *document, size_t len) {
+    static const char *const REQUEST = "{\"plan\":1,\"flag\":\"checkout\",\"totals\":{\"on\":30,\"off\":70}}";
+    static uint8_t counts[8192], plan[8192], text[65536];
+    size_t counts_len, plan_len, text_len;
+    if (flagops_tally(document, len, BYTES(REQUEST), BYTES("[\"checkout\",0,null,\"checkoutann\"]\n"), counts, sizeof counts, &counts_len)
+        || flagops_plan(document, len, BYTES(REQUEST), counts, counts_len, plan, sizeof plan, &plan_len)
+        || flagops_verify(document, len, BYTES(REQUEST), counts, counts_len, plan, plan_len)
+        || flagops_apply(document, len, BYTES(REQUEST), counts, counts_len, plan, plan_len, text, sizeof text, &text_len)) wrong++;
+}
+
 static void publish(flagops_seat *made) {
     pthread_mutex_lock(&lock);
     if (flagops_share(made, &newest)) wrong++;
@@ -81,6 +92,7 @@ int main(int argc, char **argv) {
         size_t size = frame_of(frame, ++replaced, document, len), cut = (size_t)(replaced * 31) % size;
         if (flagops_feed(&stream, frame, cut, &number, &came) || flagops_feed(&stream, frame + cut, size - cut, &number, &came) || !came || number != replaced) wrong++;
         publish(&stream);
+        plan_once(document, len);
         if (time(NULL) >= next) {
             long now = held();
             int half = time(NULL) >= begin + seconds / 2;

@@ -1,5 +1,5 @@
 #!/bin/sh
-# Eight threads over the library beside replacements and a stream: whether memory is flat. Needs a C compiler.
+# Eight threads over the library beside replacements, streams and rollouts: whether memory is flat. Needs a C compiler.
 #   bench/library/load.sh [SECONDS [FOLDER]]     an hour, 3600, is the check; FOLDER has libflagops.a (release/x86_64-linux)
 set -e
 here=$(CDPATH='' cd -- "$(dirname -- "$0")/../.." && pwd -P)

@@ -63,7 +63,13 @@ static uint32_t feed(flagops_seat *seat, const uint8_t *bytes, size_t len) {
     return n;
 }
 
-enum { NEW, OPEN, SHARE, SHARE_FIRST, SHARE_AGAIN, FEED, FEED_PART, FEED_NOTHING, CONNECT, FRAME_END, CONTEXT, RESOLVE, RESOLVE_KEPT, KEYS, RECORD, NOTES, ABOUT, CALLS };
+enum { NEW, OPEN, SHARE, SHARE_FIRST, SHARE_AGAIN, FEED, FEED_PART, FEED_NOTHING, CONNECT, FRAME_END, CONTEXT, RESOLVE, RESOLVE_KEPT, KEYS, RECORD, NOTES, ABOUT, TALLY, PLAN, VERIFY, APPLY, CALLS };
+
+/* The files of a rollout. */
+static const char *const REQUEST = "{\"plan\":1,\"flag\":\"checkout\",\"totals\":{\"on\":30,\"off\":70}}";
+static const char *const LINES = "[\"checkout\",0,null,\"checkoutann\"]\n[\"checkout\",0,null,\"checkoutbob\"]\n";
+static uint8_t counts[4096], plan[4096];
+static size_t counts_len, plan_len;
 
 static uint32_t call(int which, flagops_seat *one, flagops_seat *two, answer *a) {
     switch (which) {
@@ -83,6 +89,10 @@ static uint32_t call(int which, flagops_seat *one, flagops_seat *two, answer *a)
     case KEYS: return a->number = flagops_keys(one, a->bytes, sizeof a->bytes, &a->written);
     case RECORD: return flagops_record(one, 32768);
     case NOTES: return a->number = flagops_notes(one, a->bytes, sizeof a->bytes, &a->written);
+    case TALLY: return a->number = flagops_tally(document, document_len, BYTES(REQUEST), BYTES(LINES), a->bytes, sizeof a->bytes, &a->written);
+    case PLAN: return a->number = flagops_plan(document, document_len, BYTES(REQUEST), counts, counts_len, a->bytes, sizeof a->bytes, &a->written);
+    case VERIFY: return a->number = flagops_verify(document, document_len, BYTES(REQUEST), counts, counts_len, plan, plan_len);
+    case APPLY: return a->number = flagops_apply(document, document_len, BYTES(REQUEST), counts, counts_len, plan, plan_len, a->bytes, sizeof a->bytes, &a->written);
     default: return a->number = flagops_about(a->bytes, sizeof a->bytes, &a->written);
     }
 }
@@ -123,6 +133,8 @@ int main(int argc, char **argv) {
     if (argc != 2) return 2;
     document = load(argv[1], &document_len);
     make_frame();
+    expect(!flagops_tally(document, document_len, BYTES(REQUEST), BYTES(LINES), counts, sizeof counts, &counts_len), "a tally");
+    expect(!flagops_plan(document, document_len, BYTES(REQUEST), counts, counts_len, plan, sizeof plan, &plan_len), "a plan");
     for (int which = 0; which < CALLS; which++) {
         long count = 0;
         while (refused_at(which, count) && count < 100000) count++;

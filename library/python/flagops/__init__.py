@@ -4,11 +4,12 @@
     if client.resolve("checkout", False, {"targetingKey": "ann"}).value:
         ...
 
-`FlagopsProvider(client)` is a provider for OpenFeature's SDK.
+`FlagopsProvider(client)` is a provider for OpenFeature's SDK. `rollouts` plans over the note lines of what was resolved.
 """
+from . import rollouts
 from ._library import Refused
 from ._recording import NotRecorded
 from .client import Client, Resolution
 from .provider import FlagopsProvider
 
-__all__ = ["Client", "FlagopsProvider", "NotRecorded", "Refused", "Resolution"]
+__all__ = ["Client", "FlagopsProvider", "NotRecorded", "Refused", "Resolution", "rollouts"]

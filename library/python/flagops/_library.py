@@ -5,8 +5,9 @@ import ctypes as c
 import os
 import threading
 
-OK, MEMORY, EMPTY, ROOM, KEY, KIND, MOMENT, FULL, NO_CONTEXT = range(9)
+OK, MEMORY, EMPTY, ROOM, KEY, KIND, MOMENT, FULL, NO_CONTEXT, NO_RULE = range(10)
 DOCUMENT, FALLBACK, CONTEXT, FRAME = 10, 20, 30, 40
+ROLLOUT, NOTES, TALLY, PLAN, CHECK, KEEP = 50, 70, 80, 90, 100, 110
 BOOL, STRING, INTEGER, OBJECT = range(4)
 REASONS = ("STATIC", "DEFAULT", "TARGETING_MATCH", "DISABLED", "ERROR")
 CODES = (None, "PROVIDER_NOT_READY", "FLAG_NOT_FOUND", "PARSE_ERROR", "TYPE_MISMATCH", "INVALID_CONTEXT", "GENERAL")
@@ -15,12 +16,24 @@ _OF_TEXT = ("no JSON text", "a number that is not whole", "too large", "too deep
 _WHY = {
     MEMORY: "memory ran out", EMPTY: "there is no seat", ROOM: "the answer needs more room", KEY: "the key is no text",
     KIND: "no kind of value has this number", MOMENT: "the moment is too late", FULL: "a note line had no room",
-    NO_CONTEXT: "no context was read",
+    NO_CONTEXT: "no context was read", NO_RULE: "the plan has no rule, since none fits the request",
     **{DOCUMENT + 1 + i: f"the document: {why}" for i, why in enumerate(("no JSON text", "no object of flags", "too large"))},
     **{FALLBACK + 1 + i: f"the default: {why}" for i, why in enumerate(_OF_TEXT)},
     **{CONTEXT + 1 + i: f"the context: {why}" for i, why in enumerate(_OF_TEXT)},
     **{FRAME + 1 + i: f"the stream: {why}" for i, why in enumerate((
         "a length that no frame has", "a number that is not above the last one", "a document that is refused", "it had a fault before"))},
+    **{ROLLOUT + i: f"the rollout: {why}" for i, why in {
+        1: "no request", 2: "no such flag", 3: "no such fractional operation", 4: "a bucket is computed", 5: "a name is none of the variants",
+        6: "the totals cannot sum to the rule's", 7: "the rule's total is too large", 9: "the weights sum to 0", 10: "the changed document is too large",
+        11: "the tally is of another page or total"}.items()},
+    **{NOTES + 1 + i: f"the note lines: {why}" for i, why in enumerate(("a line of no note", "a line that is not above the one before it", "too many inputs"))},
+    **{TALLY + 1 + i: f"the tally: {why}" for i, why in enumerate((
+        "another first line", "another second line", "a line of no point", "a point that is not above the one before it", "inputs that do not add up"))},
+    **{PLAN + 1 + i: f"the plan: {why}" for i, why in enumerate(("no plan file", "too large"))},
+    **{CHECK + 1 + i: f"the plan is not right: {why}" for i, why in enumerate((
+        "another total", "totals out of their limits", "a change that is forbidden", "prices above that of a change", "prices that do not sum to the cost",
+        "another cost", "names that show nothing", "prices of other groups or names"))},
+    **{KEEP + 1 + i: f"the document: {why}" for i, why in enumerate(("the buckets stand in an evaluator", "too long with the rule", "it would mean other flags"))},
 }
 
 
@@ -55,6 +68,10 @@ _CALLS = {
     "record": [_SEAT, _SIZE],
     "notes": [_SEAT, *_OUT],
     "about": _OUT,
+    "tally": [_TEXT, _SIZE] * 3 + _OUT,
+    "plan": [_TEXT, _SIZE] * 3 + _OUT,
+    "verify": [_TEXT, _SIZE] * 4,
+    "apply": [_TEXT, _SIZE] * 4 + _OUT,
 }
 
 
@@ -164,6 +181,21 @@ def about(library: c.CDLL) -> str:
     out, written = c.create_string_buffer(1024), c.c_size_t(0)
     _must(library.flagops_about(out, len(out), c.byref(written)))
     return out[: written.value].decode()
+
+
+def on_files(call, *files: bytes) -> tuple[int, bytes]:
+    """What a call makes of some files, written into as much room as it wants; and OK, or NO_RULE where it says so beside a text."""
+    words = [word for data in files for word in (data, len(data))]
+    written, room = c.c_size_t(0), 4096
+    while True:
+        out = c.create_string_buffer(room)
+        number = call(*words, out, room, c.byref(written))
+        if number != ROOM:
+            break
+        room = written.value
+    if number not in (OK, NO_RULE):
+        raise Refused(number)
+    return number, out.raw[: written.value]
 
 
 def _must(number: int) -> None:
