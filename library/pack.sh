@@ -11,17 +11,19 @@ here=$(CDPATH='' cd -- "$(dirname -- "$0")" && pwd -P)
 kit=${KIT:-$(dirname "$(dirname "$(readlink -f "$(command -v rt)")")")}
 bin=$kit/toolchain/bin
 heap=$kit/c/liblibc_c.a
+# the division of 128-bit numbers, as the kit links it into programs
+numbers=$kit/toolchain/lib/libgcc.a
 work=$(mktemp -d)
 trap 'rm -rf "$work"' EXIT
 
 mkdir -p "$folder"
 printf '{ global: flagops_*; local: *; };\n' >"$work/names.map"
 "$bin/ld.lld" -shared -o "$folder/libflagops.so.0" --version-script "$work/names.map" --soname libflagops.so.0 --build-id=none \
-    --gc-sections -z now -z relro -s --whole-archive "$archive" --no-whole-archive "$heap" --allow-shlib-undefined \
+    --gc-sections -z now -z relro -s --whole-archive "$archive" --no-whole-archive "$heap" "$numbers" --allow-shlib-undefined \
     -L/lib/x86_64-linux-gnu -l:libc.so.6
 
 # One object, so that names between the archive's own objects can be hidden.
-"$bin/ld.lld" -r -o "$work/flagops.o" --whole-archive "$archive" "$heap"
+"$bin/ld.lld" -r -o "$work/flagops.o" --whole-archive "$archive" "$heap" --no-whole-archive "$numbers"
 python3 "$here/hide.py" "$work/flagops.o"
 rm -f "$folder/libflagops.a"
 "$bin/llvm-ar" rcsD "$folder/libflagops.a" "$work/flagops.o"
