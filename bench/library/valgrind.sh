@@ -15,6 +15,7 @@ run() {
 }
 
 run memcheck answers "$here/library/tests/flags.json"
+run memcheck rollouts "$here/library/tests/flags.json"
 run memcheck streams
 run memcheck threads "$here/library/tests/flags.json"
 run helgrind threads "$here/library/tests/flags.json"
