@@ -28,9 +28,10 @@ extern "C" {
 typedef struct { void *address; bool held; } flagops_seat;
 #define FLAGOPS_NONE { NULL, false }
 
-/* Answers. The last four come with the number of a fault: FLAGOPS_DOCUMENT + 1 is a document that is no JSON text. */
+/* Answers. Those from FLAGOPS_DOCUMENT on come with the number of a fault: FLAGOPS_DOCUMENT + 1 is a document that is no JSON text. */
 enum { FLAGOPS_OK, FLAGOPS_MEMORY, FLAGOPS_EMPTY, FLAGOPS_ROOM, FLAGOPS_KEY, FLAGOPS_KIND, FLAGOPS_MOMENT, FLAGOPS_FULL,
-       FLAGOPS_NO_CONTEXT, FLAGOPS_DOCUMENT = 10, FLAGOPS_FALLBACK = 20, FLAGOPS_CONTEXT = 30, FLAGOPS_FRAME = 40 };
+       FLAGOPS_NO_CONTEXT, FLAGOPS_NO_RULE, FLAGOPS_DOCUMENT = 10, FLAGOPS_FALLBACK = 20, FLAGOPS_CONTEXT = 30, FLAGOPS_FRAME = 40,
+       FLAGOPS_ROLLOUT = 50, FLAGOPS_NOTES = 70, FLAGOPS_TALLY = 80, FLAGOPS_PLAN = 90, FLAGOPS_CHECK = 100, FLAGOPS_KEEP = 110 };
 /* of a document */
 enum { FLAGOPS_NOT_JSON = 1, FLAGOPS_NO_FLAGS, FLAGOPS_LARGE_DOCUMENT };
 /* of a fallback, a JSON text of whole numbers, and of a context, whose numbers may be any (it is never NOT_WHOLE) */
@@ -38,6 +39,22 @@ enum { FLAGOPS_NO_TEXT = 1, FLAGOPS_NOT_WHOLE, FLAGOPS_TOO_LARGE, FLAGOPS_TOO_DE
 /* of a stream: a length that no frame has, a number that is not above the last one, a document that is refused, and that there
    was a fault before */
 enum { FLAGOPS_LENGTH = 1, FLAGOPS_NOT_RISING, FLAGOPS_FRAMED_DOCUMENT, FLAGOPS_FAILED };
+/* of a rollout: no request; no such flag, or fractional operation of it; a computed bucket; a name that is no variant; totals that
+   the rule's cannot be; a total above 1,000,000; a rule without weight; a changed document that is too large; another page's tally */
+enum { FLAGOPS_REQUEST = 1, FLAGOPS_UNKNOWN_FLAG, FLAGOPS_NO_SITE, FLAGOPS_COMPUTED, FLAGOPS_UNKNOWN_VARIANT, FLAGOPS_TOTALS_SUM,
+       FLAGOPS_TOTAL_TOO_LARGE, FLAGOPS_NO_WEIGHT = 9, FLAGOPS_LARGE_CHANGE, FLAGOPS_OTHER_TALLY };
+/* of note lines: a line of no note, one that is not above the line before it, and too many inputs */
+enum { FLAGOPS_LINE = 1, FLAGOPS_ORDER, FLAGOPS_TOO_MANY };
+/* of a tally: its first line, its second, a line of a point, the order of points, and inputs that do not add up */
+enum { FLAGOPS_TALLY_HEADER = 1, FLAGOPS_TALLY_PAGE, FLAGOPS_TALLY_LINE, FLAGOPS_TALLY_ORDER, FLAGOPS_TALLY_INPUTS };
+/* of a plan file, which may also be one that would be written */
+enum { FLAGOPS_BAD_PLAN = 1, FLAGOPS_LARGE_PLAN };
+/* of the check of a plan: another total; totals out of the limits; a forbidden change; prices above a change's; prices that do not
+   sum to the cost; another cost; names that show nothing; prices of other groups or names */
+enum { FLAGOPS_WEIGHT = 1, FLAGOPS_TOTALS, FLAGOPS_FORBIDDEN, FLAGOPS_SLACK, FLAGOPS_SUM, FLAGOPS_COST, FLAGOPS_NOT_DEFICIENT,
+       FLAGOPS_GROUPS };
+/* of a document that keeps its text: buckets in an evaluator, a text that is too long, and one that means other flags */
+enum { FLAGOPS_SHARED = 1, FLAGOPS_TOO_LONG, FLAGOPS_DIFFERS };
 
 /* kinds of values, OpenFeature's reasons and its error codes */
 enum { FLAGOPS_BOOL, FLAGOPS_STRING, FLAGOPS_INTEGER, FLAGOPS_OBJECT };
@@ -94,6 +111,29 @@ uint32_t flagops_resolve_kept(flagops_seat *seat, const uint8_t *key, size_t key
 uint32_t flagops_record(flagops_seat *seat, size_t most);
 /* Takes all that are kept. FULL, with them: there was no room for another. EMPTY, ROOM. */
 uint32_t flagops_notes(flagops_seat *seat, uint8_t *out, size_t room, size_t *written);
+
+/* -- rollouts: the bytes of the files that the program's commands of these names take, and no seat -- */
+
+/* The tally of note lines for a request: how many inputs of its page fall on each point of the rule at its site. The lines rise
+   strictly by their bytes, as `LC_ALL=C sort -u` gives them; what stands behind the last line feed is passed over.
+   DOCUMENT + fault, ROLLOUT + fault, NOTES + fault, ROOM. */
+uint32_t flagops_tally(const uint8_t *document, size_t document_len, const uint8_t *request, size_t request_len,
+                       const uint8_t *notes, size_t notes_len, uint8_t *out, size_t room, size_t *written);
+/* The plan file of the rule that fits the request and costs the inputs of the tally the least, with what proves that; or NO_RULE,
+   and the plan file shows that no rule fits. DOCUMENT + fault, TALLY + fault, ROLLOUT + fault, PLAN + fault, ROOM. */
+uint32_t flagops_plan(const uint8_t *document, size_t document_len, const uint8_t *request, size_t request_len,
+                      const uint8_t *tally, size_t tally_len, uint8_t *out, size_t room, size_t *written);
+/* Whether a plan file, whoever made it, is right for the request over the tally.
+   DOCUMENT + fault, TALLY + fault, PLAN + fault, ROLLOUT + fault, CHECK + fault. */
+uint32_t flagops_verify(const uint8_t *document, size_t document_len, const uint8_t *request, size_t request_len,
+                        const uint8_t *tally, size_t tally_len, const uint8_t *plan, size_t plan_len);
+/* The document with the rule of a right plan file at the site of the request, and each other byte as it was. As flagops_verify; then
+   NO_RULE, ROLLOUT + fault, KEEP + fault, ROOM. */
+uint32_t flagops_apply(const uint8_t *document, size_t document_len, const uint8_t *request, size_t request_len,
+                       const uint8_t *tally, size_t tally_len, const uint8_t *plan, size_t plan_len,
+                       uint8_t *out, size_t room, size_t *written);
+
+/* -- the library -- */
 
 /* The library's version, and the kit that it is proved with. ROOM. */
 uint32_t flagops_about(uint8_t *out, size_t room, size_t *written);
