@@ -18,11 +18,13 @@ pub record Uniting : Type 0 where
 abbrev pub uniting_view : code.Uniting → Uniting
 uniting_view u = record { out = u.out.now; files = map (λ f. f.now) u.files.items; torn = u.torn; replace = u.replace }
 
--- `book OUT FILE..`, with `--torn` and `--replace`
+-- `book OUT FILE..`
+abbrev pub book_begun : App
+book_begun = with_rule (with_rule (new_app (codes "book")) (required (codes "OUT"))) (some_words (codes "FILE"))
+
+-- the same with `--torn` and `--replace`
 unfoldable pub book_app : App
-book_app =
-    with_rule (with_rule (with_rule (with_rule (new_app (codes "book")) (required (codes "OUT"))) (some_words (codes "FILE"))) (flag (codes "torn")))
-    (flag (codes "replace"))
+book_app = with_rule (with_rule book_begun (flag (codes "torn"))) (flag (codes "replace"))
 
 abbrev pub uniting_in : List Row → Option Uniting
 uniting_in rows = do

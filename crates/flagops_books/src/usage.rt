@@ -1,7 +1,7 @@
 //! What `book` takes, in the terms of `clap`.
 ghost use Rattle.std.specs.Prelude.{◌≡◌, IfOk};
 ghost use Rattle.clap.specs.Words.{app_of};
-ghost use Rattle.flagops_books.specs.Words.{book_app};
+ghost use Rattle.flagops_books.specs.Words.{book_app, book_begun};
 
 use clap::Command;
 use flagops_words::about;
@@ -13,15 +13,6 @@ use std::alloc::{AllocError, Global};
 pub fn usage<'a>(alloc: Global) -> Result<Command<'a>, AllocError>
     ensures { IfOk result (λ c. app_of c ≡ book_app) }
 {
-    let command = Command::new(alloc, "book")
-        .bin_name("flagops book")?
-        .about(about::BOOK);
-    let out = required(alloc, "OUT", "The book file that is written");
-    let files = some_words(
-        alloc,
-        "FILE",
-        "The files that are read: books, and note lines as record and ofrep write them",
-    );
     let torn = flag(
         alloc,
         "torn",
@@ -32,5 +23,21 @@ pub fn usage<'a>(alloc: Global) -> Result<Command<'a>, AllocError>
         "replace",
         "Write OUT also where inputs that it had are lost",
     );
-    command.arg(out)?.arg(files)?.arg(torn)?.arg(replace)
+    begun(alloc)?.arg(torn)?.arg(replace)
+}
+
+/// The command with the paths of its files.
+fn begun<'a>(alloc: Global) -> Result<Command<'a>, AllocError>
+    ensures { IfOk result (λ c. app_of c ≡ book_begun) }
+{
+    let command = Command::new(alloc, "book")
+        .bin_name("flagops book")?
+        .about(about::BOOK);
+    let out = required(alloc, "OUT", "The book file that is written");
+    let files = some_words(
+        alloc,
+        "FILE",
+        "The files that are read: books, and note lines as record and ofrep write them",
+    );
+    command.arg(out)?.arg(files)
 }
