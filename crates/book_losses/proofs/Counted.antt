@@ -144,7 +144,7 @@ module _ (new : Contents) (lines : List ℕ) where
       → IsCounted new page behind count left → GoesOn (lost + count) left
   goes_over lost count rest behind left page goes begin shorter is =
       let here : lost_inputs (pages_in (lines_of rest)) new ≡ missing (leading (lines_of behind)) (inputs_on new page) + lost_inputs (pages_in (lines_of behind)) new =
-          ap (λ (es : Contents). lost_inputs es new) begin ∙ sum_by-cons (λ (e : PageName × Inputs). missing e.1 (inputs_on new e.0)) (page, leading (lines_of behind)) (pages_in (lines_of behind)) in
+      ap (λ (es : Contents). lost_inputs es new) begin ∙ sum_by-cons (λ (e : PageName × Inputs). missing e.1 (inputs_on new e.0)) (page, leading (lines_of behind)) (pages_in (lines_of behind)) in
       let later : lost_inputs (pages_in (lines_of left)) new ≡ lost_inputs (pages_in (lines_of behind)) new = ap (λ (es : Contents). lost_inputs es new) is.pages in
       record {
         counted = omega (arith, goes.counted, here, later, is.lost);

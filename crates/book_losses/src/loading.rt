@@ -35,12 +35,7 @@ pub fn losses_at<F: FileSet>(
 
 /// The same of a file that has bytes.
 #[tactic(auto, using(crate::proofs::Loaded::counted_so))]
-fn lost_of<F: FileSet>(
-    alloc: Global,
-    files: &mut F,
-    path: &str,
-    new: &Book,
-) -> Result<u64, Refused>
+fn lost_of<F: FileSet>(alloc: Global, files: &mut F, path: &str, new: &Book) -> Result<u64, Refused>
     ensures exact { IfSome (F.holding files.old) (λ at. GivesUnlessWant (λ n. n) result (lost_of (book_at at path.now) new.now)) }
     ensures calls { ComesFrom loads_book result }
     ensures failed { F.has_failed files.new ≡ (F.has_failed files.old || is_file_fault result) }
@@ -60,7 +55,7 @@ fn is_filled<F: FileSet>(alloc: Global, files: &F, path: &str) -> Result<bool, A
     ensures { IfSome (F.holding files.now) (λ at. IfOk result (λ b. b ≡ is_filled (at path.now))) }
 {
     match files.front(alloc, path)? {
-        Some(front) => Ok(!front.is_empty()),
+        Some(front) => Ok(!front.as_slice().is_empty()),
         None => Ok(false),
     }
 }

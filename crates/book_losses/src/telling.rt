@@ -6,12 +6,7 @@ use file_diagnostics::{Lines, Opening};
 use std::alloc::{AllocError, Global};
 
 /// Explains why the book at `path` is not written over, and what else can be done.
-pub fn of_losses(
-    alloc: Global,
-    path: &str,
-    lost: u64,
-    advice: &str,
-) -> Result<String, AllocError>
+pub fn of_losses(alloc: Global, path: &str, lost: u64, advice: &str) -> Result<String, AllocError>
     ensures { IfOk result (λ s. Names path.now (string_bytes s)) }
 {
     let ending = if lost == 1 { "" } else { "s" };

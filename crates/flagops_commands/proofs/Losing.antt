@@ -29,10 +29,10 @@ module _ (old : Option Holding) (book : List ℕ) (new : Contents) where
   Lost at = refused_by Load (losses_at at book new)
 
   pub free : (lossy : Bool) → lossy ≡ true → IfSome old (λ at. replaces_at at book lossy new ≡ Ok tt)
+  unfolding replaces_at
   free lossy is = go old
     where
       go : (h : Option Holding) → IfSome h (λ at. replaces_at at book lossy new ≡ Ok tt)
-      unfolding replaces_at
       go None = tt
       go (Some at) = rw is refl
 

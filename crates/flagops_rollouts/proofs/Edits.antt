@@ -1,11 +1,14 @@
 -- What is told of the edit that comes to mind first.
 use Rattle.std.proofs.Common.{◌≡◌, ◌++◌, ◌∙◌, ap, append-nil, ℕ, Bool, true, List, [], IfSome, Option, Some, None, subst, sym}
-use Rattle.std.specs.Prelude.{IfOk, Result, Ok, Err}
+use Rattle.std.specs.Prelude.{IfOk, Result, Ok, Err, String, string_bytes, sum}
+use Rattle.std.specs.declared.alloc.Global.{Global}
+use Rattle.bucket_core.specs.Rule.{Entries}
+use Rattle.rule_switches.specs.Edit.{IsObvious}
 use Rattle.std.proofs.lemmas.List.{append_assoc}
 use Rattle.file_diagnostics.specs.Named.{Names}
 use Rattle.plan_text.specs.Answer.{Answer}
 use Rattle.flagops_files.specs.Question.{Question}
-use Rattle.flagops_rollouts.specs.ByHand.{IsEditOf, TellsEdit, TellsPlanned, TellsPlannedAt}
+use Rattle.flagops_rollouts.specs.ByHand.{IsEditLine, IsEditOf, IsSwitched, TellsEdit, TellsPlanned, TellsPlannedAt, edit_line}
 use Rattle.flagops_rollouts.specs.Doubts.{IsLonger}
 use Rattle.flagops_rollouts.specs.Loaded.{IsQuestionAt}
 use Rattle.flagops_rollouts.specs.Plan.{Holds}
@@ -72,3 +75,10 @@ module _ (document request book : List ℕ) (m : ℕ) (q : Question) where
   planned_at explain None r asked told is = tt
   planned_at explain (Some at) (Ok o) asked told is = at_one at o.text.items o.remark asked (told is)
   planned_at explain (Some at) (Err e) asked told is = tt
+
+-- ---- the line
+
+pub compared : {E : Type 0} (before after : Entries) (counts : List ℕ) (by_hand all by_plan : ℕ) (r : Result (String Global) E) → IsObvious before after counts by_hand → IsSwitched before after counts by_plan → all ≡ sum counts
+    → IfOk r (λ s. string_bytes s ≡ edit_line by_hand all by_plan) → IfOk r (λ s. IsEditLine true before after counts (string_bytes s))
+compared before after counts by_hand all by_plan (Ok s) obvious switches sums is = (by_hand, by_plan, obvious, switches, is ∙ ap (λ (n : ℕ). edit_line by_hand n by_plan) sums)
+compared before after counts by_hand all by_plan (Err e) obvious switches sums is = tt

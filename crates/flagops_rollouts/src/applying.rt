@@ -27,7 +27,7 @@ use std::alloc::{AllocError, Global};
 /// The document with the rule of a plan file as the buckets of a flag's site, as a line; `none` where the plan has no
 /// rule, whatever the flag and the site are. What the line leaves out of the document is told, or refused where that is asked
 /// for.
-#[tactic(auto, using(crate::proofs::Omissions::told_names), unfolding(crate::specs::Apply::IsApplyReport))]
+#[tactic(auto, using(crate::proofs::Omissions::told_names_of), unfolding(crate::specs::Apply::IsApplyReport))]
 pub fn apply<F: FileSet>(
     alloc: Global,
     files: &mut F,

@@ -1,5 +1,5 @@
 //! What a plan switches beside the edit that comes to mind first.
-ghost use Rattle.std.specs.Prelude.{◌≡◌, ◌≤◌, ◌<◌, if◌then◌else◌, length, nat_le, sum, sum_by, IfOk, None, Some, string_bytes};
+ghost use Rattle.std.specs.Prelude.{◌≡◌, ◌≤◌, ◌<◌, if◌then◌else◌, length, nat_le, sum, sum_by, true, IfOk, None, Some, string_bytes};
 ghost use Rattle.std.specs.Map.{lookup};
 ghost use Rattle.std.specs.Str.{bytes_eq};
 ghost use Rattle.bucket_core.specs.Reading.{rule_of_entries};
@@ -138,7 +138,6 @@ fn sum_within(counts: &[u32]) -> Option<u64>
 }
 
 /// The line of comparable rules, of so many inputs.
-#[tactic(auto, unfolding(crate::specs::ByHand::edit_line))]
 fn compared(
     alloc: Global,
     before: &Rule,
@@ -154,16 +153,20 @@ fn compared(
 {
     let by_hand = obvious_switches(alloc, before, after, counts)?;
     let by_plan = switches(alloc, before, after, counts)?;
-    format!(in alloc; "  your edit by hand, each variant in one block, would switch {by_hand} of {all}; this plan switches {by_plan}\n")
+    edit_words(alloc, by_hand, all, by_plan)
+}
+
+#[tactic(auto, unfolding(crate::specs::ByHand::edit_line))]
+fn edit_words(alloc: Global, by_hand: u64, all: u64, by_plan: u64) -> Result<String, AllocError>
+    ensures { IfOk result (λ s. string_bytes s ≡ edit_line by_hand all by_plan) }
+{
+    format!(in alloc;
+        "  your edit by hand, each variant in one block, would switch {by_hand} of {all}; this plan switches {by_plan}\n"
+    )
 }
 
 /// How many inputs the rules give different names.
-fn switches(
-    alloc: Global,
-    before: &Rule,
-    after: &Rule,
-    counts: &[u32],
-) -> Result<u64, AllocError>
+fn switches(alloc: Global, before: &Rule, after: &Rule, counts: &[u32]) -> Result<u64, AllocError>
     requires total { total_weight after.now ≡ total_weight before.now }
     requires points { length counts.now ≡ total_weight before.now }
     requires few { sum counts.now ≤ tally_inputs }

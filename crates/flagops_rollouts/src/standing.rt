@@ -3,7 +3,7 @@ ghost use Rattle.std.specs.Prelude.{◌≡◌, IfOk, option_map};
 ghost use Rattle.bucket_core.specs.Rule.{entries_view};
 ghost use Rattle.flag_defs.specs.Flag.{flag_view};
 ghost use Rattle.flag_defs.specs.Flags.{flags_view};
-ghost use Rattle.flagops_rollouts.specs.Standing.{are_same, entries_in, has_rule, is_rule};
+ghost use Rattle.flagops_rollouts.specs.Standing.{are_same, entries_in, has_rule};
 
 use bucket_core::Rule;
 use flag_defs::{Flag, Flags};

@@ -48,7 +48,7 @@ pub fn drive<R: Threads + Wait + Sync, F: FileSet>(
     strict: bool,
     json: bool,
 ) -> Result<Outcome, Refused>
-    ensures exact { IfSome (F.holding files.old) (λ at. GivesOne outcome_view result (IsDriveReport at (F.holding files.new) document.now asks.now workers book.now add strict json)) }
+    ensures exact { IfSome (F.holding files.old) (λ at. GivesOne outcome_view result (IsDriveReport at (F.holding files.new) document.now asks.now workers book.now add replace strict json)) }
     ensures calls { ComesFrom drive_calls result }
     ensures failed { F.has_failed files.new ≡ (F.has_failed files.old || is_file_fault result) }
     ensures left { LeavesBook (F.holding files.old) (F.holding files.new) document.now asks.now workers book.now add strict }
