@@ -82,7 +82,15 @@ pub fn drive<R: Threads + Wait + Sync, F: FileSet>(
     let remark = remark_on(alloc, asks, &loaded, &drive_output.tally);
     // The program ends soon, and its memory with it.
     mem::forget((flags, loaded));
-    written(alloc, files, book, drive_output, remark, add || replace)
+    let lossy = may_lose(add, replace);
+    written(alloc, files, book, drive_output, remark, lossy)
+}
+
+/// Whether a book may be written over one of which it lacks inputs: where it was added to, or is to be replaced.
+fn may_lose(add: bool, replace: bool) -> bool
+    ensures { result ≡ (add || replace) }
+{
+    add || replace
 }
 
 /// The book that was there before: that of the file at a path where it is added to, and else none; then a file that is no

@@ -1,14 +1,16 @@
 use Rattle.flag_defs.specs.Flags.{flags_view}
 use Rattle.flagops_drive.specs.Driven.{drive_output_view}
 use Rattle.flagops_drive.specs.File.{file_view}
-use Rattle.flagops_commands.specs.Refusal.{loads_book, loads_flags, loads_tree}
-use Rattle.flagops_commands.specs.Drive.{HasNoAsks, HasUnreadAsk}
+use Rattle.flagops_commands.specs.Refusal.{GivesOne, loads_book, loads_flags, loads_tree}
+use Rattle.flagops_commands.specs.Drive.{HasNoAsks, HasUnreadAsk, IsWritten}
+use Rattle.flagops_shell.specs.Report.{outcome_view}
 use Rattle.flagops_commands.proofs.Driving.{at_first, driven, left_by_storing, no_asks, no_book, no_document, not_driven}
 use Rattle.flagops_commands.proofs.Losing.{driven_by, told_written}
 use Rattle.flagops_commands.proofs.Summary.{told_numbers}
 use Rattle.flagops_shell.proofs.Kept.{kept_after, others_after}
 use Rattle.flagops_commands.proofs.Refusing.{by_another, by_name, failed_last, for_no_asks, for_unread, in_any_case, in_any_mode, none_driven, wrong_workers}
-use Rattle.std.proofs.Common.{◌∙◌, inl, refl, rules}
+use Rattle.std.proofs.Common.{◌∙◌, Bool, IfSome, inl, refl, rules, subst}
+use Rattle.std.specs.Prelude.{Ok}
 use Rattle.flagops_commands.proofs.books.drive.drive.Goals as goal
 
 pub returns-in_err-flags-clause-exact : goal.returns-in_err-flags-clause-exact
@@ -113,7 +115,8 @@ returns-in_err-drive_output-clause-unread g c =
 pub returns-clause-exact : goal.returns-clause-exact
 returns-clause-exact g c =
     driven c.args.document.now c.args.asks.now c.args.workers c.args.book.now c.args.add c.args.replace c.args.strict c.args.json (flags_view c.in_ok-flags.flags) (file_view c.in_ok-loaded.loaded) c.in_ok-before.before _ _ (drive_output_view c.in_ok-drive_output.drive_output) _
-    c.in_ok-flags.ensures.exact (at_first _ _ _ c.load_flags.ensures.kept c.in_ok-loaded.ensures.exact) (at_first _ _ _ (c.load_asks.ensures.kept ∙ c.load_flags.ensures.kept) c.in_ok-before.ensures.exact) c.in_ok-drive_output.ensures.exact (at_first _ _ _ (c.book_before.ensures.kept ∙ (c.load_asks.ensures.kept ∙ c.load_flags.ensures.kept)) c.written.ensures.exact)
+    c.in_ok-flags.ensures.exact (at_first _ _ _ c.load_flags.ensures.kept c.in_ok-loaded.ensures.exact) (at_first _ _ _ (c.load_asks.ensures.kept ∙ c.load_flags.ensures.kept) c.in_ok-before.ensures.exact) c.in_ok-drive_output.ensures.exact (at_first _ _ _ (c.book_before.ensures.kept ∙ (c.load_asks.ensures.kept ∙ c.load_flags.ensures.kept))
+    (subst (λ (b : Bool). IfSome (g.F.FileSet.holding c.book_before.new.files) (λ at. GivesOne outcome_view c.written.result (IsWritten at (g.F.FileSet.holding c.written.new.files) c.args.book.now b (Ok (drive_output_view c.in_ok-drive_output.drive_output))))) c.may_lose-lossy.ensures c.written.ensures.exact))
 
 pub returns-clause-left : goal.returns-clause-left
 returns-clause-left g c =
