@@ -4,7 +4,6 @@ use Rattle.std.specs.Prelude.{Result, Ok, Err, is_ok, slice_get}
 use Rattle.flagops_files.specs.Loading.{max_text}
 use Rattle.flagops_files.specs.Question.{BookQuestion, IsBookQuestionAt, book_question_view}
 use Rattle.flagops_files.specs.Refusal as files
-use Rattle.flagops_files.specs.declared.evidence.Evidence.TheVariants.{Book}
 use Rattle.bucket_core.specs.Rule.{Entries}
 use Rattle.flag_defs.specs.Document.{Definitions}
 use Rattle.flagops_rollouts.proofs.Edited.{asked_there, left_after}
