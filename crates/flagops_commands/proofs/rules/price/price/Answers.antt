@@ -48,7 +48,7 @@ returns-in_err-request-clause-names g c =
     let p = err_from_is_err_and c.from_residual-in_err-request.result c.from_residual-in_err-request.ensures.1 in
     let is : c.from_residual-in_err-request.result ≡ Err c.in_err-request.field-0.0 = p.1 ∙ ap Err p.2 in
     third_refused (file c.args.old.now) (file c.args.new.now) (file c.args.request.now) (IsRule c.args.old.now) (IsRule c.args.new.now) (IsRequest c.args.request.now) (made c.args.keys.now) (g.F.FileSet.holding c.args.files.now) c.from_residual-in_err-request.result
-    c.in_ok-old.old c.in_ok-old.ensures.exact c.in_ok-new.new (at_first _ _ _ c.load_rule.ensures.kept c.in_ok-new.ensures.exact) c.in_err-request.field-0.0 is (at_first _ _ _ (c.load_rule-new.ensures.kept ∙ c.load_rule.ensures.kept) c.in_err-request.ensures.exact) c.in_err-request.ensures.names
+    c.in_ok-old.old c.in_ok-old.ensures.exact c.in_ok-new.new (at_first _ _ _ c.load_rule.ensures.kept c.in_ok-new.ensures.exact) c.in_err-request.field-0.0 is (at_first _ _ _ (c.load_rule-2.ensures.kept ∙ c.load_rule.ensures.kept) c.in_err-request.ensures.exact) c.in_err-request.ensures.names
 
 pub returns-in_err-keys-clause-names : goal.returns-in_err-keys-clause-names
 returns-in_err-keys-clause-names g c =
@@ -56,7 +56,7 @@ returns-in_err-keys-clause-names g c =
     let is : c.from_residual-in_err-keys.result ≡ Err c.in_err-keys.field-0.0 = p.1 ∙ ap Err p.2 in
     let told : TellsOfOne (of_keys c.args.keys.now) c.from_residual-in_err-keys.result = subst (λ (s : Result Outcome Refused). TellsOfOne (of_keys c.args.keys.now) s) (sym is) c.in_err-keys.ensures.names in
     behind_three (file c.args.old.now) (file c.args.new.now) (file c.args.request.now) (IsRule c.args.old.now) (IsRule c.args.new.now) (IsRequest c.args.request.now) (made c.args.keys.now) (g.F.FileSet.holding c.args.files.now) c.from_residual-in_err-keys.result
-    c.in_ok-old.old c.in_ok-old.ensures.exact c.in_ok-new.new (at_first _ _ _ c.load_rule.ensures.kept c.in_ok-new.ensures.exact) (c.in_ok-request.request, is_some c.in_ok-request.remark) (at_first _ _ _ (c.load_rule-new.ensures.kept ∙ c.load_rule.ensures.kept) c.in_ok-request.ensures.exact)
+    c.in_ok-old.old c.in_ok-old.ensures.exact c.in_ok-new.new (at_first _ _ _ c.load_rule.ensures.kept c.in_ok-new.ensures.exact) (c.in_ok-request.field-0.request, is_some c.in_ok-request.field-0.remark) (at_first _ _ _ (c.load_rule-2.ensures.kept ∙ c.load_rule.ensures.kept) c.in_ok-request.ensures.exact)
     (among_first (of_keys c.args.keys.now) ((word old_weights, is_of_rules) ∷ []) c.from_residual-in_err-keys.result told)
 
 pub returns-in_err-outcome-clause-names : goal.returns-in_err-outcome-clause-names
@@ -64,5 +64,5 @@ returns-in_err-outcome-clause-names g c =
     let p = err_from_is_err_and c.from_residual-in_err-outcome.result c.from_residual-in_err-outcome.ensures.1 in
     let is : c.from_residual-in_err-outcome.result ≡ Err c.in_err-outcome.field-0.0 = p.1 ∙ ap Err p.2 in
     behind_three (file c.args.old.now) (file c.args.new.now) (file c.args.request.now) (IsRule c.args.old.now) (IsRule c.args.new.now) (IsRequest c.args.request.now) (made c.args.keys.now) (g.F.FileSet.holding c.args.files.now) c.from_residual-in_err-outcome.result
-    c.in_ok-old.old c.in_ok-old.ensures.exact c.in_ok-new.new (at_first _ _ _ c.load_rule.ensures.kept c.in_ok-new.ensures.exact) (c.in_ok-request.request, is_some c.in_ok-request.remark) (at_first _ _ _ (c.load_rule-new.ensures.kept ∙ c.load_rule.ensures.kept) c.in_ok-request.ensures.exact)
+    c.in_ok-old.old c.in_ok-old.ensures.exact c.in_ok-new.new (at_first _ _ _ c.load_rule.ensures.kept c.in_ok-new.ensures.exact) (c.in_ok-request.field-0.request, is_some c.in_ok-request.field-0.remark) (at_first _ _ _ (c.load_rule-2.ensures.kept ∙ c.load_rule.ensures.kept) c.in_ok-request.ensures.exact)
     (subst (λ (s : Result Outcome Refused). TellsOfOne (made c.args.keys.now) s) (sym is) c.in_err-outcome.ensures.names)
