@@ -1,5 +1,5 @@
 -- Nobody falls back: what holds of the rule of one step, and of all that follow.
-use Rattle.std.proofs.Common.{◌≡◌, ◌≢◌, ℕ, zero, suc, ◌==◌, ◌<◌, ◌≤◌, ◌*◌, Bool, true, false, cond, List, [], ◌∷◌, ◌++◌, length, Option, Some, None, unwrap_or, Result, Ok, Err, Ordering, Less, Equal, Greater, refl, sym, ap, ap₂, ◌∙◌, subst, arith}
+use Rattle.std.proofs.Common.{◌≡◌, ◌≢◌, ℕ, zero, suc, ◌==◌, ◌<◌, ◌≤◌, ◌*◌, Bool, true, false, cond, List, [], ◌∷◌, Option, Some, None, unwrap_or, Result, Ok, Err, Ordering, Less, Equal, Greater, refl, sym, ap, ap₂, ◌∙◌, subst, arith}
 use Rattle.std.specs.BTreeMap.{insert_entry}
 use Rattle.std.specs.Cmp.Lexicographic.{slice_cmp}
 use Rattle.std.specs.List.{AllByRecursion}
@@ -15,17 +15,17 @@ use Rattle.bucket_core.proofs.Hashes.{point_of-below}
 use Rattle.bucket_core.proofs.Points.{at_below, total_of-some}
 use Rattle.bucket_core.proofs.Refined.{choice-refinement, total_weight-refinement}
 use Rattle.bucket_core.specs.Point.{point_of}
-use Rattle.bucket_core.specs.Rule.{Entries, at, choice, refinement, total_of, total_weight}
+use Rattle.bucket_core.specs.Rule.{Entries, at, choice, refinement, total_weight}
 use Rattle.book_core.specs.Book.{Contents, inputs_on}
 use Rattle.flag_defs.specs.Flags.{AreFlags}
 use Rattle.flag_defs.specs.Changes.{rules_with_site, retargeted, with_site}
-use Rattle.flag_defs.specs.Definition.{Definition, Rules, broken, good, are_variants}
+use Rattle.flag_defs.specs.Definition.{Definition, broken, good, are_variants}
 use Rattle.flag_defs.specs.Document.{Definitions}
 use Rattle.flag_defs.specs.Flag.{is_definition, targeting_in, variant_names}
-use Rattle.flag_defs.specs.Rules.{are_rules, are_targetings, is_default, is_targeting}
-use Rattle.logic_ast.specs.Expression.{By, Expression}
+use Rattle.flag_defs.specs.Rules.{are_targetings, is_default, is_targeting}
+use Rattle.logic_ast.specs.Expression.{Expression}
 use Rattle.logic_ast.specs.Formed.{is_formed, is_well_formed}
-use Rattle.logic_ast.specs.Sites.{Site, entries_of, if_entries, if_site, parts_at, replaced, site_at, with_entries}
+use Rattle.logic_ast.specs.Sites.{Site, entries_of, if_entries, if_site, parts_at, site_at, with_entries}
 use Rattle.logic_ast.specs.declared.fault.LogicFault.{LogicFault}
 use Rattle.price_core.specs.Limits.{Limits, high_of, limits_of}
 use Rattle.price_core.specs.Pricing.{is_forbidden}
@@ -45,7 +45,7 @@ use Rattle.rollout_checks.specs.declared.fault.RolloutFault.{RolloutFault}
 use Rattle.rollout_checks.specs.declared.fault.RolloutFault.TheVariants.{NoSite, NoWeight, UnknownFlag, UnknownVariant}
 use Rattle.rollout_checks.specs.declared.refining.Refining.TheVariants.{Times}
 use Rattle.book_core.specs.Site.{page_at}
-use Rattle.ramp.specs.Laws.{AsksAt, ForbidsLeaving, KeptBy, NeverLost, rules_of}
+use Rattle.ramp.specs.Laws.{AsksAt, ForbidsLeaving, NeverLost, rules_of}
 use Rattle.ramp.specs.Ramp.{ArePlans, IsStep, Standing, in_book, with_rule}
 use Rattle.ramp.proofs.Sites.{parts_again}
 
@@ -268,8 +268,8 @@ here_of fs m request book answer step =
     record {
       lawful = subst AreFlags same step.lawful;
       problem = step.plan.0;
-      asks = subst (λ (x : Definitions). Asks x m request step.plan.0) same (asks_of step.flags m request book step.plan.0 step.plan.1.0);
-      plan = step.plan.1.1;
+      asks = subst (λ (x : Definitions). Asks x m request step.plan.0) same (asks_of step.flags m request book step.plan.0 step.plan.1);
+      plan = step.plan.2;
     }
 
 module _ (key : List ℕ) (site : ℕ) (book : Contents) where

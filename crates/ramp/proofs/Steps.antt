@@ -1,5 +1,6 @@
 -- What is answered, or told, of a step on flags.
 use Rattle.std.proofs.Common.{◌≡◌, ℕ, List, Option, Result, Ok, Err, refl, sym, ap, ◌∙◌}
+use Rattle.std.specs.Prelude.{OnOk}
 use Rattle.book_core.specs.Book.{Contents}
 use Rattle.flag_defs.specs.Flags.{AreFlags}
 use Rattle.flag_defs.specs.Document.{Definitions}
@@ -31,6 +32,6 @@ module _ (flags : Definitions) (lawful : AreFlags flags) (m : ℕ) (request : Li
   tally_step t (Err f) (Err e) asks plan = λ other. asks ∙ ap Err (sym (plan other))
 
 pub told_step : (flags : Definitions) (refine : Option ℕ) (request : List ℕ) (recorded : Recorded) (answer : Answer) (result : Result (Unit {0}) VerifyFault)
-    → IsStepTold (Ok flags) refine request recorded answer result → (result ≡ Ok tt → IsStepShown (Ok flags) refine request recorded answer) → TellsStep (Ok flags) refine request recorded answer result
-told_step flags refine request recorded answer (Ok u) told shown = record { told = told; shown = shown refl }
+    → IsStepTold (Ok flags) refine request recorded answer result → OnOk result (IsStepShown (Ok flags) refine request recorded answer) → TellsStep (Ok flags) refine request recorded answer result
+told_step flags refine request recorded answer (Ok u) told shown = record { told = told; shown = shown }
 told_step flags refine request recorded answer (Err e) told shown = λ _. told

@@ -1,7 +1,5 @@
 -- What is answered on the tally of some inputs is answered on a book that has them.
 use Rattle.std.proofs.Common.{◌≡◌, ◌≢◌, ◌∙◌, ◌*◌, ◌==◌, ◌&&◌, ◌<◌, ℕ, zero, suc, List, [], ◌∷◌, length, Bool, true, false, cond, unwrap_or, Option, None, Some, Ordering, Result, Ok, Err, refl, sym, ap, subst}
-use Rattle.std.specs.Map.{lookup}
-use Rattle.std.specs.BTreeMap.{is_at}
 use Rattle.std.specs.Ordering.{is_eq, ordering_reverse}
 use Rattle.std.specs.declared.cmp.Ordering.TheVariants.{Less, Equal, Greater}
 use Rattle.std.proofs.Math.Nat.{mul-div_cancel_left, mul-mod_right}
@@ -9,7 +7,7 @@ use Rattle.bucket_core.proofs.Refined.{total_weight-refinement}
 use Rattle.bucket_core.specs.Rule.{Entries, refinement, total_weight}
 use Rattle.book_core.specs.Book.{Contents, Inputs, inputs_on}
 use Rattle.book_core.specs.Counts.{counts_of}
-use Rattle.book_core.specs.Page.{PageName, page_cmp, page_eq}
+use Rattle.book_core.specs.Page.{page_cmp, page_eq}
 use Rattle.book_core.specs.PageOrder.{pages_total}
 use Rattle.flag_defs.specs.Document.{Definitions}
 use Rattle.plan_text.specs.Answer.{Answer, emit}
@@ -32,7 +30,7 @@ use Rattle.tally_core.specs.Tally.{PageTally}
 use Rattle.transport_instance.specs.Certificate.{DualPrices}
 use Rattle.ramp.specs.Laws.{IsOfInputs, TellsOtherTally}
 use Rattle.ramp.specs.Ramp.{ArePlans, IsPlanOn, IsRefusedAfter, IsStep, IsStepRefused, Recorded, Standing, in_book, in_tally, left_by, still}
-use Rattle.ramp.specs.Right.{AreMiscounted, AreRight, IsRight, IsStepShown, IsStepTold, IsTold, IsWrongAfter}
+use Rattle.ramp.specs.Right.{AreMiscounted, AreRight, IsRight, IsStepTold, IsTold, IsWrongAfter}
 use Rattle.ramp.specs.declared.fault.RampFault.{RampFault}
 use Rattle.ramp.specs.declared.fault.RampFault.TheVariants.{Lines, Step}
 use Rattle.ramp.proofs.Kept.{Asks, asks_of}
@@ -112,8 +110,8 @@ module _ (asks : TalliesAskAsBooks) (book : Contents) (t : PageTally) (counts : 
 
   plan_there : (m : ℕ) (flags : Definitions) (request : List ℕ) (answer : Answer) → IsPlanOn m flags request (in_tally t) answer → IsPlanOn m flags request (in_book book) answer
   plan_there m flags request answer plan =
-      let both = alike (Times m) flags request plan.0 plan.1.0 in
-      (with_inputs plan.0 (inputs_on book t.page), both.0, plan.1.1 (inputs_on book t.page) both.1)
+      let both = alike (Times m) flags request plan.0 plan.1 in
+      (with_inputs plan.0 (inputs_on book t.page), both.0, plan.2 (inputs_on book t.page) both.1)
 
   step_there : (s : Standing) (m : ℕ) (r : List ℕ) (a : Answer) → IsStep s m r (in_tally t) a → IsStep s m r (in_book book) a
   step_there s m r a step = record { flags = step.flags; stands = step.stands; lawful = step.lawful; plan = plan_there m step.flags r a step.plan }
@@ -195,7 +193,7 @@ module _ (asks : TalliesAskAsBooks) (book : Contents) (t : PageTally) (counts : 
   tells_there s f rs answers (Err Lines) other told = miscounted_there s f rs answers told
   tells_there s f rs answers (Err (Step n e)) other told = λ wants.
       let wrong = told wants in
-      (wrong.0, wrong.1.0, wrong_there s f rs answers wrong.0 e wants (λ is. other (n, ap (λ x. Err (Step n x)) is)) wrong.1.1)
+      (wrong.0, wrong.1, wrong_there s f rs answers wrong.0 e wants (λ is. other (n, ap (λ x. Err (Step n x)) is)) wrong.2)
 
 -- ---- a tally of some inputs, and a book with no others
 
@@ -242,20 +240,20 @@ module _ (asks : TalliesAskAsBooks) (t : PageTally) (inputs : Inputs) (of : t.co
   rule_again rule c plan =
       let book = page_book t inputs in
       let there = plan_there asks book t (counts_there t inputs of) m flags r (emit rule c) plan in
-      let asked = asks_of flags m r book there.0 there.1.0 in
+      let asked = asks_of flags m r book there.0 there.1 in
       let w = total_weight asked.place.entries in
-      let total : total_weight rule ≡ w * m = there.1.1.proves.fits.weight ∙ ap total_weight asked.old ∙ total_weight-refinement m asked.place.entries in
+      let total : total_weight rule ≡ w * m = there.2.proves.fits.weight ∙ ap total_weight asked.old ∙ total_weight-refinement m asked.place.entries in
       let same : factor (ToTotal (total_weight rule)) w ≡ m = ap (λ n. factor (ToTotal n) w) total ∙ factor_again m w asked.some in
-      opened there.0 asked (ToTotal (total_weight rule)) ∙ (asked_again t asked.asked asked.place (ToTotal (total_weight rule)) (Times m) same ∙ (sym (opened there.0 asked (Times m)) ∙ plan.1.0))
+      opened there.0 asked (ToTotal (total_weight rule)) ∙ (asked_again t asked.asked asked.place (ToTotal (total_weight rule)) (Times m) same ∙ (sym (opened there.0 asked (Times m)) ∙ plan.1))
 
   -- what is told of a plan where what it was planned for is checked is told of it on the book
   pub told_of_plan : (a : Answer) (plan : IsPlanOn m flags r (in_tally t) a) (e : VerifyFault) → IsTallyOutcome (Ok plan.0) a (Err e)
       → (p : Problem) × (problem_of (Times m) flags r (page_book t inputs) ≡ Ok p) × IsPlan p a × IsOutcome (problem_of (Times m) flags r (page_book t inputs)) a (Err e)
   told_of_plan a plan e told =
       let book = page_book t inputs in
-      let both = alike asks book t (counts_there t inputs of) (Times m) flags r plan.0 plan.1.0 in (
+      let both = alike asks book t (counts_there t inputs of) (Times m) flags r plan.0 plan.1 in (
         with_inputs plan.0 (inputs_on book t.page),
         both.0,
-        plan.1.1 (inputs_on book t.page) both.1,
+        plan.2 (inputs_on book t.page) both.1,
         subst (λ (x : Result Problem RolloutFault). IsOutcome x a (Err e)) (sym both.0) (outcome_over plan.0 (inputs_on book t.page) a (Err e) both.1 told),
       )

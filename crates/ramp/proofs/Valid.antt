@@ -24,23 +24,23 @@ tally_valid : TalliesAskAsBooks → (t : PageTally) (of : IsOfInputs (in_tally t
     → IsTallyOutcome (Ok plan.0) a (Err e) → number_of e ≡ 0
 tally_valid asks t of m flags r a e plan told =
     let it = told_of_plan asks t of.0 of.1 m flags r a plan e told in
-    valid_refined m flags r _ it.0 a (Err e) it.1.0 it.1.1.0 it.1.1.1
+    valid_refined m flags r _ it.0 a (Err e) it.1 it.2 it.3
 
 -- what is told of a plan, on flags
 flags_valid : TalliesAskAsBooks → (recorded : Recorded) → IsOfInputs recorded → (f : Option ℕ) (flags : Definitions) (r : List ℕ) (a : Answer) (e : VerifyFault)
     → IsPlanOn (unwrap_or f 1) flags r recorded a → IsStepTold (Ok flags) f r recorded a (Err e) → number_of e ≡ 0
-flags_valid asks (in_book book) of None flags r a e plan told = valid_plain flags r book plan.0 a (Err e) plan.1.0 plan.1.1 told
-flags_valid asks (in_book book) of (Some m) flags r a e plan told = valid_refined m flags r book plan.0 a (Err e) plan.1.0 plan.1.1 told
+flags_valid asks (in_book book) of None flags r a e plan told = valid_plain flags r book plan.0 a (Err e) plan.1 plan.2 told
+flags_valid asks (in_book book) of (Some m) flags r a e plan told = valid_refined m flags r book plan.0 a (Err e) plan.1 plan.2 told
 flags_valid asks (in_tally t) of None flags r (emit rule c) e plan told =
     tally_valid asks t of 1 flags r (emit rule c) e plan (subst (λ (x : Result TallyProblem RolloutFault). IsTallyOutcome x (emit rule c) (Err e)) (rule_again asks t of.0 of.1 1 flags r rule c plan) told)
 flags_valid asks (in_tally t) of None flags r (none_exists kind names) e plan told =
-    tally_valid asks t of 1 flags r (none_exists kind names) e plan (subst (λ (x : Result TallyProblem RolloutFault). IsTallyOutcome x (none_exists kind names) (Err e)) plan.1.0 told)
-flags_valid asks (in_tally t) of (Some m) flags r a e plan told = tally_valid asks t of m flags r a e plan (subst (λ (x : Result TallyProblem RolloutFault). IsTallyOutcome x a (Err e)) plan.1.0 told)
+    tally_valid asks t of 1 flags r (none_exists kind names) e plan (subst (λ (x : Result TallyProblem RolloutFault). IsTallyOutcome x (none_exists kind names) (Err e)) plan.1 told)
+flags_valid asks (in_tally t) of (Some m) flags r a e plan told = tally_valid asks t of m flags r a e plan (subst (λ (x : Result TallyProblem RolloutFault). IsTallyOutcome x a (Err e)) plan.1 told)
 
 -- a rule that was planned by a factor, where none is given
 rule_told : TalliesAskAsBooks → (recorded : Recorded) → IsOfInputs recorded → (m : ℕ) (flags : Definitions) (r : List ℕ) (rule : Entries) (c : DualPrices) (e : VerifyFault)
     → IsPlanOn m flags r recorded (emit rule c) → IsStepTold (Ok flags) None r recorded (emit rule c) (Err e) → number_of e ≡ 0
-rule_told asks (in_book book) of m flags r rule c e plan told = valid_rule m flags r book plan.0 rule c (Err e) plan.1.0 plan.1.1 told
+rule_told asks (in_book book) of m flags r rule c e plan told = valid_rule m flags r book plan.0 rule c (Err e) plan.1 plan.2 told
 rule_told asks (in_tally t) of m flags r rule c e plan told =
     tally_valid asks t of m flags r (emit rule c) e plan (subst (λ (x : Result TallyProblem RolloutFault). IsTallyOutcome x (emit rule c) (Err e)) (rule_again asks t of.0 of.1 m flags r rule c plan) told)
 

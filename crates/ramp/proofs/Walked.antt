@@ -1,5 +1,5 @@
 -- A walk over the first steps, and what is told of those that are left.
-use Rattle.std.proofs.Common.{◌≡◌, ℕ, suc, ◌+◌, List, [], ◌∷◌, ◌++◌, length, Option, Some, ◌<◌, drop, get_or, add-one, drop-cons, Result, Ok, Err, refl, sym, ap, ◌∙◌, subst}
+use Rattle.std.proofs.Common.{◌≡◌, ℕ, suc, ◌+◌, List, [], ◌∷◌, ◌++◌, length, Option, Some, ◌<◌, drop, get_or, add-one, drop-cons, Err, refl, sym, ap, ◌∙◌, subst}
 use Rattle.plan_text.specs.Answer.{Answer}
 use Rattle.rollout_checks.specs.declared.fault.RolloutFault.{RolloutFault}
 use Rattle.rollout_checks.specs.declared.verify_fault.VerifyFault.{VerifyFault}

@@ -1,5 +1,6 @@
 //! What steps are planned on and checked against.
-ghost use Rattle.std.specs.Prelude.{◌<◌, IfOk, IfSome};
+ghost use denote.Param.Send.{IsSync};
+ghost use Rattle.std.specs.Prelude.{◌<◌, IfOk, IfSome, ⊤};
 ghost use Rattle.flag_defs.specs.Flags.{AreFlags, flags_view};
 ghost use Rattle.plan_text.specs.Answer.{IsOrdered, planned_view};
 ghost use Rattle.plan_text.specs.PlanFile.{IsWhole};
@@ -20,6 +21,9 @@ pub(crate) trait Basis {
     // The inputs of a book, or how many of one page fall on each point.
     ghost recorded: { Self → Recorded };
 
+    // What counting them needs.
+    ghost Needs: { Type 0 };
+
     /// The answer to a request, on the site's rule refined by m. The condition is m from 1.
     fn plan(
         &self,
@@ -28,6 +32,7 @@ pub(crate) trait Basis {
         request: &[u8],
         m: u32,
     ) -> Result<Planned, RolloutFault>
+        requires needs { Needs }
         requires factor { 0 < m }
         requires lawful { AreFlags (flags_view flags.now) }
         ensures exact { AnswersStep (Ok (flags_view flags.now)) m request.now (recorded self.now) result }
@@ -44,11 +49,13 @@ pub(crate) trait Basis {
         refine: Option<u32>,
         planned: &Planned,
     ) -> Result<(), VerifyFault>
-        requires { IfSome refine (λ m. 0 < m) }
+        requires needs { Needs }
+        requires factor { IfSome refine (λ m. 0 < m) }
         ensures { TellsStep (Ok (flags_view flags.now)) refine request.now (recorded self.now) (planned_view planned.now) result };
 }
 
 /// A book, and the threads that count its inputs.
+#[derive(Drop)]
 pub(crate) struct CountedBook<'a, R, B> {
     pub(crate) rt: &'a R,
     pub(crate) book: &'a B,
@@ -56,6 +63,8 @@ pub(crate) struct CountedBook<'a, R, B> {
 
 impl<R: Threads + Sync, B: page_tally::Recorded> Basis for CountedBook<'_, R, B> {
     ghost recorded = { λ b. in_book (B.contents b.book.now) };
+
+    ghost Needs = { IsSync R.row };
 
     fn plan(
         &self,
@@ -84,6 +93,8 @@ impl<R: Threads + Sync, B: page_tally::Recorded> Basis for CountedBook<'_, R, B>
 
 impl Basis for PageTally {
     ghost recorded = { λ tally. in_tally tally };
+
+    ghost Needs = { ⊤ };
 
     fn plan(
         &self,

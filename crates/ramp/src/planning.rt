@@ -69,6 +69,7 @@ fn plan_in_turn<E: Basis>(
     basis: &E,
     m: u32,
 ) -> Result<Vec<Planned>, StepFault>
+    requires needs { E.Needs }
     requires factor { 0 < m }
     requires few { length steps.now < 2 ^ 32 - 1 }
     ensures exact { IsRamp (Ok (flags_view flags.now)) m (requests_view steps.now) (E.recorded basis.now) result }
@@ -108,7 +109,8 @@ fn answer<E: Basis>(
     basis: &E,
     m: u32,
 ) -> Result<Planned, RolloutFault>
-    requires { 0 < m }
+    requires needs { E.Needs }
+    requires factor { 0 < m }
     ensures exact { (s : Standing) → GivesUnless RolloutFault.WantOfMemory flags_view standing.now s → AnswersStep s m request.now (E.recorded basis.now) result }
     ensures ordered { IfOk result (λ p. IsOrdered (planned_view p)) }
     ensures whole { IfOk result (λ p. IsWhole (planned_view p)) }

@@ -70,6 +70,7 @@ fn verify_in_turn<E: Basis>(
     refine: Option<u32>,
     answers: &[Planned],
 ) -> Result<(), RampFault>
+    requires needs { E.Needs }
     requires factor { IfSome refine (λ m. 0 < m) }
     requires few { length steps.now < 2 ^ 32 - 1 }
     ensures told { IsTold (Ok (flags_view flags.now)) refine (requests_view steps.now) (E.recorded basis.now) (map planned_view answers.now) result }
@@ -120,7 +121,8 @@ fn verdict<E: Basis>(
     refine: Option<u32>,
     planned: &Planned,
 ) -> Result<(), VerifyFault>
-    requires { IfSome refine (λ m. 0 < m) }
+    requires needs { E.Needs }
+    requires factor { IfSome refine (λ m. 0 < m) }
     ensures { (s : Standing) → GivesUnless RolloutFault.WantOfMemory flags_view standing.now s → TellsStep s refine request.now (E.recorded basis.now) (planned_view planned.now) result }
 {
     match standing {

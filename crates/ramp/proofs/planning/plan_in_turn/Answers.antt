@@ -1,4 +1,4 @@
-use Rattle.std.proofs.Common.{◌≡◌, ◌<◌, ◌+◌, ℕ, List, [], ◌∷◌, ◌++◌, drop, length, map, Ok, Vec, Global, refl, sym, ap, ◌∙◌, subst, cond, length-append, arith}
+use Rattle.std.proofs.Common.{◌≡◌, ◌+◌, ℕ, List, [], ◌∷◌, ◌++◌, drop, length, map, Ok, Vec, Global, sym, ap, ◌∙◌, subst, cond, length-append, arith}
 use Rattle.std.specs.List.{All}
 use Rattle.std.proofs.lemmas.Bool.{lt-ltb}
 use Rattle.std.proofs.lemmas.List.{drop_all, length-map, map-append}
@@ -7,7 +7,7 @@ use Rattle.flag_defs.specs.Flags.{flags_view}
 use Rattle.plan_text.specs.Answer.{Answer, IsOrdered, planned_view}
 use Rattle.plan_text.specs.PlanFile.{IsWhole}
 use Rattle.plan_text.specs.declared.planned.Planned.{Planned as Made}
-use Rattle.ramp.specs.Ramp.{ArePlans, IsStep, Recorded, Standing, goes_on, left_by, requests_view, still}
+use Rattle.ramp.specs.Ramp.{IsStep, Recorded, Standing, left_by, requests_view, still}
 use Rattle.ramp.proofs.Walked.{Planned, Walks, all_planned, front, refused_after, walk_more}
 use Rattle.ramp.proofs.planning.plan_in_turn.Goals as goal
 

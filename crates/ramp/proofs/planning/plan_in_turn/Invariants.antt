@@ -1,4 +1,4 @@
-use Rattle.std.proofs.Common.{◌≡◌, ◌<◌, ℕ, List, drop, length, map, Ok, Result}
+use Rattle.std.proofs.Common.{◌≡◌, ◌<◌, drop, length, map, Ok}
 use Rattle.std.specs.List.{All}
 use Rattle.flag_text.specs.Outcome.{GivesUnless}
 use Rattle.flag_defs.specs.Flags.{flags_view}

@@ -1,4 +1,4 @@
-use Rattle.std.proofs.Common.{Result, Ok, subst, sym}
+use Rattle.std.proofs.Common.{Result, subst, sym}
 use Rattle.flag_text.specs.Outcome.{GivesUnless}
 use Rattle.flag_defs.specs.Flags.{flags_view}
 use Rattle.flag_defs.specs.declared.flags.Flags.{Flags}

@@ -1,4 +1,4 @@
-use Rattle.std.proofs.Common.{◌≡◌, ◌<◌, ◌≤◌, ℕ, List, drop, take, length, map, Ok, Some}
+use Rattle.std.proofs.Common.{◌<◌, ◌≤◌, drop, take, length, map, Ok, Some}
 use Rattle.std.specs.Prelude.{IfSome}
 use Rattle.flag_text.specs.Outcome.{GivesUnless}
 use Rattle.flag_defs.specs.Flags.{flags_view}
