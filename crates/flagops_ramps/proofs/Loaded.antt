@@ -1,6 +1,6 @@
 -- What comes of the files that were loaded.
 use Rattle.std.proofs.Common.{◌≡◌, false, List, Vec, Global, Option, None, Some, Result, Ok, Err, ℕ, map, refl, ap, ◌∙◌, subst, sym}
-use Rattle.std.specs.Prelude.{IfSome}
+use Rattle.std.specs.Prelude.{IfOk, IfSome}
 use Rattle.flagops_shell.specs.Files.{Holding, load_of}
 use Rattle.flagops_files.specs.Loading.{max_rule}
 use Rattle.flagops_shell.specs.Outcomes.{refused_by}
@@ -8,13 +8,14 @@ use Rattle.flagops_files.specs.Question.{IsBookQuestionAt, IsQuestionAt, book_qu
 use Rattle.flagops_files.specs.Refusal as files
 use Rattle.flagops_shell.specs.Report.{outcome_view}
 use Rattle.flagops_shell.specs.declared.outcome.Outcome.{Outcome}
+use Rattle.flagops_files.specs.declared.evidence.Evidence.{Evidence}
 use Rattle.flagops_files.specs.declared.question.Question.{Question}
 use Rattle.flagops_files.specs.declared.refusal.Refusal.TheVariants.{Load as Unread}
 use Rattle.flagops_files.specs.Refusal.{Refused}
 use Rattle.plan_text.specs.Answer.{Answer, planned_view}
 use Rattle.plan_text.specs.declared.planned.Planned.{Planned}
 use Rattle.ramp_steps.specs.Lines.{ramp_of}
-use Rattle.flagops_ramps.specs.Judging.{IsFoundAt, IsFoundOf, IsFoundOnBook, answered_view, answers_at, if_loaded, on_book, read_as}
+use Rattle.flagops_ramps.specs.Judging.{IsFoundAt, IsFoundOf, IsFoundOnBook, IsOfBook, answered_view, answers_at, if_loaded, on_book, read_as}
 use Rattle.flagops_ramps.specs.Ramp.{IsRampOf, IsRampReport}
 use Rattle.flagops_ramps.specs.Refusal.{is_want}
 use Rattle.flagops_ramps.specs.Report.{GivesOne, GivesUnlessWant, Told}
@@ -115,6 +116,11 @@ module _ (v : Verifying) where
   pub refused : (holding : Option Holding) (t : Told) → IfSome holding (λ at. GivesOne answered_view (Err t) (IsFoundAt at v)) → IfSome holding (λ at. GivesOne outcome_view (Err t) (IsVerdictReport at v))
   refused None t found = tt
   refused (Some at) t found = refused_at at t found
+
+-- a question keeps what was recorded, which is a book
+pub book_still : (r : Result RightAnswers Told) (evidence : Evidence) → IfOk r (λ a. a.question.evidence ≡ evidence) → IsOfBook evidence → IfOk r (λ a. IsOfBook a.question.evidence)
+book_still (Ok a) evidence same of = subst IsOfBook (sym same) of
+book_still (Err t) evidence same of = tt
 
 -- answers that were not read
 pub unread : (holding : Option Holding) (path : List ℕ) (refine : Option ℕ) (q : Question) (t : Told) → IfSome holding (λ at. is_want t.refusal ≡ false → answers_at at path ≡ Err t.refusal)
