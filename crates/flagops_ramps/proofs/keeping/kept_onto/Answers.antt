@@ -25,5 +25,5 @@ returns-in-Err-document_with_rule-clause-exact c = λ no_want.
     let flags = flags_view q.flags in
     let asked = c.args.request.now in
     let refused = c.in-Err-document_with_rule.refused in
-    onto_refused q.document.items flags asked c.args.rule.now (is_left flags asked (option_map (λ p. planned_view p.now) c.args.before)) refused c.of.result c.of.ensures.refusal (sym c.if-not-stands.false ∙ c.in-Ok.ensures)
+    onto_refused q.document.items flags asked c.args.rule.now (is_left flags asked (option_map (λ p. planned_view p.now) c.args.before)) refused c.of-in-Err-document_with_rule.result c.of-in-Err-document_with_rule.ensures.refusal (sym c.if-not-stands.false ∙ c.in-Ok.ensures)
     (λ wanted. at_place q.document.items _ _ flags _ asked c.args.rule.now (Err refused.refusal) c.as_slice-bytes.ensures.value c.flag-key.ensures c.site-site.ensures (c.in-Err-document_with_rule.ensures.exact wanted)) no_want
