@@ -17,4 +17,4 @@ returns-in-Err-clause-exact c =
 
 pub returns-in_default-clause-exact : goal.returns-in_default-clause-exact
 returns-in_default-clause-exact c = λ no_want.
-    no_step (applying_view c.args.asked.now) c.args.document.now.bytes.items (flags_view c.args.document.now.flags) (map planned_view c.args.answers.now) c.answer_to.ensures
+    no_step (applying_view c.args.asked.now) c.args.document.now.bytes.items (flags_view c.args.document.now.flags) (map planned_view c.args.answers.now) c.in_default.ensures

@@ -1,5 +1,4 @@
-use Rattle.std.proofs.Common.{◌≡◌, ◌∙◌, Some, ap, map, option_map, slice_get, sym}
-use Rattle.std.proofs.lemmas.Option.{slice_get-map}
+use Rattle.std.proofs.Common.{◌∙◌, option_map}
 use Rattle.flagops_files.specs.Question.{question_view}
 use Rattle.plan_text.specs.Answer.{planned_view}
 use Rattle.ramp_steps.specs.Steps.{requests_view}
@@ -25,4 +24,4 @@ returns-in-Err-clause-exact g c =
 pub returns-in_default-clause-exact : goal.returns-in_default-clause-exact
 returns-in_default-clause-exact g c = λ no_want.
     from_none (option_map (λ m. m.number) c.args.asked.now.answered.rollout.refine) c.args.question.now.document.items (question_view c.args.question.now) (requests_view c.args.steps.now) (option_map (λ p. planned_view p.now) c.args.before)
-    c.args.answers.now c.first.ensures.value
+    c.args.answers.now c.in_default.ensures.value

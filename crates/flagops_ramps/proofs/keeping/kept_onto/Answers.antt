@@ -1,4 +1,4 @@
-use Rattle.std.proofs.Common.{◌≡◌, ◌∙◌, Err, Ok, Some, false, option_map, sym}
+use Rattle.std.proofs.Common.{◌∙◌, Err, Ok, Some, option_map, sym}
 use Rattle.flag_defs.specs.Flags.{flags_view}
 use Rattle.plan_text.specs.Answer.{planned_view}
 use Rattle.flagops_ramps.specs.Keep.{is_left}

@@ -1,4 +1,4 @@
-use Rattle.std.proofs.Common.{ap, inl, map, refl, ℕ, Vec, Global}
+use Rattle.std.proofs.Common.{ap, map, ℕ, Vec, Global}
 use Rattle.flagops_files.specs.Question.{question_view}
 use Rattle.plan_text.specs.Answer.{planned_view}
 use Rattle.ramp_steps.specs.Steps.{requests_view}
