@@ -47,7 +47,7 @@ pub use laws::{printed_plans_are_valid, tallies_answer_as_books, unread_members_
 pub use loading::{load_book_question, load_planned, store};
 pub use payload::verify_items;
 pub use planning::{answer as plan_answer, plan};
-pub use recorded::doubt_in_book;
+pub use recorded::{doubt_in_book, doubt_in_evidence};
 pub use refusal::{Doubt, Refused, RolloutCall, RolloutRefusal, is_want_of_verify, out_of_memory};
 pub use standing::has_rule;
 pub use verifying::verify;
