@@ -37,13 +37,10 @@ mod doubting;
 mod flags;
 mod given;
 mod laws;
-mod places;
 mod reading;
 mod repeated;
 mod results;
 mod truths;
-mod twins;
-mod walk;
 mod weights;
 
 pub use doubt::{Doubt, FlagDoubts};
