@@ -42,14 +42,6 @@ pub(crate) fn repeated(alloc: Global, place: Option<&str>) -> Result<String, All
     }
 }
 
-/// A place within an object, without the dot before its first step.
-fn within(place: &str) -> &str {
-    match place.strip_prefix('.') {
-        Some(place) => place,
-        None => place,
-    }
-}
-
 /// The members of a definition that are not read, each with the one that may be meant.
 fn unread(alloc: Global, definition: Option<&Tree>) -> Result<String, AllocError> {
     let mut text = String::from_str(alloc, "has a member that is not read:")?;

@@ -80,9 +80,10 @@ module _ (o : Option (String Global)) where
   pub members_are_told : (ms : Members) → told o ≡ members_place ms → is_some o ≡ member_repeats ms
   members_are_told ms is = sym (mapped_told string_bytes o) ∙ ap (λ p. is_some p) is ∙ members_told ms
 
-  pub twin_is_told : (other : Option (String Global)) (names : List (List ℕ)) → told o ≡ option_or (twin_place names) (told other) → is_some o ≡ (has_twin names || is_some other)
-  twin_is_told other names is =
+  pub twin_is_told : (other : Option (String Global)) (names own : List (List ℕ)) → told o ≡ option_or (twin_place names) (told other) → names ≡ own → is_some o ≡ (has_twin own || is_some other)
+  twin_is_told other names own is same =
       sym (mapped_told string_bytes o) ∙ ap (λ p. is_some p) is ∙ either_told (twin_place names) (told other) ∙ ap₂ (λ a b. a || b) (twin_told names) (mapped_told string_bytes other)
+      ∙ ap (λ ns. has_twin ns || is_some other) same
 
   pub behind_is_told : (before inner : Option (String Global)) (step : List ℕ) → told o ≡ option_or (told before) (behind step (told inner)) → is_some o ≡ (is_some before || is_some inner)
   behind_is_told before inner step is =

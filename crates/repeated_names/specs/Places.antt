@@ -62,6 +62,11 @@ abbrev mutual
   members_place no_members = None
   members_place (member k j ms) = option_or (behind (step_to k) (place_of j)) (members_place ms)
 
+-- a place as people are told it: without the dot before its first step
+abbrev pub within : List ℕ → List ℕ
+within [] = []
+within (x ∷ xs) = if nat_eq x 46 then xs else x ∷ xs
+
 -- the bytes of a place, where one is told
 abbrev pub told : Option (String Global) → Option (List ℕ)
 told = option_map string_bytes

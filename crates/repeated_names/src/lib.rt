@@ -24,6 +24,6 @@ mod texts;
 mod twins;
 mod walk;
 
-pub use places::member_place;
+pub use places::{member_place, within};
 pub use texts::repeated_place;
 pub use walk::{Next, Stop, begin, place_in, twin_or, with_members};

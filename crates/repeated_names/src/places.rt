@@ -2,7 +2,7 @@
 ghost use Rattle.std.specs.Prelude.{◌≡◌, ◌++◌, Some, string_bytes, IfOk};
 ghost use Rattle.std.specs.List.{list_all};
 ghost use Rattle.std.specs.Option.{option_or};
-ghost use Rattle.repeated_names.specs.Places.{behind, is_word, is_word_byte, step_at, step_to, told};
+ghost use Rattle.repeated_names.specs.Places.{behind, is_word, is_word_byte, step_at, step_to, told, within};
 
 use flag_text::{Tree, print_tree};
 use std::alloc::{AllocError, Global};
@@ -43,6 +43,16 @@ pub fn member_place(
             }
             None => Ok(None),
         },
+    }
+}
+
+/// A place within an object as people are told it, without the dot before its first step.
+pub fn within(place: &str) -> &str
+    ensures { result.now ≡ within place.now }
+{
+    match place.strip_prefix('.') {
+        Some(place) => place,
+        None => place,
     }
 }
 

@@ -122,6 +122,6 @@ returns-clause-ok c =
     let inner = added_names c.deref.result.now l.names.items c.args.names.now.items l.invariant.2 (member_names done) c.len-outer.result many c.deref.ensures.value l.invariant.9 l.invariant.10 in (
       done,
       members_over (value c.args.depth) l.invariant.0 l.reader _ done l.invariant.4 c.next_key.new.self l.invariant.3 (grind arith),
-      finds_whole done l.flags _ c.told.ensures.flags l.invariant.6 (ap (λ o. is_some o) c.told.ensures.document ∙ twin_is_told _ _ _ c.in_ok-twin_or.ensures ∙ ap₂ (λ ns b. has_twin ns || b) inner l.invariant.7)
+      finds_whole done l.flags _ c.told.ensures.flags l.invariant.6 (ap (λ o. is_some o) c.told.ensures.document ∙ twin_is_told _ l.place _ (member_names done) c.in_ok-twin_or.ensures inner ∙ ap (λ b. has_twin (member_names done) || b) l.invariant.7)
           (c.told.ensures.all_read ∙ ap₂ (λ a b. a && b) (c.takes_each.ensures ∙ ap (list_all (reads reader.Document)) inner) l.invariant.8),
     )
