@@ -1,9 +1,10 @@
 -- What is doubted of an answer to a rollout request, and what becomes of it.
-use Rattle.std.specs.Prelude.{◌≡◌, ◌++◌, ℕ, Bool, true, false, List, [], ◌∷◌, string_bytes, Option, Some, None, is_some, if◌then◌else◌, Result, Ok, Err}
+use Rattle.std.specs.Prelude.{◌≡◌, ◌++◌, ◌||◌, ℕ, Bool, true, false, List, [], ◌∷◌, string_bytes, Option, Some, None, is_some, if◌then◌else◌, Result, Ok, Err}
 use Rattle.book_core.specs.Page.{PageName}
 use Rattle.flag_text.specs.Reading.{tree_of}
 use Rattle.flag_text.specs.Shape.{Shape}
 use Rattle.flag_text.specs.declared.fault.TextFault.{TextFault}
+use Rattle.repeated_names.specs.Repeated.{is_repeating}
 use Rattle.unread_members.specs.Unread.{unread_of}
 use Rattle.unread_members.specs.declared.reader.Reader.TheVariants as reader
 use Rattle.flagops_rollouts.specs.Foreign.{is_foreign, is_mixed}
@@ -27,9 +28,9 @@ abbrev pub has_unread : Result Shape TextFault → Bool
 has_unread (Ok t) = is_some (unread_of reader.Request t)
 has_unread (Err e) = false
 
--- the bytes of a request have one
+-- the bytes of a request have one, or a name that stands more than once in an object, of which the last member is read
 abbrev pub is_unread : List ℕ → Bool
-is_unread bytes = has_unread (tree_of bytes max_text)
+is_unread bytes = has_unread (tree_of bytes max_text) || is_repeating bytes
 
 -- what is doubted of what was recorded: there is no input, or one is none of the flag
 abbrev pub recorded_doubt : Bool → Bool → Option Doubt

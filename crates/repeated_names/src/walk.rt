@@ -1,22 +1,23 @@
-//! The values of a document, token by token: which of their members stand more than once.
-ghost use Rattle.std.specs.Prelude.{◌≡◌, ◌<◌, ◌||◌, length, map, is_some, None, Some, Err, IfOk, OnOk};
+//! The values of a text, token by token: which of their members stand more than once.
+ghost use Rattle.std.specs.Prelude.{◌≡◌, ◌<◌, length, map, None, Some, Err, IfOk, OnOk};
+ghost use Rattle.std.specs.Option.{option_or};
 ghost use Rattle.json.specs.Json.{items, members, value};
-ghost use Rattle.flag_doubts.specs.Doubled.{member_names};
-ghost use Rattle.flag_doubts.specs.Repeated.{has_twin, item_repeats, member_repeats, repeats};
-ghost use Rattle.flag_doubts.specs.Passed.{Passes, Begins, Leaves};
-ghost use Rattle.flag_doubts.specs.declared.walk.Stop.TheVariants.{WantOfMemory};
+ghost use Rattle.repeated_names.specs.Passed.{Passes, Begins, Leaves};
+ghost use Rattle.repeated_names.specs.Places.{items_place, members_place, place_of, told, twin_place};
+ghost use Rattle.repeated_names.specs.Repeated.{member_names};
+ghost use Rattle.repeated_names.specs.declared.walk.Stop.TheVariants.{WantOfMemory};
 
-use crate::places::{item_place, member_place, stepped};
+use crate::places::{item_place, member_place, step_to};
 use crate::twins::twin_among;
 use json::{Reader, Token};
 use std::alloc::{AllocError, AllocFailed, Global};
 
-/// Why a walk ends before the document does.
+/// Why a walk ends before the text does.
 #[derive(Clone, Copy, Debug, PartialEq, Eq)]
-pub(crate) enum Stop {
+pub enum Stop {
     /// Memory ran out.
     WantOfMemory,
-    /// The text is no document.
+    /// The text is no JSON text.
     Invalid,
 }
 
@@ -38,25 +39,25 @@ impl<T: Drop> From<AllocFailed<T>> for Stop {
 
 /// What a value begins as.
 #[derive(Drop)]
-pub(crate) enum Next {
+pub enum Next {
     /// An object, of which the members and the end are still to come.
     Object,
-    /// Another value, which was passed, and the place of a member in it that stands more than once, where there is one.
+    /// Another value, which was passed, and the place of the first name in it that stands before, where there is one.
     Other(Option<String>),
 }
 
-// Each function below passes what its name says, and gives the place in it of a member that stands more than once, where there
-// is one. `names` has the names of the objects that are open, outermost first, and is left as it was where nothing else is said.
+// Each function below passes what its name says, and gives the place of the first name in it that stands before, where there is
+// one. `names` has the names of the objects that are open, outermost first, and is left as it was where nothing else is said.
 
 /// The next value, of at most so many levels.
 #[cycle(places)]
-pub(crate) fn place_in<'a>(
+pub fn place_in<'a>(
     alloc: Global,
     reader: &mut Reader<'a>,
     depth: usize,
     names: &mut Vec<&'a str>,
 ) -> Result<Option<String>, Stop>
-    ensures ok { IfOk result (λ o. Passes (value depth) reader.old reader.new (λ j. is_some o ≡ repeats j)) }
+    ensures ok { IfOk result (λ o. Passes (value depth) reader.old reader.new (λ j. told o ≡ place_of j)) }
     ensures shorter { OnOk result (length reader.new < length reader.old) }
     ensures names { OnOk result (names.new.items ≡ names.old.items) }
     ensures err { result ≡ Err Stop.Invalid → value depth reader.old ≡ None }
@@ -69,7 +70,7 @@ pub(crate) fn place_in<'a>(
 
 /// The next value up to its members, where it is an object.
 #[cycle(places)]
-pub(crate) fn begin<'a>(
+pub fn begin<'a>(
     alloc: Global,
     reader: &mut Reader<'a>,
     depth: usize,
@@ -110,7 +111,7 @@ fn in_items<'a>(
     depth: usize,
     names: &mut Vec<&'a str>,
 ) -> Result<Option<String>, Stop>
-    ensures ok { IfOk result (λ o. Passes (items (value depth) (length reader.old)) reader.old reader.new (λ js. is_some o ≡ item_repeats js)) }
+    ensures ok { IfOk result (λ o. Passes (items (value depth) (length reader.old)) reader.old reader.new (λ js. told o ≡ items_place 0 js)) }
     ensures shorter { OnOk result (length reader.new < length reader.old) }
     ensures names { OnOk result (names.new.items ≡ names.old.items) }
     ensures err { result ≡ Err Stop.Invalid → items (value depth) (length reader.old) reader.old ≡ None }
@@ -134,7 +135,7 @@ fn in_object<'a>(
     names: &mut Vec<&'a str>,
 ) -> Result<Option<String>, Stop>
     ensures ok { IfOk result (λ o. Passes (members (value depth) (length reader.old)) reader.old reader.new
-        (λ ms. is_some o ≡ (has_twin (member_names ms) || member_repeats ms))) }
+        (λ ms. told o ≡ option_or (twin_place (member_names ms)) (members_place ms))) }
     ensures shorter { OnOk result (length reader.new < length reader.old) }
     ensures names { OnOk result (names.new.items ≡ names.old.items) }
     ensures err { result ≡ Err Stop.Invalid → members (value depth) (length reader.old) reader.old ≡ None }
@@ -148,14 +149,14 @@ fn in_object<'a>(
 
 /// The members of an object and its end: the place within the values, and their names left behind the others.
 #[cycle(places)]
-pub(crate) fn with_members<'a>(
+pub fn with_members<'a>(
     alloc: Global,
     reader: &mut Reader<'a>,
     depth: usize,
     names: &mut Vec<&'a str>,
 ) -> Result<Option<String>, Stop>
     ensures ok { IfOk result (λ o. Passes (members (value depth) (length reader.old)) reader.old reader.new
-        (λ ms. (is_some o ≡ member_repeats ms) × Leaves ms names.old.items names.new.items)) }
+        (λ ms. (told o ≡ members_place ms) × Leaves ms names.old.items names.new.items)) }
     ensures shorter { OnOk result (length reader.new < length reader.old) }
     ensures err { result ≡ Err Stop.Invalid → members (value depth) (length reader.old) reader.old ≡ None }
 {
@@ -169,15 +170,15 @@ pub(crate) fn with_members<'a>(
 }
 
 /// The step to the first name that stands a second time, else the other place.
-pub(crate) fn twin_or(
+pub fn twin_or(
     alloc: Global,
     names: &[&str],
     other: Option<String>,
 ) -> Result<Option<String>, AllocError>
-    ensures { IfOk result (λ o. is_some o ≡ (has_twin (map (λ n. n.now) names.now) || is_some other)) }
+    ensures { IfOk result (λ o. told o ≡ option_or (twin_place (map (λ n. n.now) names.now)) (told other)) }
 {
     match twin_among(alloc, names)? {
-        Some(name) => stepped(alloc, name, ""),
+        Some(name) => Ok(Some(step_to(alloc, name)?)),
         None => Ok(other),
     }
 }

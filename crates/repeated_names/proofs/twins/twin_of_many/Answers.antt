@@ -1,19 +1,16 @@
-use Rattle.std.proofs.Common.{◌||◌, get_or, ◌∙◌, ap, sym}
+use Rattle.std.proofs.Common.{[], get_or, ◌∙◌, ap, sym}
 use Rattle.std.proofs.lemmas.List.{get_or_default}
 use Rattle.std.specs.BTreeMap.{is_at}
 use Rattle.std.specs.BTreeSet.{contains}
 use Rattle.std.specs.Cmp.Lexicographic.{slice_cmp}
 use Rattle.std.specs.List.{list_any}
 use Rattle.std.specs.Ordering.{nat_cmp}
-use Rattle.flag_doubts.proofs.Counts.{was_new}
-use Rattle.flag_doubts.proofs.SecondNames.{nameless, none_met, one_met, twins}
-use Rattle.flag_doubts.proofs.twins.twin_of_many.Goals as goal
+use Rattle.repeated_names.proofs.SecondNames.{nameless, by_names, one_met, was_new}
+use Rattle.repeated_names.proofs.twins.twin_of_many.Goals as goal
 
 pub loop-name-init : goal.loop-name-init
 loop-name-init c =
-    let xs = c.args.names.now in
-    ap (λ b. b || twins xs)
-    (none_met (contains (λ x y. slice_cmp nat_cmp x.now y.now) c.new-met.result) xs (λ q. ap (λ ks. list_any (is_at (λ x. slice_cmp nat_cmp q.now x.now)) ks) c.new-met.ensures.empty))
+    by_names (contains (λ x y. slice_cmp nat_cmp x.now y.now) c.new-met.result) [] (λ q. ap (λ ks. list_any (is_at (λ x. slice_cmp nat_cmp q.now x.now)) ks) c.new-met.ensures.empty) c.args.names.now
 
 pub loop-name-preserved : goal.loop-name-preserved
 loop-name-preserved c =

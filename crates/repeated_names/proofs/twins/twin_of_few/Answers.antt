@@ -1,12 +1,10 @@
-use Rattle.std.proofs.Common.{◌||◌, ◌+◌, ◌∙◌, [], get_or, take, ap, sym, refl}
+use Rattle.std.proofs.Common.{◌+◌, ◌∙◌, [], get_or, take, sym, refl}
 use Rattle.std.proofs.lemmas.List.{get_or_default}
-use Rattle.flag_doubts.proofs.SecondNames.{nameless, none_met, one_met, twins, among, among_more}
-use Rattle.flag_doubts.proofs.twins.twin_of_few.Goals as goal
+use Rattle.repeated_names.proofs.SecondNames.{nameless, by_names, one_met, among, among_more}
+use Rattle.repeated_names.proofs.twins.twin_of_few.Goals as goal
 
 pub loop-i-init : goal.loop-i-init
-loop-i-init c =
-    let xs = c.args.names.now in
-    ap (λ b. b || twins xs) (none_met (among []) xs (λ q. refl))
+loop-i-init c = by_names (among []) [] (λ q. refl) c.args.names.now
 
 pub loop-i-preserved : goal.loop-i-preserved
 loop-i-preserved c =

@@ -1,9 +1,10 @@
-use Rattle.std.proofs.Common.{◌≡◌, ℕ, ◌+◌, ◌*◌, ◌≤◌, ◌++◌, List, Bor, length, map, is_some}
+use Rattle.std.proofs.Common.{◌≡◌, ℕ, ◌+◌, ◌*◌, ◌≤◌, ◌++◌, List, Bor, length, map}
 use Rattle.json.specs.Json.{Items, Members, items, members, value, parse_map}
-use Rattle.flag_doubts.specs.Doubled.{member_names}
-use Rattle.flag_doubts.specs.Repeated.{item_repeats, member_repeats}
-use Rattle.flag_doubts.proofs.Grammar.{joined, joined_items}
-use Rattle.flag_doubts.proofs.walk.+places.Given as goal
+use Rattle.repeated_names.specs.Places.{items_place, members_place, told}
+use Rattle.repeated_names.specs.Repeated.{member_names}
+use Rattle.repeated_names.proofs.Grammar.{joined, joined_items}
+use Rattle.repeated_names.proofs.Placing.{behind_items}
+use Rattle.repeated_names.proofs.walk.+places.Given as goal
 
 abbrev pub decreases-place_in : goal.decreases-place_in
 decreases-place_in l = 3 * l.depth + 1
@@ -25,7 +26,8 @@ invariant-in_items-items l =
     (n : ℕ) × (done : Items) × (length l.reader ≤ n)
     × (items (value l.depth) (length l.initial.reader) l.initial.reader ≡ parse_map (joined_items done) (items (value l.depth) n l.reader))
     × (length l.reader ≤ length l.initial.reader)
-    × (is_some l.place ≡ item_repeats done)
+    × (told l.place ≡ items_place 0 done)
+    × (l.item ≡ behind_items 0 done)
     × (l.names.items ≡ l.initial.names.items)
 
 abbrev pub decreases-in_items-items : goal.decreases-in_items-items
@@ -36,7 +38,7 @@ invariant-with_members-members l =
     (n : ℕ) × (done : Members) × (added : List (Bor (List ℕ))) × (length l.reader ≤ n)
     × (members (value l.depth) (length l.initial.reader) l.initial.reader ≡ parse_map (joined done) (members (value l.depth) n l.reader))
     × (length l.reader ≤ length l.initial.reader)
-    × (is_some l.place ≡ member_repeats done)
+    × (told l.place ≡ members_place done)
     × (l.names.items ≡ l.initial.names.items ++ added)
     × (map (λ m. m.now) added ≡ member_names done)
 

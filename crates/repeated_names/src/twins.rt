@@ -1,8 +1,8 @@
 //! Names that stand more than once among some.
-ghost use Rattle.std.specs.Prelude.{◌≡◌, map, is_some, IfOk};
+ghost use Rattle.std.specs.Prelude.{◌≡◌, [], map, option_map, IfOk};
 ghost use Rattle.std.specs.List.{list_any};
 ghost use Rattle.std.specs.Str.{bytes_eq};
-ghost use Rattle.flag_doubts.specs.Repeated.{has_twin};
+ghost use Rattle.repeated_names.specs.Places.{first_again};
 
 use std::alloc::{AllocError, Global};
 use std::collections::BTreeSet;
@@ -15,7 +15,7 @@ pub(crate) fn twin_among<'a>(
     alloc: Global,
     names: &[&'a str],
 ) -> Result<Option<&'a str>, AllocError>
-    ensures { IfOk result (λ o. is_some o ≡ has_twin (map (λ n. n.now) names.now)) }
+    ensures { IfOk result (λ o. option_map (λ n. n.now) o ≡ first_again [] (map (λ n. n.now) names.now)) }
 {
     if names.len() <= FEW {
         Ok(twin_of_few(names))
@@ -25,7 +25,7 @@ pub(crate) fn twin_among<'a>(
 }
 
 fn twin_of_few<'a>(names: &[&'a str]) -> Option<&'a str>
-    ensures { is_some result ≡ has_twin (map (λ n. n.now) names.now) }
+    ensures { option_map (λ n. n.now) result ≡ first_again [] (map (λ n. n.now) names.now) }
 {
     for i in 0..names.len() {
         if is_among(names[i], &names[..i]) {
@@ -42,7 +42,7 @@ fn is_among(name: &str, names: &[&str]) -> bool
 }
 
 fn twin_of_many<'a>(alloc: Global, names: &[&'a str]) -> Result<Option<&'a str>, AllocError>
-    ensures { IfOk result (λ o. is_some o ≡ has_twin (map (λ n. n.now) names.now)) }
+    ensures { IfOk result (λ o. option_map (λ n. n.now) o ≡ first_again [] (map (λ n. n.now) names.now)) }
 {
     let mut met = BTreeSet::new(alloc);
     for name in names {

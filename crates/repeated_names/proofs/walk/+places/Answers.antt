@@ -1,15 +1,17 @@
-use Rattle.std.proofs.Common.{◌≡◌, ◌-◌, ◌<◌, ◌||◌, ◌++◌, [], ◌∷◌, length, Some, None, refl, sym, ap, ap₂, ◌∙◌, subst, append-nil, arith}
+use Rattle.std.proofs.Common.{◌≡◌, ◌-◌, ◌<◌, ◌++◌, [], ◌∷◌, length, Some, None, refl, sym, ap, ap₂, ◌∙◌, subst, append-nil, arith}
 use Rattle.std.proofs.lemmas.Result.{IfOk-weaker}
+use Rattle.std.specs.Option.{option_or}
 use Rattle.json.specs.Token.{Token}
 use Rattle.json.specs.Json.{parse_map, after_end_array, read_key, items, members, value, null, boolean, number, string, array, object, no_items, item, no_members, member}
 use Rattle.json.specs.Reads.{token_of}
 use Rattle.json.proofs.Grammar.{value_is, value-begin_array, value-begin_object, read_key-shorter}
-use Rattle.flag_doubts.specs.Doubled.{member_names}
-use Rattle.flag_doubts.specs.Passed.{Begins}
-use Rattle.flag_doubts.specs.Repeated.{has_twin}
-use Rattle.flag_doubts.proofs.Grammar.{joined, joined_items, items_first, members_first, item_taken, item_refused, items_over, member_taken, member_refused, key_refused, members_over, item_repeats-more, member_repeats-more, member_names-more}
-use Rattle.flag_doubts.proofs.Open.{no_key, one_name, seen_more, added_names}
-use Rattle.flag_doubts.proofs.walk.+places.Goals as goal
+use Rattle.repeated_names.specs.Passed.{Begins}
+use Rattle.repeated_names.specs.Places.{behind, items_place, next, place_of, step_at, step_to, twin_place}
+use Rattle.repeated_names.specs.Repeated.{member_names}
+use Rattle.repeated_names.proofs.Grammar.{joined, joined_items, items_first, members_first, item_taken, item_refused, items_over, member_taken, member_refused, key_refused, members_over, member_names-more}
+use Rattle.repeated_names.proofs.Placing.{items_place-more, members_place-more, one_behind}
+use Rattle.repeated_names.proofs.Open.{no_key, one_name, seen_more, added_names}
+use Rattle.repeated_names.proofs.walk.+places.Goals as goal
 
 pub begin-returns-in_err-token-clause-err : goal.begin-returns-in_err-token-clause-err
 begin-returns-in_err-token-clause-err t c refused =
@@ -87,7 +89,7 @@ place_in-returns-in-Object-clause-err t c = λ refused.
 
 pub in_items-items-init : goal.in_items-items-init
 in_items-items-init t c =
-    (length c.args.reader.now, no_items, omega arith, items_first (items (value c.args.depth) (length c.args.reader.now) c.args.reader.now), omega arith, refl, refl)
+    (length c.args.reader.now, no_items, omega arith, items_first (items (value c.args.depth) (length c.args.reader.now) c.args.reader.now), omega arith, refl, refl, refl)
 
 pub in_items-returns-in_err-inner-clause-err : goal.in_items-returns-in_err-inner-clause-err
 in_items-returns-in_err-inner-clause-err t c refused =
@@ -110,8 +112,10 @@ in_items-items-preserved t c =
       omega (arith, l.invariant.2),
       item_taken (value c.args.depth) n l.reader _ done l.invariant.3 r j (omega (arith, l.invariant.2)) going.0 (rw (← going.1) read.1),
       omega (arith, l.invariant.4),
-      c.in_ok-place.ensures ∙ ap₂ (λ a b. a || b) l.invariant.5 read.2 ∙ sym (item_repeats-more done j),
-      c.in_ok-inner.ensures.names ∙ l.invariant.6,
+      c.in_ok-place.ensures ∙ ap₂ (λ a b. option_or a (behind (step_at l.item) b)) l.invariant.5 read.2
+          ∙ ap (λ n. option_or (items_place 0 done) (behind (step_at n) (place_of j))) l.invariant.6 ∙ sym (items_place-more 0 done j),
+      c.saturating_add-item.ensures ∙ ap next l.invariant.6 ∙ sym (one_behind 0 done j),
+      c.in_ok-inner.ensures.names ∙ l.invariant.7,
     )
 
 pub in_items-returns-clause-ok : goal.in_items-returns-clause-ok
@@ -155,7 +159,7 @@ with_members-members-preserved t c =
       omega (arith, l.invariant.3),
       member_taken (value c.args.depth) n l.reader _ done l.invariant.4 k s r j (omega (arith, l.invariant.3)) named read.1,
       omega (arith, l.invariant.5),
-      c.in_ok-place.ensures ∙ ap₂ (λ a b. a || b) l.invariant.6 read.2 ∙ sym (member_repeats-more k j done),
+      c.in_ok-place.ensures ∙ ap₂ (λ a b. option_or a (behind (step_to k) b)) l.invariant.6 read.2 ∙ sym (members_place-more k j done),
       one_name c.place_in.new.names.items l.names.items c.args.names.now.items l.invariant.2 c.in-Some.name l.invariant.7 (c.in_ok-inner.ensures.names ∙ c.in_ok-push.ensures.items),
       seen_more l.invariant.2 c.in-Some.name (member_names done) l.invariant.8 ∙ sym (member_names-more k j done),
     )
@@ -172,4 +176,4 @@ in_object-returns-clause-ok t c =
     let left = read.2.1 in
     let many : c.len-outer.result ≡ length c.args.names.now.items = omega (arith, c.len-outer.ensures, c.args.names.now.ok.0) in
     let inner = added_names c.deref.result.now c.with_members.new.names.items c.args.names.now.items left.0 (member_names read.0) c.len-outer.result many c.deref.ensures.value left.1 left.2 in
-    (read.0, read.1, c.in_ok-place.ensures ∙ ap₂ (λ ns b. has_twin ns || b) inner read.2.0)
+    (read.0, read.1, c.in_ok-place.ensures ∙ ap₂ (λ ns b. option_or (twin_place ns) b) inner read.2.0)
