@@ -126,6 +126,18 @@ class LibraryTest(WithLibrary):
                 told = subprocess.run([os.path.join(folder, "hello")], stdout=subprocess.PIPE, text=True, timeout=SECONDS, check=True).stdout
                 self.assertEqual(told, "true, by the variant on\n")
 
+    def test_pkg_config(self):
+        for tool in ("pkg-config", "cc"):
+            if not shutil.which(tool):
+                self.skipTest(f"{tool} is not here")
+        asked = ["pkg-config", "--cflags", "--libs", "flagops"]
+        found = subprocess.run(asked, env={**os.environ, "PKG_CONFIG_PATH": self.folder}, capture_output=True, text=True, timeout=SECONDS, check=True).stdout
+        with tempfile.TemporaryDirectory() as folder:
+            words = ["cc", os.path.join(ROOT, "library", "examples", "hello.c"), *found.split(), "-o", os.path.join(folder, "hello")]
+            subprocess.run(words, timeout=SECONDS, check=True)
+            told = subprocess.run([words[-1]], stdout=subprocess.PIPE, text=True, timeout=SECONDS, check=True).stdout
+        self.assertEqual(told, "hi is true, by the variant on\n")
+
     def test_the_header_is_the_shipped_one(self):
         for name in ("flagops.h", "flagops.pc"):
             with open(os.path.join(ROOT, "library", name), "rb") as one, open(os.path.join(self.folder, name), "rb") as other:
