@@ -6,5 +6,5 @@ ghost use Rattle.flagops_c.specs.About.{about_text};
 pub(crate) fn about() -> &'static str
     ensures { result.now ≡ about_text }
 {
-    "libflagops 0.1.0\nproved with rattle-kit-13f logic dac8208d650f15bf\nsources df10b75667a940573e867adb3ab63aa335c9a976dbc6827c068bb079b03934a9\n"
+    "libflagops 0.1.0\nproved with rattle-kit-13f logic dac8208d650f15bf\nsources 31819243624e5121e62d8257405e310e5e488284c800642c786a7e2f75cb959a\n"
 }
