@@ -54,6 +54,7 @@ TAKEN = {
     ("crates/flagops/src/main.rt", 'ExitCode::from(want(&mut Console::new(out, err), "flagops"))'): (1, "there is no memory for the stack that the commands run on"),
     ("crates/flagops_ramps/src/judging.rt", "return Err(out_of_memory());"): (1, "the book was read before, so `count` fails only where memory ran out, as its clause says"),
     ("crates/flagops_ramps/src/ramping.rt", "return Err(out_of_memory());"): (1, "the same"),
+    ("crates/flagops_ramps/src/keeping.rt", "return Err(out_of_memory());"): (1, "the same"),
     ("crates/flagops_ramps/src/judging.rt", "refusal: RampRefusal::Verify(VerifyFault::Request(RolloutFault::WantOfMemory)),"): (1, "`out_of_memory` tells of an `AllocError`; its calls are looked for"),
     ("crates/flagops_ramps/src/judging.rt", "remark: Remark::Short,"): (1, "the same"),
     ("crates/flagops_filters/src/joining.rt", "refusal: FilterRefusal::Load(Refusal::ReadTally(TallyFileFault::WantOfMemory)),"): (1, "`out_of_memory` tells of an `AllocError`; its calls are looked for"),

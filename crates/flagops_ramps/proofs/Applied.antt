@@ -3,7 +3,6 @@ use Rattle.std.proofs.Common.{◌≡◌, ◌≤◌, ◌-◌, false, ℕ, zero, s
 use Rattle.std.specs.Prelude.{IfOk, IfSome}
 use Rattle.std.specs.Slice.{IsItemAt}
 use Rattle.std.proofs.lemmas.Option.{slice_get-map, slice_get_past, slice_get_read}
-use Rattle.file_diagnostics.specs.Named.{Names}
 use Rattle.flag_defs.specs.Flags.{flags_view}
 use Rattle.flag_defs.specs.Document.{Definitions}
 use Rattle.flagops_rollouts.specs.Apply.{IsLocalReport, told_report}

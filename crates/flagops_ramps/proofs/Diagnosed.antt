@@ -1,8 +1,6 @@
 -- What a person is told of what a command on steps comes to.
 use Rattle.std.proofs.Common.{◌≡◌, ◌++◌, ◌||◌, ◌∙◌, ℕ, Bool, List, [], ◌∷◌, Option, Some, None, Result, Ok, Err, IfErr, IfOk, IfSome, inl, inr, refl, sym, ap, subst, append_assoc}
-use Rattle.std.specs.Prelude.{true, false, codes, decimal, is_some}
-use Rattle.flag_text.specs.Printing.{text_of}
-use Rattle.flag_text.specs.Shape.{text}
+use Rattle.std.specs.Prelude.{true, false, codes, decimal}
 use Rattle.flagops_rollouts.specs.Doubts.{NamesDoubt, NamesDoubted}
 use Rattle.flagops_files.specs.Lines.{NamesFile}
 use Rattle.flagops_rollouts.specs.declared.doubts.NotedDoubt.{NotedDoubt}
@@ -10,25 +8,21 @@ use Rattle.flagops_files.specs.Question.{book_question_subjects}
 use Rattle.flagops_files.specs.Refusal as files
 use Rattle.flagops_files.specs.Refusal.{by, loads_file, loads_flags}
 use Rattle.flagops_files.specs.Told.{NamesOne, file}
-use Rattle.flagops_files.specs.declared.refusal.Call.{Call}
 use Rattle.flagops_rollouts.specs.Refusal as rolling
 use Rattle.flagops_rollouts.specs.Subjects.{applied_subjects, is_of_kept_document}
 use Rattle.flagops_rollouts.specs.declared.refusal.Doubt.{Doubt}
-use Rattle.flagops_files.specs.declared.refusal.Refusal.{Refusal}
 use Rattle.flagops_files.proofs.Told.{told_left, told_right}
 use Rattle.file_diagnostics.specs.Named.{Names, opening_words, quoted}
 use Rattle.flagops_shell.specs.Diagnostic.{Says}
 use Rattle.flagops_shell.specs.Ending.{KeepsUnlessDone, Remarks}
 use Rattle.flagops_shell.specs.Files.{Holding}
-use Rattle.flagops_shell.specs.Report.{outcome_view}
 use Rattle.flagops_shell.specs.declared.outcome.Outcome.{Outcome}
 use Rattle.flagops_shell.specs.declared.refused.Remark.{Remark}
 use Rattle.flagops_shell.specs.declared.refused.Remark.TheVariants.{Short, Lines}
 use Rattle.flagops_ramps.specs.Apply.{TellsOmittedAt}
 use Rattle.flagops_ramps.specs.Commands.{keep_told, ramp_told, step_told, verify_told}
-use Rattle.flagops_ramps.specs.Diagnostics.{Diagnoses, Diagnosis, IsOfAnswers, IsOfDoubted, IsOfKeep, IsOfRamp, IsOfSize, IsOfStep, IsOfVerify, NamesPath, NamesStep, answered_subjects, judged_path, put_subjects, told_by}
+use Rattle.flagops_ramps.specs.Diagnostics.{Diagnoses, Diagnosis, IsOfAnswers, IsOfDoubted, IsOfKeep, IsOfRamp, IsOfSize, IsOfStep, IsOfVerify, NamesPath, NamesStep, put_subjects, told_by}
 use Rattle.flagops_ramps.specs.Refusal.{is_unread, is_want}
-use Rattle.flagops_ramps.specs.Judging.{refused_as}
 use Rattle.flagops_ramps.proofs.Loaded.{not_want}
 use Rattle.flagops_shell.proofs.Lifted as lifted
 use Rattle.rollout_checks.specs.declared.fault.RolloutFault.{RolloutFault}

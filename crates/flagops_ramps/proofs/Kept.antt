@@ -1,10 +1,9 @@
 -- What comes of a step that is put into a document.
 use Rattle.std.proofs.Common.{◌≡◌, ◌≢◌, ◌∙◌, ◌||◌, ap, ℕ, zero, suc, ◌-◌, Bool, true, false, List, [], ◌∷◌, drop, map, Option, Some, None, IfSome, refl, sym, subst, Vec, Global}
-use Rattle.std.specs.Prelude.{Result, Ok, Err, is_ok}
+use Rattle.std.specs.Prelude.{Result, Ok, Err, is_ok, slice_get}
 use Rattle.flagops_files.specs.Loading.{max_text}
 use Rattle.flagops_files.specs.Question.{BookQuestion, IsBookQuestionAt, book_question_view}
 use Rattle.flagops_files.specs.Refusal as files
-use Rattle.flagops_files.specs.declared.evidence.Evidence.TheVariants.{Book}
 use Rattle.bucket_core.specs.Rule.{Entries}
 use Rattle.flag_defs.specs.Document.{Definitions}
 use Rattle.flagops_rollouts.proofs.Edited.{asked_there, left_after}
@@ -37,7 +36,7 @@ use Rattle.flagops_ramps.specs.Refusal.{is_want}
 use Rattle.flagops_ramps.specs.Report.{GivesOne, Told}
 use Rattle.flagops_ramps.specs.Words.{Keeping}
 use Rattle.flagops_ramps.specs.declared.refusal.RampRefusal.{RampRefusal}
-use Rattle.flagops_ramps.specs.declared.refusal.RampRefusal.TheVariants.{Load, OtherRule, Rollout, Verify}
+use Rattle.flagops_ramps.specs.declared.refusal.RampRefusal.TheVariants.{Load, NoStep, OtherRule, Rollout, Verify}
 use Rattle.flagops_ramps.specs.declared.refusal.StepCall.TheVariants as call
 use Rattle.flagops_ramps.proofs.Loaded.{not_want}
 use Rattle.flagops_ramps.proofs.Stepped.{other_steps, other_verify}
@@ -62,11 +61,47 @@ module _ (refine : Option ℕ) (document : List ℕ) (q : BookQuestion) (request
       → GivesOne kept_view (Err t) (IsKeptFrom refine document q requests before (answer ∷ answers))
   kept_wrong answer answers e t told is = λ no_want. (Err e, told, ap Err is)
 
+  -- of the answers that were read there is none, or the first is put
+  pub from_none : (planned : List Planned) → None ≡ slice_get planned 0 → IsKeptFrom refine document q requests before (map planned_view planned) (Err NoStep)
+  from_none [] is = refl
+  from_none (p ∷ ps) is = cc
+
+  pub from_asked : (planned : List Planned) (first : Planned) (factor : Option ℕ) (request : List ℕ) → Some first ≡ slice_get planned 0 → factor ≡ refine → request ≡ first_request requests
+      → IsTold (Ok q.flags) factor requests q.book (map planned_view planned) (Ok tt) → is_ok (asked_of request) ≡ true
+  from_asked [] first factor request is same_factor same_request told = cc
+  from_asked (p ∷ ps) first factor request is same_factor same_request told =
+      ap (λ (s : List ℕ). is_ok (asked_of s)) same_request
+      ∙ asked_first refine q requests (planned_view p) (map planned_view ps) (subst (λ (f : Option ℕ). IsTold (Ok q.flags) f requests q.book (map planned_view (p ∷ ps)) (Ok tt)) same_factor told)
+
+  pub from_right : (planned : List Planned) (first : Planned) (factor : Option ℕ) (request : List ℕ) (r : Result (Option (Vec ℕ Global)) Told) → Some first ≡ slice_get planned 0 → factor ≡ refine → request ≡ first_request requests
+      → IsTold (Ok q.flags) factor requests q.book (map planned_view planned) (Ok tt) → GivesOne kept_view r (IsKeptWith document q.flags request before (planned_view first))
+      → GivesOne kept_view r (IsKeptFrom refine document q requests before (map planned_view planned))
+  from_right [] first factor request r is same_factor same_request told gives = cc
+  from_right (p ∷ ps) first factor request r is same_factor same_request told gives =
+      let same : first ≡ p = cc in
+      kept_right (planned_view p) (map planned_view ps) r (subst (λ (f : Option ℕ). IsTold (Ok q.flags) f requests q.book (map planned_view (p ∷ ps)) (Ok tt)) same_factor told)
+      (subst (λ (s : List ℕ). GivesOne kept_view r (IsKeptWith document q.flags s before (planned_view p))) same_request
+      (subst (λ (x : Planned). GivesOne kept_view r (IsKeptWith document q.flags request before (planned_view x))) same gives))
+
+  pub from_wrong : (planned : List Planned) (first : Planned) (factor : Option ℕ) (e : RampFault) (t : Told) → Some first ≡ slice_get planned 0 → factor ≡ refine
+      → IsTold (Ok q.flags) factor requests q.book (map planned_view planned) (Err e) → t.refusal ≡ refused_as e → GivesOne kept_view (Err t) (IsKeptFrom refine document q requests before (map planned_view planned))
+  from_wrong [] first factor e t is same_factor told refusal = cc
+  from_wrong (p ∷ ps) first factor e t is same_factor told refusal =
+      kept_wrong (planned_view p) (map planned_view ps) e t (subst (λ (f : Option ℕ). IsTold (Ok q.flags) f requests q.book (map planned_view (p ∷ ps)) (Err e)) same_factor told) refusal
+
 -- the rule of an answer, at the site of a request that was read
 module _ (document : List ℕ) (flags : Definitions) (request : List ℕ) (asked : Asked) (there : asked_of request ≡ Ok asked) (before : Option Answer) (rule : Entries) (c : DualPrices) where
   pub onto : (r : Result (Option (Vec ℕ Global)) Told) → GivesOne kept_view r (IsKeptOnto document flags asked rule (is_left flags asked before)) → GivesOne kept_view r (IsKeptWith document flags request before (emit rule c))
   onto (Ok o) gives = (asked, there, gives)
   onto (Err t) gives = λ no_want. (asked, there, gives no_want)
+
+-- the bytes are those that were loaded, and the place is the one that is asked for
+pub at_place : (document bytes key : List ℕ) (flags : Definitions) (site : ℕ) (asked : Asked) (rule : Entries) (r : Result Kept RolloutRefusal) → bytes ≡ document → key ≡ asked.flag → site ≡ asked.site
+    → IsKeptAt bytes flags key site rule r → IsKeptAt document flags asked.flag asked.site rule r
+at_place document bytes key flags site asked rule r same_bytes same_key same_site kept =
+    subst (λ (b : List ℕ). IsKeptAt b flags asked.flag asked.site rule r) same_bytes
+    (subst (λ (k : List ℕ). IsKeptAt bytes flags k asked.site rule r) same_key
+    (subst (λ (s : ℕ). IsKeptAt bytes flags key s rule r) same_site kept))
 
 -- the step before left another rule, or the one that stands there
 module _ (document : List ℕ) (flags : Definitions) (asked : Asked) (rule : Entries) where

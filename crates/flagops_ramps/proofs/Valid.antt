@@ -1,6 +1,5 @@
 -- `verify-ramp` tells of what `ramp` printed that it is valid.
 use Rattle.std.proofs.Common.{◌≡◌, ℕ, ◌+◌, ◌≤◌, Bool, false, true, List, length, nat_lt, cond, Option, Some, unwrap_or, Result, Ok, Err, refl, sym, ap, ◌∙◌, subst, arith}
-use Rattle.std.specs.Prelude.{◌⊎◌}
 use Rattle.std.proofs.Common.{inl, inr}
 use Rattle.std.proofs.lemmas.Bool.{ltb-false}
 use Rattle.std.proofs.lemmas.List.{take_all}
@@ -12,12 +11,9 @@ use Rattle.flagops_shell.specs.Files.{Holding, front_of}
 use Rattle.flagops_shell.specs.Report.{Report}
 use Rattle.plan_text.specs.Answer.{Answer}
 use Rattle.ramp.specs.Laws as laws
-use Rattle.ramp.specs.Ramp.{ArePlans, IsRefused}
-use Rattle.ramp.specs.Right.{IsTold}
+use Rattle.ramp.specs.Ramp.{ArePlans}
 use Rattle.ramp.specs.declared.fault.RampFault.{RampFault}
 use Rattle.ramp.specs.declared.fault.RampFault.TheVariants.{Lines, Step}
-use Rattle.ramp.specs.declared.fault.StepFault.{StepFault}
-use Rattle.ramp_steps.specs.Lines.{ramp_of}
 use Rattle.ramp_steps.specs.Steps.{steps_of}
 use Rattle.ramp_steps.specs.declared.fault.RampFileFault.{RampFileFault}
 use Rattle.ramp_steps.specs.declared.fault.RampFileFault.TheVariants.{TooLarge}
@@ -28,14 +24,11 @@ use Rattle.rollout_checks.specs.declared.verify_fault.VerifyFault.{VerifyFault}
 use Rattle.rollout_checks.specs.declared.verify_fault.VerifyFault.TheVariants as verdict
 use Rattle.transport_instance.specs.declared.fault.CheckFault.TheVariants as check
 use Rattle.flagops_rollouts.specs.Refusal.{is_want_of_verify}
-use Rattle.flagops_ramps.specs.Doubts.{beside, doubt_of_steps, settle}
 use Rattle.flagops_ramps.specs.Judging.{Answered, Found, IsFoundOf, IsFoundOver, answers_at, found_as, if_loaded}
-use Rattle.flagops_ramps.specs.Ramp.{Holds, IsRampOf, IsRampOver, ReadsBack, report_ramp}
-use Rattle.flagops_ramps.specs.Report.{Came}
+use Rattle.flagops_ramps.specs.Ramp.{Holds, IsRampOf, IsRampOver}
 use Rattle.flagops_ramps.specs.Valid.{IsValid, IsValidRamp}
 use Rattle.flagops_ramps.specs.Verify.{report_found}
 use Rattle.flagops_ramps.specs.declared.refusal.RampRefusal.{RampRefusal}
-use Rattle.flagops_ramps.specs.declared.refusal.StepCall.TheVariants as call
 
 -- ---- a file of a text that reads as answers
 

@@ -1,5 +1,5 @@
 -- What a person is told of what a command on steps comes to: of a refusal by the name of what was refused, and beside a report of what is doubted.
-use Rattle.std.specs.Prelude.{◌≡◌, ◌⊎◌, ◌++◌, ℕ, Bool, true, false, List, [], ◌∷◌, Result, Ok, Err, codes, decimal}
+use Rattle.std.specs.Prelude.{◌≡◌, ◌⊎◌, ◌++◌, ℕ, false, List, [], ◌∷◌, Result, Ok, Err, codes, decimal}
 use Rattle.flag_text.specs.Printing.{text_of}
 use Rattle.flag_text.specs.Shape.{text}
 use Rattle.flagops_rollouts.specs.Doubts.{NamesDoubt}

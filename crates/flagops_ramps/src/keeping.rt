@@ -320,8 +320,9 @@ fn kept_onto(
 {
     let (document, ramp) = (asked.answered.rollout.document, asked.answered.ramp);
     let (flags, bytes) = (&question.flags, question.document.as_slice());
-    let Ok(stands) = is_left(alloc, flags, request, before) else {
-        return Err(out_of_memory());
+    let stands = match is_left(alloc, flags, request, before) {
+        Ok(stands) => stands,
+        Err(AllocError) => return Err(out_of_memory()),
     };
     if !stands {
         return Err(Refused {

@@ -124,22 +124,28 @@ fn kept_step<'a>(alloc: Global) -> Result<Command<'a>, AllocError>
     kept_words(alloc)?.arg(number)?.arg(keep)
 }
 
+/// The files that `apply --step --keep` reads.
 fn kept_words<'a>(alloc: Global) -> Result<Command<'a>, AllocError>
     ensures { IfOk result (λ c. app_of c ≡ kept_words) }
 {
-    let document = required(alloc, "DOC", "The flag document");
-    let ramp = required(alloc, "RAMP", RAMP);
     let steps = required(alloc, "STEPS", STEPS);
     let book = required(alloc, "BOOK", BOOK);
+    kept_files(alloc)?.arg(steps)?.arg(book)
+}
+
+/// The document and the answers that they begin with.
+fn kept_files<'a>(alloc: Global) -> Result<Command<'a>, AllocError>
+    ensures { IfOk result (λ c. app_of c ≡ with_rule (with_rule (new_app (codes "apply")) (required (codes "DOC"))) (required (codes "RAMP"))) }
+{
+    let document = required(alloc, "DOC", "The flag document");
+    let ramp = required(alloc, "RAMP", RAMP);
     Command::new(alloc, "apply")
         .bin_name("flagops apply")?
         .about(
             "Puts the rule of a step of a rollout into a document of which nothing else is changed",
         )
         .arg(document)?
-        .arg(ramp)?
-        .arg(steps)?
-        .arg(book)
+        .arg(ramp)
 }
 
 /// The words that a command on the steps of a rollout begins with. `book` says what the book is.

@@ -7,14 +7,14 @@ use Rattle.flagops_ramps.proofs.applying.put.Goals as goal
 
 pub returns-in-Ok-clause-exact : goal.returns-in-Ok-clause-exact
 returns-in-Ok-clause-exact c =
-    put_so (applying_view c.args.asked.now) c.args.document.now.bytes.items (flags_view c.args.document.now.flags) (map planned_view c.args.answers.now) (planned_view c.in_some-planned.planned.now) c.in-Ok.outcome c.in_some-planned.ensures
+    put_so (applying_view c.args.asked.now) c.args.document.now.bytes.items (flags_view c.args.document.now.flags) (map planned_view c.args.answers.now) (planned_view c.in-Some.planned.now) c.in-Ok.outcome c.in-Some.ensures
     c.in-Ok.ensures.exact c.in-Ok.ensures.local
 
 pub returns-in-Err-clause-exact : goal.returns-in-Err-clause-exact
 returns-in-Err-clause-exact c =
-    refused_so (applying_view c.args.asked.now) c.args.document.now.bytes.items (flags_view c.args.document.now.flags) (map planned_view c.args.answers.now) (planned_view c.in_some-planned.planned.now) c.in-Err.refused c.of.result c.of.ensures.refusal
-    c.in_some-planned.ensures c.in-Err.ensures.exact
+    refused_so (applying_view c.args.asked.now) c.args.document.now.bytes.items (flags_view c.args.document.now.flags) (map planned_view c.args.answers.now) (planned_view c.in-Some.planned.now) c.in-Err.refused c.of-in-Err.result c.of-in-Err.ensures.refusal
+    c.in-Some.ensures c.in-Err.ensures.exact
 
-pub returns-in_none-clause-exact : goal.returns-in_none-clause-exact
-returns-in_none-clause-exact c = λ no_want.
-    no_step (applying_view c.args.asked.now) c.args.document.now.bytes.items (flags_view c.args.document.now.flags) (map planned_view c.args.answers.now) c.in_none.ensures
+pub returns-in_default-clause-exact : goal.returns-in_default-clause-exact
+returns-in_default-clause-exact c = λ no_want.
+    no_step (applying_view c.args.asked.now) c.args.document.now.bytes.items (flags_view c.args.document.now.flags) (map planned_view c.args.answers.now) c.in_default.ensures

@@ -1,4 +1,4 @@
-use Rattle.std.proofs.Common.{Option, Some, IfSome, subst}
+use Rattle.std.proofs.Common.{Option, IfSome, subst}
 use Rattle.file_diagnostics.specs.Named.{Names}
 use Rattle.flagops_shell.specs.Diagnostic.{Says}
 use Rattle.flagops_shell.specs.declared.refused.Remark.{Remark}

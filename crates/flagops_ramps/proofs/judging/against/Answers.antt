@@ -1,9 +1,11 @@
-use Rattle.std.proofs.Common.{◌≡◌, Err, map, option_map, rules, sym, ap, ◌∙◌}
+use Rattle.std.proofs.Common.{◌≡◌, ◌∙◌, Err, Ok, ap, false, map, option_map, refl, rules, subst, sym}
 use Rattle.flagops_files.specs.Question.{book_question_view}
 use Rattle.plan_text.specs.Answer.{planned_view}
 use Rattle.ramp_steps.specs.Steps.{requests_view, steps_of}
-use Rattle.rollout_checks.specs.declared.verify_fault.VerifyFault.TheVariants.{Request}
-use Rattle.flagops_ramps.specs.declared.refusal.RampRefusal.TheVariants.{Verify}
+use Rattle.flagops_ramps.specs.Judging.{IsFoundOf}
+use Rattle.flagops_ramps.specs.Ramp.{of_steps}
+use Rattle.flagops_ramps.specs.Refusal.{is_want}
+use Rattle.flagops_ramps.specs.declared.refusal.RampRefusal.{RampRefusal}
 use Rattle.flagops_ramps.proofs.Loaded.{read_so, read_unfound, unread}
 use Rattle.flagops_ramps.proofs.Stepped.{steps_found, steps_unfound}
 use Rattle.flagops_ramps.proofs.judging.against.Goals as goal
@@ -20,10 +22,11 @@ pub returns-in-Err-clause-exact : goal.returns-in-Err-clause-exact
 returns-in-Err-clause-exact g c =
     let a = c.args.asked.now in
     let refine = option_map (λ m. m.number) a.rollout.refine in
+    let q = book_question_view c.args.question in
     let answers = map planned_view c.in_ok-answers.answers.items in
-    read_unfound (g.F.FileSet.holding c.args.files.now) a.ramp.now refine c.args.question answers (Verify (Request c.of_steps-fault.result.fault)) c.in_ok-answers.ensures.exact
-    (steps_unfound refine (book_question_view c.args.question) answers c.in-Err.fault c.of_steps-fault.result.fault c.of_steps-fault.ensures
-    (λ other. ap steps_of (sym c.bytes.ensures) ∙ c.in-Err.ensures.exact other))
+    let unfound = steps_unfound refine q answers c.in-Err.fault (of_steps c.in-Err.fault) refl (λ other. ap steps_of (sym c.bytes.ensures) ∙ c.in-Err.ensures.exact other) in
+    read_unfound (g.F.FileSet.holding c.args.files.now) a.ramp.now refine c.args.question answers c.steps_refused.result.refusal c.in_ok-answers.ensures.exact
+    (subst (λ (e : RampRefusal). is_want e ≡ false → IsFoundOf refine (Ok q) (Ok answers) (Err e)) (sym c.steps_refused.ensures.refusal) unfound)
 
 pub returns-in_err-answers-clause-exact : goal.returns-in_err-answers-clause-exact
 returns-in_err-answers-clause-exact g c =

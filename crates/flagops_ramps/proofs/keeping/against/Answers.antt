@@ -8,7 +8,7 @@ use Rattle.flagops_ramps.proofs.keeping.against.Goals as goal
 
 pub returns-in-Ok-clause-exact : goal.returns-in-Ok-clause-exact
 returns-in-Ok-clause-exact g c =
-    let over = rw (c.as_slice-2.ensures.value, c.as_slice.ensures.value) at c.over.ensures.exact in
+    let over = rw (c.as_slice-in-Ok.ensures.value, c.as_slice.ensures.value) at c.over.ensures.exact in
     of_both (keeping_view c.args.asked.now) c.args.question.document.items (book_question_view c.args.question) (g.F.FileSet.holding c.args.files.now) (g.F.FileSet.holding c.load_ramp.new.files) _ (map planned_view c.in_ok-answers.answers.items)
     (requests_view c.in-Ok.steps.items) c.over.result c.load_ramp.ensures.kept c.in_ok-answers.ensures.exact (ap steps_of (sym c.bytes.ensures) ∙ c.in-Ok.ensures.exact) over
 
