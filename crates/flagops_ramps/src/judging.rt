@@ -24,7 +24,8 @@ use crate::remarks::{of_steps_in, step_line};
 use file_diagnostics::Ends;
 use flag_defs::Flags;
 use flagops_files::{
-    BookQuestion, Evidence, Question, file_line, load, load_book_question, load_question, whole_line,
+    BookQuestion, Evidence, Question, file_line, load, load_book_question, load_question,
+    whole_line,
 };
 use flagops_shell::{FileSet, Refused, Remark};
 use flagops_words::{factor_number, factor_of};

@@ -32,9 +32,9 @@ use flag_defs::Flags;
 use flagops_files::{Evidence, Question, load_question};
 use flagops_shell::{Command, FileSet, Outcome, Refused, Remark, Status};
 use flagops_words::factor_of;
+use page_tally::BookFile;
 use plan_text::Planned;
 use price_core::PriceFault;
-use page_tally::BookFile;
 use ramp::{StepFault, plan_steps, plan_steps_on_tally};
 use ramp_steps::{StepsFault, print_ramp, read_steps};
 use rollout_checks::{Refining, RolloutFault, read_book_for};
@@ -178,12 +178,7 @@ fn told<R: Threads>(
 
 /// A step that is refused, which a person is told of.
 #[tactic(auto, using(flagops_files::proofs::Told::says))]
-fn refused(
-    alloc: Global,
-    path: &str,
-    question: &Question,
-    fault: StepFault,
-) -> Refused<RampRefusal>
+fn refused(alloc: Global, path: &str, question: &Question, fault: StepFault) -> Refused<RampRefusal>
     ensures refusal { result.refusal ≡ RampRefusal.Ramp fault.fault }
     ensures names { Says (NamesPath path.now) result.remark }
 {
@@ -221,7 +216,14 @@ pub(crate) fn count<R: Threads>(
     let Evidence::Book(book) = &question.evidence else {
         return Ok(());
     };
-    let counted = counted(rt, alloc, &question.flags, first_request(steps), factor, book)?;
+    let counted = counted(
+        rt,
+        alloc,
+        &question.flags,
+        first_request(steps),
+        factor,
+        book,
+    )?;
     question.evidence = Evidence::Book(counted);
     Ok(())
 }

@@ -77,7 +77,10 @@ fn of_repeated(alloc: Global, path: &str, place: &str) -> Result<String, AllocEr
 {
     let mut lines = Lines::new(alloc);
     let place = within(place);
-    write!(lines, " has a member that stands more than once, and the last counts: {place}\n");
+    write!(
+        lines,
+        " has a member that stands more than once, and the last counts: {place}\n"
+    );
     lines.headed(Opening::Note, path)
 }
 

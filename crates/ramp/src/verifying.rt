@@ -38,7 +38,14 @@ pub fn verify_steps<R: Threads + Sync, B: Recorded>(
     ensures answered { IsOfAnswered (length answers.now) result }
     ensures none { length answers.now ≡ 0 → 0 < length steps.now → result ≡ Err RampFault.Lines }
 {
-    verify_in_turn(alloc, flags, steps, &CountedBook { rt, book }, refine, answers)
+    verify_in_turn(
+        alloc,
+        flags,
+        steps,
+        &CountedBook { rt, book },
+        refine,
+        answers,
+    )
 }
 
 /// As [`verify_steps`], on a tally of the page of the requests: each answer is right for all inputs of which so many fall on each
