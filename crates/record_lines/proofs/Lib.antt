@@ -1,2 +1,3 @@
 mod Counted
 pub mod Folded
+pub mod Outcomes
