@@ -5,7 +5,7 @@ use Rattle.std.specs.Io.KnownBytes.{IsAtEnd}
 use Rattle.line_batches.specs.Fill.{Grows}
 use Rattle.line_batches.specs.Lines.{HasNoFeed, IsCut, lines_view}
 use Rattle.record_lines.proofs.Folded.{few_contexts, joined-refused}
-use Rattle.record_lines.proofs.Outcomes.{both-assoc, both-first, both-last, contexts-both}
+use Rattle.record_lines.proofs.Both.{both-assoc, both-first, both-last, contexts-both}
 use Rattle.record_lines.specs.Outcomes.{Outcomes, both, contexts, no_outcomes}
 use Rattle.record_lines.specs.Record.{Recorded, Scene, joined, most_line, nothing, record_of}
 use Rattle.record_lines.specs.View.{outcomes_view, recorded_view}

@@ -1,12 +1,14 @@
 -- What is recorded of lines is that of the first ones and then of the others.
 use denote.Ref.{Bor}
-use Rattle.std.proofs.Common.{◌≡◌, ◌<◌, ◌≤◌, ◌+◌, ℕ, get_or, drop-cons, add-one, Result, Ok, Err, IfOk, Bool, true, false, Option, Some, None, nat_lt, if◌then◌else◌, drop, List, [], ◌∷◌, ◌++◌, length, append-nil, append_assoc, refl, sym, ap, ap₂, ◌∙◌, subst, arith}
-use Rattle.std.proofs.lemmas.List.{map-append, length-map, drop_all}
+use Rattle.std.proofs.Common.{◌≡◌, ◌<◌, ◌≤◌, ◌+◌, ℕ, get_or, drop-cons, add-one, Bool, true, false, Option, Some, None, nat_lt, if◌then◌else◌, drop, List, [], ◌∷◌, ◌++◌, length, append-nil, append_assoc, refl, sym, ap, ◌∙◌, subst, arith}
+use Rattle.std.proofs.lemmas.List.{drop_all}
+use Rattle.std.specs.List.{list_any}
 use Rattle.flag_text.specs.Shape.{Shape}
+use Rattle.flag_resolve.specs.Resolved.{Resolved}
 use Rattle.record_lines.specs.Lines.{lines_view}
-use Rattle.record_lines.specs.Outcomes.{Outcomes, both, contexts, no_outcomes}
-use Rattle.record_lines.specs.Record.{Scene, Recorded, nothing, joined, refused, most_line, is_blank, context_of, of_context, of_line, record_of, resolved_in}
-use Rattle.record_lines.proofs.Outcomes.{both-assoc, both-first, both-last, contexts-both, contexts-one}
+use Rattle.record_lines.specs.Outcomes.{Outcomes, both, contexts, no_outcomes, outcome_of}
+use Rattle.record_lines.specs.Record.{Scene, Recorded, nothing, joined, refused, most_line, is_blank, context_of, is_long, notes_of, of_context, of_line, of_resolved, record_of, resolved_in}
+use Rattle.record_lines.proofs.Both.{both-assoc, both-first, both-last, contexts-both, contexts-one}
 
 pub joined-first : (r : Recorded) → joined nothing r ≡ r
 unfolding joined
@@ -75,12 +77,6 @@ pub none_left : (s : Scene) (lines : List (Bor (List ℕ))) (i : ℕ) (out all :
 none_left s lines i out all past so_far =
     sym (joined-last out) ∙ ap (λ (ls : List (Bor (List ℕ))). joined out (record_of s (lines_view ls))) (sym (drop_all i lines past)) ∙ so_far
 
--- of lines in two parts
-pub in_parts : (s : Scene) (lines front back : List (Bor (List ℕ))) (one other r : Recorded) → front ++ back ≡ lines → one ≡ record_of s (lines_view front) → other ≡ record_of s (lines_view back) → r ≡ joined one other → r ≡ record_of s (lines_view lines)
-in_parts s lines front back one other r whole first second is =
-    is ∙ ap₂ joined first second ∙ sym (record-append s (lines_view front) (lines_view back))
-    ∙ ap (record_of s) (sym (map-append (λ (line : Bor (List ℕ)). line.now) front back) ∙ ap lines_view whole)
-
 line_counts : (one two : Recorded) → (joined one two).lines ≤ one.lines + two.lines
 line_counts one two = line_count one.text one.lines one.refused one.outcomes two
 
@@ -115,15 +111,19 @@ few_parts t n false o r first second =
 pub few_joined : (one other : Recorded) → Few one → Few other → Few (joined one other)
 few_joined one other first second = few_parts one.text one.lines one.refused one.outcomes other first second
 
+one_context : (s : Scene) (context : Shape) (r : Resolved) → Few (of_resolved s context r)
+one_context s context r =
+    let long = list_any is_long r.reached in
+    let one = contexts-one long (outcome_of (nat_lt 0 (length (notes_of s r))) long context r) in
+    omega (arith, one)
+
 pub few_line : (s : Scene) (line : List ℕ) → Few (of_line s line)
 unfolding of_line
 few_line s line = long (nat_lt most_line (length line)) (is_blank line) (context_of line)
   where
     context : (o : Option Shape) → Few (of_context s o)
     context None = omega arith
-    context (Some t) =
-        let one = contexts-one _ _ in
-        omega (arith, one)
+    context (Some t) = one_context s t (resolved_in s t)
 
     long : (b d : Bool) (o : Option Shape) → Few (if b then refused else (if d then record { text = []; lines = 1; refused = false; outcomes = no_outcomes } else of_context s o))
     long true d o = omega arith
@@ -147,17 +147,6 @@ few_lines s (line ∷ lines) =
     let later = few_lines s lines in
     omega (arith, one, both, later)
 
--- no more lines than there are in two parts
-pub both_few : (s : Scene) (front back : List (Bor (List ℕ))) (one other : Recorded) → one ≡ record_of s (lines_view front) → other ≡ record_of s (lines_view back) → one.lines + other.lines ≤ length front + length back
-both_few s front back one other first second =
-    let a = few_lines s (lines_view front) in
-    let b = few_lines s (lines_view back) in
-    let la = length-map front (λ (line : Bor (List ℕ)). line.now) in
-    let lb = length-map back (λ (line : Bor (List ℕ)). line.now) in
-    let e = ap (λ (r : Recorded). r.lines) first in
-    let f = ap (λ (r : Recorded). r.lines) second in
-    omega (arith, a, b, la, lb, e, f)
-
 -- the next line is one more
 pub one_more : (s : Scene) (line : List ℕ) (out new : Recorded) (i : ℕ) → new ≡ joined out (of_line s line) → out.lines ≤ i → new.lines ≤ i + 1
 one_more s line out new i is few =
@@ -165,7 +154,3 @@ one_more s line out new i is few =
     let one = of_line-one s line in
     let e = ap (λ (r : Recorded). r.lines) is in
     omega (arith, sum, one, e, few)
-
-pub when_ok : {X E : Type 0} {P Q : X → Type 0} (r : Result X E) → ((x : X) → P x → Q x) → IfOk r P → IfOk r Q
-when_ok (Ok x) f p = f x p
-when_ok (Err e) f p = tt

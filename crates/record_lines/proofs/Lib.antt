@@ -1,3 +1,3 @@
 mod Counted
+pub mod Both
 pub mod Folded
-pub mod Outcomes

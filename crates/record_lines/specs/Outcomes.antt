@@ -1,5 +1,5 @@
 -- What came of contexts, by what the evaluation of the flag ended in (OpenFeature: reasons and error codes; flagd: `targetingKey`).
-use Rattle.std.specs.Prelude.{ℕ, ◌+◌, Bool, true, false, ◌||◌, Option, Some, None, option_and_then, is_some, codes, if◌then◌else◌}
+use Rattle.std.specs.Prelude.{ℕ, ◌+◌, Bool, true, false, ◌||◌, Option, Some, option_and_then, is_some, codes, if◌then◌else◌}
 use Rattle.flag_text.specs.Readers.{as_text, member_of}
 use Rattle.flag_text.specs.Shape.{Shape}
 use Rattle.flag_resolve.specs.Resolved.{Resolved}

@@ -167,12 +167,7 @@ impl<'a> Recorder<'a> {
     }
 
     /// Adds the line of an input, unless it has too many bytes, and gives whether it has.
-    fn note(
-        &self,
-        alloc: Global,
-        reach: &Reached,
-        text: &mut Vec<u8>,
-    ) -> Result<bool, AllocError>
+    fn note(&self, alloc: Global, reach: &Reached, text: &mut Vec<u8>) -> Result<bool, AllocError>
         ensures text { OnOk result (text.new.items ≡ text.old.items ++ note_of (scene_of self.now) (reach_view reach.now)) }
         ensures long { IfOk result (λ b. b ≡ is_long (reach_view reach.now)) }
     {

@@ -1,5 +1,5 @@
 -- What came of contexts and then of others.
-use Rattle.std.proofs.Common.{◌≡◌, ◌+◌, ℕ, Bool, false, ◌||◌, refl, arith}
+use Rattle.std.proofs.Common.{◌≡◌, ◌+◌, ℕ, Bool, refl, arith}
 use Rattle.std.proofs.Math.Bool.{or-false, or_assoc}
 use Rattle.record_lines.specs.Outcomes.{Outcomes, both, contexts, no_outcomes, one_of}
 use Rattle.record_lines.specs.declared.outcomes.Outcome.{Outcome}
