@@ -1,6 +1,6 @@
 use Rattle.std.proofs.Common.{◌+◌, ◌∙◌, ℕ, ap, sym, arith}
 use Rattle.record_lines.proofs.Both.{contexts-both}
-use Rattle.record_lines.specs.Outcomes.{Outcomes, contexts}
+use Rattle.record_lines.specs.Outcomes.{contexts}
 use Rattle.record_lines.specs.Scene.{scene_of}
 use Rattle.record_lines.specs.View.{outcomes_view}
 use Rattle.note_streams.specs.Runs.{runs_view}
