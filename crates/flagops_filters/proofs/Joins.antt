@@ -18,7 +18,7 @@ use Rattle.tally_text.specs.declared.fault.TallyFileFault.{TallyFileFault}
 use Rattle.flagops_filters.specs.Join.{IsJoinReport, IsTallyIn, IsTallyOf, JoinsAllFiles, JoinsFiles, report_joined}
 use Rattle.flagops_filters.specs.Joined.{JoinsNext, JoinsTwo, JoinsUnless}
 use Rattle.flagops_filters.specs.Refusal.{is_want}
-use Rattle.flagops_filters.specs.Remarks.{NamesPath, NamesUnjoined, RemarksUnjoined, RemarksUnjoinedOf}
+use Rattle.flagops_filters.specs.Remarks.{NamesPath, NamesUnjoined, NamesUnjoinedOf, RemarksUnjoined, RemarksUnjoinedOf}
 use Rattle.flagops_filters.specs.Report.{GivesOne, Told}
 use Rattle.flagops_filters.specs.declared.refusal.FilterRefusal.{FilterRefusal}
 use Rattle.flagops_filters.specs.declared.refusal.FilterRefusal.TheVariants.{Load}

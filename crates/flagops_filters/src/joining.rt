@@ -45,7 +45,7 @@ impl<'w, R, F: FileSet> Command<'w, R, F> for Joining<'w> {
         read_join(alloc, words)
     }
 
-    #[tactic(auto, using(crate::proofs::Ending::join_remarks, crate::proofs::Ending::stays))]
+    #[tactic(auto, using(crate::proofs::Ending::stays))]
     fn answer(
         &self,
         _rt: &R,
