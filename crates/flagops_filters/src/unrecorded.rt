@@ -16,11 +16,7 @@ pub(crate) fn is_unrecorded(start: Start, counted: Counted) -> bool
 }
 
 /// The line that says why not, with the number of contexts and of those of each cause.
-pub(crate) fn why_line(
-    alloc: Global,
-    start: Start,
-    counted: Counted,
-) -> Result<String, AllocError>
+pub(crate) fn why_line(alloc: Global, start: Start, counted: Counted) -> Result<String, AllocError>
     ensures { IfOk result (λ s. string_bytes s ≡ why_line start counted.empty (outcomes_view counted.outcomes)) }
 {
     if !is_unrecorded(start, counted) {
