@@ -5,11 +5,31 @@ library_shipped=$here/release/x86_64-linux
 library_record=$here/release/LIBRARY-BUILT-FROM
 library_files='flagops.h flagops.pc libflagops.a libflagops.so.0'
 
-# The SHA-256 of all that it is built of, as that of the program: of its crates, and of what packs it.
+# What flagops_about answers: a text, and the definition that it is proved by.
+library_about='crates/flagops_c/src/about.rt crates/flagops_c/specs/About.antt'
+
+# The SHA-256 of all that it is built of, as that of the program: of its crates, and of what packs it. It stands in those two files
+# itself, and is made of the text without it.
 sum_of_library_sources() (
     root=flagops_c
     beside='library/flagops.h library/flagops.pc library/hide.py library/pack.sh'
+    telling=$library_about
     sum_of_sources
+)
+
+# Has the two files tell a kit and a sum. A file that does already keeps its time.
+tell_about() (
+    cd "$here" || exit 1
+    for file in $library_about; do
+        sed "s/proved with .*\\\\nsources [0-9a-f]*/proved with $1\\\\nsources $2/" "$file" >"$file.new" || exit 1
+        if cmp -s "$file" "$file.new"; then rm "$file.new"; else mv "$file.new" "$file"; fi || exit 1
+    done
+)
+
+# Has them tell this kit and the sum of these sources.
+name_library() (
+    kit=$(rt version) && tell_about "$kit" "$(sum_of_library_sources)" || exit 1
+    sources=$(sum_of_library_sources) && tell_about "$kit" "$sources"
 )
 
 # What the record says of `kit` or `sources`.
@@ -50,11 +70,7 @@ build_library() (
 
 # Builds the library and ships it, with what it was built of.
 ship_library() (
-    kit=$(rt version) && sources=$(sum_of_library_sources) || exit 1
-    if ! grep -qF "proved with $kit\\n" "$here/crates/library_seat/src/version.rt"; then
-        echo "build: the library would name another kit than this one, $kit: change crates/library_seat/src/version.rt" >&2
-        exit 1
-    fi
+    name_library && kit=$(rt version) && sources=$(sum_of_library_sources) || exit 1
     made=$(mktemp -d) || exit 1
     trap 'rm -rf "$made"' EXIT
     build_library "$made" || exit 1

@@ -39,6 +39,21 @@ files_below() {
     done
 }
 
+# The lines that sha256sum prints of files. Of those that are `telling` the sum itself, it is that of their text without its digits.
+sums_of_files() (
+    sums=$(sha256sum "$@") || exit 1
+    if [ -z "${telling:-}" ]; then
+        printf '%s\n' "$sums"
+        exit
+    fi
+    printf '%s\n' "$sums" | while IFS= read -r line; do
+        case " $telling " in
+            *" ${line#*  } "*) printf '%s  %s\n' "$(sed 's/[0-9a-f]\{64\}//' "${line#*  }" | sum_of /dev/stdin)" "${line#*  }" ;;
+            *) printf '%s\n' "$line" ;;
+        esac
+    done
+)
+
 # The SHA-256 of all that the program is built of: of the text that has, for HANDLES and for each file of those crates, in the
 # order of the bytes of their paths, the line that sha256sum prints, and then the crates' lines of crates.txt, in that order. The
 # files that are `beside` them come behind HANDLES.
@@ -49,7 +64,7 @@ sum_of_sources() (
     lines=$(crate_lines) || exit 1
     # shellcheck disable=SC2046
     set -- HANDLES ${beside:-} $(printf '%s\n' "$lines" | while IFS= read -r line; do files_below "crates/${line%%[: ]*}"; done | sort)
-    { sha256sum "$@" && printf '%s\n' "$lines" | sort; } | sha256sum | cut -d ' ' -f 1
+    { sums_of_files "$@" && printf '%s\n' "$lines" | sort; } | sha256sum | cut -d ' ' -f 1
 )
 
 # What BUILT-FROM says of `kit`, `program` or `sources`.

@@ -41,10 +41,17 @@ def record(lines, *more, document=DOCUMENT, key="color"):
     return run(["record", "d", key, *more], {"d": document}, input=lines)
 
 
+def why(contexts, *causes):
+    """What `record` tells where it reads so many contexts and notes nothing of them."""
+    return f"record: nothing is recorded: {', '.join([f'contexts {contexts}', *causes])}\n"
+
+
 def tally(lines, *more, document=DOCUMENT, key="color", site="0"):
     """What `tally` comes to on these lines."""
     return run(["tally", "d", key, site, *more], {"d": document}, input=lines)
 
+
+NO_KEY = why(1, "1 without a targetingKey")
 
 WORKERS = ("1", "2", "3", "4", "64")
 
@@ -108,8 +115,8 @@ class FiltersTest(ProgramTest):
         for ran, out in [(record(""), ""), (tally(""), printed([], TOTAL))]:
             self.assertEqual((ran.out, ran.status), (out, 0))
             self.assertIn(": the standard input is empty, and nothing is ", ran.err)
-        for ran, out in [(record("\n"), ""), (tally("\n"), printed([], TOTAL))]:
-            self.assertEqual((ran.out, ran.status, ran.err), (out, 0, ""))
+        for ran, out, told in [(record("\n"), "", why(0)), (tally("\n"), printed([], TOTAL), "")]:
+            self.assertEqual((ran.out, ran.status, ran.err), (out, 0, told))
 
     def test_a_byte_order_mark(self):
         """It is told of the first line, and of no other."""
@@ -218,9 +225,9 @@ class FiltersTest(ProgramTest):
             }.items()
         }
         document = compact({"flags": flags})
-        for moment, count in [("0", 0), ("5", 0), ("6", 1)]:
+        for moment, count, told in [("0", 0, NO_KEY), ("5", 0, NO_KEY), ("6", 1, "")]:
             ran = record(context("a"), "--moment", moment, document=document, key="timed")
-            self.assertEqual((len(ran.out.splitlines()), ran.err, ran.status), (count, "", 0))
+            self.assertEqual((len(ran.out.splitlines()), ran.err, ran.status), (count, told, 0))
         ran = record(context("a"), document=document, key="missing")
         self.assertEqual((len(ran.out.splitlines()), ran.err, ran.status), (1, "", 0))
         told = r"record: the targeting reads \$flagd\.timestamp and no --moment is given: the moment is \d+, the clock's second\n"
@@ -232,6 +239,37 @@ class FiltersTest(ProgramTest):
         ran = record(context("a") + "[]\n", document=document, key="timed")
         self.assertEqual((len(ran.out.splitlines()), ran.status), (2, 1))
         self.assertRegex(ran.err, "^error: the standard input: [^\n]*line 2[^\n]*\n" + told + "$")
+
+    def test_why_nothing_is_recorded(self):
+        """Where no line is noted of any context it is told why, each context by one cause; where one is, nothing of it."""
+        site = {"fractional": [["red", 1]]}
+        flags = {
+            "mixed": {"state": "ENABLED", "targeting": {"if": [{">": [{"var": "age"}, 5]}, site, "red"]}},
+            "unnamed": {"state": "ENABLED", "targeting": {"if": [{"var": "age"}, site, "blue"]}},
+            "off": {"state": "DISABLED", "targeting": site},
+        }
+        document = compact({"flags": {key: {**flag, "variants": {"red": 1}, "defaultVariant": "red"} for key, flag in flags.items()}})
+        no_key, unreached = "{}", '{"targetingKey":"a"}'
+        keyless_at_site, number_as_key = '{"age":6}', '{"targetingKey":1,"age":6}'
+        fault, long = '{"targetingKey":"a","age":5.5}', compact({"targetingKey": "k" * 1025, "age": 6})
+        one_long = "record: 1 inputs have more than 1024 bytes and are not noted\n"
+        causes = ["3 without a targetingKey", "1 with no fractional reached", "1 with PARSE_ERROR", "1 with inputs of more than 1024 bytes"]
+        for key, lines, told in [
+            ("mixed", [no_key, keyless_at_site, number_as_key], why(3, "3 without a targetingKey")),
+            ("mixed", [unreached, unreached], why(2, "2 with no fractional reached")),
+            ("unnamed", [unreached], why(1, "1 with no fractional reached")),
+            ("mixed", [fault], why(1, "1 with PARSE_ERROR")),
+            ("mixed", [long], why(1, "1 with inputs of more than 1024 bytes") + one_long),
+            ("off", [no_key, unreached, fault], why(3, "3 with DISABLED")),
+            ("mixed", [" ", long, "", fault, keyless_at_site, unreached, number_as_key, no_key], why(6, *causes) + one_long),
+            ("mixed", [unreached, '{"targetingKey":"a","age":6}'], None),
+        ]:
+            for workers in WORKERS:
+                with self.subTest(key=key, lines=lines, workers=workers):
+                    ran = record("".join(line + "\n" for line in lines), "--workers", workers, document=document, key=key)
+                    self.assertEqual((ran.err, ran.out == "", ran.status), (told or "", told is not None, 0))
+        torn = "record: the last line has no end and is passed over\n"
+        self.assertEqual(record(unreached, document=document, key="mixed").err, why(0) + torn)
 
     def test_unreadable(self):
         """A read that fails is a refusal of its own."""

@@ -1,9 +1,11 @@
 """The shipped library, or the one in the folder that FLAGOPS_LIBRARY_FOLDER names: its tests in C, by a C compiler where one is here."""
+import ctypes
 import functools
 import os
 import re
 import shutil
 import subprocess
+import tempfile
 import unittest
 
 from program import PROGRAM, ROOT, SECONDS
@@ -35,6 +37,12 @@ class WithLibrary(unittest.TestCase):
     def setUp(self):
         if why_not():
             self.skipTest(why_not())
+
+
+def first_program(language):
+    """The program of library/README.md in a language."""
+    with open(os.path.join(ROOT, "library", "README.md"), encoding="utf-8") as file:
+        return file.read().split(f"```{language}\n")[1].split("```")[0]
 
 
 class SourcesTest(unittest.TestCase):
@@ -89,6 +97,46 @@ class LibraryTest(WithLibrary):
 
     def test_rollouts_agree_with_the_program(self):
         self.assert_passes("plans")
+
+    def test_it_says_what_it_is(self):
+        library, out, written = ctypes.CDLL(os.path.join(self.folder, "libflagops.so.0")), ctypes.create_string_buffer(1000), ctypes.c_size_t()
+        self.assertEqual(library.flagops_about(out, ctypes.c_size_t(len(out)), ctypes.byref(written)), 0)
+        about = out.raw[: written.value].decode()
+        self.assertRegex(about, r"\Alibflagops \d+\.\d+\.\d+\nproved with rattle-kit-.+\nsources [0-9a-f]{64}\n\Z")
+        if not FOLDER:
+            with open(os.path.join(ROOT, "release", "LIBRARY-BUILT-FROM"), encoding="utf-8") as file:
+                kit, sources = (file.readline() for _ in range(2))
+            self.assertEqual(about.split("\n", 1)[1], f"proved with {kit.removeprefix('kit ')}{sources}")
+
+    def test_the_first_programs(self):
+        """Those of library/README.md in C, C++ and Rust."""
+        examples, archive = os.path.join(ROOT, "library", "examples"), os.path.join(self.folder, "libflagops.a")
+        for language, name, words in (
+            ("c", "hello.c", ["cc", "-std=c11", "-Wall", "-Wextra", "-Werror", "-I", self.folder, "hello.c", archive, "-o", "hello"]),
+            ("cpp", "hello.cc", ["c++", "-std=c++17", "-Wall", "-Wextra", "-Werror", "-I", self.folder, "-I", examples, "hello.cc", archive, "-o", "hello"]),
+            ("rust", "hello.rs", ["rustc", "--edition", "2021", "-D", "warnings", "-L", self.folder, "hello.rs"]),
+        ):
+            with self.subTest(language), tempfile.TemporaryDirectory() as folder:
+                if not shutil.which(words[0]):
+                    self.skipTest(f"{words[0]} is not here")
+                with open(os.path.join(folder, name), "w", encoding="utf-8") as file:
+                    file.write(first_program(language))
+                shutil.copy(os.path.join(examples, "flagops.rs"), folder)
+                subprocess.run(words, cwd=folder, timeout=SECONDS, check=True)
+                told = subprocess.run([os.path.join(folder, "hello")], stdout=subprocess.PIPE, text=True, timeout=SECONDS, check=True).stdout
+                self.assertEqual(told, "true, by the variant on\n")
+
+    def test_pkg_config(self):
+        for tool in ("pkg-config", "cc"):
+            if not shutil.which(tool):
+                self.skipTest(f"{tool} is not here")
+        asked = ["pkg-config", "--cflags", "--libs", "flagops"]
+        found = subprocess.run(asked, env={**os.environ, "PKG_CONFIG_PATH": self.folder}, capture_output=True, text=True, timeout=SECONDS, check=True).stdout
+        with tempfile.TemporaryDirectory() as folder:
+            words = ["cc", os.path.join(ROOT, "library", "examples", "hello.c"), *found.split(), "-o", os.path.join(folder, "hello")]
+            subprocess.run(words, timeout=SECONDS, check=True)
+            told = subprocess.run([words[-1]], stdout=subprocess.PIPE, text=True, timeout=SECONDS, check=True).stdout
+        self.assertEqual(told, "hi is true, by the variant on\n")
 
     def test_the_header_is_the_shipped_one(self):
         for name in ("flagops.h", "flagops.pc"):

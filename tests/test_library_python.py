@@ -11,7 +11,7 @@ import threading
 import unittest
 
 from program import PROGRAM, ROOT, SECONDS, free_port, run, wait_until
-from test_library import WithLibrary
+from test_library import WithLibrary, first_program
 
 PACKAGE = os.path.join(ROOT, "library", "python")
 sys.path.insert(0, PACKAGE)
@@ -381,6 +381,12 @@ class PagesTest(PackageTest):
         ran = subprocess.run([sys.executable, "-c", code], cwd=ROOT, env={**os.environ, "PYTHONPATH": PACKAGE}, capture_output=True, text=True, check=False)
         self.assertEqual((ran.stdout, ran.stderr), ("mallory True on TARGETING_MATCH\nalice False off TARGETING_MATCH\n#1e1e1e dark\n", ""))
         self.assertEqual(self.text("log"), '["checkout",0,null,"checkoutmallory"]\n["checkout",0,null,"checkoutalice"]\n')
+
+    def test_the_first_program(self):
+        self.put("flags.json", json.dumps({"flags": {"hi": FLAGS["yes"]}}))
+        words = [sys.executable, "-c", first_program("python")]
+        ran = subprocess.run(words, cwd=self.here, env={**os.environ, "PYTHONPATH": PACKAGE}, capture_output=True, text=True, check=False)
+        self.assertEqual((ran.stdout, ran.stderr), ("True by the variant on\n", ""))
 
 
 class InstallTest(PackageTest):

@@ -122,16 +122,19 @@ class Price(ProgramTest):
                 self.assert_priced(OLD, RED_3, request, f"refused Request::read {fault}\n")
 
     def test_a_member_of_a_request_that_is_not_read_is_told(self):
-        """What is printed is as without it; a refusal is told alone."""
+        """What is printed is as without it; a refusal is told alone. So it is of a name that stands more than once."""
         words = ["price", "old", "new", "request", "keys"]
         files = {"old": OLD, "new": RED_3, "request": FREE, "keys": KEYS}
-        unread = {**files, "request": FREE[:-1] + ',"forbidden":[["red","blue"]]}'}
-        note = 'note: "request" has a member that is not read:\n  "forbidden"; perhaps "forbid" is meant\n'
-        for more in ([], ["--json"]):
-            ran = run([*words, *more], unread)
-            self.assertEqual((ran.status, ran.out, ran.err), (0, run([*words, *more], files).out, note))
-        refused = self.assert_ends(words, {**unread, "keys": "{}"}, 1, "refused price 2 BadKeys\n")
-        self.assertNotIn("note", refused.err)
+        for member, told in [
+            (',"forbidden":[["red","blue"]]', 'has a member that is not read:\n  "forbidden"; perhaps "forbid" is meant\n'),
+            (',"flag":"color"', "has a member that stands more than once, and the last counts: flag\n"),
+        ]:
+            unread = {**files, "request": FREE[:-1] + member + "}"}
+            for more in ([], ["--json"]):
+                ran = run([*words, *more], unread)
+                self.assertEqual((ran.status, ran.out, ran.err), (0, run([*words, *more], files).out, f'note: "request" {told}'))
+            refused = self.assert_ends(words, {**unread, "keys": "{}"}, 1, "refused price 2 BadKeys\n")
+            self.assertNotIn("note", refused.err)
 
     def test_totals_of_a_rule_that_stays(self):
         for rule, totals in TOTALS:

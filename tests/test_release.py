@@ -99,6 +99,18 @@ class ShippedTest(unittest.TestCase):
         self.write("crates/low/src/more.rt", "")
         self.assertNotEqual(self.sum(), before)
 
+    def test_a_sum_that_stands_in_its_sources(self):
+        """Its digits are no part of it, and the rest of their file is; `sed` takes them out."""
+        os.symlink(shutil.which("sed"), os.path.join(self.path, "sed"))
+
+        def told(text):
+            self.write("crates/low/src/lib.rt", text)
+            return self.shell("telling=crates/low/src/lib.rt; sum_of_sources")
+
+        one, other, rest = (told(f"low {digits * 64}{end}\n") for digits, end in (("0", ""), ("a", ""), ("0", ".")))
+        self.assertEqual((one == other, one == rest), (True, False))
+        self.assertNotEqual(one, self.sum())
+
     def test_an_edit_is_seen_after_a_first_run(self):
         self.assert_runs()
         self.write("crates/middle/proofs/part/Answers.antt", "middlE\n")

@@ -6,11 +6,24 @@ from program import ProgramTest, run
 
 UNREAD = request('"red":3,"blue":7', ',"forbiden":[["red","blue"]]')
 
+
+def twice(place):
+    """What is told of a name that stands more than once in the request."""
+    return f'note: "request" has a member that stands more than once, and the last counts: {place}\n'
+
+
+
 # The request, the book, and what is refused under `--strict`, with the beginning of the note.
 DOUBTS = [
     (RED_3, EMPTY_BOOK, "17 Unrecorded", 'note: "book" has no input on the page of the request'),
     (UNREAD, BOOK, "16 Unread", 'note: "request" has a member that is not read:\n  "forbiden"; perhaps "forbid" is meant\n'),
     (UNREAD, EMPTY_BOOK, "16 Unread", 'note: "request" has a member that is not read:\n  "forbiden"; perhaps "forbid" is meant\nnote: "book"'),
+    (request('"red":5,"blue":7,"red":3'), BOOK, "16 Unread", twice("totals.red")),
+    (request(r'"red":3,"blue":7,"r\u0065d":3'), BOOK, "16 Unread", twice("totals.red")),
+    (request('"red":3,"blue":7', ',"totals":{"red":3,"blue":7}'), BOOK, "16 Unread", twice("totals")),
+    (request('"red":3,"red":3,"blue":7', ',"price":1,"price":1'), BOOK, "16 Unread", twice("price")),
+    (request('"red":3,"red":3,"blue":7'), EMPTY_BOOK, "16 Unread", twice("totals.red") + 'note: "book"'),
+    (request('"red":3,"blue":7', ',"x":[1,{"a b":{"":0,"":0}}]'), BOOK, "16 Unread", 'note: "request" has a member that is not read:\n  "x"\n' + twice('x[1]["a b"][""]')),
 ]
 
 LATER = '{"by":null,"flag":"colors","site":0}'

@@ -1,4 +1,4 @@
-"""`plan`, `verify` and `apply --keep` on the file of a tally, beside the book whose inputs it counts.
+"""`plan`, `verify`, `apply --keep` and the commands on steps on the file of a tally, beside the book whose inputs it counts.
 
 The tally is made by the tests' own program, from the inputs of the book.
 """
@@ -94,6 +94,12 @@ OTHERS = [
     tally_of([], 20),
     tally_of(INPUTS, 1_000_000),
 ]
+
+
+def drawn_totals(draw, points):
+    """So many points for each of the two variants."""
+    red = draw.randrange(points + 1)
+    return {"red": red, "blue": points - red}
 
 
 class Tallies(ProgramTest):
@@ -202,11 +208,73 @@ class Tallies(ProgramTest):
         self.assertEqual(run(["verify", "d", "r", "t", "p"], {**files, "p": ran.out}).out, "valid cost 0\n")
         self.assertEqual(run(["verify", "d", "r", "b", "p"], {**files, "p": ran.out}).out, "refused verify 8 Groups\n")
 
-    def test_books_alone(self):
-        """The steps of a rollout are planned on books alone, and so are pictures drawn."""
+    def test_steps_as_on_books(self):
+        """The steps of a rollout are planned, checked and put into a document as on the book."""
+        draw = random.Random(SEED)
+        seen = {"rule": 0, "none": 0}
+        for number in range(CASES // 2):
+            factor = draw.choice([1, 1, 2, 10])
+            wanted = [drawn_totals(draw, 10 * factor) for _ in range(draw.randrange(1, 5))]
+            barred = [["blue", "red"]] if draw.random() < 0.3 else []
+            asked = compact({"plan": 1, "flag": "color", "price": draw.randrange(3), "forbid": barred, "steps": wanted})
+            files = {**self.files(tally_of(INPUTS, 10 * factor)), "s": asked}
+            with self.subTest(number=number, files=files):
+                by = ["--refine", str(factor)]
+                files["ramp"] = self.both(["ramp", *by, "d", "s"], [], files)
+                answers = files["ramp"].splitlines(keepends=True)
+                plans = [json.loads(line)["plan"] for line in answers]
+                self.check_steps(by, files, plans)
+                self.both(["verify-ramp", *by, "d", "s"], ["ramp"], {**files, "ramp": "".join(answers[:-1])})
+                for plan in plans:
+                    seen["none" if "none" in plan else "rule"] += 1
+        self.assertGreater(min(seen.values()), 0, seen)
+
+    def check_steps(self, by, files, plans):
+        """What is told of right answers, and of a wrong one, and what is put into the document."""
+        self.assertTrue(self.both(["verify-ramp", *by, "d", "s"], ["ramp"], files).startswith("valid cost "))
+        if "rule" not in plans[0]:
+            return
+        # Without the factor the total of the first rule tells it.
+        self.both(["verify-ramp", "d", "s"], ["ramp"], files)
+        wrong = [{"plan": {**plan, "cost": plan.get("cost", 0) + 1}, "step": n} for n, plan in enumerate(plans, 1)]
+        self.both(["verify-ramp", *by, "d", "s"], ["ramp"], {**files, "ramp": "".join(compact(it) + "\n" for it in wrong)})
+        first = self.both(["apply", "--step", "1", "--keep", *by, "d", "ramp", "s"], [], files)
+        if len(plans) > 1:
+            self.both(["apply", "--step", "2", "--keep", "d", "ramp", "s"], [], {**files, "d": first})
+
+    def test_steps_on_another_tally(self):
+        """It is refused of the first step. The rules of all steps have one total."""
+        asked = '{"plan":1,"flag":"color","steps":[{"red":4,"blue":6},{"red":3,"blue":7}]}'
+        files = {**self.files(), "s": asked}
+        files["p"] = run(["ramp", "d", "s", "b"], files).out
+        self.assertEqual(run(["ramp", "d", "s", "t"], files).out, files["p"])
+        for tally in OTHERS:
+            with self.subTest(tally=tally[:300]):
+                there = {**files, "t": tally}
+                ran = self.assert_ends(["ramp", "d", "s", "t"], there, 1, "refused ramp 11 OtherTally\n")
+                self.assertTrue(ran.err.startswith('error: "s", step 1: '), ran.err)
+                self.assert_ends(["verify-ramp", "d", "s", "t", "p"], there, 1, "refused verify-ramp 11 OtherTally\n")
+                self.assert_ends(["apply", "--step", "1", "--keep", "d", "p", "s", "t"], there, 1, "refused verify-ramp 11 OtherTally\n")
+
+    def test_steps_on_a_broken_tally(self):
+        asked = '{"plan":1,"flag":"color","steps":[{"red":3,"blue":7}]}'
+        for tally, refusal in BROKEN:
+            for words in (["ramp", "d", "s", "t"], ["verify-ramp", "d", "s", "t", "p"], ["apply", "--step", "1", "--keep", "d", "p", "s", "t"]):
+                with self.subTest(tally=tally, words=words):
+                    self.assert_ends(words, {**self.files(tally), "s": asked}, 1, f"refused read_tally {refusal}\n")
+
+    def test_steps_on_an_empty_tally(self):
+        asked = '{"plan":1,"flag":"color","steps":[{"red":3,"blue":7}]}'
+        files = {**self.files(tally_of([], 10)), "s": asked}
+        ran = run(["ramp", "d", "s", "t"], files)
+        self.assertEqual(ran.status, 0, ran.out)
+        self.assertTrue(ran.err.startswith('note: "t" counts no input'), ran.err)
+        self.assert_ends(["ramp", "--strict", "d", "s", "t"], files, 1, "refused ramp 17 Unrecorded\n")
+
+    def test_pictures_on_books_alone(self):
+        """Pictures are drawn of books alone."""
         steps = '{"plan":1,"flag":"color","steps":[{"red":3,"blue":7}]}'
         for words in (
-            ["ramp", "d", "s", "t"],
             ["picture", "d", "r", "t", "p"],
             ["picture", "--ramp", "d", "s", "t", "p"],
             ["plan", "--picture", "svg", "d", "r", "t"],

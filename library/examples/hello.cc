@@ -1,69 +1,17 @@
-// A first program in C++17: a seat that closes itself, and answers as values.
+// A first program in C++17.
 //   c++ -std=c++17 -I release/x86_64-linux library/examples/hello.cc release/x86_64-linux/libflagops.a && ./a.out
-#include "flagops.h"
+#include "flagops.hh"
 #include <iostream>
-#include <optional>
-#include <stdexcept>
-#include <string>
-#include <string_view>
-#include <utility>
-
-struct Refused : std::runtime_error {
-    std::uint32_t number;
-    explicit Refused(std::uint32_t n) : std::runtime_error("flagops: refused with " + std::to_string(n)), number(n) {}
-};
-
-struct Answer {
-    std::string value;
-    std::optional<std::string> variant;
-    std::uint32_t reason, code;
-};
-
-// A seat, which is moved and never copied. One thread at a time calls it.
-class Seat {
-public:
-    Seat() { must(flagops_new(&seat)); }
-    Seat(Seat &&other) noexcept : seat(std::exchange(other.seat, FLAGOPS_NONE)) {}
-    Seat &operator=(Seat &&other) noexcept {
-        if (this != &other) { flagops_close(&seat); seat = std::exchange(other.seat, FLAGOPS_NONE); }
-        return *this;
-    }
-    Seat(const Seat &) = delete;
-    Seat &operator=(const Seat &) = delete;
-    ~Seat() { flagops_close(&seat); }
-
-    void open(std::string_view document) { must(flagops_open(&seat, bytes(document), document.size())); }
-
-    Answer resolve(std::string_view key, std::uint32_t kind, std::string_view fallback, std::string_view context, std::uint64_t moment = 0) {
-        std::string out(256, '\0');
-        std::size_t written;
-        flagops_details details;
-        for (;;) {
-            auto number = flagops_resolve(&seat, bytes(key), key.size(), kind, bytes(fallback), fallback.size(), bytes(context), context.size(), moment,
-                                          reinterpret_cast<std::uint8_t *>(out.data()), out.size(), &written, &details);
-            if (number != FLAGOPS_ROOM) { must(number); break; }
-            out.resize(written);
-        }
-        std::optional<std::string> variant;
-        if (details.has_variant) variant = out.substr(details.value, written - details.value);
-        return { out.substr(0, details.value), variant, details.reason, details.code };
-    }
-
-private:
-    flagops_seat seat = FLAGOPS_NONE;
-    static const std::uint8_t *bytes(std::string_view text) { return reinterpret_cast<const std::uint8_t *>(text.empty() ? "" : text.data()); }
-    static void must(std::uint32_t number) { if (number != FLAGOPS_OK) throw Refused(number); }
-};
 
 int main() try {
-    Seat seat;
+    flagops::Seat seat;
     seat.open(R"({"flags":{"hi":{"state":"ENABLED","variants":{"on":true,"off":false},"defaultVariant":"off",
         "targeting":{"if":[{"ends_with":[{"var":"email"},"@example.com"]},"on"]}}}})");
-    Seat moved = std::move(seat);
-    Answer answer = moved.resolve("hi", FLAGOPS_BOOL, "false", R"({"email":"ann@example.com"})");
+    flagops::Seat moved = std::move(seat);
+    flagops::Answer answer = moved.resolve("hi", FLAGOPS_BOOL, "false", R"({"email":"ann@example.com"})");
     std::cout << "hi is " << answer.value << ", by the variant " << answer.variant.value_or("(none)") << "\n";
     return 0;
-} catch (const Refused &refused) {
+} catch (const flagops::Refused &refused) {
     std::cerr << refused.what() << "\n";
     return 1;
 }

@@ -1,107 +1,12 @@
-// A first program in Rust, by the C interface: a seat that closes itself, and answers as values.
+// A first program in Rust, by the C interface.
 //   rustc --edition 2021 -L release/x86_64-linux library/examples/hello.rs -o hello && ./hello
-use std::ffi::c_void;
-use std::fmt;
+mod flagops;
 
-#[repr(C)]
-struct RawSeat {
-    address: *mut c_void,
-    held: bool,
-}
-
-#[repr(C)]
-#[derive(Default)]
-struct Details {
-    reason: u32,
-    code: u32,
-    value: usize,
-    has_variant: bool,
-}
-
-#[link(name = "flagops", kind = "static")]
-extern "C" {
-    fn flagops_new(seat: *mut RawSeat) -> u32;
-    fn flagops_close(seat: *mut RawSeat);
-    fn flagops_open(seat: *mut RawSeat, document: *const u8, document_len: usize) -> u32;
-    fn flagops_resolve(
-        seat: *mut RawSeat, key: *const u8, key_len: usize, kind: u32, fallback: *const u8, fallback_len: usize,
-        context: *const u8, context_len: usize, moment: u64, out: *mut u8, room: usize, written: *mut usize, details: *mut Details,
-    ) -> u32;
-}
-
-const ROOM: u32 = 3;
-const BOOL: u32 = 0;
-
-/// A call was refused: the number is that of `flagops.h`.
-#[derive(Debug)]
-struct Refused(u32);
-
-impl fmt::Display for Refused {
-    fn fmt(&self, f: &mut fmt::Formatter<'_>) -> fmt::Result {
-        write!(f, "flagops: refused with {}", self.0)
-    }
-}
-
-impl std::error::Error for Refused {}
-
-fn must(number: u32) -> Result<(), Refused> {
-    if number == 0 { Ok(()) } else { Err(Refused(number)) }
-}
-
-/// A seat: `&mut self` sees to it that one call at a time has it.
-struct Seat(RawSeat);
-
-// The next call may come from another thread.
-unsafe impl Send for Seat {}
-
-struct Answer {
-    value: String,
-    variant: Option<String>,
-}
-
-impl Seat {
-    fn new() -> Result<Seat, Refused> {
-        let mut raw = RawSeat { address: std::ptr::null_mut(), held: false };
-        must(unsafe { flagops_new(&mut raw) })?;
-        Ok(Seat(raw))
-    }
-
-    fn open(&mut self, document: &[u8]) -> Result<(), Refused> {
-        must(unsafe { flagops_open(&mut self.0, document.as_ptr(), document.len()) })
-    }
-
-    fn resolve(&mut self, key: &str, kind: u32, fallback: &str, context: &str, moment: u64) -> Result<Answer, Refused> {
-        let (mut out, mut written, mut details) = (vec![0u8; 256], 0, Details::default());
-        loop {
-            let number = unsafe {
-                flagops_resolve(
-                    &mut self.0, key.as_ptr(), key.len(), kind, fallback.as_ptr(), fallback.len(), context.as_ptr(), context.len(), moment,
-                    out.as_mut_ptr(), out.len(), &mut written, &mut details,
-                )
-            };
-            if number != ROOM {
-                must(number)?;
-                break;
-            }
-            out.resize(written, 0);
-        }
-        let text = |bytes: &[u8]| String::from_utf8_lossy(bytes).into_owned();
-        let variant = details.has_variant.then(|| text(&out[details.value..written]));
-        Ok(Answer { value: text(&out[..details.value]), variant })
-    }
-}
-
-impl Drop for Seat {
-    fn drop(&mut self) {
-        unsafe { flagops_close(&mut self.0) }
-    }
-}
-
-fn main() -> Result<(), Refused> {
-    let mut seat = Seat::new()?;
+fn main() -> Result<(), flagops::Refused> {
+    let mut seat = flagops::Seat::new()?;
     seat.open(br#"{"flags":{"hi":{"state":"ENABLED","variants":{"on":true,"off":false},"defaultVariant":"off",
         "targeting":{"if":[{"ends_with":[{"var":"email"},"@example.com"]},"on"]}}}}"#)?;
-    let answer = seat.resolve("hi", BOOL, "false", r#"{"email":"ann@example.com"}"#, 0)?;
+    let answer = seat.resolve("hi", flagops::BOOL, "false", r#"{"email":"ann@example.com"}"#, 0)?;
     println!("hi is {}, by the variant {}", answer.value, answer.variant.as_deref().unwrap_or("(none)"));
     Ok(())
 }

@@ -22,12 +22,14 @@ type Options struct {
 	// Log is a file to which each input that a resolution reached is appended as a note line, before the resolution returns. So a
 	// process that is killed has in its log whatever it answered.
 	Log string
+	// Batches above 0 has the lines written to Log this often, and by Close: a process that is killed may lack the last ones.
+	Batches time.Duration
 	// Most is how many bytes of note lines a seat keeps until Notes takes them: where there is a Log, until they are written.
 	// 0 is 1 MiB with a Log, and else none.
 	Most int
 	// Every is the time between two looks at File (half a second), and First the pause after a connection to Stream (a second).
 	Every, First time.Duration
-	// Failed is called where new flags could not be had, which leaves those of before.
+	// Failed is called where new flags could not be had, which leaves those of before, and where a batch was not written or not whole.
 	Failed func(error)
 }
 
@@ -53,14 +55,17 @@ type Client struct {
 	peer             net.Conn
 	closed           bool
 	free             []*place
+	taken            sync.WaitGroup // of places that are not free
 
 	version atomic.Uint64
 	first   chan struct{}
 	stop    chan struct{}
 	workers sync.WaitGroup
 	log     *lineLog
-	most    int
-	failed  func(error)
+	// recordsFirst says that lines are in the log before a resolution returns.
+	recordsFirst bool
+	most         int
+	failed       func(error)
 }
 
 // A place is a seat of the pool, and which flags it has.
@@ -94,6 +99,11 @@ func New(options Options) (*Client, error) {
 	if err != nil {
 		c.Close()
 		return nil, err
+	}
+	c.recordsFirst = c.log != nil && options.Batches <= 0
+	if c.log != nil && options.Batches > 0 {
+		c.workers.Add(1)
+		go c.writeBatches(options.Batches)
 	}
 	return c, nil
 }
@@ -198,7 +208,7 @@ func (c *Client) Resolve(key string, kind Kind, context []byte, moment uint64) (
 	if found.hasVariant {
 		result.Value, result.Variant, result.HasVariant = append(json.RawMessage(nil), found.value...), string(found.variant), true
 	}
-	if c.log != nil {
+	if c.recordsFirst {
 		err = c.record(p)
 	}
 	if err != nil {
@@ -229,18 +239,9 @@ func (c *Client) place() (*place, error) {
 	if c.closed {
 		return nil, ErrClosed
 	}
-	var p *place
-	if last := len(c.free) - 1; last >= 0 {
-		p, c.free = c.free[last], c.free[:last]
-	} else {
-		made, err := newSeat()
-		if err == nil && c.most > 0 {
-			err = made.record(c.most)
-		}
-		if err != nil {
-			return nil, err
-		}
-		p = &place{seat: made}
+	p, err := c.freePlace()
+	if err != nil {
+		return nil, err
 	}
 	if version := c.version.Load(); p.version != version {
 		if err := c.newest.shareTo(p.seat); err != nil {
@@ -249,13 +250,32 @@ func (c *Client) place() (*place, error) {
 		}
 		p.version = version
 	}
+	c.taken.Add(1)
 	return p, nil
+}
+
+// freePlace takes a place out of the pool, or makes one. The lock is held.
+func (c *Client) freePlace() (*place, error) {
+	if last := len(c.free) - 1; last >= 0 {
+		p := c.free[last]
+		c.free = c.free[:last]
+		return p, nil
+	}
+	made, err := newSeat()
+	if err == nil && c.most > 0 {
+		err = made.record(c.most)
+	}
+	if err != nil {
+		return nil, err
+	}
+	return &place{seat: made}, nil
 }
 
 func (c *Client) giveBack(p *place) {
 	c.lock.Lock()
 	c.free = append(c.free, p)
 	c.lock.Unlock()
+	c.taken.Done()
 }
 
 // Notes takes the note lines that the seats keep, each once, where there is no Log; lost says that one had no room and was left
@@ -264,6 +284,11 @@ func (c *Client) Notes() (lines []byte, lost bool, err error) {
 	if c.log != nil {
 		return nil, false, errors.New("flagops: the lines go to the log")
 	}
+	return c.takeNotes()
+}
+
+// takeNotes takes the lines of all seats that are free.
+func (c *Client) takeNotes() (lines []byte, lost bool, err error) {
 	c.lock.Lock()
 	defer c.lock.Unlock()
 	taken := map[string]struct{}{}
@@ -283,6 +308,28 @@ func (c *Client) Notes() (lines []byte, lost bool, err error) {
 	return lines, lost, nil
 }
 
+// writeBatches writes the lines that the seats keep, every so often and at last once nobody has a seat.
+func (c *Client) writeBatches(every time.Duration) {
+	defer c.workers.Done()
+	var left []byte
+	for isOpen := true; isOpen; {
+		isOpen = c.pause(every)
+		lines, lost, err := c.takeNotes()
+		left = append(left, lines...)
+		if lost {
+			c.failed(errors.New("flagops: note lines had no room and are lost: write batches more often, or keep more"))
+		}
+		if err != nil {
+			c.failed(err)
+		}
+		if err = c.log.write(left); err != nil {
+			c.failed(err)
+			continue
+		}
+		left = nil
+	}
+}
+
 func (c *Client) isClosed() bool {
 	c.lock.Lock()
 	defer c.lock.Unlock()
@@ -297,7 +344,7 @@ func (c *Client) setPeer(peer net.Conn) bool {
 	return !c.closed
 }
 
-// Close ends the client. Later resolutions answer ErrClosed.
+// Close ends the client, once those resolutions have returned that were called before. Later ones answer ErrClosed.
 func (c *Client) Close() error {
 	c.lock.Lock()
 	if c.closed {
@@ -309,6 +356,7 @@ func (c *Client) Close() error {
 		c.peer.Close()
 	}
 	c.lock.Unlock()
+	c.taken.Wait()
 	close(c.stop)
 	c.workers.Wait()
 	if c.log != nil {

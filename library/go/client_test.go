@@ -220,6 +220,35 @@ func TestLog(t *testing.T) {
 	client(t, Options{Log: path})
 }
 
+func TestBatches(t *testing.T) {
+	path := filepath.Join(t.TempDir(), "log")
+	c := client(t, Options{Log: path, Batches: time.Millisecond})
+	open(t, c, document)
+	resolveFor(t, c, "ann")
+	for {
+		text, err := os.ReadFile(path)
+		if err != nil {
+			t.Fatal(err)
+		}
+		if string(text) == noteOf("ann") {
+			break
+		}
+		time.Sleep(time.Millisecond)
+	}
+	c.Close()
+
+	c = client(t, Options{Log: path, Batches: time.Hour})
+	open(t, c, document)
+	resolveFor(t, c, "bob")
+	if text, err := os.ReadFile(path); err != nil || string(text) != noteOf("ann") {
+		t.Error(string(text), err)
+	}
+	c.Close()
+	if text, err := os.ReadFile(path); err != nil || string(text) != noteOf("ann")+noteOf("bob") {
+		t.Error(string(text), err)
+	}
+}
+
 func TestLogThatCannotBeWritten(t *testing.T) {
 	c := client(t, Options{Log: filepath.Join(t.TempDir(), "log")})
 	open(t, c, document)

@@ -37,7 +37,7 @@ var refusals = map[Refused]string{
 	C.FLAGOPS_MEMORY: "memory ran out", C.FLAGOPS_EMPTY: "there is no seat", C.FLAGOPS_ROOM: "the answer needs more room",
 	C.FLAGOPS_KEY: "the key is not a text", C.FLAGOPS_KIND: "no kind of value has this number",
 	C.FLAGOPS_MOMENT: "the moment is too late", C.FLAGOPS_FULL: "a note line had no room",
-	C.FLAGOPS_NO_CONTEXT:   "no context was read", C.FLAGOPS_NO_RULE: "the plan has no rule, since none fits the request",
+	C.FLAGOPS_NO_CONTEXT: "no context was read", C.FLAGOPS_NO_RULE: "the plan has no rule, since none fits the request",
 	C.FLAGOPS_DOCUMENT + 1: "the document: not a JSON text", C.FLAGOPS_DOCUMENT + 2: "the document: no object of flags",
 	C.FLAGOPS_DOCUMENT + 3: "the document: too large",
 	C.FLAGOPS_FALLBACK + 1: "the default: not a JSON text", C.FLAGOPS_FALLBACK + 2: "the default: a number that is not whole",

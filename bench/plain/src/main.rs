@@ -1,12 +1,13 @@
 //! The commands `bucket`, `price`, `check`, `compare`, `plan`, `verify`, `record`, `tally` and `ofrep` of `flagops` in plain Rust, unproved:
-//! what the proved program is timed beside. It knows the files that the scripts of `bench/` make, and stops with a message at any
-//! other.
+//! what the proved program is timed beside; and `rates`, beside which the library is. It knows the files that the scripts of `bench/` make,
+//! and stops with a message at any other.
 mod book;
 mod check;
 mod compare;
 mod flow;
 mod ofrep;
 mod plan;
+mod rates;
 mod records;
 mod request;
 mod rule;
@@ -76,6 +77,7 @@ fn run(words: &[&str]) -> Result<String, Fault> {
         ["ofrep", address, workers, document, log @ ..] => {
             ofrep::serve(address, workers.parse()?, log.first().copied(), &load(document)?)
         }
+        ["rates", document, key, seconds] => rates::rates(&load(document)?, key, seconds.parse()?),
         _ => Err("no such command".into()),
     }
 }

@@ -13,14 +13,14 @@ const REMEMBERED: usize = 65_536;
 const PREFIX: &str = "/ofrep/v1/evaluate/flags/";
 
 /// A flag as it is answered from.
-struct Flag {
+pub struct Flag {
     is_enabled: bool,
     variants: HashMap<String, String>,
     default: Option<String>,
     targeting: Option<Value>,
 }
 
-type Flags = HashMap<String, Flag>;
+pub type Flags = HashMap<String, Flag>;
 
 /// The targeting with each `$ref` replaced by what it names.
 fn resolved(value: &Value, named: &Map<String, Value>) -> Value {
@@ -34,7 +34,7 @@ fn resolved(value: &Value, named: &Map<String, Value>) -> Value {
     }
 }
 
-fn flags_of(document: &Value) -> Option<Flags> {
+pub fn flags_of(document: &Value) -> Option<Flags> {
     let none = Map::new();
     let named = document["$evaluators"].as_object().unwrap_or(&none);
     let flag = |flag: &Value| {
@@ -145,6 +145,22 @@ impl Log {
     }
 }
 
+/// The variant of a flag in a context and its value as JSON, with the reason and the notes of what was reached.
+type Found<'a> = (Option<(&'a str, &'a str)>, &'static str, Vec<String>);
+
+pub fn found<'a>(flag: &'a Flag, key: &str, context: &Value) -> Found<'a> {
+    let mut evaluation = Evaluation { key, context, notes: Vec::new() };
+    let (variant, reason) = match &flag.targeting {
+        None => (flag.default.clone(), "STATIC"),
+        Some(rule) => match evaluation.value(rule) {
+            Value::String(name) => (Some(name), "TARGETING_MATCH"),
+            _ => (flag.default.clone(), "DEFAULT"),
+        },
+    };
+    let entry = variant.and_then(|name| flag.variants.get_key_value(&name));
+    (entry.map(|(name, value)| (name.as_str(), value.as_str())), reason, evaluation.notes)
+}
+
 /// The status and the body of the answer for a flag.
 fn answer(flags: &Flags, log: &mut Log, key: &str, body: &[u8]) -> (&'static str, String) {
     let missing = || {
@@ -157,16 +173,8 @@ fn answer(flags: &Flags, log: &mut Log, key: &str, body: &[u8]) -> (&'static str
         return ("400 Bad Request", r#"{"errorCode":"PARSE_ERROR"}"#.into());
     };
     let Some(flag) = flags.get(key).filter(|flag| flag.is_enabled) else { return missing() };
-    let mut evaluation = Evaluation { key, context: &request["context"], notes: Vec::new() };
-    let (variant, reason) = match &flag.targeting {
-        None => (flag.default.clone(), "STATIC"),
-        Some(rule) => match evaluation.value(rule) {
-            Value::String(name) => (Some(name), "TARGETING_MATCH"),
-            _ => (flag.default.clone(), "DEFAULT"),
-        },
-    };
-    let Some((variant, value)) = variant.and_then(|name| flag.variants.get_key_value(&name)) else { return missing() };
-    if log.keep(evaluation.notes).is_err() {
+    let (Some((variant, value)), reason, notes) = found(flag, key, &request["context"]) else { return missing() };
+    if log.keep(notes).is_err() {
         return ("500 Internal Server Error", "{}".into());
     }
     let [key, variant] = [key, variant].map(Value::from);

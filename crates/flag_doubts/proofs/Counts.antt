@@ -1,5 +1,5 @@
 -- How often a name has stood among members, once at least and more than once.
-use Rattle.std.proofs.Common.{◌≡◌, ℕ, ◌+◌, ◌<◌, Bool, true, false, not, cond, nat_lt, List, [], ◌∷◌, length, get_or, take, map, Bor, refl, sym, ap, ◌∙◌, arith}
+use Rattle.std.proofs.Common.{◌≡◌, ℕ, ◌+◌, ◌<◌, Bool, true, false, cond, nat_lt, List, [], ◌∷◌, length, get_or, take, map, Bor, refl, sym, ap, ◌∙◌, arith}
 use Rattle.std.proofs.lemmas.Bool.{lt-ltb, le-ltb, ltb-true, ltb-false}
 use Rattle.std.proofs.lemmas.List.Sums.{count_by_more_no, count_by_more_yes, sum_by-cons}
 use Rattle.std.proofs.lemmas.Slice.Eq.{bytes_eq-Decides}
@@ -55,12 +55,3 @@ module _ (ms : Members) (i : ℕ) (m : Bor (List ℕ)) (h : i < length ms) (is :
           let none = ltb-false 0 (count key (take i ms)) (ap (λ k. nat_lt 0 (count k (take i ms))) (sym ((bytes_eq-Decides m.now key).0 e)) ∙ seen) in
           was ∙ le-ltb 1 (count key (take i ms)) (omega arith) ∙ sym (le-ltb 1 (count key (take (i + 1) ms)) (omega arith))
       go false e = was ∙ ap (nat_lt 1) (sym (same e))
-
--- what a set says of a name that is put into it
-pub was_met : (new had : Bool) → new ≡ not had → new ≡ false → had ≡ true
-was_met new true e f = refl
-was_met new false e f = sym f ∙ e
-
-pub was_new : (new had : Bool) → new ≡ not had → new ≡ true → had ≡ false
-was_new new false e f = refl
-was_new new true e f = sym f ∙ e

@@ -1,14 +1,11 @@
 pub mod Branches
 pub mod Buckets
 pub mod Counts
-pub mod Documents
 pub mod Faulting
 pub mod Giving
 pub mod Grammar
 pub mod Keys
 pub mod Matches
-pub mod Open
 pub mod Others
-pub mod SecondNames
 pub mod Sites
 pub mod Told

@@ -1,13 +1,10 @@
 -- The keys that stand more than once among the flags of a document (RFC 8259, section 4: the names within an object should
 -- be unique), of which the tree of the document keeps the last alone.
-use Rattle.std.specs.Prelude.{ℕ, List, [], ◌∷◌, codes, Bool, nat_lt, count_by, if◌then◌else◌, Option, Some, None, option_and_then}
-use Rattle.std.specs.Str.{bytes_eq, is_utf8}
+use Rattle.std.specs.Prelude.{ℕ, List, [], codes, Bool, nat_lt, count_by, Option, Some, option_and_then}
+use Rattle.std.specs.Str.{bytes_eq}
 use Rattle.json.specs.Find.{get}
-use Rattle.json.specs.Json.{Json, object, Members, no_members, member, document}
-
-abbrev pub member_names : Members → List (List ℕ)
-member_names no_members = []
-member_names (member k j ms) = k ∷ member_names ms
+use Rattle.json.specs.Json.{Json, object, Members, no_members}
+use Rattle.repeated_names.specs.Repeated.{json_of, member_names}
 
 -- the members of an object; what is no object has none
 abbrev pub members_in : Option Json → Members
@@ -18,10 +15,6 @@ members_in o = no_members
 abbrev pub names_in : Option Json → List (List ℕ)
 names_in (Some (object ms)) = member_names ms
 names_in o = []
-
--- the value of the bytes, where they are a JSON text
-abbrev pub json_of : List ℕ → Option Json
-json_of bytes = if is_utf8 bytes then document bytes else None
 
 -- the keys of a document's flags, with each that is repeated
 abbrev pub flag_keys : List ℕ → List (List ℕ)

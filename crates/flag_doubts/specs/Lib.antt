@@ -4,7 +4,6 @@ pub mod Doubts
 pub mod FoundFlags
 pub mod Laws
 pub mod Outcomes
-pub mod Passed
 pub mod ReadBoth
 pub mod Repeated
 pub mod Views

@@ -1,6 +1,6 @@
 -- Members that stand more than once in an object within a document (RFC 8259, section 4: the names within an object should be
 -- unique), of which readers keep the last alone.
-use Rattle.std.specs.Prelude.{◌≡◌, ℕ, List, [], ◌∷◌, codes, map, string_bytes, Bool, false, not, ◌||◌, ◌&&◌, nat_lt, is_some, Option, option_and_then}
+use Rattle.std.specs.Prelude.{◌≡◌, ℕ, List, codes, map, string_bytes, Bool, false, not, ◌||◌, ◌&&◌, nat_lt, is_some, Option, option_and_then}
 use Rattle.std.specs.BTreeMap.{get_by_text}
 use Rattle.std.specs.Cmp.Lexicographic.{slice_cmp}
 use Rattle.std.specs.List.{list_any}
@@ -8,33 +8,11 @@ use Rattle.std.specs.List.Sorted.{IsStrictlySortedBy}
 use Rattle.std.specs.Ordering.{nat_cmp}
 use Rattle.std.specs.Str.{bytes_eq}
 use Rattle.json.specs.Find.{get}
-use Rattle.json.specs.Json.{Json, null, boolean, number, string, array, object, Items, no_items, item, Members, no_members, member}
+use Rattle.json.specs.Json.{Json, Members, no_members, member}
+use Rattle.repeated_names.specs.Repeated.{has_twin, json_of, member_names, repeats}
 use Rattle.flag_doubts.specs.AllRead.{are_all_read}
-use Rattle.flag_doubts.specs.Doubled.{count_of, json_of, member_names, members_in, names_in}
+use Rattle.flag_doubts.specs.Doubled.{count_of, members_in, names_in}
 use Rattle.flag_doubts.specs.declared.repeated.Repeated.{Repeated}
-
--- one of the names stands again behind it
-abbrev pub has_twin : List (List ℕ) → Bool
-has_twin [] = false
-has_twin (k ∷ ks) = list_any (bytes_eq k) ks || has_twin ks
-
--- an object within the value has a name that stands more than once
-abbrev mutual
-  pub repeats : Json → Bool
-  repeats null = false
-  repeats (boolean b) = false
-  repeats (number s) = false
-  repeats (string s) = false
-  repeats (array js) = item_repeats js
-  repeats (object ms) = has_twin (member_names ms) || member_repeats ms
-
-  pub item_repeats : Items → Bool
-  item_repeats no_items = false
-  item_repeats (item j js) = repeats j || item_repeats js
-
-  pub member_repeats : Members → Bool
-  member_repeats no_members = false
-  member_repeats (member k j ms) = repeats j || member_repeats ms
 
 -- a definition that stands under the key repeats a member
 abbrev pub repeats_under : List ℕ → Members → Bool

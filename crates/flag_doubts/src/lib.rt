@@ -2,9 +2,9 @@
 //!
 //! A document may be read without a word though a bucket names no variant, weights give nobody a variant, a targeting can never
 //! give one, a member of a definition is misspelled, or a key or a member stands twice. [`doubts_of`] tells the first four of one
-//! flag, [`repeated_in`] the last of a document's bytes, since a tree keeps one member of a name alone. The same walk tells
-//! whether each member of a document and of its definitions is read, where none has to be looked for. [`read_with_names`] walks
-//! in a thread of its own while the flags are read.
+//! flag, [`repeated_in`] the last of a document's bytes, since a tree keeps one member of a name alone: it walks the tokens by the
+//! steps of `repeated_names`. The same walk tells whether each member of a document and of its definitions is read, where none has
+//! to be looked for. [`read_with_names`] walks in a thread of its own while the flags are read.
 //!
 //! ```rust
 //! use flag_doubts::{doubts_of, read_with_names, repeated_in};
@@ -37,13 +37,10 @@ mod doubting;
 mod flags;
 mod given;
 mod laws;
-mod places;
 mod reading;
 mod repeated;
 mod results;
 mod truths;
-mod twins;
-mod walk;
 mod weights;
 
 pub use doubt::{Doubt, FlagDoubts};

@@ -3,7 +3,7 @@ ghost use Rattle.std.specs.Prelude.{◌≡◌, ◌<◌, ◌≤◌, false, length
 ghost use Rattle.std.specs.Str.{is_utf8};
 ghost use Rattle.flag_defs.specs.Document.{DocumentMeans, max_bytes};
 ghost use Rattle.flag_defs.specs.Flags.{HoldsUnless};
-ghost use Rattle.flag_doubts.specs.Doubled.{json_of};
+ghost use Rattle.repeated_names.specs.Repeated.{json_of};
 ghost use Rattle.flag_doubts.specs.ReadBoth.{flags_of};
 ghost use Rattle.flag_doubts.specs.Repeated.{Finds};
 

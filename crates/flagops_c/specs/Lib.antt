@@ -1,3 +1,4 @@
+pub mod About
 pub mod Calls
 pub mod Held
 pub mod Rollouts

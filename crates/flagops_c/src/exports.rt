@@ -2,7 +2,6 @@
 ghost use Rattle.std.specs.Prelude.{◌≡◌, ◌≢◌, ◌<◌, ◌≤◌, false, length, is_some, if◌then◌else◌, Some, None, Result, option_map, IfErr, IfOk, IfSome};
 ghost use Rattle.std.specs.Str.{is_utf8};
 ghost use Rattle.flag_defs.specs.Document.{max_bytes};
-ghost use Rattle.library_seat.specs.About.{about_text};
 ghost use Rattle.library_seat.specs.Early.{text_refusal};
 ghost use Rattle.library_seat.specs.Refusal.{number_of};
 ghost use Rattle.library_seat.specs.Room.{Writes};
@@ -11,11 +10,13 @@ ghost use Rattle.library_seat.specs.Told.{Opening, Reading, Takes};
 ghost use Rattle.library_seat.specs.View.{seat_view};
 ghost use Rattle.library_seat.specs.declared.refusal.Refusal.{Refusal as SeatRefusal};
 ghost use Rattle.library_seat.specs.declared.refusal.Refusal.TheVariants as refusal;
+ghost use Rattle.flagops_c.specs.About.{about_text};
 ghost use Rattle.flagops_c.specs.Calls.{Calls, result_number, standing, taken_number};
 
+use crate::about::about;
 use crate::handle::Handle;
 use crate::numbers::{number_of, number_of_taken};
-use library_seat::{Refusal, Seat, about, put};
+use library_seat::{Refusal, Seat, put};
 use std::alloc::Global;
 
 /// A seat without flags, in the place of what the handle held.
@@ -112,7 +113,7 @@ pub extern "C" fn flagops_notes(
     number_of_taken(taken)
 }
 
-/// Writes the library's version and the kit that it is proved with. It takes no memory.
+/// Writes the library's version, the kit that proves it and the sum of its sources. It takes no memory.
 #[unsafe(no_mangle)]
 pub extern "C" fn flagops_about(out: &mut [u8], written: &mut usize) -> u32
     ensures writes { (answer : Result (Unit {0}) SeatRefusal) × (result ≡ result_number answer) × Writes about_text answer (record { bytes = out.old; written = written.old }) (record { bytes = out.new; written = written.new }) }

@@ -52,7 +52,7 @@ impl Handle {
 
     // Each of these has a proof by hand.
 
-    fn none() -> Handle
+    pub(crate) fn none() -> Handle
         ensures { result.seat ≡ None }
     {
         Handle {

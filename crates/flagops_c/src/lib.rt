@@ -5,6 +5,7 @@
 //! none, or owns the box of a seat.
 #![tactic(auto)]
 
+mod about;
 mod exports;
 mod feeding;
 mod handle;

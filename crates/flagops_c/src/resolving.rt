@@ -1,5 +1,5 @@
 //! The exports that resolve, and the keys of flags.
-ghost use Rattle.std.specs.Prelude.{◌≡◌, ◌≢◌, None, IfSome};
+ghost use Rattle.std.specs.Prelude.{◌≡◌, ◌≢◌, [], None, IfSome};
 ghost use Rattle.library_seat.specs.Early.{early_refusal};
 ghost use Rattle.library_seat.specs.Keys.{keys_text};
 ghost use Rattle.library_seat.specs.Question.{resolve_kept_of, resolve_of};
@@ -95,6 +95,8 @@ pub extern "C" fn flagops_keys(
     ensures writes { Calls result_number (λ answer old new. (new ≡ old) × Writes (keys_text old.flags) answer
         (record { bytes = out.old; written = written.old }) (record { bytes = out.new; written = written.new }))
         result (standing handle.old.seat) (standing handle.new.seat) }
+    // this needs no memory
+    ensures no_keys { IfSome (standing handle.old.seat) (λ s. IfSome s.flags (λ flags. flags ≡ []) → result ≡ 0) }
     ensures empty { handle.old.seat ≡ None → (out.new ≡ out.old) × (written.new ≡ written.old) }
 {
     let Some(seat) = handle.take(alloc) else {

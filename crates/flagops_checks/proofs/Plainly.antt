@@ -23,7 +23,8 @@ use Rattle.unread_members.specs.declared.reader.Reader.{Reader}
 use Rattle.unread_members.specs.declared.reader.Reader.TheVariants as reader
 use Rattle.flag_defs.specs.Document.{max_bytes, or_no_members}
 use Rattle.flag_doubts.specs.AllRead.{are_all_read, are_definitions_read, are_flags_read, takes_each}
-use Rattle.flag_doubts.specs.Doubled.{json_of, member_names, members_in}
+use Rattle.repeated_names.specs.Repeated.{json_of, member_names}
+use Rattle.flag_doubts.specs.Doubled.{members_in}
 use Rattle.flagops_checks.specs.Judged.{definition_of, is_unread, or_null, tree_in}
 
 -- ---- what was told of the names, member by member

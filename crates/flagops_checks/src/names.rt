@@ -1,7 +1,7 @@
 //! What is known of a document by the names in its text.
 ghost use Rattle.std.specs.Prelude.{◌≡◌, is_some, true, IfOk};
 ghost use Rattle.flag_doubts.specs.AllRead.{are_all_read};
-ghost use Rattle.flag_doubts.specs.Doubled.{json_of};
+ghost use Rattle.repeated_names.specs.Repeated.{json_of};
 ghost use Rattle.flag_doubts.specs.Repeated.{Finds, has_repeated, is_repeated};
 ghost use Rattle.flag_text.specs.Shape.{is_tidy};
 ghost use Rattle.flag_text.specs.View.{view};

@@ -8,6 +8,7 @@ use flag_defs::Flag;
 use flag_doubts::Doubt;
 use flag_text::Tree;
 use flagops_files::quoted;
+use repeated_names::within;
 use std::alloc::{AllocError, Global};
 use unread_members::Reader;
 
@@ -39,14 +40,6 @@ pub(crate) fn repeated(alloc: Global, place: Option<&str>) -> Result<String, All
             format!(in alloc; "{text}: {place}")
         }
         None => String::from_str(alloc, text),
-    }
-}
-
-/// A place within an object, without the dot before its first step.
-fn within(place: &str) -> &str {
-    match place.strip_prefix('.') {
-        Some(place) => place,
-        None => place,
     }
 }
 

@@ -12,20 +12,22 @@ use Rattle.flagops_shell.specs.Outcomes.{Lifts, refused_by}
 use Rattle.flagops_shell.specs.Report.{Report, outcome_view}
 use Rattle.flagops_shell.specs.declared.outcome.Outcome.{Outcome}
 use Rattle.flagops_shell.specs.declared.refused.Remark.{Remark}
-use Rattle.flagops_files.proofs.Told.{told_of, told_of_one}
+use Rattle.flagops_files.proofs.Told.{told_of, told_of_first}
 use Rattle.flagops_files.specs.Documents as documents
 use Rattle.flagops_files.specs.Loading as loading
 use Rattle.flagops_files.specs.Loading.{max_text}
 use Rattle.flagops_files.specs.Question as questions
 use Rattle.flagops_files.specs.Refusal as files
 use Rattle.flagops_files.specs.declared.refusal.Call.{Call}
-use Rattle.flagops_files.specs.Told.{NamesOne, NamesSubject, Subject}
+use Rattle.flagops_files.specs.Told.{NamesFirst, NamesSubject, Subject}
 use Rattle.flagops_files.specs.declared.refusal.Refusal.TheVariants as file
+use Rattle.flagops_rollouts.specs.Attempts as rolling
 use Rattle.flagops_rollouts.specs.Refusal as rollouts
 use Rattle.flagops_rollouts.specs.declared.refusal.RolloutCall.{RolloutCall}
 use Rattle.flagops_rollouts.specs.declared.refusal.RolloutRefusal.{RolloutRefusal}
 use Rattle.flagops_commands.specs.Loaded.{IsDocumentAt, book_at, bytes_at, choice_at, replaceable_at, rule_at, tree_at}
-use Rattle.flagops_commands.specs.Refusal.{Refused, call_of, is_unread, is_want, loads, rolled, rolls, unwritable}
+use Rattle.flagops_commands.specs.Attempts.{rolled}
+use Rattle.flagops_commands.specs.Refusal.{Refused, call_of, is_unread, is_want, loads, rolls, unwritable}
 use Rattle.flagops_commands.specs.declared.refusal.ListedRefusal.{ListedRefusal}
 use Rattle.flagops_commands.specs.declared.refusal.ListedRefusal.TheVariants.{Load, Rollout}
 
@@ -103,15 +105,11 @@ module _ (e : files.Refused) (t : Refused) where
 
 -- ---- a command on rollouts
 
--- what it refuses, it refuses so
-alike : (xs : rollouts.Subjects) (e : RolloutRefusal) (remark : Remark) → NamesOne xs e remark → NamesOne (rolled xs) (Rollout e) remark
-alike [] e remark named = named
-alike (x ∷ xs) e remark (inl named) = inl named
-alike (x ∷ xs) e remark (inr more) = inr (alike xs e remark more)
-
-pub rolled_told : (e : rollouts.Refused) (t : Refused) (xs : rollouts.Subjects) → t.refusal ≡ Rollout e.refusal → t.remark ≡ e.remark → (rollouts.is_want e.refusal ≡ false → NamesOne xs e.refusal e.remark)
-    → is_want t.refusal ≡ false → NamesOne (rolled xs) t.refusal t.remark
-rolled_told e t xs is said named = told_of_one rollouts.is_want is_want Rollout (λ e. refl) e t is said xs (rolled xs) (alike xs) named
+-- the first that it refuses is told so
+pub rolled_told : (old : Option Holding) (xs : Holding → rolling.Attempts) (e : rollouts.Refused) (t : Refused) → t.refusal ≡ Rollout e.refusal → t.remark ≡ e.remark → IfSome old (λ at. rollouts.is_want e.refusal ≡ false → NamesFirst (xs at) e.refusal e.remark)
+    → IfSome old (λ at. is_want t.refusal ≡ false → NamesFirst (rolled (xs at)) t.refusal t.remark)
+rolled_told None xs e t is said names = tt
+rolled_told (Some at) xs e t is said names = told_of_first rollouts.is_want is_want Rollout (λ e. refl) e t is said (xs at) names
 
 module _ (P : Holding → Result Report RolloutRefusal → Type 0) (old : Option Holding) where
   pub rolled_there : (o : Outcome) → IfSome old (λ at. P at (Ok (outcome_view o))) → IfSome old (λ at. Lifts Rollout (P at) (Ok (outcome_view o)))

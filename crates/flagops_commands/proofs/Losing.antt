@@ -9,7 +9,7 @@ use Rattle.flagops_drive.specs.Driven.{DriveOutput}
 use Rattle.flagops_commands.specs.Drive.{IsSaved, IsWritten, replaces_at, unless_lost}
 use Rattle.flagops_commands.specs.Calls.{checks_losses, drive_calls, writes_book}
 use Rattle.flagops_commands.specs.Refusal.{ComesFrom, GivesOne, Refused, TellsOfOne, by, call_of, is_want, loads_book, stores_file}
-use Rattle.flagops_commands.specs.Subjects.{drive_subjects, driven_subjects, is_of_losing, written_subjects}
+use Rattle.flagops_commands.specs.Subjects.{is_of_losing, written_subjects}
 use Rattle.flagops_commands.specs.declared.refusal.ListedCall.{ListedCall}
 use Rattle.flagops_commands.specs.declared.refusal.ListedCall.TheVariants as call
 use Rattle.flagops_files.proofs.Told.{told_left}
@@ -184,7 +184,3 @@ failed_after false mid last fault first second = second ∙ ap (λ (b : Bool). b
 pub told_stored : (book : List ℕ) (r : Result Outcome Refused) → TellsOfOne ((file_of book, by stores_file) ∷ []) r → TellsOfOne (written_subjects book) r
 told_stored book (Ok o) tells = tt
 told_stored book (Err e) tells = λ wanted. inr (told_left ((file_of book, by stores_file) ∷ []) ((file_of book, is_of_losing) ∷ []) e.refusal e.remark (tells wanted))
-
-pub told_written : (document asks book : List ℕ) (r : Result Outcome Refused) → TellsOfOne (written_subjects book) r → TellsOfOne (drive_subjects document asks book) r
-told_written document asks book (Ok o) tells = tt
-told_written document asks book (Err e) tells = λ wanted. inr (told_left (written_subjects book) (driven_subjects asks book) e.refusal e.remark (tells wanted))

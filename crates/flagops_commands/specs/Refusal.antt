@@ -1,5 +1,5 @@
 -- Why a listed command is refused, and the line that a refusal is written as.
-use Rattle.std.specs.Prelude.{◌≡◌, ℕ, Bool, true, false, List, [], ◌∷◌, codes, decimal, map, Result}
+use Rattle.std.specs.Prelude.{◌≡◌, ℕ, Bool, true, false, List, [], codes, decimal, Result}
 use Rattle.book_core.specs.Fault as books
 use Rattle.book_core.specs.declared.fault.BookFault.TheVariants as book
 use Rattle.book_share.specs.declared.drive_fault.DriveFault.TheVariants as sharing
@@ -180,12 +180,3 @@ stores_file c = loads files.stores_file c
 abbrev pub rolls : (RolloutCall → Bool) → ListedCall → Bool
 rolls calls (call.Rollout c) = calls c
 rolls calls c = false
-
--- the refusals of such a command
-abbrev pub is_rolled : (RolloutRefusal → Bool) → ListedRefusal → Bool
-is_rolled is_of (Rollout e) = is_of e
-is_rolled is_of e = false
-
--- what it refuses
-abbrev pub rolled : rollouts.Subjects → Subjects
-rolled subjects = map (λ s. (s.0, is_rolled s.1)) subjects

@@ -18,7 +18,7 @@
 //! Proved of [`Listed`]: what a command comes to is what its definition (`specs/Commands.antt`) gives over the files, unless memory
 //! ran out; `flagops_shell` has what is then written. A command has a definition of its own in `specs/`; `plan` and `verify` answer on a tally as on the book whose inputs
 //! it counts ([`tallies_answer_as_books`]). What a person is told of a refusal begins with the path or the
-//! word that was refused (`specs/Subjects.antt`).
+//! word that was refused, the first in the command's order (`specs/Attempts.antt`).
 #![tactic(auto)]
 
 mod books;

@@ -1,14 +1,15 @@
 //! The commands on rollouts, where each refusal is one of the listed commands.
 ghost use Rattle.std.specs.Prelude.{◌≡◌, ◌||◌, IfOk, IfSome, option_map};
 ghost use Rattle.file_diagnostics.specs.Named.{Names};
-ghost use Rattle.flagops_commands.specs.Refusal.{ComesFrom, GivesOne, TellsOfOne, is_file_fault, rolled, rolls};
+ghost use Rattle.flagops_commands.specs.Attempts.{TellsOfFirst, rolled};
+ghost use Rattle.flagops_commands.specs.Refusal.{ComesFrom, GivesOne, is_file_fault, rolls};
 ghost use Rattle.flagops_commands.specs.declared.refusal.ListedRefusal.TheVariants.{Rollout};
 ghost use Rattle.flagops_rollouts.specs.Apply.{IsApplyReport};
+ghost use Rattle.flagops_rollouts.specs.Attempts.{apply_attempts, keep_attempts, plan_attempts, verify_attempts};
 ghost use Rattle.flagops_rollouts.specs.Calls.{apply_calls, keep_calls, plan_calls, verify_calls};
 ghost use Rattle.flagops_rollouts.specs.Doubts.{NamesDoubted};
 ghost use Rattle.flagops_rollouts.specs.Keep.{IsKeepReport, LeavesDocument};
 ghost use Rattle.flagops_rollouts.specs.Plan.{IsPlanReport};
-ghost use Rattle.flagops_rollouts.specs.Subjects.{apply_subjects, keep_subjects, plan_subjects, verify_subjects};
 ghost use Rattle.flagops_rollouts.specs.Verify.{IsVerifyReport};
 ghost use Rattle.flagops_shell.specs.Diagnostic.{Says};
 ghost use Rattle.flagops_shell.specs.Ending.{KeepsUnlessDone};
@@ -22,7 +23,7 @@ use std::alloc::Global;
 use std::thread::Threads;
 
 /// What `plan` answers.
-#[tactic(auto, using(crate::proofs::Loaded::rolled_told, crate::proofs::Loaded::rolls_from, crate::proofs::Loaded::failed_rollout))]
+#[tactic(auto, using(crate::proofs::Loaded::rolls_from, crate::proofs::Loaded::failed_rollout))]
 pub(crate) fn plan<R: Threads + Sync, F: FileSet>(
     rt: &R,
     alloc: Global,
@@ -38,7 +39,7 @@ pub(crate) fn plan<R: Threads + Sync, F: FileSet>(
     ensures calls { ComesFrom (rolls plan_calls) result }
     ensures failed { F.has_failed files.new ≡ (F.has_failed files.old || is_file_fault result) }
     ensures kept { F.holding files.new ≡ F.holding files.old }
-    ensures names { TellsOfOne (rolled (plan_subjects document.now request.now book.now)) result }
+    ensures names { IfSome (F.holding files.old) (λ at. TellsOfFirst (rolled (plan_attempts at document.now request.now book.now)) result) }
     ensures notes { IfOk result (λ o. IfSome o.remark (Says (NamesDoubted request.now book.now))) }
 {
     match flagops_rollouts::plan(
@@ -50,7 +51,7 @@ pub(crate) fn plan<R: Threads + Sync, F: FileSet>(
 }
 
 /// What `verify` answers.
-#[tactic(auto, using(crate::proofs::Loaded::rolled_told, crate::proofs::Loaded::rolls_from, crate::proofs::Loaded::failed_rollout))]
+#[tactic(auto, using(crate::proofs::Loaded::rolls_from, crate::proofs::Loaded::failed_rollout))]
 pub(crate) fn verify<R: Threads + Sync, F: FileSet>(
     rt: &R,
     alloc: Global,
@@ -67,7 +68,7 @@ pub(crate) fn verify<R: Threads + Sync, F: FileSet>(
     ensures calls { ComesFrom (rolls verify_calls) result }
     ensures failed { F.has_failed files.new ≡ (F.has_failed files.old || is_file_fault result) }
     ensures kept { F.holding files.new ≡ F.holding files.old }
-    ensures names { TellsOfOne (rolled (verify_subjects document.now request.now book.now plan.now)) result }
+    ensures names { IfSome (F.holding files.old) (λ at. TellsOfFirst (rolled (verify_attempts at document.now request.now book.now plan.now)) result) }
     ensures notes { IfOk result (λ o. IfSome o.remark (Says (NamesDoubted request.now book.now))) }
 {
     match flagops_rollouts::verify(
@@ -79,7 +80,7 @@ pub(crate) fn verify<R: Threads + Sync, F: FileSet>(
 }
 
 /// What `apply` answers.
-#[tactic(auto, using(crate::proofs::Loaded::rolled_told, crate::proofs::Loaded::rolls_from, crate::proofs::Loaded::failed_rollout))]
+#[tactic(auto, using(crate::proofs::Loaded::rolls_from, crate::proofs::Loaded::failed_rollout))]
 pub(crate) fn apply<F: FileSet>(
     alloc: Global,
     files: &mut F,
@@ -93,7 +94,7 @@ pub(crate) fn apply<F: FileSet>(
     ensures calls { ComesFrom (rolls apply_calls) result }
     ensures failed { F.has_failed files.new ≡ (F.has_failed files.old || is_file_fault result) }
     ensures kept { F.holding files.new ≡ F.holding files.old }
-    ensures names { TellsOfOne (rolled (apply_subjects document.now plan.now)) result }
+    ensures names { IfSome (F.holding files.old) (λ at. TellsOfFirst (rolled (apply_attempts at document.now plan.now)) result) }
     ensures notes { IfOk result (λ o. IfSome o.remark (Says (Names document.now))) }
 {
     match flagops_rollouts::apply(alloc, files, document, plan, key, site, strict) {
@@ -103,7 +104,7 @@ pub(crate) fn apply<F: FileSet>(
 }
 
 /// What `apply --keep` answers.
-#[tactic(auto, using(crate::proofs::Loaded::rolled_told, crate::proofs::Loaded::rolls_from, crate::proofs::Loaded::failed_rollout))]
+#[tactic(auto, using(crate::proofs::Loaded::rolls_from, crate::proofs::Loaded::failed_rollout))]
 pub(crate) fn keep<R: Threads + Sync, F: FileSet>(
     rt: &R,
     alloc: Global,
@@ -121,7 +122,7 @@ pub(crate) fn keep<R: Threads + Sync, F: FileSet>(
     ensures failed { F.has_failed files.new ≡ (F.has_failed files.old || is_file_fault result) }
     ensures left { LeavesDocument (F.holding files.old) (F.holding files.new) document.now write }
     ensures kept { KeepsUnlessDone (F.holding files.old) (F.holding files.new) result }
-    ensures names { TellsOfOne (rolled (keep_subjects document.now plan.now request.now book.now)) result }
+    ensures names { IfSome (F.holding files.old) (λ at. TellsOfFirst (rolled (keep_attempts at document.now plan.now request.now book.now)) result) }
     ensures notes { IfOk result (λ o. IfSome o.remark (Says (NamesDoubted request.now book.now))) }
 {
     match flagops_rollouts::keep(

@@ -1,5 +1,5 @@
 -- What a filter came to, as the console shows it.
-use Rattle.std.proofs.Common.{◌≡◌, ◌⊎◌, ◌∙◌, ◌||◌, true, false, ℕ, List, Bool, Option, None, Some, IfErr, IfOk, IfSome, Result, Ok, Err, ap, inl, inr, is_some, refl, subst, sym}
+use Rattle.std.proofs.Common.{◌≡◌, ◌⊎◌, ◌∙◌, ◌||◌, true, false, ℕ, List, Bool, Option, None, Some, IfOk, IfSome, Result, Ok, Err, ap, inl, inr, is_some, refl, subst, sym}
 use Rattle.clap.specs.Kinds.{Kinds}
 use Rattle.clap.specs.declared.error.kind.ErrorKind.{ErrorKind}
 use Rattle.flagops_words.specs.Alone.{IsToldBy}

@@ -16,12 +16,14 @@ use Rattle.flagops_shell.specs.Diagnostic.{Says}
 use Rattle.flagops_shell.specs.Ending.{ShowsRefusal}
 use Rattle.flagops_shell.specs.Files.{Holding}
 use Rattle.note_streams.specs.Recorded.{RecordsStream, TellsOf, recorded_of}
-use Rattle.note_streams.specs.Rest.{is_empty}
+use Rattle.note_streams.specs.Rest.{is_empty, is_torn}
 use Rattle.note_streams.specs.declared.recording.Counted.{Counted}
 use Rattle.note_streams.specs.declared.stop.RecordStop.{RecordStop}
 use Rattle.note_streams.specs.declared.stop.RecordStop.TheVariants.{WantOfMemory, Line, Unreadable, TooLong, Broken}
+use Rattle.record_lines.specs.Outcomes.{Outcomes}
 use Rattle.record_lines.specs.Record.{IsSceneOf, Scene}
 use Rattle.record_lines.specs.Refusal.{refusal_for}
+use Rattle.record_lines.specs.View.{outcomes_view}
 use Rattle.record_lines.specs.declared.recorder.RecordFault.{RecordFault}
 use Rattle.record_lines.specs.declared.recorder.RecordFault.TheVariants as recording
 use Rattle.flagops_filters.specs.Record.{RecordAnswers, RecordEnds, RecordOver, of_record, record_call}
@@ -59,17 +61,20 @@ module _ (old new : Shown) (status : ℕ) where
 
     -- the lines on what was counted are told
     abbrev TellsCounted : Counted → Type 0
-    TellsCounted c = PutsIf (is_noted start c.empty c.long c.torn) (record_lines start c.empty c.long c.torn) old.reported new.reported new.is_mute
+    TellsCounted c = PutsIf (is_noted start c.empty (outcomes_view c.outcomes) c.outcomes.long c.torn) (record_lines start c.empty (outcomes_view c.outcomes) c.outcomes.long c.torn) old.reported new.reported new.is_mute
 
-    told_of : (bytes : List ℕ) (c : Counted) → TellsOf (recorded_of s bytes) bytes c → TellsCounted c → PutsNoted start bytes c.long old.reported new.reported new.is_mute
+    told_of : (bytes : List ℕ) (c : Counted) → TellsOf (recorded_of s bytes) bytes c → TellsCounted c → PutsNoted start bytes (recorded_of s bytes).outcomes c.outcomes.long old.reported new.reported new.is_mute
     told_of bytes c tells notes =
-        subst (λ (torn : Bool). PutsIf (is_noted start (is_empty bytes) c.long torn) (record_lines start (is_empty bytes) c.long torn) old.reported new.reported new.is_mute) tells.1
-        (subst (λ (empty : Bool). PutsIf (is_noted start empty c.long c.torn) (record_lines start empty c.long c.torn) old.reported new.reported new.is_mute) tells.2 notes)
+        let long = c.outcomes.long in
+        let puts : Bool → Outcomes → Bool → Type 0 = λ empty o torn. PutsIf (is_noted start empty o long torn) (record_lines start empty o long torn) old.reported new.reported new.is_mute in
+        subst (λ (o : Outcomes). puts (is_empty bytes) o (is_torn bytes)) tells.0
+        (subst (λ (torn : Bool). puts (is_empty bytes) (outcomes_view c.outcomes) torn) tells.1
+        (subst (λ (empty : Bool). puts empty (outcomes_view c.outcomes) c.torn) tells.2 notes))
 
     pub all_recorded : (given : Option (List ℕ)) (counted : Counted) → IfSome given (λ bytes. RecordsStream (recorded_of s bytes) (length bytes) is_cut old.printed new.printed (Ok counted)) → IfSome given (λ bytes. TellsOf (recorded_of s bytes) bytes counted)
         → new.is_broken ≡ false → status ≡ 0 → TellsCounted counted → Came given
     all_recorded None counted records tells whole done notes = tt
-    all_recorded (Some bytes) counted records tells whole done notes = inl (records.0, (records.1, whole, done, (counted.long, tells.0, told_of bytes counted tells notes)))
+    all_recorded (Some bytes) counted records tells whole done notes = inl (records.0, (records.1, whole, done, (counted.outcomes.long, ap (λ (o : Outcomes). o.long) tells.0, told_of bytes counted tells notes)))
 
     module _ (mid : Option (List ℕ)) where
       abbrev Then : FilterRefusal → Type 0

@@ -1,8 +1,9 @@
 -- What a filter tells beside an answer, by what the standard input has: a line for each cause that holds, and nothing where none does.
-use Rattle.std.specs.Prelude.{◌≡◌, ◌||◌, ◌++◌, ℕ, nat_lt, Bool, true, false, List, [], Option, Some, None, codes, decimal, if◌then◌else◌, is_some}
+use Rattle.std.specs.Prelude.{◌≡◌, ◌||◌, ◌&&◌, ◌++◌, ℕ, nat_eq, nat_lt, Bool, true, false, not, List, [], Option, Some, None, codes, decimal, if◌then◌else◌, is_some}
 use Rattle.flagops_shell.specs.Diagnostic.{PutsRemark, Says}
 use Rattle.flagops_shell.specs.declared.refused.Remark.{Remark}
 use Rattle.note_streams.specs.Rest.{is_empty, is_torn}
+use Rattle.record_lines.specs.Outcomes.{Outcomes, contexts}
 use Rattle.flagops_filters.specs.declared.start.Start.{Start}
 
 -- lines are this text
@@ -50,22 +51,43 @@ abbrev pub clock_line : Option ℕ → List ℕ
 clock_line None = []
 clock_line (Some now) = codes "record: the targeting reads $flagd.timestamp and no --moment is given: the moment is " ++ (decimal now ++ codes ", the clock's second\n")
 
--- where the moment is the clock's, the targeting has no site, the standard input is empty, so many inputs are too long, or a line is torn
-abbrev pub record_lines : Start → Bool → ℕ → Bool → List ℕ
-record_lines start empty long torn =
+-- the contexts of one cause, where there are any
+unfoldable pub cause : ℕ → List ℕ → List ℕ
+cause n words = if nat_lt 0 n then codes ", " ++ (decimal n ++ words) else []
+
+-- those of each
+abbrev pub causes : Outcomes → List ℕ
+causes o =
+    cause o.keyless (codes " without a targetingKey")
+    ++ (cause o.unreached (codes " with no fractional reached")
+    ++ (cause o.parse_error (codes " with PARSE_ERROR")
+    ++ (cause o.disabled (codes " with DISABLED") ++ cause o.too_long (codes " with inputs of more than 1024 bytes"))))
+
+-- a site could have been reached and lines were given, but no note came of one
+abbrev pub is_unrecorded : Start → Bool → Outcomes → Bool
+is_unrecorded start empty o = not start.is_siteless && (not empty && nat_eq o.noted 0)
+
+-- why not: how many contexts there are, and of each cause
+abbrev pub why_line : Start → Bool → Outcomes → List ℕ
+why_line start empty o = if is_unrecorded start empty o then codes "record: nothing is recorded: contexts " ++ (decimal (contexts o) ++ (causes o ++ codes "\n")) else []
+
+-- where the moment is the clock's, the targeting has no site, the standard input is empty, nothing is recorded of any context, so many inputs
+-- are too long, or a line is torn
+abbrev pub record_lines : Start → Bool → Outcomes → ℕ → Bool → List ℕ
+record_lines start empty o long torn =
     clock_line start.clock
     ++ (line_if start.is_siteless (codes "the targeting has no fractional, and nothing is recorded")
-    ++ (line_if empty (codes "the standard input is empty, and nothing is recorded") ++ (long_line long ++ line_if torn torn_words)))
+    ++ (line_if empty (codes "the standard input is empty, and nothing is recorded") ++ (why_line start empty o ++ (long_line long ++ line_if torn torn_words))))
 
 -- there is such a line
-abbrev pub is_noted : Start → Bool → ℕ → Bool → Bool
-is_noted start empty long torn = is_some start.clock || (start.is_siteless || (empty || (nat_lt 0 long || torn)))
+abbrev pub is_noted : Start → Bool → Outcomes → ℕ → Bool → Bool
+is_noted start empty o long torn = is_some start.clock || (start.is_siteless || (empty || (is_unrecorded start empty o || (nat_lt 0 long || torn))))
 
 -- nothing is told, or these lines; where there was no memory for them, the sentence in their place
 abbrev pub PutsIf : Bool → List ℕ → Option (List ℕ) → Option (List ℕ) → Bool → Type 0
 PutsIf false lines old new is_broken = new ≡ old
 PutsIf true lines old new is_broken = (remark : Remark) × Says (Reads lines) remark × PutsRemark old new is_broken (Some remark)
 
--- the same of a start, and of so many inputs that are too long, of a standard input of these bytes
-abbrev pub PutsNoted : Start → List ℕ → ℕ → Option (List ℕ) → Option (List ℕ) → Bool → Type 0
-PutsNoted start bytes long old new is_broken = PutsIf (is_noted start (is_empty bytes) long (is_torn bytes)) (record_lines start (is_empty bytes) long (is_torn bytes)) old new is_broken
+-- the same of a start, of what came of the contexts, and of so many inputs that are too long, of a standard input of these bytes
+abbrev pub PutsNoted : Start → List ℕ → Outcomes → ℕ → Option (List ℕ) → Option (List ℕ) → Bool → Type 0
+PutsNoted start bytes o long old new is_broken = PutsIf (is_noted start (is_empty bytes) o long (is_torn bytes)) (record_lines start (is_empty bytes) o long (is_torn bytes)) old new is_broken

@@ -40,12 +40,12 @@ module _ (old new : Shown) (status : ℕ) where
   abbrev pub BreaksOff : List ℕ → Type 0
   BreaksOff text = AppendsPart old.printed new.printed text × (new.is_broken ≡ true) × (status ≡ 1) × (new.reported ≡ old.reported)
 
-  -- the whole text was written, and a person is told of the start, and what was passed over of these bytes: some inputs just where one is
-  -- too long to be noted
+  -- the whole text was written, and a person is told of the start, of what came of the contexts, and what was passed over of these bytes: some
+  -- inputs just where one is too long to be noted
   abbrev pub Ends : Recorded → Start → List ℕ → Type 0
   Ends r start bytes =
       Appends old.printed new.printed r.text × (new.is_broken ≡ false) × (status ≡ 0)
-      × ((long : ℕ) × (nat_lt 0 long ≡ r.long) × PutsNoted start bytes long old.reported new.reported new.is_mute)
+      × ((long : ℕ) × (nat_lt 0 long ≡ r.outcomes.long) × PutsNoted start bytes r.outcomes long old.reported new.reported new.is_mute)
 
   -- Of what is recorded of a stream of these bytes: all its lines; or those up to the line that is no context, whose number is told;
   -- or a front of them, where a write or a read failed, the stream is too long or memory ran out.

@@ -38,6 +38,7 @@ mod remarks;
 mod start;
 mod tallying;
 mod target;
+mod unrecorded;
 mod usage;
 mod words;
 

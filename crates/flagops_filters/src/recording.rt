@@ -13,6 +13,7 @@ ghost use Rattle.flagops_filters.specs.declared.refusal.FilterRefusal.TheVariant
 ghost use Rattle.flagops_filters.specs.Words.{recording_view};
 ghost use Rattle.note_streams.specs.Recorded.{recorded_of};
 ghost use Rattle.record_lines.specs.Scene.{scene_of};
+ghost use Rattle.record_lines.specs.View.{outcomes_view};
 
 use crate::asked::Recording;
 use crate::clock::second;
@@ -248,10 +249,10 @@ fn stop_line(alloc: Global, stop: RecordStop, opening: FileEnds) -> Result<Strin
     }
 }
 
-/// Tells what was not noted, where there is something to tell.
+/// Tells what was not noted and why, where there is something to tell.
 fn tell_counted<E: Outlet>(alloc: Global, start: Start, counted: Counted, err: &mut E)
     requires { E.is_broken err.old ≡ false }
-    ensures { PutsIf (is_noted start counted.empty counted.long counted.torn) (record_lines start counted.empty counted.long counted.torn) (E.bytes err.old) (E.bytes err.new) (E.is_broken err.new) }
+    ensures { PutsIf (is_noted start counted.empty (outcomes_view counted.outcomes) counted.outcomes.long counted.torn) (record_lines start counted.empty (outcomes_view counted.outcomes) counted.outcomes.long counted.torn) (E.bytes err.old) (E.bytes err.new) (E.is_broken err.new) }
 {
     if is_noted(start, counted) {
         tell_noted(alloc, start, counted, err);
@@ -261,7 +262,7 @@ fn tell_counted<E: Outlet>(alloc: Global, start: Start, counted: Counted, err: &
 /// Tells what was not noted.
 fn tell_noted<E: Outlet>(alloc: Global, start: Start, counted: Counted, err: &mut E)
     requires { E.is_broken err.old ≡ false }
-    ensures { PutsIf true (record_lines start counted.empty counted.long counted.torn) (E.bytes err.old) (E.bytes err.new) (E.is_broken err.new) }
+    ensures { PutsIf true (record_lines start counted.empty (outcomes_view counted.outcomes) counted.outcomes.long counted.torn) (E.bytes err.old) (E.bytes err.new) (E.is_broken err.new) }
 {
     match counted_lines(alloc, start, counted) {
         Ok(lines) => tell(err, lines.as_str()),

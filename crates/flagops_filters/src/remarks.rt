@@ -4,8 +4,10 @@ ghost use Rattle.file_diagnostics.specs.Named.{NamesWord};
 ghost use Rattle.flagops_files.specs.Lines.{NamesFile};
 ghost use Rattle.flagops_filters.specs.Beside.{clock_line, is_noted, line_if, long_line, record_lines};
 ghost use Rattle.flagops_filters.specs.Remarks.{NamesInput};
+ghost use Rattle.record_lines.specs.View.{outcomes_view};
 
 use crate::start::Start;
+use crate::unrecorded::{is_unrecorded, why_line};
 use flagops_files::quoted;
 use note_streams::Counted;
 use std::alloc::{AllocError, Global};
@@ -54,19 +56,24 @@ fn word_line(alloc: Global, word: &str, reason: &str) -> Result<String, AllocErr
 
 /// Whether something is told of contexts that were all recorded.
 pub(crate) fn is_noted(start: Start, counted: Counted) -> bool
-    ensures { result ≡ is_noted start counted.empty counted.long counted.torn }
+    ensures { result ≡ is_noted start counted.empty (outcomes_view counted.outcomes) counted.outcomes.long counted.torn }
 {
-    start.clock.is_some() || start.is_siteless || counted.empty || counted.long > 0 || counted.torn
+    start.clock.is_some()
+        || start.is_siteless
+        || counted.empty
+        || is_unrecorded(start, counted)
+        || counted.outcomes.long > 0
+        || counted.torn
 }
 
 /// What is told of contexts that were all recorded: that their moment is the clock's, that no input is reached, that there were
-/// none, the inputs that were not noted, and the bytes that were passed over.
+/// none, why no line was noted, the inputs that were not, and the bytes that were passed over.
 pub(crate) fn counted_lines(
     alloc: Global,
     start: Start,
     counted: Counted,
 ) -> Result<String, AllocError>
-    ensures { IfOk result (λ s. string_bytes s ≡ record_lines start counted.empty counted.long counted.torn) }
+    ensures { IfOk result (λ s. string_bytes s ≡ record_lines start counted.empty (outcomes_view counted.outcomes) counted.outcomes.long counted.torn) }
 {
     let clock = clock_line(alloc, start.clock)?;
     let siteless = line_if(
@@ -79,13 +86,14 @@ pub(crate) fn counted_lines(
         counted.empty,
         "the standard input is empty, and nothing is recorded",
     )?;
-    let long = long_line(alloc, counted.long)?;
+    let why = why_line(alloc, start, counted)?;
+    let long = long_line(alloc, counted.outcomes.long)?;
     let torn = line_if(
         alloc,
         counted.torn,
         "the last line has no end and is passed over",
     )?;
-    format!(in alloc; "{clock}{siteless}{empty}{long}{torn}")
+    format!(in alloc; "{clock}{siteless}{empty}{why}{long}{torn}")
 }
 
 /// A line on the moment, where it is the clock's second.

@@ -1,5 +1,6 @@
 -- What a person is told of what a command that draws comes to.
 use Rattle.std.proofs.Common.{◌≡◌, ℕ, Bool, List, Option, Some, None, Result, Ok, Err, IfErr, IfOk, IfSome, inl, refl, sym, subst, option_map}
+use Rattle.flagops_rollouts.specs.Attempts.{TellsOfFirst}
 use Rattle.flagops_rollouts.specs.Refusal.{ComesFrom, Refused, call_name, call_of, is_want}
 use Rattle.flagops_shell.specs.Outcomes.{IsCallOf}
 use Rattle.flagops_rollouts.specs.declared.refusal.RolloutCall.{RolloutCall}
@@ -12,7 +13,7 @@ use Rattle.flagops_shell.specs.Files.{Holding}
 use Rattle.flagops_shell.specs.declared.outcome.Outcome.{Outcome}
 use Rattle.flagops_shell.specs.declared.refused.Remark.{Remark}
 use Rattle.flagops_shell.specs.declared.refused.Remark.TheVariants.{Short, Lines}
-use Rattle.flagops_pictures.specs.Diagnostics.{TellsOfFirst, picture_attempts, picture_told, plan_attempts, plan_told}
+use Rattle.flagops_pictures.specs.Diagnostics.{picture_attempts, picture_told, plan_attempts, plan_told}
 use Rattle.flagops_pictures.specs.Words.{Picturing, Planning}
 
 -- of a report its note, and of a refusal the name of what is refused

@@ -4,9 +4,10 @@ use Rattle.flagops_files.proofs.Succeeded.{book_question_succeed}
 use Rattle.flagops_files.proofs.Told.{first_by_kind, first_left, first_right, succeed_within}
 use Rattle.flagops_files.specs.Question as questions
 use Rattle.flagops_files.specs.Question.{BookQuestion}
-use Rattle.flagops_files.specs.Told.{AllSucceed, NamesFirst, NamesSubject, attempt_of, by_kind, file}
-use Rattle.flagops_pictures.specs.Diagnostics.{Attempts, TellsOfFirst, checked_subjects, drawn_subjects, picture_attempts, plan_attempts, question_attempts}
+use Rattle.flagops_files.specs.Told.{AllSucceed, NamesFirst, NamesSubject, by_kind, file}
+use Rattle.flagops_pictures.specs.Diagnostics.{checked_subjects, drawn_subjects, picture_attempts, plan_attempts, question_attempts}
 use Rattle.flagops_pictures.specs.Words.{Picturing, Planning}
+use Rattle.flagops_rollouts.specs.Attempts.{Attempts, TellsOfFirst, plan_read}
 use Rattle.flagops_rollouts.specs.Loaded.{IsBookQuestionAt, plan_at}
 use Rattle.flagops_rollouts.specs.Refusal.{Refused, TellsOfOne, is_want}
 use Rattle.flagops_rollouts.specs.declared.refusal.RolloutRefusal.TheVariants.{Load}
@@ -38,7 +39,7 @@ module _ (a : Picturing) (q : BookQuestion) where
   plan_at_fault : (at : Holding) (e : Refused) → IsBookQuestionAt at a.document a.request a.book (Ok q) → (is_want e.refusal ≡ false → plan_at at a.plan ≡ Err e.refusal)
       → (is_want e.refusal ≡ false → Says (NamesSubject (file a.plan)) e.remark) → is_want e.refusal ≡ false → NamesFirst (picture_attempts at a) e.refusal e.remark
   plan_at_fault at e asked refused says no_want =
-      first_right (question_attempts at a.document a.request a.book) (attempt_of (file a.plan) (plan_at at a.plan) ∷ by_kind (checked_subjects a.request a.plan)) e.refusal e.remark
+      first_right (question_attempts at a.document a.request a.book) (plan_read at a.plan (checked_subjects a.request a.plan)) e.refusal e.remark
       (succeeded at a.document a.request a.book q asked) (inl (refused no_want, says no_want))
 
   pub in_plan : (old kept : Option Holding) (r : Result Outcome Refused) (e : Refused) → r ≡ Err e → kept ≡ old → IfSome old (λ at. IsBookQuestionAt at a.document a.request a.book (Ok q))
@@ -58,7 +59,7 @@ module _ (a : Picturing) (q : BookQuestion) where
       → TellsOfFirst (picture_attempts at a) r
   checked_at at answer (Ok o) asked answered names = tt
   checked_at at answer (Err e) asked answered names = λ no_want.
-      first_right (question_attempts at a.document a.request a.book) (attempt_of (file a.plan) (plan_at at a.plan) ∷ by_kind (checked_subjects a.request a.plan)) e.refusal e.remark
+      first_right (question_attempts at a.document a.request a.book) (plan_read at a.plan (checked_subjects a.request a.plan)) e.refusal e.remark
       (succeeded at a.document a.request a.book q asked) (inr ((answer, answered), first_by_kind (checked_subjects a.request a.plan) e.refusal e.remark (names no_want)))
 
   pub in_check : (answer : Answer) (old kept : Option Holding) (r : Result Outcome Refused) → kept ≡ old → IfSome old (λ at. IsBookQuestionAt at a.document a.request a.book (Ok q)) → IfSome kept (λ at. plan_at at a.plan ≡ Ok answer)

@@ -9,7 +9,7 @@ use Rattle.picture.specs.Told.{Item, down, step_height, step_told}
 use Rattle.picture.proofs.Bodies.{depth_more, one_more}
 use Rattle.plan_text.specs.Answer.{Answer, emit, none_exists, planned_view}
 use Rattle.plan_text.specs.declared.planned.Planned.{Planned}
-use Rattle.ramp.specs.Ramp.{Standing, left_by, still}
+use Rattle.ramp.specs.Ramp.{Standing, in_book, left_by, still}
 use Rattle.ramp_steps.specs.Steps.{requests_view}
 use Rattle.ramp.specs.Right.{AreRight, IsRight, checked_on}
 use Rattle.rollout_checks.specs.declared.fault.RolloutFault.{RolloutFault}
@@ -38,13 +38,13 @@ continues_step n this rest y y1 y2 end a b c d first below second lower others =
     (subst (λ (ps : Pictures). IsBody ps d) same all.0, all.1 ∙ ap depth same)
 
 -- no answer is right behind a refusal
-pub none_behind : (e : RolloutFault) (requests : List (List ℕ)) (book : Contents) (answers : List Answer) → answers ≢ [] → AreRight (Err e) (Some 1) requests book answers → ⊥
+pub none_behind : (e : RolloutFault) (requests : List (List ℕ)) (book : Contents) (answers : List Answer) → answers ≢ [] → AreRight (Err e) (Some 1) requests (in_book book) answers → ⊥
 none_behind e requests book [] some right = some refl
 none_behind e [] book (answer ∷ answers) some right = right
 none_behind e (request ∷ requests) book (answer ∷ answers) some right = right.0.shown
 
 -- a step that has others behind it has a rule
-pub goes_on : (standing : Standing) (answer : Answer) (requests : List (List ℕ)) (book : Contents) (answers : List Answer) → answers ≢ [] → AreRight standing (Some 1) (still answer requests) book answers → still answer requests ≡ requests
+pub goes_on : (standing : Standing) (answer : Answer) (requests : List (List ℕ)) (book : Contents) (answers : List Answer) → answers ≢ [] → AreRight standing (Some 1) (still answer requests) (in_book book) answers → still answer requests ≡ requests
 goes_on standing (emit rule c) requests book answers some right = refl
 goes_on standing (none_exists kind names) requests book [] some right = absurd (some refl)
 goes_on standing (none_exists kind names) requests book (answer ∷ answers) some right = absurd right
@@ -60,8 +60,8 @@ no_answers standing refine requests book n answers y bytes none =
 
 module _ (standing : Standing) (refine : Option ℕ) (requests : List (List ℕ)) (book : Contents) (answers : List Answer) (request : List ℕ) (more : List (List ℕ)) (answer : Answer) (others : List Answer) (is : requests ≡ request ∷ more) (are : answers ≡ answer ∷ others) where
   -- the first is right, and so are those behind it
-  pub both_right : AreRight standing refine requests book answers → IsRight standing refine request book answer × AreRight (left_by standing request answer) (Some 1) (still answer more) book others
-  both_right right = subst (λ (xs : List Answer). AreRight standing refine (request ∷ more) book xs) are (subst (λ (rs : List (List ℕ)). AreRight standing refine rs book answers) is right)
+  pub both_right : AreRight standing refine requests (in_book book) answers → IsRight standing refine request (in_book book) answer × AreRight (left_by standing request answer) (Some 1) (still answer more) (in_book book) others
+  both_right right = subst (λ (xs : List Answer). AreRight standing refine (request ∷ more) (in_book book) xs) are (subst (λ (rs : List (List ℕ)). AreRight standing refine rs (in_book book) answers) is right)
 
   -- the first was told, and so were those behind it
   pub both_told : (n y y1 y2 end : ℕ) (a b c d : List ℕ) → Adds y (step_told n ∷ []) a b → y1 ≡ down y step_height → AddsTold (checked_on standing refine answer request book) answer y1 y2 b c
@@ -116,26 +116,26 @@ module _ (standing : Standing) (refine : Option ℕ) (steps : List (Vec ℕ Glob
   are : map planned_view answers ≡ answer ∷ map planned_view others
   are = ap (map planned_view) (first_of answers planned more_answers first_answer)
 
-  both : AreRight standing refine (requests_view steps) book (map planned_view answers) → IsRight standing refine x.items book answer × AreRight left (Some 1) (still answer requests_behind) book (map planned_view others)
+  both : AreRight standing refine (requests_view steps) (in_book book) (map planned_view answers) → IsRight standing refine x.items (in_book book) answer × AreRight left (Some 1) (still answer requests_behind) (in_book book) (map planned_view others)
   both = both_right standing refine (requests_view steps) book (map planned_view answers) x.items requests_behind answer (map planned_view others) is are
 
   -- those behind it, where the program found that there are some
-  module _ (right : AreRight standing refine (requests_view steps) book (map planned_view answers)) (ended : Bool) (tests : ended ≡ (length others == 0)) (not_ended : ended ≡ false) where
+  module _ (right : AreRight standing refine (requests_view steps) (in_book book) (map planned_view answers)) (ended : Bool) (tests : ended ≡ (length others == 0)) (not_ended : ended ≡ false) where
     some : map planned_view others ≢ []
     some = some_as planned_view others ended tests not_ended
 
     same : still answer requests_behind ≡ requests_behind
     same = goes_on left answer requests_behind book (map planned_view others) some (both right).1
 
-    pub others_right : (next : Standing) → left ≡ next → AreRight next (Some 1) requests_behind book (map planned_view others)
+    pub others_right : (next : Standing) → left ≡ next → AreRight next (Some 1) requests_behind (in_book book) (map planned_view others)
     others_right next stands =
-        subst (λ (s : Standing). AreRight s (Some 1) requests_behind book (map planned_view others)) stands
-        (subst (λ (rs : List (List ℕ)). AreRight left (Some 1) rs book (map planned_view others)) same (both right).1)
+        subst (λ (s : Standing). AreRight s (Some 1) requests_behind (in_book book) (map planned_view others)) stands
+        (subst (λ (rs : List (List ℕ)). AreRight left (Some 1) rs (in_book book) (map planned_view others)) same (both right).1)
 
     pub not_left : (e : RolloutFault) → left ≡ Err e → ⊥
     not_left e stands =
         none_behind e (still answer requests_behind) book (map planned_view others) some
-        (subst (λ (s : Standing). AreRight s (Some 1) (still answer requests_behind) book (map planned_view others)) stands (both right).1)
+        (subst (λ (s : Standing). AreRight s (Some 1) (still answer requests_behind) (in_book book) (map planned_view others)) stands (both right).1)
 
     pub all_told : (n y y1 y2 end : ℕ) (a b c d : List ℕ) (next : Standing) → left ≡ next → Adds y (step_told n ∷ []) a b → y1 ≡ down y step_height → AddsTold (checked_on standing refine answer x.items book) answer y1 y2 b c
         → Tells next (Some 1) requests_behind book (n + 1) (map planned_view others) y2 end c d → Tells standing refine (requests_view steps) book n (map planned_view answers) y end a d

@@ -1,27 +1,18 @@
 -- What a person is told of what a command that draws comes to: of a refusal the first file or word that was refused, and beside a report
 -- what is doubted.
-use Rattle.std.specs.Prelude.{[], ◌∷◌, ◌++◌, Bool, true, false, List, map, ℕ, Result, Ok, Err}
+use Rattle.std.specs.Prelude.{[], ◌∷◌, ◌++◌, Bool, true, false, List, map, ℕ, Ok, Err}
+use Rattle.flagops_rollouts.specs.Attempts.{Attempts, plan_read}
 use Rattle.flagops_rollouts.specs.Doubts.{NamesDoubted, doubt_subjects}
 use Rattle.flagops_rollouts.specs.Subjects.{is_of_request, is_of_size, the_plan}
-use Rattle.flagops_rollouts.specs.Loaded.{plan_at}
-use Rattle.flagops_rollouts.specs.Refusal.{Refused, Remarks, Subjects, by, is_want, stores_file}
+use Rattle.flagops_rollouts.specs.Refusal.{Remarks, Subjects, by, stores_file}
 use Rattle.flagops_rollouts.specs.declared.refusal.RolloutRefusal.{RolloutRefusal}
 use Rattle.flagops_rollouts.specs.declared.refusal.RolloutRefusal.TheVariants.{Load, Verify}
 use Rattle.flagops_files.specs.Question.{book_question_attempts}
-use Rattle.flagops_files.specs.Told as told
-use Rattle.flagops_files.specs.Told.{Attempt, NamesFirst, attempt_of, by_kind, file, within, word}
+use Rattle.flagops_files.specs.Told.{NamesFirst, by_kind, file, within, word}
 use Rattle.flagops_shell.specs.Diagnostic.{Says}
 use Rattle.flagops_shell.specs.Files.{Holding}
 use Rattle.flagops_pictures.specs.Words.{Picturing, Planning}
 use Rattle.rollout_checks.specs.declared.verify_fault.VerifyFault.TheVariants as verdict
-
--- what is attempted in turn, which a command on rollouts is refused for
-abbrev pub Attempts : Type 1
-Attempts = List (Attempt RolloutRefusal)
-
--- a refusal is told by the name of what the first of them is about that is refused
-abbrev pub TellsOfFirst : {X : Type 0} → Attempts → Result X Refused → Type 0
-TellsOfFirst attempts r = told.TellsOfFirst is_want attempts r
 
 -- the files of a question over a book, in the order in which they are read
 abbrev pub question_attempts : Holding → List ℕ → List ℕ → List ℕ → Attempts
@@ -38,7 +29,7 @@ checked_subjects request plan = (file request, is_of_request) ∷ (file plan, is
 
 -- the files of the question, the plan file, and then the check of the one against the other
 abbrev pub picture_attempts : Holding → Picturing → Attempts
-picture_attempts at a = question_attempts at a.document a.request a.book ++ (attempt_of (file a.plan) (plan_at at a.plan) ∷ by_kind (checked_subjects a.request a.plan))
+picture_attempts at a = question_attempts at a.document a.request a.book ++ plan_read at a.plan (checked_subjects a.request a.plan)
 
 -- what `plan` refuses of a question
 abbrev pub planned_subjects : List ℕ → List ℕ → Subjects

@@ -1,10 +1,13 @@
 -- What `picture --ramp` answers.
 use Rattle.std.specs.Prelude.{◌≡◌, ℕ, suc, is_some, List, [], ◌∷◌, ◌++◌, Option, Some, Ok, Err}
 use Rattle.book_core.specs.Book.{Contents}
+use Rattle.flag_defs.specs.Document.{Definitions}
+use Rattle.flagops_files.specs.declared.evidence.Evidence.{Evidence}
+use Rattle.flagops_files.specs.declared.evidence.Evidence.TheVariants.{Book, Tally}
 use Rattle.flagops_shell.specs.Files.{Holding}
 use Rattle.flagops_ramps.specs.Doubts.{doubt_of_steps}
 use Rattle.flagops_ramps.specs.Report.{Came}
-use Rattle.flagops_ramps.specs.Judging.{Answered, Found, IsFoundAt}
+use Rattle.flagops_ramps.specs.Judging.{Answered, Found, IsFoundOnBook}
 use Rattle.flagops_ramps.specs.Words.{Verifying}
 use Rattle.picture.specs.Spelling.{IsBody, IsPicture, Pictures, depth}
 use Rattle.picture.specs.Told.{Item, step_height, step_told}
@@ -29,9 +32,14 @@ AreTold standing refine (request ∷ requests) book n (answer ∷ answers) ps =
 abbrev pub Continues : Pictures → ℕ → ℕ → List ℕ → List ℕ → Type 0
 Continues ps y end before after = (above : Pictures) → IsBody above before → y ≡ depth above → IsBody (above ++ ps) after × (end ≡ depth (above ++ ps))
 
--- the page of the pictures of answers, each below the number of its step, from 1
+-- the pictures of answers over what was recorded in a book, each below the number of its step, from 1
+abbrev pub AreToldOn : Definitions → Option ℕ → List (List ℕ) → Evidence → List Answer → Pictures → Type 0
+AreToldOn flags refine requests (Book book) answers ps = AreTold (Ok flags) refine requests book 1 answers ps
+AreToldOn flags refine requests (Tally tally) answers ps = ⊥
+
+-- the page that has them
 abbrev pub IsRampDrawn : Option ℕ → Answered → List ℕ → Type 0
-IsRampDrawn refine a bytes = (ps : Pictures) × AreTold (Ok a.question.flags) refine a.requests a.question.book 1 a.answers ps × IsPicture ps bytes
+IsRampDrawn refine a bytes = (ps : Pictures) × AreToldOn a.question.flags refine a.requests a.question.evidence a.answers ps × IsPicture ps bytes
 
 -- the pictures where the answers are found right, beside which a person is told of a doubt; and else the refusal of `verify-ramp`
 abbrev pub IsRampPictureOf : Option ℕ → Found → Came → Type 0
@@ -40,4 +48,4 @@ IsRampPictureOf refine (Err e) r = r ≡ Err e
 
 -- what the files at the paths make
 unfoldable pub IsRampPicture : Holding → Verifying → Came → Type 0
-IsRampPicture at v r = (found : Found) × IsFoundAt at v found × IsRampPictureOf v.rollout.refine found r
+IsRampPicture at v r = (found : Found) × IsFoundOnBook at v found × IsRampPictureOf v.rollout.refine found r

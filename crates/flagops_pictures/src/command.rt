@@ -1,6 +1,7 @@
 //! The command `picture`: it prints the picture of a plan that is right.
 ghost use denote.Param.Send.{IsSync};
 ghost use Rattle.std.specs.Prelude.{◌≡◌, ◌||◌, false, true, is_some, map, IfErr, IfOk, IfSome, Ok, option_map, string_bytes};
+ghost use Rattle.flagops_rollouts.specs.Attempts.{TellsOfFirst};
 ghost use Rattle.flagops_rollouts.specs.Doubts.{NamesDoubted, doubt_of};
 ghost use Rattle.flagops_rollouts.specs.Subjects.{NamesVerified};
 ghost use Rattle.flagops_rollouts.specs.Refusal.{ComesFrom, GivesOne, GivesUnlessWant, is_file_fault, is_want, TellsOfOne};
@@ -9,7 +10,7 @@ ghost use Rattle.flagops_shell.specs.Diagnostic.{Says};
 ghost use Rattle.flagops_files.specs.Question.{book_question_view};
 ghost use Rattle.flagops_shell.specs.Report.{outcome_view};
 ghost use Rattle.flagops_pictures.specs.Commands.{picture_description};
-ghost use Rattle.flagops_pictures.specs.Diagnostics.{TellsOfFirst, checked_subjects, picture_attempts};
+ghost use Rattle.flagops_pictures.specs.Diagnostics.{checked_subjects, picture_attempts};
 ghost use Rattle.flagops_pictures.specs.Pictured.{IsPictureReport, IsPictured, as_question, drawn_report, picture_calls};
 ghost use Rattle.flagops_pictures.specs.Words as words;
 ghost use Rattle.flagops_pictures.specs.Words.{picturing_view};

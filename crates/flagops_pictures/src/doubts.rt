@@ -24,7 +24,7 @@ pub(crate) fn noted<R: Threads>(
     ensures told { IfOk result (λ r. is_some r ≡ is_some (doubt_of (as_question (book_question_view question.now)))) }
     ensures notes { IfOk result (λ r. IfSome r (Says (NamesDoubted asked.now.request.now asked.now.book.now))) }
 {
-    let unread = unread_in_file(alloc, asked.request, &question.request);
+    let unread = unread_in_file(alloc, asked.request, &question.request)?;
     let (flags, book) = (&question.flags, &question.book);
     let request = question.request.bytes();
     let recorded = doubt_in_book(rt, alloc, asked.book, flags, request, book)?;

@@ -1,7 +1,8 @@
 //! The question over a book that a command draws the answer to.
 ghost use Rattle.std.specs.Prelude.{◌≡◌, ◌<◌, ◌||◌, IfSome};
 ghost use Rattle.flagops_files.specs.Question.{book_question_view};
-ghost use Rattle.flagops_pictures.specs.Diagnostics.{TellsOfFirst, question_attempts};
+ghost use Rattle.flagops_pictures.specs.Diagnostics.{question_attempts};
+ghost use Rattle.flagops_rollouts.specs.Attempts.{TellsOfFirst};
 ghost use Rattle.flagops_rollouts.specs.Loaded.{IsBookQuestionAt};
 ghost use Rattle.flagops_rollouts.specs.Refusal.{ComesFrom, GivesOne, is_file_fault, loads_book_question};
 

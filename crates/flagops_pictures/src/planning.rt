@@ -2,6 +2,7 @@
 ghost use denote.Param.Send.{IsSync};
 ghost use Rattle.std.specs.Prelude.{◌≡◌, ◌⊎◌, ◌||◌, Ok, map, option_map, IfErr, IfOk, IfSome, string_bytes};
 ghost use Rattle.flagops_rollouts.specs.Plan.{IsPlanOf};
+ghost use Rattle.flagops_rollouts.specs.Attempts.{TellsOfFirst};
 ghost use Rattle.flagops_rollouts.specs.Doubts.{NamesDoubted};
 ghost use Rattle.flagops_shell.specs.Diagnostic.{Says};
 ghost use Rattle.flagops_shell.specs.Files.{KeepsOthers};
@@ -9,7 +10,7 @@ ghost use Rattle.flagops_files.specs.Question.{book_question_view, question_view
 ghost use Rattle.flagops_rollouts.specs.Refusal.{ComesFrom, GivesOne, is_file_fault, TellsOfOne};
 ghost use Rattle.flagops_shell.specs.Report.{outcome_view};
 ghost use Rattle.flagops_pictures.specs.Commands.{plan_description};
-ghost use Rattle.flagops_pictures.specs.Diagnostics.{TellsOfFirst, drawn_subjects, plan_attempts};
+ghost use Rattle.flagops_pictures.specs.Diagnostics.{drawn_subjects, plan_attempts};
 ghost use Rattle.flagops_pictures.specs.Pictured.{as_question};
 ghost use Rattle.flagops_pictures.specs.Planning.{IsOfBook, IsPictureOf, IsPlanPicture, IsPlanWith, KeepsUnlessPlanned, plan_calls};
 ghost use Rattle.flagops_pictures.specs.Words as words;

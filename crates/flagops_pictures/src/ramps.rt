@@ -5,7 +5,7 @@ ghost use Rattle.flag_defs.specs.Flags.{flags_view};
 ghost use Rattle.flagops_shell.specs.Report.{outcome_view};
 ghost use Rattle.flagops_pictures.specs.Commands.{ramp_description};
 ghost use Rattle.flagops_pictures.specs.Ramps.{AreTold, Continues, IsRampDrawn, IsRampPicture, IsRampPictureOf};
-ghost use Rattle.flagops_ramps.specs.Judging.{AreRightAnswers, answered_view};
+ghost use Rattle.flagops_ramps.specs.Judging.{AreRightAnswers, IsOfBook, answered_view};
 ghost use Rattle.flagops_ramps.specs.Report.{GivesOne, is_file_fault};
 ghost use Rattle.flagops_ramps.specs.Diagnostics.{Diagnoses, IsOfVerify};
 ghost use Rattle.flagops_ramps.specs.Words as words;
@@ -14,6 +14,7 @@ ghost use Rattle.flagops_shell.specs.Diagnostic.{Says};
 ghost use Rattle.flagops_ramps.specs.Words.{verifying_view};
 ghost use Rattle.picture.specs.Spelling.{Pictures};
 ghost use Rattle.plan_text.specs.Answer.{planned_view};
+ghost use Rattle.ramp.specs.Ramp.{in_book};
 ghost use Rattle.ramp.specs.Right.{AreRight};
 ghost use Rattle.ramp_steps.specs.Steps.{most_steps, requests_view};
 
@@ -22,7 +23,10 @@ use crate::drawing::{Asked, add_picture};
 use crate::words::read_ramp;
 use clap::Error;
 use flag_defs::Flags;
-use flagops_ramps::{RampRefusal, RightAnswers, Verifying, doubted, load_answers, out_of_memory};
+use flagops_files::Evidence;
+use flagops_ramps::{
+    RampRefusal, RightAnswers, Verifying, doubted, load_answers_on_book, out_of_memory,
+};
 use flagops_rollouts::remark_in;
 use flagops_shell::{Command, FileSet, Outcome, Refused, Status};
 use flagops_words::factor_number;
@@ -80,7 +84,7 @@ fn pictured<R: Threads + Sync, F: FileSet>(
     ensures notes { IfOk result (λ o. IfSome o.remark (Says (NamesDoubted asked.now.rollout.steps.now asked.now.rollout.book.now))) }
     ensures kept { F.holding files.new ≡ F.holding files.old }
 {
-    match load_answers(rt, alloc, files, asked) {
+    match load_answers_on_book(rt, alloc, files, asked) {
         Ok(right) => match drawn(rt, alloc, asked, &right) {
             Ok(outcome) => Ok(outcome),
             Err(AllocError) => Err(out_of_memory()),
@@ -97,7 +101,8 @@ fn drawn<R: Threads + Sync>(
     asked: &Verifying<'_>,
     right: &RightAnswers,
 ) -> Result<Outcome, AllocError>
-    requires { AreRightAnswers (option_map (λ m. m.number) asked.now.rollout.refine) right.now }
+    requires right { AreRightAnswers (option_map (λ m. m.number) asked.now.rollout.refine) right.now }
+    requires book { IsOfBook right.now.question.evidence }
     ensures drawn { IfOk result (λ o. IsRampPictureOf (option_map (λ m. m.number) asked.now.rollout.refine) (Ok (answered_view right.now)) (Ok (outcome_view o))) }
     ensures notes { IfOk result (λ o. IfSome o.remark (Says (NamesDoubted asked.now.rollout.steps.now asked.now.rollout.book.now))) }
 {
@@ -120,6 +125,26 @@ fn sheet<R: Threads + Sync>(
 ) -> Result<String, AllocError>
     requires factor { IfSome refine (λ m. 0 < m) }
     requires right { AreRightAnswers refine right.now }
+    requires book { IsOfBook right.now.question.evidence }
+    ensures { IfOk result (λ s. IsRampDrawn refine (answered_view right.now) (string_bytes s)) }
+{
+    match &right.question.evidence {
+        Evidence::Book(book) => on_book(rt, alloc, refine, right, book),
+        Evidence::Tally(_) => unreachable!(),
+    }
+}
+
+/// The same, over this book.
+fn on_book<R: Threads + Sync>(
+    rt: &R,
+    alloc: Global,
+    refine: Option<u32>,
+    right: &RightAnswers,
+    book: &BookFile,
+) -> Result<String, AllocError>
+    requires factor { IfSome refine (λ m. 0 < m) }
+    requires right { AreRightAnswers refine right.now }
+    requires book { right.now.question.evidence ≡ Evidence.Book book.now }
     ensures { IfOk result (λ s. IsRampDrawn refine (answered_view right.now) (string_bytes s)) }
 {
     let mut pictures = String::new(alloc);
@@ -129,7 +154,7 @@ fn sheet<R: Threads + Sync>(
         &mut pictures,
         Place { number: 1, y: 0 },
         &right.question.flags,
-        &right.question.book,
+        book,
         refine,
         right.steps.as_slice(),
         right.answers.as_slice(),
@@ -159,7 +184,7 @@ fn add_steps<R: Threads + Sync>(
 ) -> Result<u64, AllocError>
     requires factor { IfSome refine (λ m. 0 < m) }
     requires few { place.number + length steps.now ≤ most_steps + 1 }
-    requires right { AreRight (Ok (flags_view flags.now)) refine (requests_view steps.now) book.now (map planned_view answers.now) }
+    requires right { AreRight (Ok (flags_view flags.now)) refine (requests_view steps.now) (in_book book.now) (map planned_view answers.now) }
     ensures { IfOk result (λ end. (ps : Pictures) × AreTold (Ok (flags_view flags.now)) refine (requests_view steps.now) book.now place.number (map planned_view answers.now) ps × Continues ps place.y end (string_bytes pictures.old) (string_bytes pictures.new)) }
 {
     let [request, more @ ..] = steps else {

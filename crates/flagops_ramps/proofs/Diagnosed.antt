@@ -4,10 +4,13 @@ use Rattle.std.specs.Prelude.{true, false, codes, decimal}
 use Rattle.flagops_rollouts.specs.Doubts.{NamesDoubt, NamesDoubted}
 use Rattle.flagops_files.specs.Lines.{NamesFile}
 use Rattle.flagops_rollouts.specs.declared.doubts.NotedDoubt.{NotedDoubt}
-use Rattle.flagops_files.specs.Question.{book_question_subjects}
+use Rattle.flagops_files.specs.Question.{book_question_subjects, question_subjects}
 use Rattle.flagops_files.specs.Refusal as files
-use Rattle.flagops_files.specs.Refusal.{by, loads_file, loads_flags}
+use Rattle.flagops_files.specs.Refusal.{by, loads_book, loads_evidence, loads_file, loads_flags}
 use Rattle.flagops_files.specs.Told.{NamesOne, file}
+use Rattle.flagops_files.specs.declared.refusal.Call.{Call}
+use Rattle.flagops_files.specs.declared.refusal.Call.TheVariants as call
+use Rattle.flagops_files.specs.declared.refusal.Refusal.{Refusal}
 use Rattle.flagops_rollouts.specs.Refusal as rolling
 use Rattle.flagops_rollouts.specs.Subjects.{applied_subjects, is_of_kept_document}
 use Rattle.flagops_rollouts.specs.declared.refusal.Doubt.{Doubt}
@@ -81,13 +84,34 @@ loaded Is t e is same named no_want =
     subst (λ (x : RampRefusal). Is x t.remark) (sym is) (subst (λ (m : Remark). Is (refusal.Load e.refusal) m) (sym same) (named (not_want t e is no_want)))
 
 pub ramp_loaded : (a : Ramping) (t : Told) (e : files.Refused) → t.refusal ≡ refusal.Load e.refusal → t.remark ≡ e.remark
-    → (files.is_want e.refusal ≡ false → NamesOne (book_question_subjects a.document a.steps a.book) e.refusal e.remark) → is_want t.refusal ≡ false → IsOfRamp a t.refusal t.remark
+    → (files.is_want e.refusal ≡ false → NamesOne (question_subjects a.document a.steps a.book) e.refusal e.remark) → is_want t.refusal ≡ false → IsOfRamp a t.refusal t.remark
 ramp_loaded a t e is same named = loaded (IsOfRamp a) t e is same named
 
 pub verify_loaded : (v : Verifying) (t : Told) (e : files.Refused) → t.refusal ≡ refusal.Load e.refusal → t.remark ≡ e.remark
-    → (files.is_want e.refusal ≡ false → NamesOne (book_question_subjects v.rollout.document v.rollout.steps v.rollout.book) e.refusal e.remark) → is_want t.refusal ≡ false → IsOfVerify v t.refusal t.remark
+    → (files.is_want e.refusal ≡ false → NamesOne (question_subjects v.rollout.document v.rollout.steps v.rollout.book) e.refusal e.remark) → is_want t.refusal ≡ false → IsOfVerify v t.refusal t.remark
 verify_loaded v t e is same named =
-    loaded (IsOfVerify v) t e is same (λ wanted. told_left (book_question_subjects v.rollout.document v.rollout.steps v.rollout.book) ((file v.ramp, by loads_file) ∷ []) e.refusal e.remark (named wanted))
+    loaded (IsOfVerify v) t e is same (λ wanted. told_left (question_subjects v.rollout.document v.rollout.steps v.rollout.book) ((file v.ramp, by loads_file) ∷ []) e.refusal e.remark (named wanted))
+
+-- a file that has to be a book is refused as one that may be a tally, too
+as_evidence : (c : Call) → loads_book c ≡ true → loads_evidence c ≡ true
+as_evidence call.Load is = refl
+as_evidence call.ReadBook is = refl
+as_evidence call.ReadTally is = refl
+as_evidence call.ReadTree is = cc
+as_evidence call.ReadRule is = cc
+as_evidence call.ReadFlags is = cc
+as_evidence call.ReadPlanned is = cc
+as_evidence call.Store is = cc
+
+of_evidence : (document request book : List ℕ) (e : Refusal) (remark : Remark) → NamesOne (book_question_subjects document request book) e remark → NamesOne (question_subjects document request book) e remark
+of_evidence document request book e remark (inl named) = inl named
+of_evidence document request book e remark (inr (inl named)) = inr (inl named)
+of_evidence document request book e remark (inr (inr (inl (is, named)))) = inr (inr (inl (as_evidence (files.call_of e) is, named)))
+of_evidence document request book e remark (inr (inr (inr named))) = absurd named
+
+pub verify_loaded_on_book : (v : Verifying) (t : Told) (e : files.Refused) → t.refusal ≡ refusal.Load e.refusal → t.remark ≡ e.remark
+    → (files.is_want e.refusal ≡ false → NamesOne (book_question_subjects v.rollout.document v.rollout.steps v.rollout.book) e.refusal e.remark) → is_want t.refusal ≡ false → IsOfVerify v t.refusal t.remark
+verify_loaded_on_book v t e is same named = verify_loaded v t e is same (λ wanted. of_evidence v.rollout.document v.rollout.steps v.rollout.book e.refusal e.remark (named wanted))
 
 pub step_loaded : (a : Applying) (t : Told) (e : files.Refused) → t.refusal ≡ refusal.Load e.refusal → t.remark ≡ e.remark → loads_flags (files.call_of e.refusal) ≡ true
     → (files.is_want e.refusal ≡ false → Says (Names a.document) e.remark) → is_want t.refusal ≡ false → IsOfStep a t.refusal t.remark
@@ -103,7 +127,7 @@ failed_load old new t e is failed = failed ∙ ap (λ b. old || b) (sym (ap is_u
 
 -- answers that are no answers
 of_answers : (v : Verifying) (e : RampRefusal) (remark : Remark) → IsOfAnswers v.ramp e remark → IsOfVerify v e remark
-of_answers v (refusal.Load e) remark named = told_right (book_question_subjects v.rollout.document v.rollout.steps v.rollout.book) ((file v.ramp, by loads_file) ∷ []) e remark named
+of_answers v (refusal.Load e) remark named = told_right (question_subjects v.rollout.document v.rollout.steps v.rollout.book) ((file v.ramp, by loads_file) ∷ []) e remark named
 of_answers v (refusal.Read f) remark named = named
 of_answers v (refusal.Ramp f) remark named = absurd named
 of_answers v (refusal.Print f) remark named = absurd named
@@ -199,7 +223,7 @@ keep_wrong k (refusal.Rollout e) remark named = absurd named
 keep_wrong k (refusal.Doubted c d) remark named = named
 
 pub keep_loaded : (k : Keeping) (t : Told) (e : files.Refused) → t.refusal ≡ refusal.Load e.refusal → t.remark ≡ e.remark
-    → (files.is_want e.refusal ≡ false → NamesOne (book_question_subjects k.answered.rollout.document k.answered.rollout.steps k.answered.rollout.book) e.refusal e.remark) → is_want t.refusal ≡ false → IsOfKeep k t.refusal t.remark
+    → (files.is_want e.refusal ≡ false → NamesOne (question_subjects k.answered.rollout.document k.answered.rollout.steps k.answered.rollout.book) e.refusal e.remark) → is_want t.refusal ≡ false → IsOfKeep k t.refusal t.remark
 keep_loaded k t e is same named no_want = keep_wrong k t.refusal t.remark (verify_loaded k.answered t e is same named no_want)
 
 pub keep_answers : {X : Type 0} (k : Keeping) (t : Told) (r : Result X Told) → r ≡ Err t → (is_want t.refusal ≡ false → IsOfAnswers k.answered.ramp t.refusal t.remark) → Diagnoses (IsOfKeep k) r

@@ -2,13 +2,16 @@
 use Rattle.std.proofs.Common.{◌≡◌, ◌≢◌, ◌∙◌, ◌||◌, ap, ℕ, zero, suc, ◌-◌, Bool, true, false, List, [], ◌∷◌, drop, map, Option, Some, None, IfSome, refl, sym, subst, Vec, Global}
 use Rattle.std.specs.Prelude.{Result, Ok, Err, is_ok, slice_get}
 use Rattle.flagops_files.specs.Loading.{max_text}
-use Rattle.flagops_files.specs.Question.{BookQuestion, IsBookQuestionAt, book_question_view}
+use Rattle.flagops_files.specs.Question.{Question, IsQuestionAt, question_view}
 use Rattle.flagops_files.specs.Refusal as files
+use Rattle.flagops_files.specs.declared.evidence.Evidence.{Evidence}
+use Rattle.flagops_files.specs.declared.evidence.Evidence.TheVariants.{Book, Tally}
 use Rattle.bucket_core.specs.Rule.{Entries}
 use Rattle.flag_defs.specs.Document.{Definitions}
 use Rattle.flagops_rollouts.proofs.Edited.{asked_there, left_after}
 use Rattle.flagops_rollouts.specs.Keep.{IsKeptAt, IsKeptPut, Kept, LeavesDocument, kept_view}
 use Rattle.flagops_rollouts.specs.Refusal as rolling
+use Rattle.flagops_rollouts.specs.Verify.{MayBeTold}
 use Rattle.flagops_rollouts.specs.declared.refusal.RolloutRefusal.{RolloutRefusal}
 use Rattle.flagops_shell.proofs.Kept.{kept_after}
 use Rattle.flagops_shell.proofs.Lifted.{given_one, refused_one, not_want as not_rolled}
@@ -21,7 +24,7 @@ use Rattle.plan_text.specs.Answer.{Answer, emit, planned_view}
 use Rattle.plan_text.specs.declared.planned.Planned.{Planned}
 use Rattle.price_core.specs.Request.{Asked, asked_of}
 use Rattle.transport_instance.specs.Certificate.{DualPrices}
-use Rattle.ramp.specs.Right.{AreRight, IsTold}
+use Rattle.ramp.specs.Right.{AreRight, IsRight, IsTold}
 use Rattle.ramp.specs.declared.fault.RampFault.{RampFault}
 use Rattle.ramp_steps.specs.Steps.{requests_view, steps_of}
 use Rattle.ramp_steps.specs.declared.fault.StepsFault.{StepsFault}
@@ -31,7 +34,7 @@ use Rattle.flagops_ramps.specs.Doubts.{doubt_of_steps, first_question, first_req
 use Rattle.flagops_ramps.specs.Judging.{answers_at, refused_as}
 use Rattle.flagops_ramps.specs.Apply.{answer_to}
 use Rattle.flagops_ramps.specs.Keep.{IsKeepOf, IsKeepOver, IsKeepReport, IsKeptFrom, IsKeptOnto, IsKeptWith, IsPut, from_step, is_left}
-use Rattle.flagops_ramps.specs.Ramp.{of_steps}
+use Rattle.flagops_ramps.specs.Ramp.{of_steps, recorded}
 use Rattle.flagops_ramps.specs.Refusal.{is_want}
 use Rattle.flagops_ramps.specs.Report.{GivesOne, Told}
 use Rattle.flagops_ramps.specs.Words.{Keeping}
@@ -43,21 +46,26 @@ use Rattle.flagops_ramps.proofs.Stepped.{other_steps, other_verify}
 
 -- ---- a right answer is to a request that is read
 
-pub asked_first : (refine : Option ℕ) (q : BookQuestion) (requests : List (List ℕ)) (answer : Answer) (answers : List Answer) → AreRight (Ok q.flags) refine requests q.book (answer ∷ answers) → is_ok (asked_of (first_request requests)) ≡ true
+-- what is told of it as of an answer to one request
+told_first : (refine : Option ℕ) (flags : Definitions) (request : List ℕ) (answer : Answer) (evidence : Evidence) → IsRight (Ok flags) refine request (recorded evidence) answer
+    → MayBeTold refine (record { flags = flags; request = request; evidence = evidence }) answer (Ok tt)
+told_first refine flags request answer (Book book) right = record { told = right.told; shown = right.shown }
+told_first refine flags request answer (Tally tally) right = record { told = right.told; shown = right.shown }
+
+pub asked_first : (refine : Option ℕ) (q : Question) (requests : List (List ℕ)) (answer : Answer) (answers : List Answer) → AreRight (Ok q.flags) refine requests (recorded q.evidence) (answer ∷ answers) → is_ok (asked_of (first_request requests)) ≡ true
 asked_first refine q [] answer answers right = absurd right
-asked_first refine q (request ∷ requests) answer answers right =
-    asked_there refine (first_question q (request ∷ requests)) answer (record { told = right.0.told; shown = right.0.shown })
+asked_first refine q (request ∷ requests) answer answers right = asked_there refine (first_question q (request ∷ requests)) answer (told_first refine q.flags request answer q.evidence right.0)
 
 -- ---- the document
 
 -- what was made by right answers, or why there is none
-module _ (refine : Option ℕ) (document : List ℕ) (q : BookQuestion) (requests : List (List ℕ)) (before : Option Answer) where
-  pub kept_right : (answer : Answer) (answers : List Answer) (r : Result (Option (Vec ℕ Global)) Told) → AreRight (Ok q.flags) refine requests q.book (answer ∷ answers)
+module _ (refine : Option ℕ) (document : List ℕ) (q : Question) (requests : List (List ℕ)) (before : Option Answer) where
+  pub kept_right : (answer : Answer) (answers : List Answer) (r : Result (Option (Vec ℕ Global)) Told) → AreRight (Ok q.flags) refine requests (recorded q.evidence) (answer ∷ answers)
       → GivesOne kept_view r (IsKeptWith document q.flags (first_request requests) before answer) → GivesOne kept_view r (IsKeptFrom refine document q requests before (answer ∷ answers))
   kept_right answer answers (Ok o) right gives = (Ok tt, right, gives)
   kept_right answer answers (Err t) right gives = λ no_want. (Ok tt, right, gives no_want)
 
-  pub kept_wrong : (answer : Answer) (answers : List Answer) (e : RampFault) (t : Told) → IsTold (Ok q.flags) refine requests q.book (answer ∷ answers) (Err e) → t.refusal ≡ refused_as e
+  pub kept_wrong : (answer : Answer) (answers : List Answer) (e : RampFault) (t : Told) → IsTold (Ok q.flags) refine requests (recorded q.evidence) (answer ∷ answers) (Err e) → t.refusal ≡ refused_as e
       → GivesOne kept_view (Err t) (IsKeptFrom refine document q requests before (answer ∷ answers))
   kept_wrong answer answers e t told is = λ no_want. (Err e, told, ap Err is)
 
@@ -67,27 +75,27 @@ module _ (refine : Option ℕ) (document : List ℕ) (q : BookQuestion) (request
   from_none (p ∷ ps) is = cc
 
   pub from_asked : (planned : List Planned) (first : Planned) (factor : Option ℕ) (request : List ℕ) → Some first ≡ slice_get planned 0 → factor ≡ refine → request ≡ first_request requests
-      → IsTold (Ok q.flags) factor requests q.book (map planned_view planned) (Ok tt) → is_ok (asked_of request) ≡ true
+      → IsTold (Ok q.flags) factor requests (recorded q.evidence) (map planned_view planned) (Ok tt) → is_ok (asked_of request) ≡ true
   from_asked [] first factor request is same_factor same_request told = cc
   from_asked (p ∷ ps) first factor request is same_factor same_request told =
       ap (λ (s : List ℕ). is_ok (asked_of s)) same_request
-      ∙ asked_first refine q requests (planned_view p) (map planned_view ps) (subst (λ (f : Option ℕ). IsTold (Ok q.flags) f requests q.book (map planned_view (p ∷ ps)) (Ok tt)) same_factor told)
+      ∙ asked_first refine q requests (planned_view p) (map planned_view ps) (subst (λ (f : Option ℕ). IsTold (Ok q.flags) f requests (recorded q.evidence) (map planned_view (p ∷ ps)) (Ok tt)) same_factor told)
 
   pub from_right : (planned : List Planned) (first : Planned) (factor : Option ℕ) (request : List ℕ) (r : Result (Option (Vec ℕ Global)) Told) → Some first ≡ slice_get planned 0 → factor ≡ refine → request ≡ first_request requests
-      → IsTold (Ok q.flags) factor requests q.book (map planned_view planned) (Ok tt) → GivesOne kept_view r (IsKeptWith document q.flags request before (planned_view first))
+      → IsTold (Ok q.flags) factor requests (recorded q.evidence) (map planned_view planned) (Ok tt) → GivesOne kept_view r (IsKeptWith document q.flags request before (planned_view first))
       → GivesOne kept_view r (IsKeptFrom refine document q requests before (map planned_view planned))
   from_right [] first factor request r is same_factor same_request told gives = cc
   from_right (p ∷ ps) first factor request r is same_factor same_request told gives =
       let same : first ≡ p = cc in
-      kept_right (planned_view p) (map planned_view ps) r (subst (λ (f : Option ℕ). IsTold (Ok q.flags) f requests q.book (map planned_view (p ∷ ps)) (Ok tt)) same_factor told)
+      kept_right (planned_view p) (map planned_view ps) r (subst (λ (f : Option ℕ). IsTold (Ok q.flags) f requests (recorded q.evidence) (map planned_view (p ∷ ps)) (Ok tt)) same_factor told)
       (subst (λ (s : List ℕ). GivesOne kept_view r (IsKeptWith document q.flags s before (planned_view p))) same_request
       (subst (λ (x : Planned). GivesOne kept_view r (IsKeptWith document q.flags request before (planned_view x))) same gives))
 
   pub from_wrong : (planned : List Planned) (first : Planned) (factor : Option ℕ) (e : RampFault) (t : Told) → Some first ≡ slice_get planned 0 → factor ≡ refine
-      → IsTold (Ok q.flags) factor requests q.book (map planned_view planned) (Err e) → t.refusal ≡ refused_as e → GivesOne kept_view (Err t) (IsKeptFrom refine document q requests before (map planned_view planned))
+      → IsTold (Ok q.flags) factor requests (recorded q.evidence) (map planned_view planned) (Err e) → t.refusal ≡ refused_as e → GivesOne kept_view (Err t) (IsKeptFrom refine document q requests before (map planned_view planned))
   from_wrong [] first factor e t is same_factor told refusal = cc
   from_wrong (p ∷ ps) first factor e t is same_factor told refusal =
-      kept_wrong (planned_view p) (map planned_view ps) e t (subst (λ (f : Option ℕ). IsTold (Ok q.flags) f requests q.book (map planned_view (p ∷ ps)) (Err e)) same_factor told) refusal
+      kept_wrong (planned_view p) (map planned_view ps) e t (subst (λ (f : Option ℕ). IsTold (Ok q.flags) f requests (recorded q.evidence) (map planned_view (p ∷ ps)) (Err e)) same_factor told) refusal
 
 -- the rule of an answer, at the site of a request that was read
 module _ (document : List ℕ) (flags : Definitions) (request : List ℕ) (asked : Asked) (there : asked_of request ≡ Ok asked) (before : Option Answer) (rule : Entries) (c : DualPrices) where
@@ -119,7 +127,7 @@ module _ (document : List ℕ) (flags : Definitions) (asked : Asked) (rule : Ent
 
 -- ---- the report
 
-module _ (k : Keeping) (document : List ℕ) (q : BookQuestion) where
+module _ (k : Keeping) (document : List ℕ) (q : Question) where
   module _ (answers : List Answer) (requests : List (List ℕ)) where
     abbrev settled : Result Bool RampRefusal
     settled = settle call.Apply k.answered.rollout.strict (doubt_of_steps q requests)
@@ -136,11 +144,11 @@ module _ (k : Keeping) (document : List ℕ) (q : BookQuestion) where
     over_want (Some at) after t want = λ no_want. absurd (let both : true ≡ false = sym want ∙ no_want in cc)
 
     -- of a question whose book was made to count
-    pub over_counted : (old after : Option Holding) (counted : List ℕ) (made : BookQuestion) (r : Result Outcome Told) → counted ≡ document → made ≡ q
+    pub over_counted : (old after : Option Holding) (counted : List ℕ) (made : Question) (r : Result Outcome Told) → counted ≡ document → made ≡ q
         → IfSome old (λ at. GivesOne outcome_view r (IsKeepOver at after k counted made answers (Ok requests))) → IsOver old after r
     over_counted old after counted made r same_document same_question over =
         subst (λ (d : List ℕ). IfSome old (λ at. GivesOne outcome_view r (IsKeepOver at after k d q answers (Ok requests)))) same_document
-        (subst (λ (it : BookQuestion). IfSome old (λ at. GivesOne outcome_view r (IsKeepOver at after k counted it answers (Ok requests)))) same_question over)
+        (subst (λ (it : Question). IfSome old (λ at. GivesOne outcome_view r (IsKeepOver at after k counted it answers (Ok requests)))) same_question over)
 
     -- no document
     pub over_unkept : (old after : Option Holding) (t : Told) (r : Result Outcome Told) → r ≡ Err t → after ≡ old → (is_want t.refusal ≡ false → IsKept (Err t.refusal)) → IsOver old after r
@@ -208,22 +216,22 @@ module _ (k : Keeping) where
   Is old after r = IfSome old (λ at. GivesOne outcome_view r (IsKeepReport at after k))
 
   pub no_question : (old after : Option Holding) (e : files.Refused) (t : Told) → t.refusal ≡ Load e.refusal → after ≡ old
-      → IfSome old (λ at. files.GivesOne book_question_view (Err e) (IsBookQuestionAt at k.answered.rollout.document k.answered.rollout.steps k.answered.rollout.book)) → Is old after (Err t)
+      → IfSome old (λ at. files.GivesOne question_view (Err e) (IsQuestionAt at k.answered.rollout.document k.answered.rollout.steps k.answered.rollout.book)) → Is old after (Err t)
   unfolding IsKeepReport
   no_question None after e t is same asked = tt
   no_question (Some at) after e t is same asked = λ no_want. (Err e.refusal, asked (not_want t e is no_want), (ap Err is, same))
 
-  pub kept_whole : (old mid after : Option Holding) (document : List ℕ) (q : BookQuestion) (r : Result Outcome Told) → mid ≡ old
-      → IfSome old (λ at. IsBookQuestionAt at k.answered.rollout.document k.answered.rollout.steps k.answered.rollout.book (Ok q)) → IfSome old (λ at. load_of at k.answered.rollout.document max_text ≡ Ok document) → IsOf k document q mid after r → Is old after r
+  pub kept_whole : (old mid after : Option Holding) (document : List ℕ) (q : Question) (r : Result Outcome Told) → mid ≡ old
+      → IfSome old (λ at. IsQuestionAt at k.answered.rollout.document k.answered.rollout.steps k.answered.rollout.book (Ok q)) → IfSome old (λ at. load_of at k.answered.rollout.document max_text ≡ Ok document) → IsOf k document q mid after r → Is old after r
   unfolding IsKeepReport
   kept_whole old mid after document q r same asked loaded of = go old asked loaded (subst (λ (h : Option Holding). IsOf k document q h after r) same of)
     where
-      ends : (at : Holding) (s : Result Outcome Told) → IsBookQuestionAt at k.answered.rollout.document k.answered.rollout.steps k.answered.rollout.book (Ok q) → load_of at k.answered.rollout.document max_text ≡ Ok document
+      ends : (at : Holding) (s : Result Outcome Told) → IsQuestionAt at k.answered.rollout.document k.answered.rollout.steps k.answered.rollout.book (Ok q) → load_of at k.answered.rollout.document max_text ≡ Ok document
           → GivesOne outcome_view s (IsKeepOf at after k document q (answers_at at k.answered.ramp)) → GivesOne outcome_view s (IsKeepReport at after k)
       ends at (Ok o) asked loaded of = (Ok q, asked, (document, loaded, of))
       ends at (Err t) asked loaded of = λ no_want. (Ok q, asked, (document, loaded, of no_want))
 
-      go : (h : Option Holding) → IfSome h (λ at. IsBookQuestionAt at k.answered.rollout.document k.answered.rollout.steps k.answered.rollout.book (Ok q)) → IfSome h (λ at. load_of at k.answered.rollout.document max_text ≡ Ok document) → IsOf k document q h after r → Is h after r
+      go : (h : Option Holding) → IfSome h (λ at. IsQuestionAt at k.answered.rollout.document k.answered.rollout.steps k.answered.rollout.book (Ok q)) → IfSome h (λ at. load_of at k.answered.rollout.document max_text ≡ Ok document) → IsOf k document q h after r → Is h after r
       go None asked loaded of = tt
       go (Some at) asked loaded of = ends at r asked loaded of
 
@@ -259,7 +267,7 @@ mapped f zero xs = refl
 mapped f (suc n) [] = refl
 mapped f (suc n) (x ∷ xs) = mapped f n xs
 
-pub from_steps : (refine : Option ℕ) (document : List ℕ) (q : BookQuestion) (step : ℕ) (before : Option Answer) (steps rest : List (Vec ℕ Global)) (answers others : List Planned) (r : Result (Option (Vec ℕ Global)) Told) → before ≡ answer_to (map planned_view answers) (step - 1)
+pub from_steps : (refine : Option ℕ) (document : List ℕ) (q : Question) (step : ℕ) (before : Option Answer) (steps rest : List (Vec ℕ Global)) (answers others : List Planned) (r : Result (Option (Vec ℕ Global)) Told) → before ≡ answer_to (map planned_view answers) (step - 1)
     → rest ≡ drop (step - 1) steps → others ≡ drop (step - 1) answers → GivesOne kept_view r (IsKeptFrom refine document q (requests_view rest) before (map planned_view others))
     → GivesOne kept_view r (IsKeptFrom refine document q (from_step step (requests_view steps)) (answer_to (map planned_view answers) (step - 1)) (from_step step (map planned_view answers)))
 from_steps refine document q step before steps rest answers others r prior first second gives =

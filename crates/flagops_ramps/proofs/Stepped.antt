@@ -2,9 +2,9 @@
 use Rattle.std.proofs.Common.{◌≡◌, ◌≢◌, ℕ, Bool, false, true, List, Option, Result, Ok, Err, unwrap_or, refl, sym, ap, ◌∙◌, subst, inl, inr}
 use Rattle.std.specs.Prelude.{IfOk}
 use Rattle.flag_defs.specs.Flags.{flags_view}
-use Rattle.flagops_files.specs.Question.{BookQuestion, book_question_view}
+use Rattle.flagops_files.specs.Question.{Question, question_view}
 use Rattle.flagops_shell.specs.Report.{outcome_view}
-use Rattle.flagops_files.specs.declared.book_question.BookQuestion as program
+use Rattle.flagops_files.specs.declared.question.Question as program
 use Rattle.flagops_shell.specs.declared.outcome.Outcome.{Outcome}
 use Rattle.plan_text.specs.Answer.{Answer}
 use Rattle.ramp.specs.Ramp.{ArePlans, IsRefused}
@@ -19,7 +19,7 @@ use Rattle.rollout_checks.specs.declared.fault.RolloutFault.TheVariants.{WantOfM
 use Rattle.rollout_checks.specs.declared.verify_fault.VerifyFault.TheVariants.{Request}
 use Rattle.flagops_ramps.specs.Doubts.{beside, doubt_of_steps, settle}
 use Rattle.flagops_ramps.specs.Judging.{Found, IsFoundOf, IsFoundOver, answered_view, refused_as}
-use Rattle.flagops_ramps.specs.Ramp.{Holds, IsRampOf, IsRampOver, of_steps, report_ramp}
+use Rattle.flagops_ramps.specs.Ramp.{Holds, IsRampOf, IsRampOver, of_steps, recorded, report_ramp}
 use Rattle.flagops_ramps.specs.Refusal.{is_want}
 use Rattle.flagops_ramps.specs.Report.{GivesOne, GivesUnlessWant, Told}
 use Rattle.flagops_ramps.specs.declared.judging.RightAnswers.{RightAnswers}
@@ -37,13 +37,13 @@ other_verify t f is no_want = λ want. let one : is_want t ≡ true = ap is_want
 pub other_steps : (e : StepsFault) → of_steps e ≢ WantOfMemory → e ≢ steps.WantOfMemory
 other_steps e other = λ want. other (ap of_steps want)
 
-module _ (strict : Bool) (refine : Option ℕ) (q : BookQuestion) where
-  pub planned_report : (requests : List (List ℕ)) (answers : List Answer) (r : Result Outcome Told) → ArePlans (Ok q.flags) (unwrap_or refine 1) requests q.book answers → GivesUnlessWant outcome_view r (beside (settle call.Ramp strict (doubt_of_steps q requests)) (report_ramp answers))
+module _ (strict : Bool) (refine : Option ℕ) (q : Question) where
+  pub planned_report : (requests : List (List ℕ)) (answers : List Answer) (r : Result Outcome Told) → ArePlans (Ok q.flags) (unwrap_or refine 1) requests (recorded q.evidence) answers → GivesUnlessWant outcome_view r (beside (settle call.Ramp strict (doubt_of_steps q requests)) (report_ramp answers))
       → IfOk r (λ o. Holds answers o.text.items) → GivesOne outcome_view r (IsRampOver strict refine q (Ok requests))
   planned_report requests answers (Ok o) plans gives back = inl (answers, plans, sym gives, back)
   planned_report requests answers (Err t) plans gives back = λ no_want. inl (answers, plans, sym (gives no_want), tt)
 
-  pub refused_report : (requests : List (List ℕ)) (e : StepFault) (t : Told) → t.refusal ≡ Ramp e.fault → (e.fault ≢ WantOfMemory → IsRefused (Ok q.flags) (unwrap_or refine 1) requests q.book e) → GivesOne outcome_view (Err t) (IsRampOver strict refine q (Ok requests))
+  pub refused_report : (requests : List (List ℕ)) (e : StepFault) (t : Told) → t.refusal ≡ Ramp e.fault → (e.fault ≢ WantOfMemory → IsRefused (Ok q.flags) (unwrap_or refine 1) requests (recorded q.evidence) e) → GivesOne outcome_view (Err t) (IsRampOver strict refine q (Ok requests))
   refused_report requests e t is refused = λ no_want. inr (e, refused (other_ramp t.refusal e.fault is no_want), ap Err is)
 
   pub steps_report : (requests : List (List ℕ)) (r : Result Outcome Told) → steps_of q.request ≡ Ok requests → GivesOne outcome_view r (IsRampOver strict refine q (Ok requests)) → GivesOne outcome_view r (IsRampOf strict refine (Ok q))
@@ -56,16 +56,16 @@ module _ (strict : Bool) (refine : Option ℕ) (q : BookQuestion) where
 
 -- ---- answers
 
-module _ (refine : Option ℕ) (q : BookQuestion) where
-  pub found_right : (made : program.BookQuestion) (requests : List (List ℕ)) (answers : List Answer) → book_question_view made ≡ q → IsTold (Ok (flags_view made.flags)) refine requests made.book answers (Ok tt)
-      → IsFoundOver refine q answers (Ok requests) (Ok (record { question = book_question_view made; requests = requests; answers = answers }))
+module _ (refine : Option ℕ) (q : Question) where
+  pub found_right : (made : program.Question) (requests : List (List ℕ)) (answers : List Answer) → question_view made ≡ q → IsTold (Ok (flags_view made.flags)) refine requests (recorded made.evidence) answers (Ok tt)
+      → IsFoundOver refine q answers (Ok requests) (Ok (record { question = question_view made; requests = requests; answers = answers }))
   found_right made requests answers same told =
-      let as_found : BookQuestion → Found = λ it. Ok (record { question = it; requests = requests; answers = answers }) in
-      (Ok tt, subst (λ (it : BookQuestion). IsTold (Ok it.flags) refine requests it.book answers (Ok tt)) same told, ap as_found same)
+      let as_found : Question → Found = λ it. Ok (record { question = it; requests = requests; answers = answers }) in
+      (Ok tt, subst (λ (it : Question). IsTold (Ok it.flags) refine requests (recorded it.evidence) answers (Ok tt)) same told, ap as_found same)
 
-  pub found_wrong : (made : program.BookQuestion) (requests : List (List ℕ)) (answers : List Answer) (e : RampFault) (t : Told) → book_question_view made ≡ q → IsTold (Ok (flags_view made.flags)) refine requests made.book answers (Err e) → t.refusal ≡ refused_as e
+  pub found_wrong : (made : program.Question) (requests : List (List ℕ)) (answers : List Answer) (e : RampFault) (t : Told) → question_view made ≡ q → IsTold (Ok (flags_view made.flags)) refine requests (recorded made.evidence) answers (Err e) → t.refusal ≡ refused_as e
       → GivesOne answered_view (Err t) (IsFoundOver refine q answers (Ok requests))
-  found_wrong made requests answers e t same told refusal = λ no_want. (Err e, subst (λ (it : BookQuestion). IsTold (Ok it.flags) refine requests it.book answers (Err e)) same told, ap Err refusal)
+  found_wrong made requests answers e t same told refusal = λ no_want. (Err e, subst (λ (it : Question). IsTold (Ok it.flags) refine requests (recorded it.evidence) answers (Err e)) same told, ap Err refusal)
 
   pub steps_found : (requests : List (List ℕ)) (answers : List Answer) (r : Result RightAnswers Told) → steps_of q.request ≡ Ok requests → GivesOne answered_view r (IsFoundOver refine q answers (Ok requests)) → GivesOne answered_view r (IsFoundOf refine (Ok q) (Ok answers))
   steps_found requests answers r is gives = subst (λ x. GivesOne answered_view r (IsFoundOver refine q answers x)) (sym is) gives

@@ -5,7 +5,9 @@ use Rattle.std.proofs.lemmas.Bool.{ltb-false}
 use Rattle.std.proofs.lemmas.List.{take_all}
 use Rattle.flagops_files.specs.Loading.{max_rule}
 use Rattle.flagops_shell.specs.Outcomes.{refused_by}
-use Rattle.flagops_files.specs.Question.{BookQuestion}
+use Rattle.flagops_files.specs.Question.{Question}
+use Rattle.flagops_files.specs.declared.evidence.Evidence.{Evidence}
+use Rattle.flagops_files.specs.declared.evidence.Evidence.TheVariants.{Book, Tally}
 use Rattle.flagops_files.specs.declared.refusal.Refusal.TheVariants.{Load as Unread}
 use Rattle.flagops_shell.specs.Files.{Holding, front_of}
 use Rattle.flagops_shell.specs.Report.{Report}
@@ -24,8 +26,9 @@ use Rattle.rollout_checks.specs.declared.verify_fault.VerifyFault.{VerifyFault}
 use Rattle.rollout_checks.specs.declared.verify_fault.VerifyFault.TheVariants as verdict
 use Rattle.transport_instance.specs.declared.fault.CheckFault.TheVariants as check
 use Rattle.flagops_rollouts.specs.Refusal.{is_want_of_verify}
+use Rattle.flagops_rollouts.specs.Valid.{IsOfInputs}
 use Rattle.flagops_ramps.specs.Judging.{Answered, Found, IsFoundOf, IsFoundOver, answers_at, found_as, if_loaded}
-use Rattle.flagops_ramps.specs.Ramp.{Holds, IsRampOf, IsRampOver}
+use Rattle.flagops_ramps.specs.Ramp.{Holds, IsRampOf, IsRampOver, recorded}
 use Rattle.flagops_ramps.specs.Valid.{IsValid, IsValidRamp}
 use Rattle.flagops_ramps.specs.Verify.{report_found}
 use Rattle.flagops_ramps.specs.declared.refusal.RampRefusal.{RampRefusal}
@@ -73,13 +76,18 @@ told_valid a (Ok u) valid = (refl, refl)
 told_valid a (Err Lines) valid = absurd valid
 told_valid a (Err (Step n e)) valid = zero_wants e valid
 
-module _ (law : laws.RampsAreValid) (strict : Bool) (refine : Option ℕ) (q : BookQuestion) (report : Report) where
-  found_valid : (requests : List (List ℕ)) (answers : List Answer) (found : Found) → ArePlans (Ok q.flags) (unwrap_or refine 1) requests q.book answers → IsFoundOver refine q answers (Ok requests) found → IsValid answers (report_found false found)
+-- the same of what the steps are planned on
+of_inputs : (e : Evidence) → IsOfInputs e → laws.IsOfInputs (recorded e)
+of_inputs (Book book) of = of
+of_inputs (Tally tally) of = of
+
+module _ (law : laws.RampsAreValid) (strict : Bool) (refine : Option ℕ) (q : Question) (report : Report) (of : IsOfInputs q.evidence) where
+  found_valid : (requests : List (List ℕ)) (answers : List Answer) (found : Found) → ArePlans (Ok q.flags) (unwrap_or refine 1) requests (recorded q.evidence) answers → IsFoundOver refine q answers (Ok requests) found → IsValid answers (report_found false found)
   found_valid requests answers found plans (told, is_told, is) =
       subst (λ (f : Found). IsValid answers (report_found false f)) (sym is)
-      (told_valid (record { question = q; requests = requests; answers = answers }) told (law refine (Ok q.flags) requests q.book answers told plans is_told))
+      (told_valid (record { question = q; requests = requests; answers = answers }) told (law refine (Ok q.flags) requests (recorded q.evidence) answers told (of_inputs q.evidence of) plans is_told))
 
-  planned_valid : (requests : List (List ℕ)) (answers : List Answer) → steps_of q.request ≡ Ok requests → ArePlans (Ok q.flags) (unwrap_or refine 1) requests q.book answers → Holds answers report.text → IsValidRamp refine q report.text
+  planned_valid : (requests : List (List ℕ)) (answers : List Answer) → steps_of q.request ≡ Ok requests → ArePlans (Ok q.flags) (unwrap_or refine 1) requests (recorded q.evidence) answers → Holds answers report.text → IsValidRamp refine q report.text
   planned_valid requests answers steps plans holds = record {
     answers = answers;
     holds = holds;

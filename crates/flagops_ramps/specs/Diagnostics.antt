@@ -6,7 +6,7 @@ use Rattle.flagops_rollouts.specs.Doubts.{NamesDoubt}
 use Rattle.flagops_files.specs.Lines.{NamesFile}
 use Rattle.flagops_rollouts.specs.Subjects.{applied_subjects, is_of_kept_answer, is_of_kept_document, the_plan}
 use Rattle.flagops_rollouts.specs.Refusal as rolling
-use Rattle.flagops_files.specs.Question.{book_question_subjects}
+use Rattle.flagops_files.specs.Question.{question_subjects}
 use Rattle.flagops_files.specs.Refusal as files
 use Rattle.flagops_files.specs.Refusal.{by, loads_file, loads_flags}
 use Rattle.flagops_files.specs.Told.{NamesOne, file}
@@ -58,7 +58,7 @@ IsOfSize e remark = ⊥
 
 -- `ramp` is refused by one of its files, by the steps or one of them, for the size of its answers, or for what is doubted of them
 abbrev pub IsOfRamp : Ramping → Diagnosis
-IsOfRamp a (Load e) remark = NamesOne (book_question_subjects a.document a.steps a.book) e remark
+IsOfRamp a (Load e) remark = NamesOne (question_subjects a.document a.steps a.book) e remark
 IsOfRamp a (Ramp e) remark = Says (NamesPath a.steps) remark
 IsOfRamp a (Print e) remark = Says (NamesWord the_plan) remark
 IsOfRamp a (Doubted c d) remark = Says (NamesDoubt a.steps a.book d) remark
@@ -66,7 +66,7 @@ IsOfRamp a e remark = ⊥
 
 -- the files of answers and of what they are judged by
 abbrev pub answered_subjects : Verifying → files.Subjects
-answered_subjects v = book_question_subjects v.rollout.document v.rollout.steps v.rollout.book ++ ((file v.ramp, by loads_file) ∷ [])
+answered_subjects v = question_subjects v.rollout.document v.rollout.steps v.rollout.book ++ ((file v.ramp, by loads_file) ∷ [])
 
 -- answers are refused by the file of the steps, where a step is refused, and else by their own
 abbrev pub judged_path : Verifying → VerifyFault → List ℕ

@@ -10,8 +10,7 @@ use Rattle.flagops_rollouts.specs.Doubts.{first_doubt, recorded_doubt}
 use Rattle.flagops_rollouts.specs.Foreign.{is_foreign}
 use Rattle.flagops_rollouts.specs.Unrecorded.{is_unrecorded}
 use Rattle.flagops_files.specs.Loading.{max_text}
-use Rattle.flagops_files.specs.Question.{BookQuestion, Question}
-use Rattle.flagops_files.specs.declared.evidence.Evidence.TheVariants.{Book}
+use Rattle.flagops_files.specs.Question.{Question}
 use Rattle.flagops_rollouts.specs.declared.refusal.Doubt.{Doubt}
 use Rattle.flagops_ramps.specs.Report.{Came}
 use Rattle.flagops_ramps.specs.declared.refusal.RampRefusal.{RampRefusal}
@@ -44,11 +43,11 @@ first_request [] = []
 first_request (request ∷ requests) = request
 
 -- what the first step asks: every other step asks of the same site, and so of the same page
-abbrev pub first_question : BookQuestion → List (List ℕ) → Question
-first_question q requests = record { flags = q.flags; request = first_request requests; evidence = Book q.book }
+abbrev pub first_question : Question → List (List ℕ) → Question
+first_question q requests = record { flags = q.flags; request = first_request requests; evidence = q.evidence }
 
 -- the first that is doubted of steps with these requests: a member of their file is not read, no recorded input counts, or one that does is none of the flag
-abbrev pub doubt_of_steps : BookQuestion → List (List ℕ) → Option Doubt
+abbrev pub doubt_of_steps : Question → List (List ℕ) → Option Doubt
 doubt_of_steps q requests = first_doubt (is_unread q.request) (recorded_doubt (is_unrecorded (first_question q requests)) (is_foreign (first_question q requests)))
 
 -- whether a person is told of a doubt; with `--strict` the call refuses it

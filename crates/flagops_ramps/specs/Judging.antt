@@ -4,7 +4,9 @@ use Rattle.flag_defs.specs.Flags.{flags_view}
 use Rattle.flagops_shell.specs.Files.{Holding, load_of}
 use Rattle.flagops_files.specs.Loading.{max_rule}
 use Rattle.flagops_shell.specs.Outcomes.{refused_by}
-use Rattle.flagops_files.specs.Question.{BookQuestion, IsBookQuestionAt, book_question_view}
+use Rattle.flagops_files.specs.Question.{BookQuestion, IsBookQuestionAt, IsQuestionAt, Question, question_view}
+use Rattle.flagops_files.specs.declared.evidence.Evidence.{Evidence}
+use Rattle.flagops_files.specs.declared.evidence.Evidence.TheVariants.{Book, Tally}
 use Rattle.flagops_files.specs.declared.refusal.Refusal.{Refusal}
 use Rattle.flagops_files.specs.declared.refusal.Refusal.TheVariants.{Load as Unread}
 use Rattle.plan_text.specs.Answer.{Answer, planned_view}
@@ -16,7 +18,7 @@ use Rattle.ramp_steps.specs.Steps.{most_steps, requests_view, steps_of}
 use Rattle.ramp_steps.specs.declared.fault.RampFileFault.{RampFileFault}
 use Rattle.ramp_steps.specs.declared.fault.StepsFault.{StepsFault}
 use Rattle.rollout_checks.specs.declared.verify_fault.VerifyFault.TheVariants.{Request}
-use Rattle.flagops_ramps.specs.Ramp.{of_steps}
+use Rattle.flagops_ramps.specs.Ramp.{of_steps, recorded}
 use Rattle.flagops_ramps.specs.Words.{Verifying}
 use Rattle.flagops_ramps.specs.declared.judging.RightAnswers.{RightAnswers}
 use Rattle.flagops_ramps.specs.declared.refusal.RampRefusal.{RampRefusal}
@@ -24,17 +26,17 @@ use Rattle.flagops_ramps.specs.declared.refusal.RampRefusal.TheVariants.{Load, R
 
 -- a question, the requests of its steps, and answers to these
 pub record Answered : Type 0 where
-  pub question : BookQuestion
+  pub question : Question
   pub requests : List (List ℕ)
   pub answers : List Answer
 
 abbrev pub answered_view : RightAnswers → Answered
-answered_view a = record { question = book_question_view a.question; requests = requests_view a.steps.items; answers = map planned_view a.answers.items }
+answered_view a = record { question = question_view a.question; requests = requests_view a.steps.items; answers = map planned_view a.answers.items }
 
 -- they are right for the steps, of which there are no more than the most
 pub record AreRightAnswers (refine : Option ℕ) (a : RightAnswers) : Type 0 where
   pub few : length a.steps.items ≤ most_steps
-  pub right : AreRight (Ok (flags_view a.question.flags)) refine (requests_view a.steps.items) a.question.book (map planned_view a.answers.items)
+  pub right : AreRight (Ok (flags_view a.question.flags)) refine (requests_view a.steps.items) (recorded a.question.evidence) (map planned_view a.answers.items)
 
 -- ---- the answers of a file
 
@@ -63,13 +65,13 @@ abbrev pub found_as : Answered → Result (Unit {0}) RampFault → Found
 found_as a (Ok u) = Ok a
 found_as a (Err e) = Err (refused_as e)
 
-abbrev pub IsFoundOver : Option ℕ → BookQuestion → List Answer → Result (List (List ℕ)) StepsFault → Found → Type 0
+abbrev pub IsFoundOver : Option ℕ → Question → List Answer → Result (List (List ℕ)) StepsFault → Found → Type 0
 IsFoundOver refine q answers (Err e) r = r ≡ Err (Verify (Request (of_steps e)))
 IsFoundOver refine q answers (Ok requests) r =
-    (told : Result (Unit {0}) RampFault) × IsTold (Ok q.flags) refine requests q.book answers told × (r ≡ found_as (record { question = q; requests = requests; answers = answers }) told)
+    (told : Result (Unit {0}) RampFault) × IsTold (Ok q.flags) refine requests (recorded q.evidence) answers told × (r ≡ found_as (record { question = q; requests = requests; answers = answers }) told)
 
 -- the answers are asked for where there is a question, and steps are judged behind them
-abbrev pub IsFoundOf : Option ℕ → Result BookQuestion Refusal → Result (List Answer) RampRefusal → Found → Type 0
+abbrev pub IsFoundOf : Option ℕ → Result Question Refusal → Result (List Answer) RampRefusal → Found → Type 0
 IsFoundOf refine (Err e) answers r = r ≡ Err (Load e)
 IsFoundOf refine (Ok q) (Err e) r = r ≡ Err e
 IsFoundOf refine (Ok q) (Ok answers) r = IsFoundOver refine q answers (steps_of q.request) r
@@ -77,4 +79,24 @@ IsFoundOf refine (Ok q) (Ok answers) r = IsFoundOver refine q answers (steps_of 
 -- of the files at the paths
 unfoldable pub IsFoundAt : Holding → Verifying → Found → Type 0
 IsFoundAt at v r =
-    (question : Result BookQuestion Refusal) × IsBookQuestionAt at v.rollout.document v.rollout.steps v.rollout.book question × IsFoundOf v.rollout.refine question (answers_at at v.ramp) r
+    (question : Result Question Refusal) × IsQuestionAt at v.rollout.document v.rollout.steps v.rollout.book question × IsFoundOf v.rollout.refine question (answers_at at v.ramp) r
+
+-- ---- where what was recorded has to be a book
+
+abbrev pub IsOfBook : Evidence → Type 0
+IsOfBook (Book book) = Unit {0}
+IsOfBook (Tally tally) = ⊥
+
+-- a question over a book, as one over what was recorded
+abbrev pub on_book : BookQuestion → Question
+on_book q = record { flags = q.flags; request = q.request; evidence = Book q.book }
+
+abbrev pub if_on_book : Result BookQuestion Refusal → Result Question Refusal
+if_on_book (Ok q) = Ok (on_book q)
+if_on_book (Err e) = Err e
+
+-- what is then found of the files at the paths
+unfoldable pub IsFoundOnBook : Holding → Verifying → Found → Type 0
+IsFoundOnBook at v r =
+    (question : Result BookQuestion Refusal) × IsBookQuestionAt at v.rollout.document v.rollout.steps v.rollout.book question
+    × IsFoundOf v.rollout.refine (if_on_book question) (answers_at at v.ramp) r

@@ -3,7 +3,7 @@ use Rattle.std.specs.Prelude.{◌≡◌, ℕ, ◌-◌, List, [], ◌∷◌, drop
 use Rattle.bucket_core.specs.Rule.{Entries}
 use Rattle.flag_defs.specs.Document.{Definitions}
 use Rattle.flagops_files.specs.Loading.{max_text}
-use Rattle.flagops_files.specs.Question.{BookQuestion, IsBookQuestionAt}
+use Rattle.flagops_files.specs.Question.{Question, IsQuestionAt}
 use Rattle.flagops_files.specs.declared.refusal.Refusal.{Refusal}
 use Rattle.flagops_rollouts.specs.Keep.{IsKeptAt, IsKeptPut, Kept}
 use Rattle.flagops_rollouts.specs.Standing.{has_rule}
@@ -19,7 +19,7 @@ use Rattle.rollout_checks.specs.declared.verify_fault.VerifyFault.TheVariants.{R
 use Rattle.flagops_ramps.specs.Apply.{answer_to}
 use Rattle.flagops_ramps.specs.Doubts.{doubt_of_steps, first_request, settle}
 use Rattle.flagops_ramps.specs.Judging.{answers_at, refused_as}
-use Rattle.flagops_ramps.specs.Ramp.{of_steps}
+use Rattle.flagops_ramps.specs.Ramp.{of_steps, recorded}
 use Rattle.flagops_ramps.specs.Report.{Came}
 use Rattle.flagops_ramps.specs.Words.{Keeping}
 use Rattle.flagops_ramps.specs.declared.refusal.RampRefusal.{RampRefusal}
@@ -54,10 +54,10 @@ IsKeptBy document flags requests before answer (Err e) r = r ≡ Err (refused_as
 IsKeptBy document flags requests before answer (Ok u) r = IsKeptWith document flags (first_request requests) before answer r
 
 -- The answers to these steps are judged as `verify-ramp` judges those to a whole rollout, the first on the rule that the document has.
-abbrev pub IsKeptFrom : Option ℕ → List ℕ → BookQuestion → List (List ℕ) → Option Answer → List Answer → Result Kept RampRefusal → Type 0
+abbrev pub IsKeptFrom : Option ℕ → List ℕ → Question → List (List ℕ) → Option Answer → List Answer → Result Kept RampRefusal → Type 0
 IsKeptFrom refine document q requests before [] r = r ≡ Err NoStep
 IsKeptFrom refine document q requests before (answer ∷ answers) r =
-    (told : Result (Unit {0}) RampFault) × IsTold (Ok q.flags) refine requests q.book (answer ∷ answers) told × IsKeptBy document q.flags requests before answer told r
+    (told : Result (Unit {0}) RampFault) × IsTold (Ok q.flags) refine requests (recorded q.evidence) (answer ∷ answers) told × IsKeptBy document q.flags requests before answer told r
 
 -- ---- the report
 
@@ -68,23 +68,23 @@ IsPut at after k (Err e) (Ok kept) r = (r ≡ Err e) × (after ≡ Some at)
 IsPut at after k (Ok told) (Ok kept) r = Lifts Rollout (IsKeptPut at after k.answered.rollout.document k.write told kept) r
 
 -- from the step that is asked for on
-abbrev pub IsKeepOver : Holding → Option Holding → Keeping → List ℕ → BookQuestion → List Answer → Result (List (List ℕ)) StepsFault → Came → Type 0
+abbrev pub IsKeepOver : Holding → Option Holding → Keeping → List ℕ → Question → List Answer → Result (List (List ℕ)) StepsFault → Came → Type 0
 IsKeepOver at after k document q answers (Err e) r = (r ≡ Err (Verify (Request (of_steps e)))) × (after ≡ Some at)
 IsKeepOver at after k document q answers (Ok requests) r =
     (kept : Result Kept RampRefusal) × IsKeptFrom k.answered.rollout.refine document q (from_step k.step requests) (answer_to answers (k.step - 1)) (from_step k.step answers) kept
     × IsPut at after k (settle call.Apply k.answered.rollout.strict (doubt_of_steps q requests)) kept r
 
 -- of answers that were read, and then of the steps
-abbrev pub IsKeepOf : Holding → Option Holding → Keeping → List ℕ → BookQuestion → Result (List Answer) RampRefusal → Came → Type 0
+abbrev pub IsKeepOf : Holding → Option Holding → Keeping → List ℕ → Question → Result (List Answer) RampRefusal → Came → Type 0
 IsKeepOf at after k document q (Err e) r = (r ≡ Err e) × (after ≡ Some at)
 IsKeepOf at after k document q (Ok answers) r = IsKeepOver at after k document q answers (steps_of q.request) r
 
 -- over a question, of which the document's bytes were loaded
-abbrev pub IsKeepAsked : Holding → Option Holding → Keeping → Result BookQuestion Refusal → Came → Type 0
+abbrev pub IsKeepAsked : Holding → Option Holding → Keeping → Result Question Refusal → Came → Type 0
 IsKeepAsked at after k (Err e) r = (r ≡ Err (Load e)) × (after ≡ Some at)
 IsKeepAsked at after k (Ok q) r = (document : List ℕ) × (load_of at k.answered.rollout.document max_text ≡ Ok document) × IsKeepOf at after k document q (answers_at at k.answered.ramp) r
 
 -- what the files at the paths make
 unfoldable pub IsKeepReport : Holding → Option Holding → Keeping → Came → Type 0
 IsKeepReport at after k r =
-    (question : Result BookQuestion Refusal) × IsBookQuestionAt at k.answered.rollout.document k.answered.rollout.steps k.answered.rollout.book question × IsKeepAsked at after k question r
+    (question : Result Question Refusal) × IsQuestionAt at k.answered.rollout.document k.answered.rollout.steps k.answered.rollout.book question × IsKeepAsked at after k question r

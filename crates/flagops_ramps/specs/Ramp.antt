@@ -1,12 +1,14 @@
 -- What the command `ramp` answers.
 use Rattle.std.specs.Prelude.{◌≡◌, ◌⊎◌, ℕ, Bool, false, List, [], ◌∷◌, unwrap_or, Option, Result, Ok, Err}
 use Rattle.flagops_shell.specs.Files.{Holding}
-use Rattle.flagops_files.specs.Question.{BookQuestion, IsBookQuestionAt}
+use Rattle.flagops_files.specs.Question.{Question, IsQuestionAt}
+use Rattle.flagops_files.specs.declared.evidence.Evidence.{Evidence}
+use Rattle.flagops_files.specs.declared.evidence.Evidence.TheVariants.{Book, Tally}
 use Rattle.flagops_files.specs.declared.refusal.Refusal.{Refusal}
 use Rattle.plan_text.specs.Answer.{Answer, emit, none_exists}
 use Rattle.plan_text.specs.declared.fault.PlanFileFault.{PlanFileFault}
 use Rattle.price_core.specs.declared.fault.PriceFault.TheVariants.{BadRequest}
-use Rattle.ramp.specs.Ramp.{ArePlans, IsRefused}
+use Rattle.ramp.specs.Ramp.{ArePlans, IsRefused, Recorded, in_book, in_tally}
 use Rattle.ramp.specs.declared.fault.StepFault.{StepFault}
 use Rattle.ramp_steps.specs.Lines.{ramp_file, ramp_of}
 use Rattle.ramp_steps.specs.Steps.{steps_of}
@@ -26,6 +28,11 @@ abbrev pub of_steps : StepsFault → RolloutFault
 of_steps steps.WantOfMemory = WantOfMemory
 of_steps steps.Shape = Request BadRequest
 of_steps (steps.Step n e) = of_price e
+
+-- what was recorded, as steps are planned on it
+abbrev pub recorded : Evidence → Recorded
+recorded (Book book) = in_book book
+recorded (Tally tally) = in_tally tally
 
 -- 3 where no rule fits the last step that is answered
 abbrev pub ramp_status : List Answer → ℕ
@@ -51,16 +58,16 @@ ReadsBack answers (Ok report) = Holds answers report.text
 ReadsBack answers (Err e) = Unit {0}
 
 -- The answers to the steps, each planned on the rule that the one before left, beside which a person is told of a doubt; or the first refusal.
-abbrev pub IsRampOver : Bool → Option ℕ → BookQuestion → Result (List (List ℕ)) StepsFault → Came → Type 0
+abbrev pub IsRampOver : Bool → Option ℕ → Question → Result (List (List ℕ)) StepsFault → Came → Type 0
 IsRampOver strict refine q (Err e) r = r ≡ Err (Ramp (of_steps e))
 IsRampOver strict refine q (Ok requests) r =
-    ((answers : List Answer) × ArePlans (Ok q.flags) (unwrap_or refine 1) requests q.book answers × (r ≡ beside (settle call.Ramp strict (doubt_of_steps q requests)) (report_ramp answers)) × ReadsBack answers r)
-    ⊎ ((e : StepFault) × IsRefused (Ok q.flags) (unwrap_or refine 1) requests q.book e × (r ≡ Err (Ramp e.fault)))
+    ((answers : List Answer) × ArePlans (Ok q.flags) (unwrap_or refine 1) requests (recorded q.evidence) answers × (r ≡ beside (settle call.Ramp strict (doubt_of_steps q requests)) (report_ramp answers)) × ReadsBack answers r)
+    ⊎ ((e : StepFault) × IsRefused (Ok q.flags) (unwrap_or refine 1) requests (recorded q.evidence) e × (r ≡ Err (Ramp e.fault)))
 
-abbrev pub IsRampOf : Bool → Option ℕ → Result BookQuestion Refusal → Came → Type 0
+abbrev pub IsRampOf : Bool → Option ℕ → Result Question Refusal → Came → Type 0
 IsRampOf strict refine (Err e) r = r ≡ Err (Load e)
 IsRampOf strict refine (Ok q) r = IsRampOver strict refine q (steps_of q.request) r
 
 -- what the files at the paths make
 unfoldable pub IsRampReport : Holding → Ramping → Came → Type 0
-IsRampReport at a r = (question : Result BookQuestion Refusal) × IsBookQuestionAt at a.document a.steps a.book question × IsRampOf a.strict a.refine question r
+IsRampReport at a r = (question : Result Question Refusal) × IsQuestionAt at a.document a.steps a.book question × IsRampOf a.strict a.refine question r

@@ -1,6 +1,7 @@
 -- What `verify-ramp` tells of what `ramp` printed.
 use Rattle.std.specs.Prelude.{◌≡◌, ℕ, Bool, List, false, true, Option, Some, Ok, Err}
-use Rattle.flagops_files.specs.Question.{BookQuestion}
+use Rattle.flagops_files.specs.Question.{Question}
+use Rattle.flagops_rollouts.specs.Valid.{IsOfInputs}
 use Rattle.flagops_shell.specs.Files.{Holding}
 use Rattle.flagops_shell.specs.Report.{Report}
 use Rattle.plan_text.specs.Answer.{Answer}
@@ -16,11 +17,11 @@ IsValid answers (Ok report) = (report.text ≡ valid_ramp answers) × (report.st
 IsValid answers (Err e) = is_want e ≡ true
 
 -- The text reads as answers, and wherever it is the file at a path, `verify-ramp` tells of this file that they are valid.
-pub record IsValidRamp (refine : Option ℕ) (q : BookQuestion) (text : List ℕ) : Type 0 where
+pub record IsValidRamp (refine : Option ℕ) (q : Question) (text : List ℕ) : Type 0 where
   pub answers : List Answer
   pub holds : Holds answers text
   pub valid : (at : Holding) (path : List ℕ) (found : Found) → at path ≡ Some text → IsFoundOf refine (Ok q) (answers_at at path) found → IsValid answers (report_found false found)
 
--- so it is with each report of `ramp`, by the same factor
+-- so it is with each report of `ramp` on the evidence of some inputs, by the same factor
 abbrev pub RampsAreValid : Type 0
-RampsAreValid = (strict : Bool) (refine : Option ℕ) (q : BookQuestion) (report : Report) → IsRampOf strict refine (Ok q) (Ok report) → IsValidRamp refine q report.text
+RampsAreValid = (strict : Bool) (refine : Option ℕ) (q : Question) (report : Report) → IsOfInputs q.evidence → IsRampOf strict refine (Ok q) (Ok report) → IsValidRamp refine q report.text

@@ -2,7 +2,7 @@
 ghost use Rattle.std.specs.Prelude.{◌≡◌, List, ℕ, false, is_some, option_map, IfOk, IfSome};
 ghost use Rattle.flag_text.specs.View.{members_view, view};
 ghost use Rattle.flagops_rollouts.specs.Doubts.{NamesDoubt, NamesDoubted, first_doubt};
-ghost use Rattle.flagops_files.specs.Question.{book_question_view};
+ghost use Rattle.flagops_files.specs.Question.{question_view};
 ghost use Rattle.flagops_ramps.specs.Doubts.{doubt_of_steps, first_request, has_unread, has_unread_member, is_read, is_unread, settle};
 ghost use Rattle.flagops_ramps.specs.Report.{GivesUnlessWant, is_file_fault};
 ghost use Rattle.flagops_ramps.specs.Diagnostics.{Diagnoses, IsOfDoubted};
@@ -15,8 +15,8 @@ use crate::judging::out_of_memory;
 use crate::refusal::{RampRefusal, StepCall};
 use file_diagnostics::of_unread;
 use flag_text::{TextFault, Tree, read_tree};
-use flagops_files::{BookQuestion, TEXT_LIMIT};
-use flagops_rollouts::{Doubt, NotedDoubt, doubt_in_book, remark_in};
+use flagops_files::{Question, TEXT_LIMIT};
+use flagops_rollouts::{Doubt, NotedDoubt, doubt_in_evidence, remark_in};
 use flagops_shell::{Refused, Remark};
 use std::alloc::{AllocError, Global};
 use std::thread::Threads;
@@ -29,10 +29,10 @@ pub(crate) fn settled<R: Threads>(
     alloc: Global,
     call: StepCall,
     asked: &Ramping<'_>,
-    question: &BookQuestion,
+    question: &Question,
     steps: &[Vec<u8>],
 ) -> Result<Option<Remark>, Refused<RampRefusal>>
-    ensures exact { GivesUnlessWant (λ r. is_some r) result (settle call asked.now.strict (doubt_of_steps (book_question_view question.now) (requests_view steps.now))) }
+    ensures exact { GivesUnlessWant (λ r. is_some r) result (settle call asked.now.strict (doubt_of_steps (question_view question.now) (requests_view steps.now))) }
     ensures read { is_file_fault result ≡ false }
     ensures names { Diagnoses (IsOfDoubted asked.now.steps.now asked.now.book.now) result }
     ensures notes { IfOk result (λ r. IfSome r (Says (NamesDoubted asked.now.steps.now asked.now.book.now))) }
@@ -75,15 +75,16 @@ pub fn doubted<R: Threads>(
     rt: &R,
     alloc: Global,
     asked: &Ramping<'_>,
-    question: &BookQuestion,
+    question: &Question,
     steps: &[Vec<u8>],
 ) -> Result<Option<NotedDoubt>, AllocError>
-    ensures doubt { IfOk result (λ o. option_map (λ d. d.doubt) o ≡ doubt_of_steps (book_question_view question.now) (requests_view steps.now)) }
+    ensures doubt { IfOk result (λ o. option_map (λ d. d.doubt) o ≡ doubt_of_steps (question_view question.now) (requests_view steps.now)) }
     ensures notes { IfOk result (λ o. IfSome o (λ d. Says (NamesDoubt asked.now.steps.now asked.now.book.now d.doubt) d.remark)) }
 {
     let unread = unread(alloc, asked.steps, question.request.bytes())?;
-    let (flags, request) = (&question.flags, first_request(steps));
-    let recorded = doubt_in_book(rt, alloc, asked.book, flags, request, &question.book)?;
+    let (flags, evidence) = (&question.flags, &question.evidence);
+    let request = first_request(steps);
+    let recorded = doubt_in_evidence(rt, alloc, asked.book, flags, request, evidence)?;
     Ok(first_of(unread, recorded))
 }
 

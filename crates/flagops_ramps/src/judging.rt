@@ -1,17 +1,19 @@
 //! Answers to steps that stand in a file, which are loaded and judged for each command that takes them.
-ghost use Rattle.std.specs.Prelude.{◌≡◌, ◌≤◌, ◌||◌, false, true, length, map, option_map, string_bytes, IfOk, IfSome, Ok};
+ghost use Rattle.std.specs.Prelude.{◌≡◌, ◌<◌, ◌≤◌, ◌-◌, ◌^◌, ◌||◌, false, true, length, map, option_map, string_bytes, IfOk, IfSome, Ok};
+ghost use Rattle.flag_defs.specs.Flags.{flags_view};
 ghost use Rattle.flagops_files.specs.Lines.{NamesFile};
-ghost use Rattle.flagops_files.specs.Question.{book_question_view};
+ghost use Rattle.flagops_files.specs.Question.{book_question_view, question_view};
 ghost use Rattle.flagops_shell.specs.Diagnostic.{Says};
-ghost use Rattle.flagops_ramps.specs.Judging.{AreRightAnswers, IsFoundAt, IsFoundOf, IsFoundOver, answered_view, answers_at, read_as, refused_as};
+ghost use Rattle.flagops_ramps.specs.Judging.{AreRightAnswers, IsFoundAt, IsFoundOf, IsFoundOnBook, IsFoundOver, IsOfBook, answered_view, answers_at, on_book, read_as, refused_as};
 ghost use Rattle.flagops_ramps.specs.Refusal.{is_unread, is_want};
 ghost use Rattle.flagops_ramps.specs.Diagnostics.{Diagnoses, IsOfAnswers, IsOfVerify, NamesPath, NamesStep, judged_path};
-ghost use Rattle.flagops_ramps.specs.Ramp.{of_steps};
+ghost use Rattle.flagops_ramps.specs.Ramp.{of_steps, recorded};
 ghost use Rattle.flagops_ramps.specs.Report.{GivesOne, GivesUnlessWant, is_file_fault};
 ghost use Rattle.flagops_ramps.specs.Words.{verifying_view};
 ghost use Rattle.flagops_ramps.specs.declared.refusal.RampRefusal.TheVariants.{Verify};
 ghost use Rattle.rollout_checks.specs.declared.verify_fault.VerifyFault.TheVariants.{Request};
 ghost use Rattle.plan_text.specs.Answer.{planned_view};
+ghost use Rattle.ramp.specs.Right.{IsTold};
 ghost use Rattle.ramp_steps.specs.Lines.{ramp_of};
 ghost use Rattle.ramp_steps.specs.Steps.{most_steps, requests_view};
 
@@ -20,11 +22,15 @@ use crate::ramping::{count, of_steps};
 use crate::refusal::RampRefusal;
 use crate::remarks::{of_steps_in, step_line};
 use file_diagnostics::Ends;
-use flagops_files::{BookQuestion, file_line, load, load_book_question, whole_line};
+use flag_defs::Flags;
+use flagops_files::{
+    BookQuestion, Evidence, Question, file_line, load, load_book_question, load_question,
+    whole_line,
+};
 use flagops_shell::{FileSet, Refused, Remark};
 use flagops_words::{factor_number, factor_of};
 use plan_text::Planned;
-use ramp::{RampFault, verify_steps};
+use ramp::{RampFault, verify_steps, verify_steps_on_tally};
 use ramp_steps::{RampFileFault, StepsFault, read_ramp, read_steps};
 use rollout_checks::{RolloutFault, VerifyFault};
 use std::alloc::{AllocError, Global};
@@ -33,10 +39,11 @@ use std::thread::Threads;
 /// The largest file of answers, in bytes.
 const RAMP_LIMIT: u64 = limits::FILE_BYTES as u64;
 
-/// Answers that are right, with what they answer: the steps of a question, whose book has counted what these ask of it.
+/// Answers that are right, with what they answer: the steps of a question, whose book, if it has one, has counted what these ask
+/// of it.
 #[derive(Drop)]
 pub struct RightAnswers {
-    pub question: BookQuestion,
+    pub question: Question,
     pub steps: Vec<Vec<u8>>,
     pub answers: Vec<Planned>,
 }
@@ -56,7 +63,7 @@ pub fn load_answers<R: Threads + Sync, F: FileSet>(
     ensures kept { F.holding files.new ≡ F.holding files.old }
 {
     let rollout = &asked.rollout;
-    match load_book_question(
+    match load_question(
         rt,
         alloc,
         files,
@@ -70,6 +77,55 @@ pub fn load_answers<R: Threads + Sync, F: FileSet>(
     }
 }
 
+/// The same where what was recorded has to be a book: a tally is refused as a file that is none.
+#[tactic(auto, using(crate::proofs::Diagnosed::verify_loaded_on_book, crate::proofs::Diagnosed::failed_load))]
+pub fn load_answers_on_book<R: Threads + Sync, F: FileSet>(
+    rt: &R,
+    alloc: Global,
+    files: &mut F,
+    asked: &Verifying<'_>,
+) -> Result<RightAnswers, Refused<RampRefusal>>
+    ensures exact { IfSome (F.holding files.old) (λ at. GivesOne answered_view result (IsFoundOnBook at (verifying_view asked.now))) }
+    ensures right { IfOk result (AreRightAnswers (option_map (λ m. m.number) asked.now.rollout.refine)) }
+    ensures book { IfOk result (λ a. IsOfBook a.question.evidence) }
+    ensures failed { F.has_failed files.new ≡ (F.has_failed files.old || is_file_fault result) }
+    ensures names { Diagnoses (IsOfVerify (verifying_view asked.now)) result }
+    ensures kept { F.holding files.new ≡ F.holding files.old }
+{
+    let rollout = &asked.rollout;
+    match load_book_question(
+        rt,
+        alloc,
+        files,
+        rollout.document,
+        rollout.steps,
+        rollout.book,
+        factor_of(rollout.refine),
+    ) {
+        Ok(question) => against(rt, alloc, files, asked, on_book(question)),
+        Err(refused) => Err(Refused::of(refused)),
+    }
+}
+
+/// A question over a book, as one over what was recorded.
+fn on_book(question: BookQuestion) -> Question
+    ensures question { question_view result ≡ on_book (book_question_view question) }
+    ensures book { IsOfBook result.evidence }
+{
+    let BookQuestion {
+        document,
+        flags,
+        request,
+        book,
+    } = question;
+    Question {
+        document,
+        flags,
+        request,
+        evidence: Evidence::Book(book),
+    }
+}
+
 /// The same to a question, whose answers stand in a file.
 #[tactic(auto, using(crate::proofs::Diagnosed::verify_answers, crate::proofs::Diagnosed::verify_steps))]
 fn against<R: Threads + Sync, F: FileSet>(
@@ -77,10 +133,11 @@ fn against<R: Threads + Sync, F: FileSet>(
     alloc: Global,
     files: &mut F,
     asked: &Verifying<'_>,
-    question: BookQuestion,
+    question: Question,
 ) -> Result<RightAnswers, Refused<RampRefusal>>
-    ensures exact { IfSome (F.holding files.old) (λ at. GivesOne answered_view result (IsFoundOf (option_map (λ m. m.number) asked.now.rollout.refine) (Ok (book_question_view question)) (answers_at at asked.now.ramp.now))) }
+    ensures exact { IfSome (F.holding files.old) (λ at. GivesOne answered_view result (IsFoundOf (option_map (λ m. m.number) asked.now.rollout.refine) (Ok (question_view question)) (answers_at at asked.now.ramp.now))) }
     ensures right { IfOk result (AreRightAnswers (option_map (λ m. m.number) asked.now.rollout.refine)) }
+    ensures evidence { IfOk result (λ a. a.question.evidence ≡ question.evidence) }
     ensures failed { F.has_failed files.new ≡ (F.has_failed files.old || is_file_fault result) }
     ensures names { Diagnoses (IsOfVerify (verifying_view asked.now)) result }
     ensures kept { F.holding files.new ≡ F.holding files.old }
@@ -97,7 +154,7 @@ fn against<R: Threads + Sync, F: FileSet>(
 pub(crate) fn steps_refused(
     alloc: Global,
     path: &str,
-    question: &BookQuestion,
+    question: &Question,
     fault: StepsFault,
 ) -> Refused<RampRefusal>
     ensures refusal { result.refusal ≡ Verify (Request (of_steps fault)) }
@@ -117,13 +174,14 @@ fn over<R: Threads + Sync>(
     rt: &R,
     alloc: Global,
     asked: &Verifying<'_>,
-    question: BookQuestion,
+    question: Question,
     steps: Vec<Vec<u8>>,
     answers: Vec<Planned>,
 ) -> Result<RightAnswers, Refused<RampRefusal>>
     requires { length steps.items ≤ most_steps }
-    ensures exact { GivesOne answered_view result (IsFoundOver (option_map (λ m. m.number) asked.now.rollout.refine) (book_question_view question) (map planned_view answers.items) (Ok (requests_view steps.items))) }
+    ensures exact { GivesOne answered_view result (IsFoundOver (option_map (λ m. m.number) asked.now.rollout.refine) (question_view question) (map planned_view answers.items) (Ok (requests_view steps.items))) }
     ensures right { IfOk result (AreRightAnswers (option_map (λ m. m.number) asked.now.rollout.refine)) }
+    ensures evidence { IfOk result (λ a. a.question.evidence ≡ question.evidence) }
     ensures read { is_file_fault result ≡ false }
     ensures names { Diagnoses (IsOfVerify (verifying_view asked.now)) result }
 {
@@ -133,12 +191,12 @@ fn over<R: Threads + Sync>(
     let Ok(()) = count(rt, alloc, &mut question, steps.as_slice(), factor) else {
         return Err(out_of_memory());
     };
-    match verify_steps(
+    match verified_on(
         rt,
         alloc,
         &question.flags,
         steps.as_slice(),
-        &question.book,
+        &question.evidence,
         factor_number(refine),
         answers.as_slice(),
     ) {
@@ -148,6 +206,28 @@ fn over<R: Threads + Sync>(
             answers,
         }),
         Err(fault) => Err(wrong(alloc, asked, fault)),
+    }
+}
+
+/// What is told of answers to steps over what was recorded. The conditions are a factor from 1, and fewer than 2^32 - 1 steps.
+pub(crate) fn verified_on<R: Threads + Sync>(
+    rt: &R,
+    alloc: Global,
+    flags: &Flags,
+    steps: &[Vec<u8>],
+    evidence: &Evidence,
+    refine: Option<u32>,
+    answers: &[Planned],
+) -> Result<(), RampFault>
+    requires factor { IfSome refine (λ m. 0 < m) }
+    requires few { length steps.now < 2 ^ 32 - 1 }
+    ensures { IsTold (Ok (flags_view flags.now)) refine (requests_view steps.now) (recorded evidence.now) (map planned_view answers.now) result }
+{
+    match evidence {
+        Evidence::Book(book) => verify_steps(rt, alloc, flags, steps, book, refine, answers),
+        Evidence::Tally(tally) => {
+            verify_steps_on_tally(alloc, flags, steps, tally, refine, answers)
+        }
     }
 }
 

@@ -2,7 +2,7 @@
 ghost use denote.Param.Send.{IsSync};
 ghost use Rattle.std.specs.Prelude.{◌≡◌, ◌≤◌, ◌-◌, ◌||◌, drop, false, is_ok, is_some, length, map, option_map, true, IfErr, IfOk, IfSome, Ok};
 ghost use Rattle.flag_defs.specs.Flags.{flags_view};
-ghost use Rattle.flagops_files.specs.Question.{book_question_view};
+ghost use Rattle.flagops_files.specs.Question.{question_view};
 ghost use Rattle.flagops_rollouts.specs.Doubts.{NamesDoubted};
 ghost use Rattle.flagops_rollouts.specs.Keep.{IsKeptPut, LeavesDocument, kept_view};
 ghost use Rattle.flagops_shell.specs.Diagnostic.{Says};
@@ -25,7 +25,7 @@ ghost use Rattle.ramp_steps.specs.Steps.{most_steps, requests_view};
 use crate::applying::answer_to;
 use crate::asked::Keeping;
 use crate::doubts::{first_request, settled};
-use crate::judging::{load_ramp, out_of_memory, steps_refused, wrong};
+use crate::judging::{load_ramp, out_of_memory, steps_refused, verified_on, wrong};
 use crate::ramping::count;
 use crate::refusal::{RampRefusal, StepCall};
 use crate::remarks::of_no_step;
@@ -33,13 +33,13 @@ use crate::words::read_keep;
 use bucket_core::Rule;
 use clap::Error;
 use flag_defs::Flags;
-use flagops_files::{BookQuestion, file_line, load_book_question};
+use flagops_files::{Question, file_line, load_question};
 use flagops_rollouts::{document_with_rule, has_rule, put_document};
 use flagops_shell::{Command, FileSet, Outcome, Refused, Remark};
 use flagops_words::{factor_number, factor_of};
 use plan_text::Planned;
 use price_core::{PriceFault, Request};
-use ramp::{RampFault, verify_steps};
+use ramp::RampFault;
 use ramp_steps::read_steps;
 use std::alloc::{AllocError, Global};
 use std::convert::AsStr;
@@ -95,7 +95,7 @@ fn keep<R: Threads + Sync, F: FileSet>(
     ensures notes { IfOk result (λ o. IfSome o.remark (Says (NamesDoubted asked.now.answered.rollout.steps.now asked.now.answered.rollout.book.now))) }
 {
     let rollout = &asked.answered.rollout;
-    match load_book_question(
+    match load_question(
         rt,
         alloc,
         files,
@@ -116,9 +116,9 @@ fn against<R: Threads + Sync, F: FileSet>(
     alloc: Global,
     files: &mut F,
     asked: &Keeping<'_>,
-    question: BookQuestion,
+    question: Question,
 ) -> Result<Outcome, Refused<RampRefusal>>
-    ensures exact { IfSome (F.holding files.old) (λ at. GivesOne outcome_view result (IsKeepOf at (F.holding files.new) (keeping_view asked.now) question.document.items (book_question_view question) (answers_at at asked.now.answered.ramp.now))) }
+    ensures exact { IfSome (F.holding files.old) (λ at. GivesOne outcome_view result (IsKeepOf at (F.holding files.new) (keeping_view asked.now) question.document.items (question_view question) (answers_at at asked.now.answered.ramp.now))) }
     ensures failed { F.has_failed files.new ≡ (F.has_failed files.old || is_file_fault result) }
     ensures left { LeavesDocument (F.holding files.old) (F.holding files.new) asked.now.answered.rollout.document.now asked.now.write }
     ensures kept { KeepsUnlessDone (F.holding files.old) (F.holding files.new) result }
@@ -143,19 +143,19 @@ fn against<R: Threads + Sync, F: FileSet>(
     }
 }
 
-/// The report of answers to these steps, which the book of the question is made to count for.
+/// The report of answers to these steps, which a book of the question is made to count for.
 #[tactic(auto, using(crate::proofs::Diagnosed::wanting))]
 fn over<R: Threads + Sync, F: FileSet>(
     rt: &R,
     alloc: Global,
     files: &mut F,
     asked: &Keeping<'_>,
-    question: BookQuestion,
+    question: Question,
     steps: &[Vec<u8>],
     answers: &[Planned],
 ) -> Result<Outcome, Refused<RampRefusal>>
     requires { length steps.now ≤ most_steps }
-    ensures exact { IfSome (F.holding files.old) (λ at. GivesOne outcome_view result (IsKeepOver at (F.holding files.new) (keeping_view asked.now) question.document.items (book_question_view question) (map planned_view answers.now) (Ok (requests_view steps.now)))) }
+    ensures exact { IfSome (F.holding files.old) (λ at. GivesOne outcome_view result (IsKeepOver at (F.holding files.new) (keeping_view asked.now) question.document.items (question_view question) (map planned_view answers.now) (Ok (requests_view steps.now)))) }
     ensures failed { F.has_failed files.new ≡ (F.has_failed files.old || is_file_fault result) }
     ensures left { LeavesDocument (F.holding files.old) (F.holding files.new) asked.now.answered.rollout.document.now asked.now.write }
     ensures kept { KeepsUnlessDone (F.holding files.old) (F.holding files.new) result }
@@ -170,19 +170,19 @@ fn over<R: Threads + Sync, F: FileSet>(
     counted(rt, alloc, files, asked, &question, steps, answers)
 }
 
-/// The same of a question whose book has counted.
+/// The same of a question whose book, if it has one, has counted.
 #[tactic(auto, using(crate::proofs::Diagnosed::keep_doubted))]
 fn counted<R: Threads + Sync, F: FileSet>(
     rt: &R,
     alloc: Global,
     files: &mut F,
     asked: &Keeping<'_>,
-    question: &BookQuestion,
+    question: &Question,
     steps: &[Vec<u8>],
     answers: &[Planned],
 ) -> Result<Outcome, Refused<RampRefusal>>
     requires { length steps.now ≤ most_steps }
-    ensures exact { IfSome (F.holding files.old) (λ at. GivesOne outcome_view result (IsKeepOver at (F.holding files.new) (keeping_view asked.now) question.now.document.items (book_question_view question.now) (map planned_view answers.now) (Ok (requests_view steps.now)))) }
+    ensures exact { IfSome (F.holding files.old) (λ at. GivesOne outcome_view result (IsKeepOver at (F.holding files.new) (keeping_view asked.now) question.now.document.items (question_view question.now) (map planned_view answers.now) (Ok (requests_view steps.now)))) }
     ensures failed { F.has_failed files.new ≡ (F.has_failed files.old || is_file_fault result) }
     ensures left { LeavesDocument (F.holding files.old) (F.holding files.new) asked.now.answered.rollout.document.now asked.now.write }
     ensures kept { KeepsUnlessDone (F.holding files.old) (F.holding files.new) result }
@@ -200,12 +200,12 @@ fn kept<R: Threads + Sync>(
     rt: &R,
     alloc: Global,
     asked: &Keeping<'_>,
-    question: &BookQuestion,
+    question: &Question,
     steps: &[Vec<u8>],
     answers: &[Planned],
 ) -> Result<Option<Vec<u8>>, Refused<RampRefusal>>
     requires { length steps.now ≤ most_steps }
-    ensures exact { GivesOne kept_view result (IsKeptFrom (option_map (λ m. m.number) asked.now.answered.rollout.refine) question.now.document.items (book_question_view question.now) (from_step asked.now.step (requests_view steps.now)) (answer_to (map planned_view answers.now) (asked.now.step - 1)) (from_step asked.now.step (map planned_view answers.now))) }
+    ensures exact { GivesOne kept_view result (IsKeptFrom (option_map (λ m. m.number) asked.now.answered.rollout.refine) question.now.document.items (question_view question.now) (from_step asked.now.step (requests_view steps.now)) (answer_to (map planned_view answers.now) (asked.now.step - 1)) (from_step asked.now.step (map planned_view answers.now))) }
     ensures read { is_file_fault result ≡ false }
     ensures names { Diagnoses (IsOfKeep (keeping_view asked.now)) result }
 {
@@ -221,13 +221,13 @@ fn kept_from<R: Threads + Sync>(
     rt: &R,
     alloc: Global,
     asked: &Keeping<'_>,
-    question: &BookQuestion,
+    question: &Question,
     steps: &[Vec<u8>],
     before: Option<&Planned>,
     answers: &[Planned],
 ) -> Result<Option<Vec<u8>>, Refused<RampRefusal>>
     requires { length steps.now ≤ most_steps }
-    ensures exact { GivesOne kept_view result (IsKeptFrom (option_map (λ m. m.number) asked.now.answered.rollout.refine) question.now.document.items (book_question_view question.now) (requests_view steps.now) (option_map (λ p. planned_view p.now) before.entry) (map planned_view answers.now)) }
+    ensures exact { GivesOne kept_view result (IsKeptFrom (option_map (λ m. m.number) asked.now.answered.rollout.refine) question.now.document.items (question_view question.now) (requests_view steps.now) (option_map (λ p. planned_view p.now) before.entry) (map planned_view answers.now)) }
     ensures read { is_file_fault result ≡ false }
     ensures names { Diagnoses (IsOfKeep (keeping_view asked.now)) result }
 {
@@ -239,8 +239,8 @@ fn kept_from<R: Threads + Sync>(
         });
     };
     let factor = factor_number(asked.answered.rollout.refine);
-    let (flags, book) = (&question.flags, &question.book);
-    match verify_steps(rt, alloc, flags, steps, book, factor, answers) {
+    let (flags, evidence) = (&question.flags, &question.evidence);
+    match verified_on(rt, alloc, flags, steps, evidence, factor, answers) {
         Ok(()) => kept_by(
             alloc,
             asked,
@@ -283,7 +283,7 @@ fn behind(first: u32, fault: RampFault) -> RampFault
 fn kept_by(
     alloc: Global,
     asked: &Keeping<'_>,
-    question: &BookQuestion,
+    question: &Question,
     request: &[u8],
     before: Option<&Planned>,
     planned: &Planned,
@@ -309,7 +309,7 @@ fn kept_by(
 fn kept_onto(
     alloc: Global,
     asked: &Keeping<'_>,
-    question: &BookQuestion,
+    question: &Question,
     request: &Request,
     before: Option<&Planned>,
     rule: &Rule,

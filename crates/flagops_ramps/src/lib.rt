@@ -4,7 +4,7 @@
 //!
 //! [`Ramping`], [`Verifying`], [`Applying`] and [`Keeping`] are commands with their words, which `flagops_shell::run` reads by `clap`, does and
 //! reports. What they do with the files that they load is `ramp_steps` and `ramp`. [`load_answers`] loads and judges the answers
-//! that a command takes; what draws them uses it too.
+//! that a command takes; what draws them uses [`load_answers_on_book`].
 //!
 //! ```rust
 //! use flag_text::WriteOutlet;
@@ -16,6 +16,8 @@
 //! let mut console = Console::new(WriteOutlet::new(rt.stdout()), WriteOutlet::new(rt.stderr()));
 //! let status = run::<_, _, _, Ramping<'_>, _, _>(&rt, words.as_slice(), &mut SystemFiles::new(&rt), &mut console);
 //! ```
+//!
+//! The steps are planned and judged on a book or on a tally of their page, as the file has it (`flagops_files::Evidence`).
 //!
 //! Proved of each command (`specs/Commands.antt`): over files whose bytes are known it comes to what the files at the paths make
 //! (`Ramp`, `Judging`, `Verify`, `Apply`, `Keep`), unless memory ran out; a file that could not be read is what it is refused
@@ -39,7 +41,7 @@ mod words;
 
 pub use asked::{Applying, Keeping, Ramping, Verifying};
 pub use doubts::{doubted, first_of};
-pub use judging::{RightAnswers, load_answers, out_of_memory};
+pub use judging::{RightAnswers, load_answers, load_answers_on_book, out_of_memory};
 pub use laws::printed_ramps_are_valid;
 pub use refusal::{RampRefusal, StepCall};
 pub use usage::with_steps;

@@ -1,21 +1,23 @@
 //! The command `ramp`: it prints a line for each step that was planned.
 ghost use denote.Param.Send.{IsSync};
-ghost use Rattle.std.specs.Prelude.{◌≡◌, ◌<◌, ◌||◌, false, is_some, map, option_map, IfErr, IfOk, IfSome, Ok};
+ghost use Rattle.std.specs.Prelude.{◌≡◌, ◌<◌, ◌-◌, ◌^◌, ◌||◌, false, is_some, length, map, option_map, IfErr, IfOk, IfSome, Ok};
 ghost use Rattle.std.specs.List.{All};
 ghost use Rattle.flag_text.specs.Outcome.{GivesUnless};
-ghost use Rattle.flagops_files.specs.Question.{book_question_view};
+ghost use Rattle.flag_defs.specs.Flags.{flags_view};
+ghost use Rattle.flagops_files.specs.Question.{question_view};
 ghost use Rattle.flagops_rollouts.specs.Doubts.{NamesDoubted};
 ghost use Rattle.flagops_shell.specs.Diagnostic.{Says};
 ghost use Rattle.flagops_shell.specs.Report.{outcome_view, status_number};
 ghost use Rattle.flagops_ramps.specs.Doubts.{beside, doubt_of_steps, settle};
 ghost use Rattle.flagops_ramps.specs.Commands.{ramp_description};
 ghost use Rattle.flagops_ramps.specs.Diagnostics.{Diagnoses, IsOfRamp, IsOfSize, NamesPath};
-ghost use Rattle.flagops_ramps.specs.Ramp.{Holds, IsRampOf, IsRampReport, of_steps, ramp_status, report_ramp};
+ghost use Rattle.flagops_ramps.specs.Ramp.{Holds, IsRampOf, IsRampReport, of_steps, ramp_status, recorded, report_ramp};
 ghost use Rattle.flagops_ramps.specs.Report.{GivesOne, GivesUnlessWant, is_file_fault};
 ghost use Rattle.flagops_ramps.specs.Words as words;
 ghost use Rattle.flagops_ramps.specs.Words.{ramping_view};
 ghost use Rattle.plan_text.specs.Answer.{IsOrdered, planned_view};
 ghost use Rattle.plan_text.specs.PlanFile.{IsWhole};
+ghost use Rattle.ramp.specs.Ramp.{IsRamp};
 ghost use Rattle.ramp_steps.specs.Steps.{requests_view};
 
 use crate::asked::Ramping;
@@ -26,12 +28,14 @@ use crate::remarks::of_steps_in;
 use crate::words::read_ramp;
 use book_core::BookFileFault;
 use clap::Error;
-use flagops_files::{BookQuestion, load_book_question};
+use flag_defs::Flags;
+use flagops_files::{Evidence, Question, load_question};
 use flagops_shell::{Command, FileSet, Outcome, Refused, Remark, Status};
 use flagops_words::factor_of;
+use page_tally::BookFile;
 use plan_text::Planned;
 use price_core::PriceFault;
-use ramp::{StepFault, plan_steps};
+use ramp::{StepFault, plan_steps, plan_steps_on_tally};
 use ramp_steps::{StepsFault, print_ramp, read_steps};
 use rollout_checks::{Refining, RolloutFault, read_book_for};
 use rollout_diagnostics::of_large_plan;
@@ -83,7 +87,7 @@ fn planned<R: Threads + Sync, F: FileSet>(
     ensures notes { IfOk result (λ o. IfSome o.remark (Says (NamesDoubted asked.now.steps.now asked.now.book.now))) }
     ensures kept { F.holding files.new ≡ F.holding files.old }
 {
-    match load_book_question(
+    match load_question(
         rt,
         alloc,
         files,
@@ -103,9 +107,9 @@ fn answer<R: Threads + Sync>(
     rt: &R,
     alloc: Global,
     asked: &Ramping<'_>,
-    question: BookQuestion,
+    question: Question,
 ) -> Result<Outcome, Refused<RampRefusal>>
-    ensures exact { GivesOne outcome_view result (IsRampOf asked.now.strict (option_map (λ m. m.number) asked.now.refine) (Ok (book_question_view question))) }
+    ensures exact { GivesOne outcome_view result (IsRampOf asked.now.strict (option_map (λ m. m.number) asked.now.refine) (Ok (question_view question))) }
     ensures read { is_file_fault result ≡ false }
     ensures names { Diagnoses (IsOfRamp (ramping_view asked.now)) result }
     ensures notes { IfOk result (λ o. IfSome o.remark (Says (NamesDoubted asked.now.steps.now asked.now.book.now))) }
@@ -120,9 +124,31 @@ fn answer<R: Threads + Sync>(
     let Ok(()) = count(rt, alloc, &mut question, requests, factor) else {
         return Err(out_of_memory());
     };
-    match plan_steps(rt, alloc, &question.flags, requests, &question.book, factor) {
+    let (flags, evidence) = (&question.flags, &question.evidence);
+    match planned_on(rt, alloc, flags, requests, evidence, factor) {
         Ok(answers) => told(rt, alloc, asked, &question, requests, answers.as_slice()),
         Err(fault) => Err(refused(alloc, asked.steps, &question, fault)),
+    }
+}
+
+/// The answers to steps over what was recorded. The conditions are a factor from 1, and fewer than 2^32 - 1 steps.
+fn planned_on<R: Threads + Sync>(
+    rt: &R,
+    alloc: Global,
+    flags: &Flags,
+    steps: &[Vec<u8>],
+    evidence: &Evidence,
+    factor: u32,
+) -> Result<Vec<Planned>, StepFault>
+    requires factor { 0 < factor }
+    requires few { length steps.now < 2 ^ 32 - 1 }
+    ensures exact { IsRamp (Ok (flags_view flags.now)) factor (requests_view steps.now) (recorded evidence.now) result }
+    ensures ordered { IfOk result (λ v. All (λ p. IsOrdered (planned_view p)) v.items) }
+    ensures whole { IfOk result (λ v. All (λ p. IsWhole (planned_view p)) v.items) }
+{
+    match evidence {
+        Evidence::Book(book) => plan_steps(rt, alloc, flags, steps, book, factor),
+        Evidence::Tally(tally) => plan_steps_on_tally(alloc, flags, steps, tally, factor),
     }
 }
 
@@ -132,14 +158,14 @@ fn told<R: Threads>(
     rt: &R,
     alloc: Global,
     asked: &Ramping<'_>,
-    question: &BookQuestion,
+    question: &Question,
     steps: &[Vec<u8>],
     answers: &[Planned],
 ) -> Result<Outcome, Refused<RampRefusal>>
     requires whole { All (λ p. IsWhole (planned_view p)) answers.now }
     requires ordered { All (λ p. IsOrdered (planned_view p)) answers.now }
     ensures reads_back { IfOk result (λ o. Holds (map planned_view answers.now) o.text.items) }
-    ensures exact { GivesUnlessWant outcome_view result (beside (settle StepCall.Ramp asked.now.strict (doubt_of_steps (book_question_view question.now) (requests_view steps.now))) (report_ramp (map planned_view answers.now))) }
+    ensures exact { GivesUnlessWant outcome_view result (beside (settle StepCall.Ramp asked.now.strict (doubt_of_steps (question_view question.now) (requests_view steps.now))) (report_ramp (map planned_view answers.now))) }
     ensures read { is_file_fault result ≡ false }
     ensures names { Diagnoses (IsOfRamp (ramping_view asked.now)) result }
     ensures notes { IfOk result (λ o. IfSome o.remark (Says (NamesDoubted asked.now.steps.now asked.now.book.now))) }
@@ -152,12 +178,7 @@ fn told<R: Threads>(
 
 /// A step that is refused, which a person is told of.
 #[tactic(auto, using(flagops_files::proofs::Told::says))]
-fn refused(
-    alloc: Global,
-    path: &str,
-    question: &BookQuestion,
-    fault: StepFault,
-) -> Refused<RampRefusal>
+fn refused(alloc: Global, path: &str, question: &Question, fault: StepFault) -> Refused<RampRefusal>
     ensures refusal { result.refusal ≡ RampRefusal.Ramp fault.fault }
     ensures names { Says (NamesPath path.now) result.remark }
 {
@@ -179,24 +200,48 @@ pub(crate) fn of_steps(fault: StepsFault) -> StepFault
     StepFault { step, fault }
 }
 
-/// Has the book of a question count what the steps ask of it: of one page at one total, as all of them do.
+/// Has a book of a question count what the steps ask of it: of one page at one total, as all of them do. A tally has counted.
 pub(crate) fn count<R: Threads>(
     rt: &R,
     alloc: Global,
-    question: &mut BookQuestion,
+    question: &mut Question,
     steps: &[Vec<u8>],
     factor: u32,
 ) -> Result<(), BookFileFault>
     requires { 0 < factor }
-    ensures kept { book_question_view question.new ≡ book_question_view question.old }
+    ensures kept { question_view question.new ≡ question_view question.old }
     ensures document { question.new.document ≡ question.old.document }
-    ensures wants { GivesUnless BookFileFault.WantOfMemory (λ _. question.old.book) result (Ok question.old.book) }
+    ensures wants { GivesUnless BookFileFault.WantOfMemory (λ _. question.old.evidence) result (Ok question.old.evidence) }
 {
-    let refining = Refining::Times(factor);
-    let request = first_request(steps);
-    let copy = question.book.bytes().to_vec(alloc)?;
-    question.book = read_book_for(rt, alloc, refining, &question.flags, request, copy)?;
+    let Evidence::Book(book) = &question.evidence else {
+        return Ok(());
+    };
+    let counted = counted(
+        rt,
+        alloc,
+        &question.flags,
+        first_request(steps),
+        factor,
+        book,
+    )?;
+    question.evidence = Evidence::Book(counted);
     Ok(())
+}
+
+/// The same book, which has counted what a request asks of it.
+fn counted<R: Threads>(
+    rt: &R,
+    alloc: Global,
+    flags: &Flags,
+    request: &[u8],
+    factor: u32,
+    book: &BookFile,
+) -> Result<BookFile, BookFileFault>
+    requires { 0 < factor }
+    ensures { GivesUnless BookFileFault.WantOfMemory (λ f. f) result (Ok book.now) }
+{
+    let copy = book.bytes().to_vec(alloc)?;
+    read_book_for(rt, alloc, Refining::Times(factor), flags, request, copy)
 }
 
 /// The lines of the answers, with what a person is told beside them.

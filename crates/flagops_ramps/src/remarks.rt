@@ -3,7 +3,7 @@ ghost use Rattle.std.specs.Prelude.{IfOk, string_bytes};
 ghost use Rattle.flagops_ramps.specs.Diagnostics.{NamesPath, NamesStep};
 
 use file_diagnostics::of_text;
-use flagops_files::{BookQuestion, TEXT_LIMIT, file_line, quoted};
+use flagops_files::{Question, TEXT_LIMIT, file_line, quoted};
 use ramp::StepFault;
 use std::alloc::{AllocError, Global};
 
@@ -17,7 +17,7 @@ const LOOK: &str =
 pub(crate) fn of_steps_in(
     alloc: Global,
     path: &str,
-    question: &BookQuestion,
+    question: &Question,
     fault: StepFault,
 ) -> Result<String, AllocError>
     ensures { IfOk result (λ s. NamesPath path.now (string_bytes s)) }

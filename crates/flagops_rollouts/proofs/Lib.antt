@@ -1,4 +1,5 @@
 mod Asked
+mod Attempted
 pub mod Doubting
 pub mod Edited
 mod Edits

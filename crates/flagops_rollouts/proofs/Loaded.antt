@@ -1,12 +1,11 @@
 -- What was loaded, and a refusal to load it, as a command on rollouts has them.
-use Rattle.std.proofs.Common.{◌≡◌, ◌∙◌, ap, ℕ, List, Option, IfSome, false, refl, Global, Vec, ◌||◌, sym, Bool, true}
-use Rattle.std.specs.Prelude.{Result, Ok, Err}
+use Rattle.std.proofs.Common.{◌≡◌, ◌∙◌, ap, ℕ, List, Option, IfSome, false, refl, ◌||◌, sym, Bool, true}
+use Rattle.std.specs.Prelude.{Ok, Err}
 use Rattle.flag_defs.specs.Document.{Definitions}
 use Rattle.plan_text.specs.Answer.{Answer}
 use Rattle.flagops_shell.proofs.Lifted.{given_one, given_so, not_want, refused_one, refused_so}
 use Rattle.flagops_shell.specs.Diagnostic.{Says}
 use Rattle.flagops_shell.specs.Files.{Holding}
-use Rattle.flagops_shell.specs.declared.refused.Remark.{Remark}
 use Rattle.flagops_files.proofs.Told.{told_of, told_of_one}
 use Rattle.flagops_files.specs.Documents as documents
 use Rattle.flagops_files.specs.PlanFile as plans

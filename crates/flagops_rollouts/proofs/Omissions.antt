@@ -1,5 +1,5 @@
 -- What the printed form of a document leaves out.
-use Rattle.std.proofs.Common.{◌≡◌, ◌+◌, add-one, ◌||◌, ◌++◌, ◌∙◌, ℕ, ◌<◌, Bool, false, List, [], ◌∷◌, Option, Some, None, IfSome, Result, Ok, Err, ap, append-nil, drop, drop-cons, get_or, length, slice_get, suc, sym, take}
+use Rattle.std.proofs.Common.{◌≡◌, ◌+◌, add-one, ◌||◌, ◌++◌, ◌∙◌, ℕ, ◌<◌, Bool, false, List, [], ◌∷◌, Option, Some, None, IfSome, Result, Ok, Err, ap, append-nil, drop, drop-cons, get_or, length, slice_get, suc, take}
 use Rattle.std.specs.List.{flat_map, list_any}
 use Rattle.std.specs.Prelude.{IfOk}
 use Rattle.std.proofs.lemmas.Grind.{flat_map-append}

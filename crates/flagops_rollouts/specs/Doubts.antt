@@ -1,10 +1,10 @@
 -- What is doubted of an answer to a rollout request, and what becomes of it.
-use Rattle.std.specs.Prelude.{◌≡◌, ◌++◌, ℕ, Bool, true, false, List, [], ◌∷◌, string_bytes, Option, Some, None, is_some, if◌then◌else◌, Result, Ok, Err}
-use Rattle.book_core.specs.Book.{Contents}
+use Rattle.std.specs.Prelude.{◌≡◌, ◌++◌, ◌||◌, ℕ, Bool, true, false, List, [], ◌∷◌, string_bytes, Option, Some, None, is_some, if◌then◌else◌, Result, Ok, Err}
 use Rattle.book_core.specs.Page.{PageName}
 use Rattle.flag_text.specs.Reading.{tree_of}
 use Rattle.flag_text.specs.Shape.{Shape}
 use Rattle.flag_text.specs.declared.fault.TextFault.{TextFault}
+use Rattle.repeated_names.specs.Repeated.{is_repeating}
 use Rattle.unread_members.specs.Unread.{unread_of}
 use Rattle.unread_members.specs.declared.reader.Reader.TheVariants as reader
 use Rattle.flagops_rollouts.specs.Foreign.{is_foreign, is_mixed}
@@ -12,7 +12,7 @@ use Rattle.flagops_rollouts.specs.Unrecorded.{is_bare, is_unrecorded}
 use Rattle.flagops_files.specs.Loading.{max_text}
 use Rattle.flagops_files.specs.Question.{Question}
 use Rattle.flagops_files.specs.Told.{file}
-use Rattle.flagops_files.specs.declared.evidence.Evidence.TheVariants.{Book}
+use Rattle.flagops_files.specs.declared.evidence.Evidence.{Evidence}
 use Rattle.flagops_rollouts.specs.Refusal.{Subjects}
 use Rattle.flagops_rollouts.specs.declared.refusal.Doubt.{Doubt}
 use Rattle.flagops_rollouts.specs.declared.refusal.Doubt.TheVariants as doubt
@@ -28,17 +28,17 @@ abbrev pub has_unread : Result Shape TextFault → Bool
 has_unread (Ok t) = is_some (unread_of reader.Request t)
 has_unread (Err e) = false
 
--- the bytes of a request have one
+-- the bytes of a request have one, or a name that stands more than once in an object, of which the last member is read
 abbrev pub is_unread : List ℕ → Bool
-is_unread bytes = has_unread (tree_of bytes max_text)
+is_unread bytes = has_unread (tree_of bytes max_text) || is_repeating bytes
 
 -- what is doubted of what was recorded: there is no input, or one is none of the flag
 abbrev pub recorded_doubt : Bool → Bool → Option Doubt
 recorded_doubt unrecorded foreign = if unrecorded then Some doubt.Unrecorded else (if foreign then Some doubt.Foreign else None)
 
--- what is doubted of what a book has on a page, where there is one: it has no input, or one that is none of the flag
-abbrev pub doubt_in : Contents → Option PageName → Option Doubt
-doubt_in book page = recorded_doubt (is_bare (Book book) page) (is_mixed (Book book) page)
+-- what is doubted of what was recorded of a page, where there is one: there is no input, or one that is none of the flag
+abbrev pub doubt_in : Evidence → Option PageName → Option Doubt
+doubt_in evidence page = recorded_doubt (is_bare evidence page) (is_mixed evidence page)
 
 abbrev pub first_doubt : Bool → Option Doubt → Option Doubt
 first_doubt unread recorded = if unread then Some doubt.Unread else recorded

@@ -1,5 +1,5 @@
 -- Whether an input that was recorded for a request is none of its flag.
-use Rattle.std.specs.Prelude.{List, Bool, false, Option, Some, None}
+use Rattle.std.specs.Prelude.{Bool, false, Option, Some, None}
 use Rattle.std.specs.Result.{result_ok}
 use Rattle.book_core.specs.Book.{inputs_on}
 use Rattle.book_core.specs.Page.{PageName}

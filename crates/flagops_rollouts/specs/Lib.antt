@@ -1,4 +1,5 @@
 pub mod Apply
+pub mod Attempts
 pub mod ByHand
 pub mod Calls
 pub mod Doubts

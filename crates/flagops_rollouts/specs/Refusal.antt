@@ -1,5 +1,5 @@
 -- Why a command on rollouts is refused, and the line that a refusal is written as.
-use Rattle.std.specs.Prelude.{◌≡◌, ℕ, Bool, true, false, List, [], codes, decimal, Result}
+use Rattle.std.specs.Prelude.{ℕ, Bool, true, false, List, [], codes, decimal, Result}
 use Rattle.kept_document.specs.declared.fault.KeepFault.TheVariants as document
 use Rattle.plan_text.specs.Fault as plan_files
 use Rattle.plan_text.specs.declared.fault.PlanFileFault.TheVariants as plan

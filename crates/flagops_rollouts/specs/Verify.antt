@@ -1,12 +1,11 @@
 -- What the command `verify` answers.
-use Rattle.std.specs.Prelude.{◌≡◌, ℕ, Bool, List, ◌++◌, codes, decimal, if◌then◌else◌, OnOk, Option, Some, None, Result, Ok, Err}
+use Rattle.std.specs.Prelude.{◌≡◌, ℕ, Bool, List, ◌++◌, codes, decimal, if◌then◌else◌, OnOk, Option, Result, Ok, Err}
 use Rattle.flag_defs.specs.Document.{Definitions}
 use Rattle.plan_text.specs.Answer.{Answer, emit, none_exists}
 use Rattle.rollout_checks.specs.Refined.{problem_checked, refining_checked}
 use Rattle.rollout_checks.specs.Tallied.{IsTallyOutcome, IsTallyShown, TallyProblem, tally_problem_of}
-use Rattle.rollout_checks.specs.Verified.{IsOutcome, IsShown, refining_for}
+use Rattle.rollout_checks.specs.Verified.{IsOutcome, IsShown}
 use Rattle.rollout_checks.specs.declared.fault.RolloutFault.{RolloutFault}
-use Rattle.rollout_checks.specs.declared.refining.Refining.TheVariants.{Times}
 use Rattle.rollout_checks.specs.declared.verify_fault.VerifyFault.{VerifyFault}
 use Rattle.tally_core.specs.Tally.{PageTally}
 use Rattle.flagops_shell.specs.Files.{Holding}

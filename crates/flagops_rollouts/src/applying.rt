@@ -3,6 +3,7 @@ ghost use Rattle.std.specs.Prelude.{◌≡◌, ◌||◌, [], ◌∷◌, false, i
 ghost use Rattle.flag_defs.specs.Flags.{flags_view};
 ghost use Rattle.plan_text.specs.Answer.{planned_view};
 ghost use Rattle.flagops_rollouts.specs.Apply.{IsApplyReport, IsLocalReport, document_line, none_report, told_report};
+ghost use Rattle.flagops_rollouts.specs.Attempts.{TellsOfFirst, apply_attempts};
 ghost use Rattle.flagops_rollouts.specs.Calls.{apply_calls, apply_itself};
 ghost use Rattle.flagops_rollouts.specs.Omitted.{TellsOmitted};
 ghost use Rattle.flagops_rollouts.specs.Refusal.{ComesFrom, GivesOne, GivesUnlessWant, is_file_fault, TellsOfOne};
@@ -42,6 +43,7 @@ pub fn apply<F: FileSet>(
     ensures failed { F.has_failed files.new ≡ (F.has_failed files.old || is_file_fault result) }
     ensures kept { F.holding files.new ≡ F.holding files.old }
     ensures names { TellsOfOne (apply_subjects document.now plan.now) result }
+    ensures first { IfSome (F.holding files.old) (λ at. TellsOfFirst (apply_attempts at document.now plan.now) result) }
     ensures notes { IfOk result (λ o. IfSome o.remark (Says (Names document.now))) }
 {
     let loaded = load_document(alloc, files, document)?;

@@ -1,22 +1,18 @@
 //! What is doubted of an answer to a rollout request: a person is told, and `--strict` refuses it.
-ghost use Rattle.std.specs.Prelude.{◌≡◌, false, is_some, IfErr, IfOk, IfSome, Ok, option_map};
-ghost use Rattle.flagops_rollouts.specs.Doubts.{IsLonger, NamesDoubt, NamesDoubted, doubt_of, doubt_subjects, first_doubt, has_unread, is_unread, settle};
-ghost use Rattle.flag_text.specs.View.{view};
+ghost use Rattle.std.specs.Prelude.{◌≡◌, false, is_some, IfErr, IfOk, IfSome, option_map};
+ghost use Rattle.flagops_rollouts.specs.Doubts.{IsLonger, NamesDoubt, NamesDoubted, doubt_of, doubt_subjects, first_doubt, settle};
 ghost use Rattle.flagops_files.specs.Question.{question_view};
 ghost use Rattle.flagops_rollouts.specs.Refusal.{GivesUnlessWant, call_of, is_file_fault, TellsOfOne};
 ghost use Rattle.flagops_shell.specs.Diagnostic.{Says};
 ghost use Rattle.file_diagnostics.specs.Named.{Names};
 
+use crate::passed_over::unread_in_file;
 use crate::recorded::doubt_of_recorded;
 use crate::refusal::{Doubt, Refused, RolloutCall, RolloutRefusal, out_of_memory};
-use file_diagnostics::of_unread;
-use flag_text::{TextFault, Tree, read_tree};
-use flagops_files::{Question, TEXT_LIMIT};
+use flagops_files::Question;
 use flagops_shell::Remark;
-use rollout_checks::RequestFile;
 use std::alloc::{AllocError, Global};
 use std::thread::Threads;
-use unread_members::Reader;
 
 /// What is doubted, with what a person is told of it.
 #[derive(Debug, Drop)]
@@ -88,7 +84,7 @@ fn doubted<R: Threads>(
     ensures doubt { IfOk result (λ o. option_map (λ d. d.doubt) o ≡ doubt_of (question_view question.now)) }
     ensures notes { IfOk result (λ o. IfSome o (λ d. Says (NamesDoubt request.now book.now d.doubt) d.remark)) }
 {
-    let unread = unread_in_file(alloc, request, &question.request);
+    let unread = unread_in_file(alloc, request, &question.request)?;
     let recorded = doubt_of_recorded(rt, alloc, book, question)?;
     Ok(first_of(request, book, unread, recorded))
 }
@@ -140,40 +136,5 @@ pub fn joined(name: &str, remark: Remark, more: Option<Remark>) -> Remark
             }
         }
         (remark, _) => remark,
-    }
-}
-
-/// What is told of members of a request that are not read, where there are any.
-pub fn unread(alloc: Global, path: &str, bytes: &[u8]) -> Result<Option<Remark>, AllocError>
-    ensures told { IfOk result (λ r. is_some r ≡ is_unread bytes.now) }
-    ensures notes { IfOk result (λ r. IfSome r (Says (Names path.now))) }
-{
-    match read_tree(alloc, bytes, TEXT_LIMIT as usize) {
-        Ok(tree) => Ok(unread_in(alloc, path, &tree)),
-        Err(TextFault::WantOfMemory) => Err(AllocError),
-        Err(_) => Ok(None),
-    }
-}
-
-/// The same of the file of a request, which was read.
-pub fn unread_in_file(alloc: Global, path: &str, request: &RequestFile) -> Option<Remark>
-    ensures told { is_some result ≡ is_unread request.now }
-    ensures notes { IfSome result (Says (Names path.now)) }
-{
-    match request.tree() {
-        Ok(tree) => unread_in(alloc, path, tree),
-        Err(_) => None,
-    }
-}
-
-/// The same of the tree of a request.
-#[tactic(auto, using(flagops_files::proofs::Told::says))]
-fn unread_in(alloc: Global, path: &str, tree: &Tree) -> Option<Remark>
-    ensures told { is_some result ≡ has_unread (Ok (view tree.now)) }
-    ensures notes { IfSome result (Says (Names path.now)) }
-{
-    match Reader::Request.unread(tree) {
-        Some(_) => Some(Remark::of(of_unread(alloc, path, tree, Reader::Request))),
-        None => None,
     }
 }

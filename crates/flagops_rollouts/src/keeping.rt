@@ -2,6 +2,7 @@
 ghost use Rattle.std.specs.Prelude.{◌≡◌, ◌||◌, [], ◌∷◌, false, is_some, IfErr, IfOk, IfSome, Ok, Some, option_map, string_bytes};
 ghost use Rattle.plan_text.specs.Answer.{planned_view};
 ghost use Rattle.flagops_rollouts.specs.Apply.{none_report};
+ghost use Rattle.flagops_rollouts.specs.Attempts.{TellsOfFirst, keep_attempts};
 ghost use Rattle.flagops_rollouts.specs.Calls.{apply_itself, keep_calls, puts_document};
 ghost use Rattle.flagops_shell.specs.Ending.{KeepsUnlessDone};
 ghost use Rattle.flagops_rollouts.specs.Keep.{IsKeepReport, IsKeepWith, IsKeptPut, IsWritten, LeavesDocument, kept_view, written_text};
@@ -50,6 +51,7 @@ pub fn keep<R: Threads + Sync, F: FileSet>(
     ensures left { LeavesDocument (F.holding files.old) (F.holding files.new) document.now write }
     ensures kept { KeepsUnlessDone (F.holding files.old) (F.holding files.new) result }
     ensures names { TellsOfOne (keep_subjects document.now plan.now request.now book.now) result }
+    ensures first { IfSome (F.holding files.old) (λ at. TellsOfFirst (keep_attempts at document.now plan.now request.now book.now) result) }
     ensures notes { IfOk result (λ o. IfSome o.remark (Says (NamesDoubted request.now book.now))) }
 {
     let question = load_question(rt, alloc, files, document, request, book, factor_of(refine))?;

@@ -6,6 +6,7 @@ ghost use Rattle.flagops_files.specs.Loading.{max_text};
 ghost use Rattle.flagops_files.specs.Question.{book_question_view, question_view};
 ghost use Rattle.flagops_files.specs.Told.{file};
 ghost use Rattle.flagops_shell.specs.Files.{KeepsOthers, Stores, load_of};
+ghost use Rattle.flagops_rollouts.specs.Attempts.{TellsOfFirst, question_attempts};
 ghost use Rattle.flagops_rollouts.specs.Loaded.{IsBookQuestionAt, IsDocumentAt, IsQuestionAt, book_question_subjects, plan_at, question_subjects};
 ghost use Rattle.flagops_rollouts.specs.Refusal.{ComesFrom, GivesOne, GivesUnlessWant, TellsOf, TellsOfOne, is_file_fault, is_want, loads_book_question, loads_flags, loads_plan, loads_question, stores_file, unwritable};
 
@@ -73,6 +74,7 @@ pub fn load_question<R: Threads, F: FileSet>(
     ensures failed { F.has_failed files.new ≡ (F.has_failed files.old || is_file_fault result) }
     ensures kept { F.holding files.new ≡ F.holding files.old }
     ensures names { TellsOfOne (question_subjects document.now request.now evidence.now) result }
+    ensures first { IfSome (F.holding files.old) (λ at. TellsOfFirst (question_attempts at document.now request.now evidence.now) result) }
 {
     match flagops_files::load_question(rt, alloc, files, document, request, evidence, factor) {
         Ok(question) => Ok(question),

@@ -6,6 +6,7 @@ ghost use Rattle.flagops_rollouts.specs.ByHand.{TellsPlanned, TellsPlannedAt};
 ghost use Rattle.flagops_rollouts.specs.Plan.{Holds, IsPlanOf, IsPlanReport, IsPlannedOn, MayBePlanned, plan_report, plan_status};
 ghost use Rattle.flag_defs.specs.Flags.{flags_view};
 ghost use Rattle.flagops_files.specs.Question.{question_view};
+ghost use Rattle.flagops_rollouts.specs.Attempts.{TellsOfFirst, plan_attempts};
 ghost use Rattle.flagops_rollouts.specs.Calls.{plan_calls, prints_plan};
 ghost use Rattle.flagops_rollouts.specs.Refusal.{ComesFrom, GivesOne, GivesUnlessWant, is_file_fault, TellsOfOne};
 ghost use Rattle.flagops_shell.specs.Outcomes.{beside};
@@ -51,6 +52,7 @@ pub fn plan<R: Threads + Sync, F: FileSet>(
     ensures failed { F.has_failed files.new ≡ (F.has_failed files.old || is_file_fault result) }
     ensures kept { F.holding files.new ≡ F.holding files.old }
     ensures names { TellsOfOne (plan_subjects document.now request.now book.now) result }
+    ensures first { IfSome (F.holding files.old) (λ at. TellsOfFirst (plan_attempts at document.now request.now book.now) result) }
     ensures notes { IfOk result (λ o. IfSome o.remark (Says (NamesDoubted request.now book.now))) }
     ensures edit { explain ≡ true → IfSome (F.holding files.old) (λ at. IfOk result (λ o. IfSome o.remark (Says (TellsPlannedAt at document.now request.now book.now (unwrap_or (option_map (λ m. m.number) refine) 1) o.text.items)))) }
 {

@@ -49,8 +49,26 @@ pub fn doubt_of_recorded<R: Threads>(
     }
 }
 
-/// What is doubted of what a book, which was loaded from this path, has for a request: its page has no input, or one that is
-/// none of its flag. Nothing is doubted of a request that is refused, or whose flag has no such site.
+/// What is doubted of what was recorded for a request in the file at a path: its page has no input, or one that is none of its
+/// flag. Nothing is doubted of a request that is refused, or whose flag has no such site.
+pub fn doubt_in_evidence<R: Threads>(
+    rt: &R,
+    alloc: Global,
+    path: &str,
+    flags: &Flags,
+    request: &[u8],
+    evidence: &Evidence,
+) -> Result<Option<NotedDoubt>, AllocError>
+    ensures doubt { IfOk result (λ o. option_map (λ d. d.doubt) o ≡ doubt_in evidence.now (page_asked (flags_view flags.now) (result_ok (asked_of request.now)))) }
+    ensures notes { IfOk result (λ o. IfSome o (λ d. (request : List ℕ) → Says (NamesDoubt request path.now d.doubt) d.remark)) }
+{
+    match page_read(alloc, flags, request)? {
+        Some(page) => noted(rt, alloc, path, evidence, &page),
+        None => Ok(None),
+    }
+}
+
+/// The same of a book, which was loaded from this path.
 pub fn doubt_in_book<R: Threads>(
     rt: &R,
     alloc: Global,
@@ -59,14 +77,21 @@ pub fn doubt_in_book<R: Threads>(
     request: &[u8],
     book: &BookFile,
 ) -> Result<Option<NotedDoubt>, AllocError>
-    ensures doubt { IfOk result (λ o. option_map (λ d. d.doubt) o ≡ doubt_in book.now (page_asked (flags_view flags.now) (result_ok (asked_of request.now)))) }
+    ensures doubt { IfOk result (λ o. option_map (λ d. d.doubt) o ≡ doubt_in (Evidence.Book book.now) (page_asked (flags_view flags.now) (result_ok (asked_of request.now)))) }
     ensures notes { IfOk result (λ o. IfSome o (λ d. (request : List ℕ) → Says (NamesDoubt request path.now d.doubt) d.remark)) }
 {
+    match page_read(alloc, flags, request)? {
+        Some(page) => noted_in_book(rt, alloc, path, book, &page),
+        None => Ok(None),
+    }
+}
+
+/// The page of a request by its bytes, where it is one and its flag has the site.
+fn page_read(alloc: Global, flags: &Flags, request: &[u8]) -> Result<Option<Page>, AllocError>
+    ensures { IfOk result (λ page. page ≡ page_asked (flags_view flags.now) (result_ok (asked_of request.now))) }
+{
     match Request::read(alloc, request) {
-        Ok(request) => match page_asked(alloc, flags, &request)? {
-            Some(page) => noted_in_book(rt, alloc, path, book, &page),
-            None => Ok(None),
-        },
+        Ok(request) => page_asked(alloc, flags, &request),
         Err(PriceFault::WantOfMemory) => Err(AllocError),
         Err(_) => Ok(None),
     }

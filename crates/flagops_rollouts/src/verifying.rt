@@ -3,6 +3,7 @@ ghost use Rattle.std.specs.Prelude.{◌≡◌, ◌<◌, ◌||◌, [], ◌∷◌,
 ghost use Rattle.flag_defs.specs.Flags.{flags_view};
 ghost use Rattle.plan_text.specs.Answer.{planned_view};
 ghost use Rattle.flagops_files.specs.Question.{question_view};
+ghost use Rattle.flagops_rollouts.specs.Attempts.{TellsOfFirst, verify_attempts};
 ghost use Rattle.flagops_rollouts.specs.Calls.{verify_calls, verify_itself};
 ghost use Rattle.flagops_rollouts.specs.Refusal.{ComesFrom, GivesOne, GivesUnlessWant, is_file_fault, TellsOfOne};
 ghost use Rattle.flagops_shell.specs.Outcomes.{beside, done};
@@ -48,6 +49,7 @@ pub fn verify<R: Threads + Sync, F: FileSet>(
     ensures failed { F.has_failed files.new ≡ (F.has_failed files.old || is_file_fault result) }
     ensures kept { F.holding files.new ≡ F.holding files.old }
     ensures names { TellsOfOne (verify_subjects document.now request.now book.now plan.now) result }
+    ensures first { IfSome (F.holding files.old) (λ at. TellsOfFirst (verify_attempts at document.now request.now book.now plan.now) result) }
     ensures notes { IfOk result (λ o. IfSome o.remark (Says (NamesDoubted request.now book.now))) }
 {
     let question = load_question(rt, alloc, files, document, request, book, factor_of(refine))?;

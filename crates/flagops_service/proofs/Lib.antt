@@ -1,5 +1,6 @@
 pub mod Broken
 pub mod Copied
+pub mod KeysAt
 pub mod Matched
 pub mod Posts
 pub mod Reread

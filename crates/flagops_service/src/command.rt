@@ -11,7 +11,9 @@ ghost use Rattle.flagops_service.specs.Ended.{AnswersOfrep, Begins, Reports, Ser
 ghost use Rattle.flagops_service.specs.Merging.{AreMerged, ArePublished};
 ghost use Rattle.flagops_service.specs.Starting.{StartsOn, StartsTo, stops_in, stops_on};
 ghost use Rattle.flagops_shell.specs.Console.{IsOpen};
+ghost use Rattle.flagops_service.specs.Unready.{HasKeys};
 ghost use Rattle.flagops_service.specs.Words.{answering_view, seats_of, share_of, subscribers_of};
+ghost use Rattle.ofrep_service.specs.Logs.{path_in, paths_of};
 
 use crate::asked::{Answering, OnBroken};
 use crate::host::Host;
@@ -32,12 +34,14 @@ use flag_text::Outlet;
 use flagops_shell::{Console, FileSet, report_usage};
 use flagops_streams::{Documents, Refusal, loaded, write_line};
 use ofrep_guards::Keys;
-use ofrep_service::{Board, work_beside};
+use ofrep_service::{Board, Post, work_beside};
 use snap_share::{History, Publisher, ReadSeat, ShareName, share};
 use source_merge::Sources;
 use std::alloc::{AllocError, Global};
 use std::convert::AsStr;
+use std::hash::RandomState;
 use std::marker::Brand;
+use std::net::TcpListener;
 
 /// Does what the words after the program's name ask of `ofrep`, which is the first of them. It loads the documents, opens the
 /// logs, listens, prints how many documents it answers from, and answers until it is ended from outside; or it prints the line
@@ -236,6 +240,8 @@ where
     requires name { history.seen.book ≡ J.book }
     requires streams { vec_len prepared.streams ≡ subscribers_of answering.now.stream }
     requires posts { vec_len prepared.posts ≡ answering.now.workers }
+    requires clients { HasKeys (F.holding files.old) (answering_view answering.now).keys prepared.clients }
+    requires logs { map (λ post. path_in post.journal) prepared.posts.items ≡ paths_of (answering_view answering.now).log answering.now.workers }
     requires merged { AreMerged (sources_view watched.sources) flags }
     requires out_whole { O.is_broken out.old ≡ false }
     requires err_whole { E.is_broken err.old ≡ false }
@@ -288,6 +294,8 @@ where
     E: Outlet,
     requires published { ArePublished (sources_view watched.sources) publisher.old }
     requires seats { vec_len prepared.posts ≤ vec_len seats }
+    requires clients { HasKeys (F.holding files.old) (answering_view answering.now).keys prepared.clients }
+    requires logs { map (λ post. path_in post.journal) prepared.posts.items ≡ paths_of (answering_view answering.now).log answering.now.workers }
     requires out_whole { O.is_broken out.old ≡ false }
     requires err_whole { E.is_broken err.old ≡ false }
     ensures { Begins (O.bytes out.old) (O.bytes out.new) (O.is_broken out.new) (E.bytes err.old) (E.bytes err.new) (E.is_broken err.new) result (answering_view answering.now) false (length watched.entry.accepted.items) }
@@ -316,23 +324,58 @@ where
     say_published(alloc, err, 1, count, broken);
     let status = write_line(out, line.as_str(), 1);
     board.publish(1);
+    let has_begun = attend(
+        rt, answering, keys, &board, seats, posts, others, streams, publisher, watched, files, err,
+    );
+    say_ended(err, has_begun);
+    status
+}
+
+/// Has the workers answer and the subscribers served, and reads the documents and the keys again meanwhile. Says whether it began.
+fn attend<J, R, F, E>(
+    rt: &R,
+    answering: &Answering<'_>,
+    keys: RandomState,
+    board: &Board,
+    seats: Vec<ReadSeat<J>>,
+    posts: Vec<Post>,
+    others: Vec<ReadSeat<J>>,
+    streams: Vec<TcpListener>,
+    publisher: &mut Publisher<J>,
+    watched: Watched<'_>,
+    files: &mut F,
+    err: &mut E,
+) -> bool
+where
+    J: ShareName + Send + Sync,
+    R: Host,
+    F: FileSet,
+    E: Outlet,
+    requires published { ArePublished (sources_view watched.sources) publisher.old }
+    requires seated { vec_len seats ≡ vec_len posts }
+    requires logs { map (λ post. path_in post.journal) posts.items ≡ paths_of (answering_view answering.now).log answering.now.workers }
+    requires without { board.now.without_record ≡ answering.now.without_record }
+    requires remember { option_map non_zero_usize_get board.now.remember ≡ share_of answering.now.remember answering.now.workers }
+    requires origins { map string_bytes board.now.origins.items ≡ (answering_view answering.now).cors }
+    requires clients { HasKeys (F.holding files.old) (answering_view answering.now).keys (option_map (λ ring. ring.first) board.now.keys) }
+{
+    let alloc = rt.alloc();
     let poll = answering.poll;
     let mut watched = watched;
     let mut clients = WatchedKeys::new(alloc, answering.keys);
-    let ended = work_beside(rt, alloc, keys, &board, seats, posts, others, streams, || {
+    let ended = work_beside(rt, alloc, keys, board, seats, posts, others, streams, || {
         watch(
             rt,
             &mut watched,
             &mut clients,
             publisher,
-            &board,
+            board,
             poll,
             files,
             err,
         )
     });
-    say_ended(err, ended.is_some());
-    status
+    ended.is_some()
 }
 
 /// Tells of each flag that is broken, by its document.

@@ -1,7 +1,7 @@
 //! The keys of clients, from their file.
-ghost use Rattle.std.specs.Prelude.{◌≡◌, IfErr, IfOk, Ok, is_some, true};
+ghost use Rattle.std.specs.Prelude.{◌≡◌, IfErr, IfOk, IfSome, Ok, is_some, true};
 ghost use Rattle.ofrep_guards.specs.Key.{keys_of, keys_view};
-ghost use Rattle.flagops_service.specs.Unready.{HasKeys, HoldsKeys, MayBeUnready};
+ghost use Rattle.flagops_service.specs.Unready.{AreNoKeys, HasKeys, HoldsKeys, LacksKeys, MayBeUnready};
 ghost use Rattle.flagops_service.specs.Words.{Answering as Asked, answering_view};
 
 use crate::asked::Answering;
@@ -25,7 +25,9 @@ pub(crate) fn read_keys<F: FileSet>(
     answering: &Answering<'_>,
 ) -> Result<Option<Keys>, Unready>
     ensures keys { IfOk result (HasKeys (F.holding files.old) (answering_view answering.now).keys) }
+    ensures none { IfErr result (λ why. IfSome (answering_view answering.now).keys (λ path. LacksKeys (F.holding files.old) path why)) }
     ensures unready { IfErr result (MayBeUnready (answering_view answering.now)) }
+    ensures kept { F.holding files.new ≡ F.holding files.old }
 {
     match answering.keys {
         Some(path) => Ok(Some(keys_at(alloc, files, path)?)),
@@ -36,7 +38,9 @@ pub(crate) fn read_keys<F: FileSet>(
 /// The keys of the file at a path.
 fn keys_at<F: FileSet>(alloc: Global, files: &mut F, path: &str) -> Result<Keys, Unready>
     ensures keys { IfOk result (HoldsKeys (F.holding files.old) path.now) }
+    ensures none { IfErr result (LacksKeys (F.holding files.old) path.now) }
     ensures unready { (a : Asked) → is_some a.keys ≡ true → IfErr result (MayBeUnready a) }
+    ensures kept { F.holding files.new ≡ F.holding files.old }
 {
     match files.read(alloc, path, MOST_KEY_BYTES as u64) {
         Ok(bytes) => keys_in(alloc, bytes.as_slice()),
@@ -48,6 +52,7 @@ fn keys_at<F: FileSet>(alloc: Global, files: &mut F, path: &str) -> Result<Keys,
 /// The keys of the bytes of a file.
 fn keys_in(alloc: Global, bytes: &[u8]) -> Result<Keys, Unready>
     ensures keys { IfOk result (λ keys. keys_of bytes.now ≡ Ok (keys_view keys)) }
+    ensures none { IfErr result (AreNoKeys bytes.now) }
     ensures unready { (a : Asked) → is_some a.keys ≡ true → IfErr result (MayBeUnready a) }
 {
     match Keys::read(alloc, bytes) {

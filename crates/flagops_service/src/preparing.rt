@@ -54,6 +54,7 @@ where
     R: LogPaths + Net<Listener = TcpListener, Stream = TcpStream> + RandomSource,
     F: FileSet,
     ensures keys { IfOk result (λ p. HasKeys (F.holding files.old) (answering_view answering.now).keys p.clients) }
+    ensures kept { F.holding files.new ≡ F.holding files.old }
     ensures streams { IfOk result (λ p. vec_len p.streams ≡ subscribers_of answering.now.stream) }
     ensures posts { IfOk result (λ p. vec_len p.posts ≡ answering.now.workers) }
     ensures logs { IfOk result (λ p. map (λ post. path_in post.journal) p.posts.items ≡ paths_of (answering_view answering.now).log answering.now.workers) }

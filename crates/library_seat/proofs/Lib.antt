@@ -1,3 +1,4 @@
+mod Defaults
 mod Feeds
 mod KeyTexts
 mod Loops

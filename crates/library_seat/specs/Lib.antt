@@ -1,4 +1,3 @@
-pub mod About
 pub mod Answer
 pub mod Connection
 pub mod Early

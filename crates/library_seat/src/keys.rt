@@ -1,5 +1,5 @@
 //! The keys of flags.
-ghost use Rattle.std.specs.Prelude.{◌≡◌, ◌++◌, [], IfOk, OnOk, option_map, string_bytes};
+ghost use Rattle.std.specs.Prelude.{◌≡◌, ◌++◌, [], IfOk, IfSome, IsOk, OnOk, option_map, string_bytes};
 ghost use Rattle.std.specs.List.{flat_map};
 ghost use Rattle.flag_defs.specs.Flag.{flag_view};
 ghost use Rattle.flag_defs.specs.Flags.{flags_view};
@@ -11,7 +11,9 @@ use std::alloc::{AllocError, Global};
 
 /// A line for each flag, in the order of the keys' bytes.
 pub(crate) fn keys_text(alloc: Global, flags: Option<&Flags>) -> Result<String, AllocError>
-    ensures { IfOk result (λ text. string_bytes text ≡ keys_text (option_map (λ f. flags_view f.now) flags.entry)) }
+    ensures text { IfOk result (λ text. string_bytes text ≡ keys_text (option_map (λ f. flags_view f.now) flags.entry)) }
+    // this needs no memory
+    ensures no_keys { IfSome (option_map (λ f. flags_view f.now) flags.entry) (λ flags. flags ≡ []) → IsOk result }
 {
     let mut text = String::new(alloc);
     match flags {
@@ -26,7 +28,8 @@ pub(crate) fn keys_text(alloc: Global, flags: Option<&Flags>) -> Result<String, 
 /// Adds the lines of flags.
 fn push_keys(alloc: Global, text: &mut String, flags: &Flags) -> Result<(), AllocError>
     requires { string_bytes text.old ≡ [] }
-    ensures { OnOk result (string_bytes text.new ≡ flat_map key_line (flags_view flags.now)) }
+    ensures lines { OnOk result (string_bytes text.new ≡ flat_map key_line (flags_view flags.now)) }
+    ensures no_keys { flags_view flags.now ≡ [] → IsOk result }
 {
     for i in 0..flags.len() {
         let (key, flag) = flags.at(i);

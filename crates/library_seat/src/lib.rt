@@ -22,11 +22,9 @@ mod refusal;
 mod resolving;
 mod room;
 mod seat;
-mod version;
 
 pub use answer::Details;
 pub use asked::Asked;
 pub use refusal::Refusal;
 pub use room::put;
 pub use seat::Seat;
-pub use version::about;

@@ -1,5 +1,5 @@
 //! What is asked of a seat is read, up to the first refusal.
-ghost use Rattle.std.specs.Prelude.{◌≡◌, ◌<◌, ◌≤◌, ◌^◌, true, false, length, option_copied, IfOk, IfSome, IsErrOf};
+ghost use Rattle.std.specs.Prelude.{◌≡◌, ◌<◌, ◌≤◌, ◌^◌, true, false, length, option_copied, None, Ok, IfOk, IfSome, IsErrOf};
 ghost use Rattle.std.specs.Str.{is_utf8};
 ghost use Rattle.flag_text.specs.Outcome.{GivesUnless};
 ghost use Rattle.flag_text.specs.Shape.{is_whole};
@@ -85,10 +85,28 @@ fn default_of(alloc: Global, bytes: &[u8]) -> Result<Tree, Refusal>
     ensures whole { IfOk result (λ t. is_whole (view t) ≡ true) }
     ensures early { IfSome (text_refusal bytes.now) (λ e. IsErrOf result (refusal.Default e)) }
 {
+    if let Some(tree) = truth_of(bytes) {
+        return Ok(tree);
+    }
     match read_tree(alloc, bytes, TEXT_BYTES) {
         Ok(tree) => Ok(tree),
         Err(fault) => Err(Refusal::of_default(fault)),
     }
+}
+
+/// The truth value that some bytes are the name of: most defaults are one, and it needs no reading.
+fn truth_of(bytes: &[u8]) -> Option<Tree>
+    ensures exact { IfSome result (λ t. default_of bytes.now ≡ Ok (view t)) }
+    ensures whole { IfSome result (λ t. is_whole (view t) ≡ true) }
+    ensures early { IfSome result (λ _. text_refusal bytes.now ≡ None) }
+{
+    if bytes == b"false".as_slice() {
+        return Some(Tree::Bool(false));
+    }
+    if bytes == b"true".as_slice() {
+        return Some(Tree::Bool(true));
+    }
+    None
 }
 
 /// The context that some bytes stand for.

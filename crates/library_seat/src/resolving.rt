@@ -1,5 +1,5 @@
 //! Resolutions, the notes of what they reach, and keys.
-ghost use Rattle.std.specs.Prelude.{◌≡◌, ◌≢◌, None, IfOk, IsErrOf, OnOk, OnErr, IfSome, map, option_map};
+ghost use Rattle.std.specs.Prelude.{◌≡◌, ◌≢◌, [], None, IfOk, IsErrOf, IsOk, OnOk, OnErr, IfSome, map, option_map};
 ghost use Rattle.flag_defs.specs.Flags.{flags_view};
 ghost use Rattle.flag_resolve.specs.Views.{resolution_view};
 ghost use Rattle.logic_eval.specs.Views.{reach_view};
@@ -73,7 +73,9 @@ impl Seat {
 
     /// Writes the lines of the flags' keys.
     pub fn keys(&self, alloc: Global, out: &mut [u8], written: &mut usize) -> Result<(), Refusal>
-        ensures { Writes (keys_text (seat_view self.now).flags) result (record { bytes = out.old; written = written.old }) (record { bytes = out.new; written = written.new }) }
+        ensures writes { Writes (keys_text (seat_view self.now).flags) result (record { bytes = out.old; written = written.old }) (record { bytes = out.new; written = written.new }) }
+        // this needs no memory
+        ensures no_keys { IfSome (seat_view self.now).flags (λ flags. flags ≡ []) → IsOk result }
     {
         let text = keys_text(alloc, self.flags())?;
         put(text.as_bytes(), out, written)

@@ -1,5 +1,5 @@
 //! Bytes that are written into a room.
-ghost use Rattle.std.specs.Prelude.{◌≢◌, ◌≤◌, length, Err};
+ghost use Rattle.std.specs.Prelude.{◌≢◌, ◌≤◌, length, Err, IsOk};
 ghost use Rattle.library_seat.specs.Room.{IsPut, Writes};
 ghost use Rattle.library_seat.specs.declared.refusal.Refusal.TheVariants as refusal;
 
@@ -9,6 +9,7 @@ use crate::refusal::Refusal;
 /// there are, also where there is no room for them. It takes no memory.
 pub fn put(text: &[u8], out: &mut [u8], written: &mut usize) -> Result<(), Refusal>
     ensures put { Writes text.now result (record { bytes = out.old; written = written.old }) (record { bytes = out.new; written = written.new }) }
+    ensures fits { length text.now ≤ length out.old → IsOk result }
     ensures memory { result ≢ Err refusal.WantOfMemory }
 {
     if text.len() > out.len() {

@@ -11,6 +11,7 @@ use Rattle.line_batches.proofs.Cutting.{begins, no_line, some_part}
 use Rattle.line_batches.specs.Fill.{Grows}
 use Rattle.line_batches.specs.Lines.{HasNoFeed, IsCut, parts_of}
 use Rattle.record_lines.proofs.Folded.{few_lines, joined-assoc, joined-first, joined-last, joined-refused}
+use Rattle.record_lines.specs.Outcomes.{Outcomes}
 use Rattle.record_lines.specs.Record.{Recorded, Scene, joined, most_line, nothing, of_line, record_of, refused}
 use Rattle.note_streams.specs.Batch.{Follows, Fronts, Leaves, Stands, Stops}
 use Rattle.note_streams.specs.Recorded.{of_parts, recorded_of}
@@ -73,13 +74,13 @@ pub open_refused : (one other : Recorded) → one.refused ≡ false → (joined 
 unfolding joined
 open_refused one other good = rw good refl
 
-begins_parts : (t : List ℕ) (n : ℕ) (b l : Bool) (r : Recorded) → (u : List ℕ) × ((joined (record { text = t; lines = n; refused = b; long = l }) r).text ≡ t ++ u)
+begins_parts : (t : List ℕ) (n : ℕ) (b : Bool) (o : Outcomes) (r : Recorded) → (u : List ℕ) × ((joined (record { text = t; lines = n; refused = b; outcomes = o }) r).text ≡ t ++ u)
 unfolding joined
-begins_parts t n true l r = ([], sym (append-nil t))
-begins_parts t n false l r = (r.text, refl)
+begins_parts t n true o r = ([], sym (append-nil t))
+begins_parts t n false o r = (r.text, refl)
 
 pub begins_with : (one other : Recorded) → (t : List ℕ) × ((joined one other).text ≡ one.text ++ t)
-begins_with one other = begins_parts one.text one.lines one.refused one.long other
+begins_with one other = begins_parts one.text one.lines one.refused one.outcomes other
 
 -- ---- fronts
 

@@ -7,6 +7,7 @@ use Rattle.line_batches.specs.Lines.{HasNoFeed}
 use Rattle.line_batches.specs.declared.filling.FillFault.{FillFault}
 use Rattle.line_batches.specs.declared.filling.FillFault.TheVariants as fill
 use Rattle.record_lines.specs.Record.{Scene, most_line}
+use Rattle.record_lines.specs.View.{outcomes_view}
 use Rattle.note_streams.specs.Batch.{Leaves, RecordsBatch, Stands}
 use Rattle.note_streams.specs.Recorded.{RecordsStream, TellsOf, most_bytes, recorded_of}
 use Rattle.note_streams.specs.Rest.{is_empty, is_torn}
@@ -79,10 +80,10 @@ module _ (s : Scene) (is_cut : Bool) where
         (λ bytes stands. ended_at s bytes rest lines taken now old new none short end stands)
 
     -- what a person is told then
-    pub told : (rest : List ℕ) (lines taken : ℕ) (now new : Option (List ℕ)) (c : Counted) → HasNoFeed rest → IsAtEnd now → c.torn ≡ nat_lt 0 (length rest) → c.empty ≡ nat_eq taken 0 → IfSome start (λ bytes. nat_lt 0 c.long ≡ (recorded_of s bytes).long) → Known s rest lines taken start now old new
+    pub told : (rest : List ℕ) (lines taken : ℕ) (now new : Option (List ℕ)) (c : Counted) → HasNoFeed rest → IsAtEnd now → c.torn ≡ nat_lt 0 (length rest) → c.empty ≡ nat_eq taken 0 → IfSome start (λ bytes. outcomes_view c.outcomes ≡ (recorded_of s bytes).outcomes) → Known s rest lines taken start now old new
         → IfSome start (λ bytes. TellsOf (recorded_of s bytes) bytes c)
-    told rest lines taken now new c none end torn empty long known =
-        when_all (λ bytes. nat_lt 0 c.long ≡ (recorded_of s bytes).long) (λ bytes. c.torn ≡ is_torn bytes) (λ bytes. c.empty ≡ is_empty bytes) start long
+    told rest lines taken now new c none end torn empty counted known =
+        when_all (λ bytes. outcomes_view c.outcomes ≡ (recorded_of s bytes).outcomes) (λ bytes. c.torn ≡ is_torn bytes) (λ bytes. c.empty ≡ is_empty bytes) start counted
         (when_known s (λ bytes. (c.torn ≡ is_torn bytes) × (c.empty ≡ is_empty bytes)) rest lines taken start now old new known
         (λ bytes stands. (let behind = rest_at s bytes rest lines taken now old new none end stands in (torn ∙ behind.0, empty ∙ behind.1))))
 

@@ -4,6 +4,6 @@ pub mod Counting
 pub mod Crossings
 pub mod Ends
 pub mod Exits
-mod Long
+mod Counts
 pub mod Parts
 pub mod Running

@@ -7,6 +7,7 @@ use Rattle.std.specs.Io.KnownBytes.{Appends}
 use Rattle.flag_text.specs.Outlet.{AppendsPart}
 use Rattle.record_lines.proofs.Folded.{joined-assoc, joined-first, joined-last, joined-refused, record-append}
 use Rattle.record_lines.specs.Lines.{lines_view}
+use Rattle.record_lines.specs.Outcomes.{Outcomes}
 use Rattle.record_lines.specs.Record.{Recorded, Scene, joined, nothing, record_of}
 use Rattle.record_lines.specs.View.{recorded_view}
 use Rattle.record_lines.specs.declared.recorded.Recorded as code
@@ -33,13 +34,13 @@ first_run runs i d within =
 pub no_run : (runs : List code.Recorded) (i : ℕ) → length runs ≤ i → runs_view (drop i runs) ≡ nothing
 no_run runs i past = ap runs_view (drop_all i runs past)
 
-more : (t : List ℕ) (n : ℕ) (b l : Bool) (r : Recorded) → n ≤ (joined (record { text = t; lines = n; refused = b; long = l }) r).lines
+more : (t : List ℕ) (n : ℕ) (b : Bool) (o : Outcomes) (r : Recorded) → n ≤ (joined (record { text = t; lines = n; refused = b; outcomes = o }) r).lines
 unfolding joined
-more t n true l r = omega arith
-more t n false l r = omega arith
+more t n true o r = omega arith
+more t n false o r = omega arith
 
 more_lines : (run left : Recorded) → run.lines ≤ (joined run left).lines
-more_lines run left = more run.text run.lines run.refused run.long left
+more_lines run left = more run.text run.lines run.refused run.outcomes left
 
 -- so many lines are written, of which none was refused, and what is left makes the whole of them
 pub record Underway (old now : Option (List ℕ)) (lines : ℕ) (left whole : Recorded) : Type 0 where

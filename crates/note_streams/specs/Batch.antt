@@ -1,10 +1,11 @@
 -- What is made of one batch of bytes, in private contracts alone.
 use denote.Ref.{Bor}
-use Rattle.std.specs.Prelude.{◌≡◌, ◌≢◌, ◌<◌, ◌≤◌, ◌⊎◌, ◌||◌, ℕ, ◌+◌, nat_lt, true, false, List, ◌++◌, length, Option, Some, None, Result, Ok, Err}
+use Rattle.std.specs.Prelude.{◌≡◌, ◌≢◌, ◌<◌, ◌≤◌, ◌⊎◌, ℕ, ◌+◌, true, false, List, ◌++◌, length, Option, Some, None, Result, Ok, Err}
 use Rattle.std.specs.Io.KnownBytes.{Appends}
 use Rattle.flag_text.specs.Outlet.{AppendsPart}
 use Rattle.line_batches.specs.Lines.{HasNoFeed, IsCut, parts_of}
 use Rattle.line_tally.specs.Lines.{Tallied}
+use Rattle.record_lines.specs.Outcomes.{Outcomes, both}
 use Rattle.record_lines.specs.Record.{Recorded, Scene, joined, most_line, record_of}
 use Rattle.tally_filters.specs.Filter.{Filtered}
 use Rattle.tally_filters.specs.declared.fault.FilterFault.{FilterFault}
@@ -67,15 +68,15 @@ pub record Stands (s : Scene) (bytes held : List ℕ) (lines taken : ℕ) (now o
   pub text : Appends old new acc.text
   pub follows : Follows s bytes held taken acc now
 
--- An input that is too long is counted before a batch or stands in it and behind it, just where one is counted behind it or stands in the rest
--- and behind that.
-abbrev pub CountsBatch : Scene → List ℕ → List ℕ → ℕ → ℕ → Type 0
-CountsBatch s bytes rest before after = (more : List ℕ) → (nat_lt 0 after || (recorded_of s (rest ++ more)).long) ≡ (nat_lt 0 before || (recorded_of s (bytes ++ more)).long)
+-- What is counted before a batch, and what comes of the contexts in it and behind it, is what is counted behind it, and what comes of those in
+-- the rest and behind that.
+abbrev pub CountsBatch : Scene → List ℕ → List ℕ → Outcomes → Outcomes → Type 0
+CountsBatch s bytes rest before after = (more : List ℕ) → both after (recorded_of s (rest ++ more)).outcomes ≡ both before (recorded_of s (bytes ++ more)).outcomes
 
 -- the same of a stream of known bytes, of which these are held and these are left
-abbrev pub CountsLong : Scene → List ℕ → List ℕ → ℕ → Option (List ℕ) → Type 0
-CountsLong s bytes held long None = ⊥
-CountsLong s bytes held long (Some left) = (nat_lt 0 long || (recorded_of s (held ++ left)).long) ≡ (recorded_of s bytes).long
+abbrev pub CountsAll : Scene → List ℕ → List ℕ → Outcomes → Option (List ℕ) → Type 0
+CountsAll s bytes held counted None = ⊥
+CountsAll s bytes held counted (Some left) = both counted (recorded_of s (held ++ left)).outcomes ≡ (recorded_of s bytes).outcomes
 
 -- ---- tallies
 

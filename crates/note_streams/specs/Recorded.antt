@@ -3,6 +3,7 @@ use Rattle.std.specs.Prelude.{◌≡◌, ◌<◌, ℕ, nat_lt, Bool, true, false
 use Rattle.std.specs.Io.KnownBytes.{Appends}
 use Rattle.flag_text.specs.Outlet.{AppendsPart}
 use Rattle.line_batches.specs.Lines.{parts_of}
+use Rattle.record_lines.specs.View.{outcomes_view}
 use Rattle.record_lines.specs.Record.{Recorded, Scene, joined, most_line, nothing, of_line, refused}
 use Rattle.note_streams.specs.Rest.{is_empty, is_torn}
 use Rattle.note_streams.specs.declared.recording.Counted.{Counted}
@@ -36,6 +37,6 @@ RecordsStream r size is_cut old new (Err TooLong) = (most_bytes < size) × Appen
 RecordsStream r size is_cut old new (Err Broken) = AppendsPart old new r.text
 RecordsStream r size is_cut old new (Err WantOfMemory) = AppendsPart old new r.text
 
--- what a person is told beside it: that an input is too long to be noted, that the last line of these bytes has no end, and that there are none
+-- what a person is told beside it: what came of the contexts, that the last line of these bytes has no end, and that there are none
 abbrev pub TellsOf : Recorded → List ℕ → Counted → Type 0
-TellsOf r bytes c = (nat_lt 0 c.long ≡ r.long) × (c.torn ≡ is_torn bytes) × (c.empty ≡ is_empty bytes)
+TellsOf r bytes c = (outcomes_view c.outcomes ≡ r.outcomes) × (c.torn ≡ is_torn bytes) × (c.empty ≡ is_empty bytes)

@@ -1,6 +1,8 @@
 //! From a stream of contexts to note lines.
-ghost use Rattle.std.specs.Prelude.{nat_eq, nat_lt, ◌≡◌, ◌<◌, ◌+◌, ◌^◌, length, false, IfOk, IfSome};
+ghost use Rattle.std.specs.Prelude.{nat_eq, nat_lt, ◌≡◌, ◌<◌, ◌≤◌, ◌+◌, ◌^◌, length, false, IfOk, IfSome};
+ghost use Rattle.record_lines.specs.Outcomes.{contexts};
 ghost use Rattle.record_lines.specs.Scene.{scene_of};
+ghost use Rattle.record_lines.specs.View.{outcomes_view};
 ghost use Rattle.note_streams.specs.Batch.{CountsBatch, RecordsBatch};
 ghost use Rattle.note_streams.specs.Recorded.{RecordsStream, TellsOf, recorded_of};
 ghost use Rattle.note_streams.specs.Stop.{is_output_fault};
@@ -10,7 +12,7 @@ use crate::stop::RecordStop;
 use flag_text::Outlet;
 use limits::TEXT_BYTES;
 use line_batches::{Inlet, cut_lines, fill};
-use record_lines::{Recorder, counted_both};
+use record_lines::{Outcomes, Recorder};
 use std::alloc::Global;
 use std::thread::Threads;
 
@@ -29,19 +31,19 @@ pub(crate) const MOST_BYTES: u64 = 1_152_921_504_606_846_976;
 /// What a person is told of contexts that were recorded.
 #[derive(Clone, Copy, Debug)]
 pub struct Counted {
-    /// The number of inputs that were not noted, as they have more than 1,024 bytes.
-    pub long: u64,
+    /// What came of them.
+    pub outcomes: Outcomes,
     /// Whether bytes stood behind the last line, which were passed over.
     pub torn: bool,
     /// Whether the stream has no bytes.
     pub empty: bool,
 }
 
-/// The lines of the batches so far, and the inputs that were not noted.
+/// The lines of the batches so far, and what came of the contexts.
 #[derive(Drop)]
 struct Totals {
     lines: u64,
-    long: u64,
+    outcomes: Outcomes,
 }
 
 /// Writes the note lines of what the evaluation of the recorder's flag reaches in each context of a stream, one context a line,
@@ -66,7 +68,10 @@ pub fn record_stream<R: Threads + Sync, I: Inlet, O: Outlet>(
 {
     let mut piece = vec![in alloc; 0u8; PIECE]?;
     let mut held = Vec::new(alloc);
-    let mut totals = Totals { lines: 0, long: 0 };
+    let mut totals = Totals {
+        lines: 0,
+        outcomes: Outcomes::none(),
+    };
     let mut taken = 0u64;
     'batches: while taken <= MOST_BYTES {
         let had = held.len();
@@ -82,7 +87,7 @@ pub fn record_stream<R: Threads + Sync, I: Inlet, O: Outlet>(
             out,
         )?;
         if ended {
-            return Ok(passed_over(totals.long, rest, taken));
+            return Ok(passed_over(totals.outcomes, rest, taken));
         }
         held = rest.to_vec(alloc)?;
     }
@@ -90,13 +95,13 @@ pub fn record_stream<R: Threads + Sync, I: Inlet, O: Outlet>(
 }
 
 /// What a person is told of a stream of so many bytes, where these stand behind its last line.
-fn passed_over(long: u64, rest: &[u8], taken: u64) -> Counted
-    ensures long { result.long ≡ long }
+fn passed_over(outcomes: Outcomes, rest: &[u8], taken: u64) -> Counted
+    ensures outcomes { result.outcomes ≡ outcomes }
     ensures torn { result.torn ≡ nat_lt 0 (length rest.now) }
     ensures empty { result.empty ≡ nat_eq taken 0 }
 {
     Counted {
-        long,
+        outcomes,
         torn: !rest.is_empty(),
         empty: taken == 0,
     }
@@ -114,8 +119,10 @@ fn record_batch<'a, R: Threads + Sync, O: Outlet>(
 ) -> Result<&'a [u8], RecordStop>
     requires whole { O.is_broken out.old ≡ false }
     requires room { totals.old.lines + length bytes.now + 1 < 2 ^ 64 }
+    requires few { contexts (outcomes_view totals.old.outcomes) ≤ totals.old.lines }
     ensures exact { RecordsBatch (scene_of recorder.now) bytes.entry.now totals.old.lines totals.new.lines (O.bytes out.old) (O.bytes out.new) result }
-    ensures long { IfOk result (λ rest. CountsBatch (scene_of recorder.now) bytes.entry.now rest.now totals.old.long totals.new.long) }
+    ensures counted { IfOk result (λ rest. CountsBatch (scene_of recorder.now) bytes.entry.now rest.now (outcomes_view totals.old.outcomes) (outcomes_view totals.new.outcomes)) }
+    ensures fewer { IfOk result (λ rest. contexts (outcomes_view totals.new.outcomes) ≤ totals.new.lines) }
     ensures broken { O.is_broken out.new ≡ is_output_fault result }
 {
     let (lines, rest) = cut_lines(alloc, bytes)?;
@@ -125,7 +132,7 @@ fn record_batch<'a, R: Threads + Sync, O: Outlet>(
         return Err(RecordStop::Broken);
     };
     totals.lines += written.lines;
-    totals.long = counted_both(totals.long, written.long);
+    totals.outcomes = totals.outcomes.both(written.outcomes);
     if written.refused {
         return Err(RecordStop::Line(totals.lines));
     }

@@ -1,13 +1,15 @@
 //! The lines of a batch, in runs that are recorded side by side.
-ghost use Rattle.std.specs.Prelude.{◌≡◌, ◌++◌, ◌<◌, ◌^◌, IfOk, IfSome, is_none, false, nat_lt};
+ghost use Rattle.std.specs.Prelude.{◌≡◌, ◌++◌, ◌<◌, ◌≤◌, ◌^◌, IfOk, IfSome, is_none, false};
 ghost use Rattle.record_lines.specs.Lines.{lines_view};
+ghost use Rattle.record_lines.specs.Outcomes.{contexts};
 ghost use Rattle.record_lines.specs.Record.{record_of};
 ghost use Rattle.record_lines.specs.Scene.{scene_of};
+ghost use Rattle.record_lines.specs.View.{outcomes_view};
 ghost use Rattle.note_streams.specs.Runs.{WritesRuns, runs_view};
 ghost use denote.Param.Send.{IsSync};
 
 use flag_text::{Outlet, write_whole};
-use record_lines::{Recorded, Recorder, counted_both, record_lines};
+use record_lines::{Outcomes, Recorded, Recorder, record_lines};
 use std::alloc::{AllocError, Global};
 use std::thread::{Threads, join};
 
@@ -16,10 +18,10 @@ use std::thread::{Threads, join};
 pub(crate) struct Written {
     /// The number of lines, with the one that is no context.
     pub(crate) lines: u64,
-    /// The number of inputs that were not noted.
-    pub(crate) long: u64,
     /// Whether the last of the lines is no context.
     pub(crate) refused: bool,
+    /// What came of the contexts.
+    pub(crate) outcomes: Outcomes,
 }
 
 /// Records lines in runs of about equal length, one for each worker, and no more runs than lines. Halves the workers until one is
@@ -63,33 +65,34 @@ fn followed(mut runs: Vec<Recorded>, mut later: Vec<Recorded>) -> Result<Vec<Rec
 }
 
 /// Writes the note lines of runs, one after another, up to the first of them in which a line is no context, and counts their
-/// lines. It gives none where a write failed; then a front of the note lines is written.
+/// lines and what came of the contexts. It gives none where a write failed; then a front of the note lines is written.
 pub(crate) fn write_runs<O: Outlet>(runs: &[Recorded], out: &mut O) -> Option<Written>
     requires whole { O.is_broken out.old ≡ false }
     requires room { (runs_view runs.now).lines < 2 ^ 64 }
+    requires few { contexts (runs_view runs.now).outcomes ≤ (runs_view runs.now).lines }
     ensures exact { WritesRuns (runs_view runs.now) (O.bytes out.old) (O.bytes out.new) result }
-    ensures long { IfSome result (λ w. nat_lt 0 w.long ≡ (runs_view runs.now).long) }
+    ensures counted { IfSome result (λ w. outcomes_view w.outcomes ≡ (runs_view runs.now).outcomes) }
     ensures broken { O.is_broken out.new ≡ is_none result }
 {
     let mut lines = 0;
-    let mut long = 0u64;
+    let mut outcomes = Outcomes::none();
     for run in runs {
         if !write_whole(out, run.text.as_slice()) {
             return None;
         }
         lines += run.lines;
-        long = counted_both(long, run.long);
+        outcomes = outcomes.both(run.outcomes);
         if run.refused {
             return Some(Written {
                 lines,
-                long,
                 refused: true,
+                outcomes,
             });
         }
     }
     Some(Written {
         lines,
-        long,
         refused: false,
+        outcomes,
     })
 }

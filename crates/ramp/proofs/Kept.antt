@@ -1,5 +1,5 @@
 -- Nobody falls back: what holds of the rule of one step, and of all that follow.
-use Rattle.std.proofs.Common.{◌≡◌, ◌≢◌, ℕ, zero, suc, ◌==◌, ◌<◌, ◌≤◌, ◌*◌, Bool, true, false, cond, List, [], ◌∷◌, ◌++◌, length, Option, Some, None, unwrap_or, Result, Ok, Err, Ordering, Less, Equal, Greater, refl, sym, ap, ap₂, ◌∙◌, subst, arith}
+use Rattle.std.proofs.Common.{◌≡◌, ◌≢◌, ℕ, zero, suc, ◌==◌, ◌<◌, ◌≤◌, ◌*◌, Bool, true, false, cond, List, [], ◌∷◌, Option, Some, None, unwrap_or, Result, Ok, Err, Ordering, Less, Equal, Greater, refl, sym, ap, ap₂, ◌∙◌, subst, arith}
 use Rattle.std.specs.BTreeMap.{insert_entry}
 use Rattle.std.specs.Cmp.Lexicographic.{slice_cmp}
 use Rattle.std.specs.List.{AllByRecursion}
@@ -15,17 +15,17 @@ use Rattle.bucket_core.proofs.Hashes.{point_of-below}
 use Rattle.bucket_core.proofs.Points.{at_below, total_of-some}
 use Rattle.bucket_core.proofs.Refined.{choice-refinement, total_weight-refinement}
 use Rattle.bucket_core.specs.Point.{point_of}
-use Rattle.bucket_core.specs.Rule.{Entries, at, choice, refinement, total_of, total_weight}
+use Rattle.bucket_core.specs.Rule.{Entries, at, choice, refinement, total_weight}
 use Rattle.book_core.specs.Book.{Contents, inputs_on}
 use Rattle.flag_defs.specs.Flags.{AreFlags}
 use Rattle.flag_defs.specs.Changes.{rules_with_site, retargeted, with_site}
-use Rattle.flag_defs.specs.Definition.{Definition, Rules, broken, good, are_variants}
+use Rattle.flag_defs.specs.Definition.{Definition, broken, good, are_variants}
 use Rattle.flag_defs.specs.Document.{Definitions}
 use Rattle.flag_defs.specs.Flag.{is_definition, targeting_in, variant_names}
-use Rattle.flag_defs.specs.Rules.{are_rules, are_targetings, is_default, is_targeting}
-use Rattle.logic_ast.specs.Expression.{By, Expression}
+use Rattle.flag_defs.specs.Rules.{are_targetings, is_default, is_targeting}
+use Rattle.logic_ast.specs.Expression.{Expression}
 use Rattle.logic_ast.specs.Formed.{is_formed, is_well_formed}
-use Rattle.logic_ast.specs.Sites.{Site, entries_of, if_entries, if_site, parts_at, replaced, site_at, with_entries}
+use Rattle.logic_ast.specs.Sites.{Site, entries_of, if_entries, if_site, parts_at, site_at, with_entries}
 use Rattle.logic_ast.specs.declared.fault.LogicFault.{LogicFault}
 use Rattle.price_core.specs.Limits.{Limits, high_of, limits_of}
 use Rattle.price_core.specs.Pricing.{is_forbidden}
@@ -45,8 +45,8 @@ use Rattle.rollout_checks.specs.declared.fault.RolloutFault.{RolloutFault}
 use Rattle.rollout_checks.specs.declared.fault.RolloutFault.TheVariants.{NoSite, NoWeight, UnknownFlag, UnknownVariant}
 use Rattle.rollout_checks.specs.declared.refining.Refining.TheVariants.{Times}
 use Rattle.book_core.specs.Site.{page_at}
-use Rattle.ramp.specs.Laws.{AsksAt, ForbidsLeaving, KeptBy, NeverLost, rules_of}
-use Rattle.ramp.specs.Ramp.{ArePlans, IsStep, Standing, left_by, with_rule}
+use Rattle.ramp.specs.Laws.{AsksAt, ForbidsLeaving, NeverLost, rules_of}
+use Rattle.ramp.specs.Ramp.{ArePlans, IsStep, Standing, in_book, with_rule}
 use Rattle.ramp.proofs.Sites.{parts_again}
 
 -- ---- a name without a limit of its own has no points
@@ -94,15 +94,15 @@ limited place asked limits h = by (names_are_variants place.flag place.entries) 
     by true false h = absurd (cc)
     by false b h = absurd (cc)
 
-record Asks (fs : Definitions) (m : ℕ) (request : List ℕ) (p : Problem) : Type 0 where
-  asked : Asked
-  is : asked_of request ≡ Ok asked
-  place : Place
-  stands : place_of fs asked.flag asked.site ≡ Ok place
-  old : p.old ≡ refinement m place.entries
-  limits : p.limits ≡ limits_on asked.totals (variant_names place.flag)
-  prices : p.pricing ≡ asked.prices
-  some : 0 < total_weight place.entries
+pub record Asks (fs : Definitions) (m : ℕ) (request : List ℕ) (p : Problem) : Type 0 where
+  pub asked : Asked
+  pub is : asked_of request ≡ Ok asked
+  pub place : Place
+  pub stands : place_of fs asked.flag asked.site ≡ Ok place
+  pub old : p.old ≡ refinement m place.entries
+  pub limits : p.limits ≡ limits_on asked.totals (variant_names place.flag)
+  pub prices : p.pricing ≡ asked.prices
+  pub some : 0 < total_weight place.entries
 
 problem_in : Problem → Result Problem RolloutFault → Problem
 problem_in d (Ok p) = p
@@ -115,7 +115,7 @@ weighed_some entries u h = by (total_weight entries) refl h
     by zero is h = cc
     by (suc n) is h = omega (arith, is)
 
-asks_of : (fs : Definitions) (m : ℕ) (request : List ℕ) (book : Contents) (p : Problem) → problem_refined m fs request book ≡ Ok p → Asks fs m request p
+pub asks_of : (fs : Definitions) (m : ℕ) (request : List ℕ) (book : Contents) (p : Problem) → problem_refined m fs request book ≡ Ok p → Asks fs m request p
 unfolding problem_in
 asks_of fs m request book p h =
     let a = came (by_price (asked_of request)) (λ asked. and_then (place_of fs asked.flag asked.site) (λ place. problem_at (Times m) book asked place)) p h in
@@ -261,15 +261,15 @@ record Here (fs : Definitions) (m : ℕ) (request : List ℕ) (answer : Answer) 
   asks : Asks fs m request problem
   plan : IsPlan problem answer
 
-here_of : (fs : Definitions) (m : ℕ) (request : List ℕ) (book : Contents) (answer : Answer) → IsStep (Ok fs) m request book answer → Here fs m request answer
+here_of : (fs : Definitions) (m : ℕ) (request : List ℕ) (book : Contents) (answer : Answer) → IsStep (Ok fs) m request (in_book book) answer → Here fs m request answer
 here_of fs m request book answer step =
     let stands : Ok fs ≡ Ok step.flags = step.stands in
     let same : step.flags ≡ fs = cc in
     record {
       lawful = subst AreFlags same step.lawful;
-      problem = step.problem;
-      asks = subst (λ (x : Definitions). Asks x m request step.problem) same (asks_of step.flags m request book step.problem step.asks);
-      plan = step.plan;
+      problem = step.plan.0;
+      asks = subst (λ (x : Definitions). Asks x m request step.plan.0) same (asks_of step.flags m request book step.plan.0 step.plan.1);
+      plan = step.plan.2;
     }
 
 module _ (key : List ℕ) (site : ℕ) (book : Contents) where
@@ -280,15 +280,15 @@ module _ (key : List ℕ) (site : ℕ) (book : Contents) where
     lawful : AreFlags next
     place : Place
     stands : place_of next key site ≡ Ok place
-    plans : ArePlans (Ok next) 1 requests book answers
+    plans : ArePlans (Ok next) 1 requests (in_book book) answers
 
   after : (fs : Definitions) (request : List ℕ) (rule : Entries) (requests : List (List ℕ)) (b : Answer) (bs : List Answer) → AllByRecursion (AsksAt key site) requests
-      → ArePlans (with_rule fs request rule) 1 requests book (b ∷ bs) → After fs request rule requests (b ∷ bs)
+      → ArePlans (with_rule fs request rule) 1 requests (in_book book) (b ∷ bs) → After fs request rule requests (b ∷ bs)
   after fs request rule [] b bs at h = absurd h
   after fs request rule (r ∷ rs) b bs at h =
       let next = h.0.flags in
-      let P : Standing → Type 0 = λ s. ArePlans s 1 (r ∷ rs) book (b ∷ bs) in
-      let plans : ArePlans (Ok next) 1 (r ∷ rs) book (b ∷ bs) = subst P h.0.stands h in
+      let P : Standing → Type 0 = λ s. ArePlans s 1 (r ∷ rs) (in_book book) (b ∷ bs) in
+      let plans : ArePlans (Ok next) 1 (r ∷ rs) (in_book book) (b ∷ bs) = subst P h.0.stands h in
       let here = here_of next 1 r book b plans.0 in
       record { next = next; left = h.0.stands; lawful = here.lawful; place = here.asks.place; stands = same_place next 1 r here.problem here.asks key site at.0; plans = plans }
 
@@ -309,7 +309,7 @@ module _ (key : List ℕ) (site : ℕ) (book : Contents) where
         step_keeps name fs m request here.problem here.asks rule c some here.plan forbids user (subst (λ (x : Place). choice x.entries user ≡ Some name) own had)
 
     kept : (fs : Definitions) (m : ℕ) (place : Place) (requests : List (List ℕ)) (answers : List Answer) → 0 < m → place_of fs key site ≡ Ok place → AllByRecursion (AsksAt key site) requests
-        → AllByRecursion (ForbidsLeaving name) requests → ArePlans (Ok fs) m requests book answers → (user : List ℕ) → choice place.entries user ≡ Some name
+        → AllByRecursion (ForbidsLeaving name) requests → ArePlans (Ok fs) m requests (in_book book) answers → (user : List ℕ) → choice place.entries user ≡ Some name
         → AllByRecursion (λ other. choice other user ≡ Some name) (rules_of answers)
     kept fs m place requests [] some is at forbids h user had = tt
     kept fs m place [] (a ∷ more) some is at forbids h user had = absurd h
@@ -324,7 +324,7 @@ module _ (key : List ℕ) (site : ℕ) (book : Contents) where
         (first, kept n.next 1 n.place rs (b ∷ bs) (omega arith) n.stands at.1 forbids.1 n.plans user (ap (λ x. choice x user) entries ∙ first))
 
     pub never_lost : (fs : Definitions) (m : ℕ) (place : Place) (requests : List (List ℕ)) (answers : List Answer) → 0 < m → place_of fs key site ≡ Ok place → AllByRecursion (AsksAt key site) requests
-        → AllByRecursion (ForbidsLeaving name) requests → ArePlans (Ok fs) m requests book answers → NeverLost name place.entries (rules_of answers)
+        → AllByRecursion (ForbidsLeaving name) requests → ArePlans (Ok fs) m requests (in_book book) answers → NeverLost name place.entries (rules_of answers)
     never_lost fs m place requests [] some is at forbids h = tt
     never_lost fs m place [] (a ∷ more) some is at forbids h = absurd h
     never_lost fs m place (r ∷ rs) (none_exists kind names ∷ []) some is at forbids h = tt
@@ -345,7 +345,7 @@ module _ (key : List ℕ) (site : ℕ) (book : Contents) where
       step_total [] fs m request here.problem here.asks rule c some here.plan ∙ ap (λ (x : Place). total_weight x.entries * m) (sym (own_place fs m request (emit rule c) here place at is))
 
   pub totals : (fs : Definitions) (m : ℕ) (place : Place) (requests : List (List ℕ)) (answers : List Answer) (w : ℕ) → total_weight place.entries * m ≡ w → 0 < m → place_of fs key site ≡ Ok place
-      → AllByRecursion (AsksAt key site) requests → ArePlans (Ok fs) m requests book answers → AllByRecursion (λ rule. total_weight rule ≡ w) (rules_of answers)
+      → AllByRecursion (AsksAt key site) requests → ArePlans (Ok fs) m requests (in_book book) answers → AllByRecursion (λ rule. total_weight rule ≡ w) (rules_of answers)
   totals fs m place requests [] w e some is at h = tt
   totals fs m place [] (a ∷ more) w e some is at h = absurd h
   totals fs m place (r ∷ rs) (none_exists kind names ∷ []) w e some is at h = tt

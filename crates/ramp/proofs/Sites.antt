@@ -1,15 +1,11 @@
 -- The rule that is put at a site is the rule of that site.
-use Rattle.std.proofs.Common.{◌≡◌, ℕ, suc, ◌+◌, Bool, true, false, cond, ◌==◌, ◌&&◌, List, [], ◌∷◌, Option, Some, None, option_map, Result, Ok, Err, refl, sym, ap, ap₂, ◌∙◌, subst}
-use Rattle.std.specs.Map.{lookup}
+use Rattle.std.proofs.Common.{◌≡◌, ℕ, suc, Bool, true, false, cond, ◌==◌, [], ◌∷◌, Option, Some, None, option_map, Result, Ok, refl, sym, ap, ◌∙◌, subst}
 use Rattle.std.specs.Option.{IfSome}
-use Rattle.std.specs.Str.{bytes_eq}
-use Rattle.std.proofs.lemmas.Map.Entries.{All-lookup}
-use Rattle.flag_text.proofs.Bools.{left, right}
 use Rattle.bucket_core.specs.Rule.{Entries}
 use Rattle.logic_ast.specs.Expression.{Expression, literal, list, operation, fractional, Expressions, no_expressions, expression, By, no_by, by, Buckets, no_buckets, bucket, Bucket, literal_bucket, computed_bucket}
-use Rattle.logic_ast.specs.Formed.{is_formed, is_well_formed}
+use Rattle.logic_ast.specs.Formed.{is_formed}
 use Rattle.logic_ast.specs.Found.{or_else, found, found_in, found_in_by, found_in_buckets, found_in_bucket}
-use Rattle.logic_ast.specs.Sites.{Site, site_at, entries_of, literal_buckets, by_lowered, with_entries, all_with_entries, by_with_entries, buckets_with_entries, bucket_with_entries, if_site, if_entries, parts_at, replaced}
+use Rattle.logic_ast.specs.Sites.{Site, site_at, entries_of, literal_buckets, by_lowered, with_entries, all_with_entries, by_with_entries, buckets_with_entries, bucket_with_entries, if_site, if_entries, parts_at}
 use Rattle.logic_ast.specs.declared.fault.LogicFault.{LogicFault}
 use Rattle.logic_ast.proofs.Places.{found-at}
 

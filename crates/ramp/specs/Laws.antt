@@ -2,7 +2,8 @@
 use Rattle.std.specs.Prelude.{◌≡◌, ◌≢◌, ◌<◌, ◌*◌, ℕ, List, [], ◌∷◌, Option, None, Some, unwrap_or, true, IfOk, Result, Ok, Err}
 use Rattle.std.specs.List.{AllByRecursion}
 use Rattle.price_core.specs.Limits.{high_of}
-use Rattle.book_core.specs.Book.{Contents}
+use Rattle.book_core.specs.Book.{Contents, Inputs, inputs_on}
+use Rattle.book_core.specs.Counts.{counts_of}
 use Rattle.bucket_core.specs.Rule.{Entries, choice, total_weight}
 use Rattle.flag_defs.specs.Document.{Definitions}
 use Rattle.plan_text.specs.Answer.{Answer, emit, none_exists}
@@ -11,10 +12,20 @@ use Rattle.price_core.specs.Request.{asked_of}
 use Rattle.rollout_checks.specs.Lawful.{Place, place_of}
 use Rattle.rollout_checks.specs.VerifyFault as verify
 use Rattle.transport_instance.specs.Certificate.{DualPrices}
-use Rattle.ramp.specs.Ramp.{ArePlans, Standing}
+use Rattle.rollout_checks.specs.declared.fault.RolloutFault.TheVariants.{OtherTally}
+use Rattle.rollout_checks.specs.declared.verify_fault.VerifyFault.TheVariants.{Request}
+use Rattle.tally_core.specs.Law.{IsTallyOf}
+use Rattle.tally_core.specs.Tally.{PageTally}
+use Rattle.ramp.specs.Ramp.{ArePlans, IsRefused, Recorded, in_book, in_tally, Standing}
 use Rattle.ramp.specs.Right.{IsTold}
 use Rattle.ramp.specs.declared.fault.RampFault.{RampFault}
+use Rattle.ramp.specs.declared.fault.StepFault.{StepFault}
 use Rattle.ramp.specs.declared.fault.RampFault.TheVariants.{Step, Lines}
+
+-- it was recorded of some inputs: a book has its own, and of a tally there are inputs of which so many fall on each point
+abbrev pub IsOfInputs : Recorded → Type 0
+IsOfInputs (in_book book) = Unit {0}
+IsOfInputs (in_tally t) = (inputs : Inputs) × (t.counts ≡ counts_of inputs t.total)
 
 -- the rules of the answers, in turn
 abbrev pub rules_of : List Answer → List Entries
@@ -42,16 +53,16 @@ NeverLost name rule (next ∷ rules) = KeptBy name rule (next ∷ rules) × Neve
 -- Steps that ask for a rule at one site and forbid to leave a name never take it from anybody, from the site's rule on.
 abbrev pub NobodyFallsBack : Type 0
 NobodyFallsBack =
-    (name key : List ℕ) (site m : ℕ) (flags : Definitions) (place : Place) (requests : List (List ℕ)) (book : Contents) (answers : List Answer)
-    → 0 < m → place_of flags key site ≡ Ok place → AllByRecursion (AsksAt key site) requests → AllByRecursion (ForbidsLeaving name) requests
-    → ArePlans (Ok flags) m requests book answers → NeverLost name place.entries (rules_of answers)
+    (name key : List ℕ) (site m : ℕ) (flags : Definitions) (place : Place) (requests : List (List ℕ)) (recorded : Recorded) (answers : List Answer)
+    → IsOfInputs recorded → 0 < m → place_of flags key site ≡ Ok place → AllByRecursion (AsksAt key site) requests → AllByRecursion (ForbidsLeaving name) requests
+    → ArePlans (Ok flags) m requests recorded answers → NeverLost name place.entries (rules_of answers)
 
 -- Their rules are all of one total, that of the site's rule times the factor.
 abbrev pub OneTotal : Type 0
 OneTotal =
-    (key : List ℕ) (site m : ℕ) (flags : Definitions) (place : Place) (requests : List (List ℕ)) (book : Contents) (answers : List Answer)
-    → 0 < m → place_of flags key site ≡ Ok place → AllByRecursion (AsksAt key site) requests
-    → ArePlans (Ok flags) m requests book answers → AllByRecursion (λ rule. total_weight rule ≡ total_weight place.entries * m) (rules_of answers)
+    (key : List ℕ) (site m : ℕ) (flags : Definitions) (place : Place) (requests : List (List ℕ)) (recorded : Recorded) (answers : List Answer)
+    → IsOfInputs recorded → 0 < m → place_of flags key site ≡ Ok place → AllByRecursion (AsksAt key site) requests
+    → ArePlans (Ok flags) m requests recorded answers → AllByRecursion (λ rule. total_weight rule ≡ total_weight place.entries * m) (rules_of answers)
 
 -- ---- what is planned is valid
 
@@ -64,11 +75,35 @@ IsValid (Err (Step n e)) = verify.number_of e ≡ 0
 -- Answers that were planned by a factor are told as valid by the same; where none is given, the first is planned on the rule itself.
 abbrev pub RampsAreValid : Type 0
 RampsAreValid =
-    (refine : Option ℕ) (standing : Standing) (requests : List (List ℕ)) (book : Contents) (answers : List Answer) (told : Result (Unit {0}) RampFault)
-    → ArePlans standing (unwrap_or refine 1) requests book answers → IsTold standing refine requests book answers told → IsValid told
+    (refine : Option ℕ) (standing : Standing) (requests : List (List ℕ)) (recorded : Recorded) (answers : List Answer) (told : Result (Unit {0}) RampFault)
+    → IsOfInputs recorded → ArePlans standing (unwrap_or refine 1) requests recorded answers → IsTold standing refine requests recorded answers told → IsValid told
 
 -- So they are where no factor is given and the first is a rule, since its total tells the factor.
 abbrev pub RefinedRampsAreValid : Type 0
 RefinedRampsAreValid =
-    (m : ℕ) (standing : Standing) (requests : List (List ℕ)) (book : Contents) (rule : Entries) (c : DualPrices) (answers : List Answer) (told : Result (Unit {0}) RampFault)
-    → ArePlans standing m requests book (emit rule c ∷ answers) → IsTold standing None requests book (emit rule c ∷ answers) told → IsValid told
+    (m : ℕ) (standing : Standing) (requests : List (List ℕ)) (recorded : Recorded) (rule : Entries) (c : DualPrices) (answers : List Answer) (told : Result (Unit {0}) RampFault)
+    → IsOfInputs recorded → ArePlans standing m requests recorded (emit rule c ∷ answers) → IsTold standing None requests recorded (emit rule c ∷ answers) told → IsValid told
+
+-- ---- a tally stands for the book whose inputs it counts
+
+-- What is planned of the steps on the tally of a page's inputs is planned on the book that has them.
+abbrev pub TallyRampsAreOfBooks : Type 0
+TallyRampsAreOfBooks =
+    (standing : Standing) (m : ℕ) (requests : List (List ℕ)) (book : Contents) (t : PageTally) (answers : List Answer)
+    → IsTallyOf (inputs_on book t.page) t → ArePlans standing m requests (in_tally t) answers → ArePlans standing m requests (in_book book) answers
+
+-- A step that is refused on the tally, and not as one for another tally, is refused so on the book.
+abbrev pub TallyRefusalsAreOfBooks : Type 0
+TallyRefusalsAreOfBooks =
+    (standing : Standing) (m : ℕ) (requests : List (List ℕ)) (book : Contents) (t : PageTally) (e : StepFault)
+    → IsTallyOf (inputs_on book t.page) t → e.fault ≢ OtherTally → IsRefused standing m requests (in_tally t) e → IsRefused standing m requests (in_book book) e
+
+-- it is told of a step that the tally is another one
+abbrev pub TellsOtherTally : Result (Unit {0}) RampFault → Type 0
+TellsOtherTally told = (n : ℕ) × (told ≡ Err (Step n (Request OtherTally)))
+
+-- And what is told of answers on the tally is told of them on the book.
+abbrev pub TallyVerdictsAreOfBooks : Type 0
+TallyVerdictsAreOfBooks =
+    (standing : Standing) (refine : Option ℕ) (requests : List (List ℕ)) (book : Contents) (t : PageTally) (answers : List Answer) (told : Result (Unit {0}) RampFault)
+    → IsTallyOf (inputs_on book t.page) t → ¬ (TellsOtherTally told) → IsTold standing refine requests (in_tally t) answers told → IsTold standing refine requests (in_book book) answers told

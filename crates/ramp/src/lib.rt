@@ -14,11 +14,14 @@
 //!   (`Ramp`).
 //! - [`verify_steps`] accepts the answers exactly where each is right so, and tells the first that is not (`Right`). What
 //!   [`plan_steps`] answers it accepts ([`ramps_are_valid`]).
+//! - [`plan_steps_on_tally`] and [`verify_steps_on_tally`] do the same on a tally, for all inputs of which so many fall on each
+//!   point. What they answer and tell is that of a book with these inputs ([`tallies_ramp_as_books`]).
 //! - [`left_by`] gives the flags that the next step stands on.
 //! - Where the steps ask for one site and forbid to leave a name, whoever is given the name is given it by each later rule, and
 //!   all rules are of one total ([`nobody_falls_back`]).
 #![tactic(auto)]
 
+mod basis;
 mod fault;
 mod laws;
 mod planning;
@@ -26,7 +29,8 @@ mod standing;
 mod verifying;
 
 pub use fault::{RampFault, StepFault};
-pub use laws::{nobody_falls_back, ramps_are_valid};
-pub use planning::plan_steps;
+pub use laws::{nobody_falls_back, ramps_are_valid, tallies_ramp_as_books};
+pub use planning::{plan_steps, plan_steps_on_tally};
+pub use rollout::PageTally;
 pub use standing::left_by;
-pub use verifying::verify_steps;
+pub use verifying::{verify_steps, verify_steps_on_tally};

@@ -1,2 +1,3 @@
 mod Counted
+pub mod Both
 pub mod Folded

@@ -3,6 +3,7 @@ pub use Rattle.book_core.specs.Page
 pub use Rattle.note_lines.specs.Note
 pub use Rattle.site_pages.specs.Pages
 pub mod Lines
+pub mod Outcomes
 pub mod Record
 pub mod Refusal
 pub mod Scene

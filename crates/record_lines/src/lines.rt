@@ -1,9 +1,10 @@
 //! What is recorded of lines, one after another.
-ghost use Rattle.std.specs.Prelude.{◌≡◌, ◌+◌, ◌<◌, ◌^◌, false, true, option_map, IfOk, IfSome, OnOk, MatchOption, None, Some};
+ghost use Rattle.std.specs.Prelude.{◌≡◌, ◌+◌, ◌<◌, ◌≤◌, ◌^◌, false, true, option_map, IfOk, IfSome, OnOk, MatchOption, None, Some};
 ghost use Rattle.flag_text.specs.Shape.{is_tidy};
 ghost use Rattle.flag_text.specs.View.{view};
 ghost use Rattle.record_lines.specs.Record.{context_of, is_blank, joined, object_in, of_line, record_of};
-ghost use Rattle.record_lines.specs.View.{recorded_view};
+ghost use Rattle.record_lines.specs.Outcomes.{contexts};
+ghost use Rattle.record_lines.specs.View.{outcomes_view, recorded_view};
 ghost use Rattle.record_lines.specs.Scene.{scene_of};
 ghost use Rattle.record_lines.specs.Lines.{lines_view};
 
@@ -43,6 +44,7 @@ fn record_line(
 ) -> Result<(), AllocError>
     requires open { out.old.refused ≡ false }
     requires room { out.old.lines + 1 < 2 ^ 64 }
+    requires few { contexts (outcomes_view out.old.outcomes) ≤ out.old.lines }
     ensures { OnOk result (recorded_view out.new ≡ joined (recorded_view out.old) (of_line (scene_of recorder.now) line.now)) }
 {
     out.lines += 1;

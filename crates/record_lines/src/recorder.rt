@@ -9,11 +9,14 @@ ghost use Rattle.flag_defs.specs.Flag.{flag_view, is_broken, targeting_in};
 ghost use Rattle.flag_defs.specs.Flags.{flags_view};
 ghost use Rattle.logic_eval.specs.Views.{reach_view};
 ghost use Rattle.record_lines.specs.Scene.{scene_of};
-ghost use Rattle.record_lines.specs.Record.{IsSceneOf, PagesIn, reached_in, is_long, note_of};
+ghost use Rattle.record_lines.specs.Outcomes.{both, contexts};
+ghost use Rattle.record_lines.specs.Record.{IsSceneOf, PagesIn, is_long, note_of, notes_of, outcomes_of, resolved_in};
+ghost use Rattle.record_lines.specs.View.{outcomes_view};
 ghost use Rattle.record_lines.specs.Refusal.{refusal_for};
 ghost use Rattle.record_lines.specs.declared.recorder.RecordFault.TheVariants.{WantOfMemory};
 
-use crate::recorded::{Recorded, counted_both};
+use crate::outcomes::{Outcome, Outcomes, counted_both, unnoted};
+use crate::recorded::Recorded;
 use crate::scene::Recorder;
 use book_core::Page;
 use flag_defs::{Flag, Flags};
@@ -110,16 +113,17 @@ impl<'a> Recorder<'a> {
         })
     }
 
-    /// Adds the lines of what is reached in a context.
+    /// Adds the lines of what is reached in a context, and what came of it.
     pub(crate) fn record(
         &self,
         alloc: Global,
         context: &Tree,
         out: &mut Recorded,
     ) -> Result<(), AllocError>
-        requires { is_tidy (view context.now) ≡ true }
-        ensures text { OnOk result (out.new.text.items ≡ out.old.text.items ++ flat_map (note_of (scene_of self.now)) (reached_in (scene_of self.now) (view context.now))) }
-        ensures long { OnOk result (nat_lt 0 out.new.long ≡ (nat_lt 0 out.old.long || list_any is_long (reached_in (scene_of self.now) (view context.now)))) }
+        requires tidy { is_tidy (view context.now) ≡ true }
+        requires room { contexts (outcomes_view out.old.outcomes) + 1 < 2 ^ 64 }
+        ensures text { OnOk result (out.new.text.items ≡ out.old.text.items ++ notes_of (scene_of self.now) (resolved_in (scene_of self.now) (view context.now))) }
+        ensures outcomes { OnOk result (outcomes_view out.new.outcomes ≡ both (outcomes_view out.old.outcomes) (outcomes_of (scene_of self.now) (view context.now) (resolved_in (scene_of self.now) (view context.now)))) }
         ensures lines { out.new.lines ≡ out.old.lines }
         ensures refused { out.new.refused ≡ out.old.refused }
     {
@@ -132,43 +136,50 @@ impl<'a> Recorder<'a> {
             context,
             self.moment,
         )?;
-        self.note_all(alloc, resolution.reached.as_slice(), out)
+        let had = out.text.len();
+        let long = self.note_all(alloc, resolution.reached.as_slice(), &mut out.text)?;
+        let outcome = if out.text.len() > had {
+            Outcome::Noted
+        } else {
+            unnoted(context, &resolution, long > 0)
+        };
+        out.outcomes = out.outcomes.both(Outcomes::of(long, outcome));
+        Ok(())
     }
 
-    /// Adds the lines of the inputs that were reached.
+    /// Adds the lines of the inputs that were reached, and gives the number of those that have too many bytes.
     fn note_all(
         &self,
         alloc: Global,
         reached: &[Reached],
-        out: &mut Recorded,
-    ) -> Result<(), AllocError>
-        ensures text { OnOk result (out.new.text.items ≡ out.old.text.items ++ flat_map (note_of (scene_of self.now)) (map reach_view reached.now)) }
-        ensures long { OnOk result (nat_lt 0 out.new.long ≡ (nat_lt 0 out.old.long || list_any is_long (map reach_view reached.now))) }
-        ensures lines { out.new.lines ≡ out.old.lines }
-        ensures refused { out.new.refused ≡ out.old.refused }
+        text: &mut Vec<u8>,
+    ) -> Result<u64, AllocError>
+        ensures text { OnOk result (text.new.items ≡ text.old.items ++ flat_map (note_of (scene_of self.now)) (map reach_view reached.now)) }
+        ensures long { IfOk result (λ long. nat_lt 0 long ≡ list_any is_long (map reach_view reached.now)) }
     {
+        let mut long = 0u64;
         for reach in reached {
-            self.note(alloc, reach, out)?;
+            if self.note(alloc, reach, text)? {
+                long = counted_both(long, 1);
+            }
         }
-        Ok(())
+        Ok(long)
     }
 
-    /// Adds the line of an input, unless it has too many bytes.
-    fn note(&self, alloc: Global, reach: &Reached, out: &mut Recorded) -> Result<(), AllocError>
-        ensures text { OnOk result (out.new.text.items ≡ out.old.text.items ++ note_of (scene_of self.now) (reach_view reach.now)) }
-        ensures long { OnOk result (nat_lt 0 out.new.long ≡ (nat_lt 0 out.old.long || is_long (reach_view reach.now))) }
-        ensures lines { out.new.lines ≡ out.old.lines }
-        ensures refused { out.new.refused ≡ out.old.refused }
+    /// Adds the line of an input, unless it has too many bytes, and gives whether it has.
+    fn note(&self, alloc: Global, reach: &Reached, text: &mut Vec<u8>) -> Result<bool, AllocError>
+        ensures text { OnOk result (text.new.items ≡ text.old.items ++ note_of (scene_of self.now) (reach_view reach.now)) }
+        ensures long { IfOk result (λ b. b ≡ is_long (reach_view reach.now)) }
     {
         let input = reach.input.as_str();
         if input.len() > INPUT_BYTES {
-            out.long = counted_both(out.long, 1);
-            return Ok(());
+            return Ok(true);
         }
         let Some(page) = self.pages.get(reach.site as usize) else {
-            return Ok(());
+            return Ok(false);
         };
         let line = note_line(alloc, page, input)?;
-        out.text.extend_from_slice(line.as_slice())
+        text.extend_from_slice(line.as_slice())?;
+        Ok(false)
     }
 }

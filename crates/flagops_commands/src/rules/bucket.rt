@@ -1,10 +1,10 @@
 //! The command `bucket`: which variant a rule gives to a key.
 ghost use Rattle.std.specs.Prelude.{◌≡◌, ◌||◌, if◌then◌else◌, IfOk, IfSome, decimal, string_bytes};
+ghost use Rattle.flagops_commands.specs.Attempts.{TellsOfFirst, bucket_attempts};
 ghost use Rattle.flagops_commands.specs.Bucket.{bucket_json, bucket_report, bucket_text, eight_hex_digits, three_lines, three_members};
 ghost use Rattle.flagops_commands.specs.Calls.{bucket_calls};
-ghost use Rattle.flagops_commands.specs.Refusal.{ComesFrom, GivesUnlessWant, is_file_fault, TellsOfOne};
+ghost use Rattle.flagops_commands.specs.Refusal.{ComesFrom, GivesUnlessWant, is_file_fault};
 ghost use Rattle.flagops_shell.specs.Report.{outcome_view};
-ghost use Rattle.flagops_commands.specs.Subjects.{bucket_subjects};
 ghost use Rattle.rule_text.specs.Choosing.{choice_view};
 
 use crate::loading::load_choice;
@@ -28,7 +28,7 @@ pub fn bucket<F: FileSet>(
     ensures calls { ComesFrom bucket_calls result }
     ensures failed { F.has_failed files.new ≡ (F.has_failed files.old || is_file_fault result) }
     ensures kept { F.holding files.new ≡ F.holding files.old }
-    ensures names { TellsOfOne (bucket_subjects rule.now) result }
+    ensures names { IfSome (F.holding files.old) (λ at. TellsOfFirst (bucket_attempts at rule.now key.now) result) }
 {
     let choice = load_choice(alloc, files, rule, key)?;
     match answer(alloc, &choice, key, json) {

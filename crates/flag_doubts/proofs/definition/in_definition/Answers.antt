@@ -3,7 +3,8 @@ use Rattle.std.proofs.lemmas.Result.{IfOk-weaker}
 use Rattle.json.specs.Json.{parse_map, value, object}
 use Rattle.json.proofs.Grammar.{value-begin_object}
 use Rattle.unread_members.specs.declared.reader.Reader.TheVariants as reader
-use Rattle.flag_doubts.specs.Passed.{Begins}
+use Rattle.repeated_names.specs.Passed.{Begins}
+use Rattle.repeated_names.proofs.Placing.{place_is_told}
 use Rattle.flag_doubts.proofs.Others.{none_taken}
 use Rattle.flag_doubts.proofs.definition.in_definition.Goals as goal
 
@@ -21,4 +22,4 @@ returns-in-Object-clause-err c = λ refused.
 pub returns-in-Other-clause-ok : goal.returns-in-Other-clause-ok
 returns-in-Other-clause-ok c =
     let begun = subst (Begins c.args.depth c.args.reader.now c.begin.new.reader) c.in-Other.is c.in_ok-begin.ensures.ok in
-    (begun.0, begun.1, record { place = begun.2.1; all_read = sym (none_taken reader.Definition begun.0 begun.2.0) })
+    (begun.0, begun.1, record { place = place_is_told _ begun.0 begun.2.1; all_read = sym (none_taken reader.Definition begun.0 begun.2.0) })

@@ -1,10 +1,10 @@
-use Rattle.std.proofs.Common.{◌≡◌, ◌||◌, length, ap, ap₂, ◌∙◌, arith}
+use Rattle.std.proofs.Common.{◌≡◌, ◌||◌, length, ap, ◌∙◌, arith}
 use Rattle.std.specs.List.{list_all}
 use Rattle.unread_members.specs.Unread.{reads}
 use Rattle.unread_members.specs.declared.reader.Reader.TheVariants as reader
-use Rattle.flag_doubts.specs.Doubled.{member_names}
-use Rattle.flag_doubts.specs.Repeated.{has_twin}
-use Rattle.flag_doubts.proofs.Open.{added_names}
+use Rattle.repeated_names.specs.Repeated.{has_twin, member_names}
+use Rattle.repeated_names.proofs.Open.{added_names}
+use Rattle.repeated_names.proofs.Placing.{members_are_told, twin_is_told}
 use Rattle.flag_doubts.proofs.definition.in_rules.Goals as goal
 
 pub returns-clause-ok : goal.returns-clause-ok
@@ -16,7 +16,7 @@ returns-clause-ok c =
       read.0,
       read.1,
       record {
-        place = c.in_ok-place.ensures ∙ ap₂ (λ ns b. has_twin ns || b) inner read.2.0;
+        place = twin_is_told _ c.in_ok-inner.inner _ (member_names read.0) c.in_ok-place.ensures inner ∙ ap (λ b. has_twin (member_names read.0) || b) (members_are_told c.in_ok-inner.inner read.0 read.2.0);
         all_read = c.takes_each-all_read.ensures ∙ ap (list_all (reads reader.Definition)) inner;
       },
     )

@@ -6,12 +6,15 @@ use Rattle.json.specs.Json.{read_key, members, value, no_members, member}
 use Rattle.json.proofs.Grammar.{read_key-shorter}
 use Rattle.unread_members.specs.Unread.{reads}
 use Rattle.unread_members.specs.declared.reader.Reader.TheVariants as reader
+use Rattle.repeated_names.specs.Repeated.{has_twin, member_names, repeats}
+use Rattle.repeated_names.proofs.Grammar.{joined, members_first, member_taken, member_refused, key_refused, members_over, member_names-more}
+use Rattle.repeated_names.proofs.Open.{no_key, one_name, seen_more, added_names}
+use Rattle.repeated_names.proofs.Placing.{behind_is_told, place_is_told, twin_is_told}
 use Rattle.flag_doubts.specs.AllRead.{are_definitions_read, are_flags_read}
-use Rattle.flag_doubts.specs.Doubled.{member_names, members_in}
+use Rattle.flag_doubts.specs.Doubled.{members_in}
 use Rattle.flag_doubts.specs.FoundFlags.{FindsIn}
-use Rattle.flag_doubts.specs.Repeated.{has_twin, repeats, repeats_beside}
-use Rattle.flag_doubts.proofs.Grammar.{joined, members_first, member_taken, member_refused, key_refused, members_over, member_names-more, repeats_beside-more, get_member-more, are_flags_read-more, and_true, or_none}
-use Rattle.flag_doubts.proofs.Open.{no_key, one_name, seen_more, added_names}
+use Rattle.flag_doubts.specs.Repeated.{repeats_beside}
+use Rattle.flag_doubts.proofs.Grammar.{repeats_beside-more, get_member-more, are_flags_read-more, and_true, or_none}
 use Rattle.flag_doubts.proofs.Others.{finds_whole}
 use Rattle.flag_doubts.proofs.repeated.in_members.Goals as goal
 
@@ -105,7 +108,7 @@ members-preserved c =
       member_taken (value c.args.depth) n l.reader _ done l.invariant.4 k s r j (omega (arith, l.invariant.3)) named read.1,
       omega (arith, l.invariant.5),
       subst (λ o. FindsIn o l.flags) (sym last) l.invariant.6,
-      c.in_ok-place.ensures ∙ ap₂ (λ a b. a || b) l.invariant.7 read.2 ∙ sym beside,
+      behind_is_told _ _ _ _ c.in_ok-place.ensures ∙ ap₂ (λ a b. a || b) l.invariant.7 (place_is_told _ j read.2) ∙ sym beside,
       l.invariant.8 ∙ sym (taken ∙ and_true (are_flags_read done)),
       one_name c.place_in.new.names.items l.names.items c.args.names.now.items l.invariant.2 c.in-Some.name l.invariant.9 (c.in_ok-inner.ensures.names ∙ c.in_ok-push.ensures.items),
       seen_more l.invariant.2 c.in-Some.name (member_names done) l.invariant.10 ∙ sym (member_names-more k j done),
@@ -119,6 +122,6 @@ returns-clause-ok c =
     let inner = added_names c.deref.result.now l.names.items c.args.names.now.items l.invariant.2 (member_names done) c.len-outer.result many c.deref.ensures.value l.invariant.9 l.invariant.10 in (
       done,
       members_over (value c.args.depth) l.invariant.0 l.reader _ done l.invariant.4 c.next_key.new.self l.invariant.3 (grind arith),
-      finds_whole done l.flags _ c.told.ensures.flags l.invariant.6 (ap (λ o. is_some o) c.told.ensures.document ∙ c.in_ok-twin_or.ensures ∙ ap₂ (λ ns b. has_twin ns || b) inner l.invariant.7)
+      finds_whole done l.flags _ c.told.ensures.flags l.invariant.6 (ap (λ o. is_some o) c.told.ensures.document ∙ twin_is_told _ l.place _ (member_names done) c.in_ok-twin_or.ensures inner ∙ ap (λ b. has_twin (member_names done) || b) l.invariant.7)
           (c.told.ensures.all_read ∙ ap₂ (λ a b. a && b) (c.takes_each.ensures ∙ ap (list_all (reads reader.Document)) inner) l.invariant.8),
     )

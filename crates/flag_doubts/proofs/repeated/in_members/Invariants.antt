@@ -1,11 +1,11 @@
 use Rattle.std.proofs.Common.{◌≡◌, ℕ, ◌≤◌, ◌++◌, List, Bor, codes, length, map, is_some}
 use Rattle.json.specs.Find.{get_member}
 use Rattle.json.specs.Json.{Members, members, value, parse_map}
+use Rattle.repeated_names.specs.Repeated.{member_names}
+use Rattle.repeated_names.proofs.Grammar.{joined}
 use Rattle.flag_doubts.specs.AllRead.{are_flags_read}
-use Rattle.flag_doubts.specs.Doubled.{member_names}
 use Rattle.flag_doubts.specs.FoundFlags.{FindsIn}
 use Rattle.flag_doubts.specs.Repeated.{repeats_beside}
-use Rattle.flag_doubts.proofs.Grammar.{joined}
 use Rattle.flag_doubts.proofs.repeated.in_members.Given as goal
 
 abbrev pub invariant-members : goal.invariant-members

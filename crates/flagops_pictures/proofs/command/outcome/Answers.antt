@@ -1,10 +1,9 @@
-use Rattle.std.proofs.Common.{◌≡◌, ◌∙◌, ◌∷◌, Err, Result, ap, subst, sym}
+use Rattle.std.proofs.Common.{◌≡◌, ◌∙◌, Err, Result, ap, subst, sym}
 use Rattle.std.proofs.lemmas.Result.{err_from_is_err_and}
 use Rattle.plan_text.specs.Answer.{planned_view}
 use Rattle.flagops_files.specs.Question.{book_question_view}
 use Rattle.flagops_rollouts.proofs.Verdicts.{failed_second}
-use Rattle.flagops_rollouts.specs.Loaded.{plan_at}
-use Rattle.flagops_files.specs.Told.{attempt_of, by_kind, file}
+use Rattle.flagops_rollouts.specs.Attempts.{plan_read}
 use Rattle.flagops_rollouts.specs.Refusal.{ComesFrom, Refused, call_of}
 use Rattle.flagops_shell.specs.declared.outcome.Outcome.{Outcome}
 use Rattle.flagops_pictures.specs.Diagnostics.{checked_subjects}
@@ -32,7 +31,7 @@ returns-in_err-question-clause-names g c =
     let a = picturing_view c.args.asked.now in
     let p = err_from_is_err_and c.from_residual.result c.from_residual.ensures.1 in
     let is : c.from_residual.result ≡ Err c.in_err-question.field-0.0 = p.1 ∙ ap Err p.2 in
-    in_question a.document a.request a.book (λ at. attempt_of (file a.plan) (plan_at at a.plan) ∷ by_kind (checked_subjects a.request a.plan)) _ c.from_residual.result c.in_err-question.field-0.0 is c.in_err-question.ensures.names
+    in_question a.document a.request a.book (λ at. plan_read at a.plan (checked_subjects a.request a.plan)) _ c.from_residual.result c.in_err-question.field-0.0 is c.in_err-question.ensures.names
 
 -- ---- a plan file that is refused
 

@@ -5,7 +5,7 @@ use Rattle.flagops_pictures.specs.Ramps.{IsRampDrawn}
 use Rattle.flagops_pictures.proofs.ramps.drawn.Goals as goal
 
 pub sheet-requires-clause-right : goal.sheet-requires-clause-right
-sheet-requires-clause-right g c = λ κs within. subst (λ (f : Option ℕ). AreRightAnswers f c.args.right.now) (sym c.factor_number.ensures.value) c.requires
+sheet-requires-clause-right g c = λ κs within. subst (λ (f : Option ℕ). AreRightAnswers f c.args.right.now) (sym c.factor_number.ensures.value) c.requires.right
 
 pub returns-clause-drawn : goal.returns-clause-drawn
 returns-clause-drawn g c =

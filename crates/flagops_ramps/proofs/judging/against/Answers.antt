@@ -1,5 +1,5 @@
 use Rattle.std.proofs.Common.{◌≡◌, ◌∙◌, Err, Ok, ap, false, map, option_map, refl, rules, subst, sym}
-use Rattle.flagops_files.specs.Question.{book_question_view}
+use Rattle.flagops_files.specs.Question.{question_view}
 use Rattle.plan_text.specs.Answer.{planned_view}
 use Rattle.ramp_steps.specs.Steps.{requests_view, steps_of}
 use Rattle.flagops_ramps.specs.Judging.{IsFoundOf}
@@ -16,13 +16,13 @@ returns-in-Ok-clause-exact g c =
     let refine = option_map (λ m. m.number) a.rollout.refine in
     let answers = map planned_view c.in_ok-answers.answers.items in
     read_so (g.F.FileSet.holding c.args.files.now) a.ramp.now refine c.args.question answers c.over.result c.in_ok-answers.ensures.exact
-    (steps_found refine (book_question_view c.args.question) (requests_view c.in-Ok.steps.items) answers c.over.result (ap steps_of (sym c.bytes.ensures) ∙ c.in-Ok.ensures.exact) c.over.ensures.exact)
+    (steps_found refine (question_view c.args.question) (requests_view c.in-Ok.steps.items) answers c.over.result (ap steps_of (sym c.bytes.ensures) ∙ c.in-Ok.ensures.exact) c.over.ensures.exact)
 
 pub returns-in-Err-clause-exact : goal.returns-in-Err-clause-exact
 returns-in-Err-clause-exact g c =
     let a = c.args.asked.now in
     let refine = option_map (λ m. m.number) a.rollout.refine in
-    let q = book_question_view c.args.question in
+    let q = question_view c.args.question in
     let answers = map planned_view c.in_ok-answers.answers.items in
     let unfound = steps_unfound refine q answers c.in-Err.fault (of_steps c.in-Err.fault) refl (λ other. ap steps_of (sym c.bytes.ensures) ∙ c.in-Err.ensures.exact other) in
     read_unfound (g.F.FileSet.holding c.args.files.now) a.ramp.now refine c.args.question answers c.steps_refused.result.refusal c.in_ok-answers.ensures.exact

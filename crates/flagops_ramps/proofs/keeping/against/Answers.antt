@@ -1,5 +1,5 @@
 use Rattle.std.proofs.Common.{◌≡◌, ◌∙◌, Err, ap, inl, map, rules, sym}
-use Rattle.flagops_files.specs.Question.{book_question_view}
+use Rattle.flagops_files.specs.Question.{question_view}
 use Rattle.plan_text.specs.Answer.{planned_view}
 use Rattle.ramp_steps.specs.Steps.{requests_view, steps_of}
 use Rattle.flagops_ramps.specs.Words.{keeping_view}
@@ -9,7 +9,7 @@ use Rattle.flagops_ramps.proofs.keeping.against.Goals as goal
 pub returns-in-Ok-clause-exact : goal.returns-in-Ok-clause-exact
 returns-in-Ok-clause-exact g c =
     let over = rw (c.as_slice-in-Ok.ensures.value, c.as_slice.ensures.value) at c.over.ensures.exact in
-    of_both (keeping_view c.args.asked.now) c.args.question.document.items (book_question_view c.args.question) (g.F.FileSet.holding c.args.files.now) (g.F.FileSet.holding c.load_ramp.new.files) _ (map planned_view c.in_ok-answers.answers.items)
+    of_both (keeping_view c.args.asked.now) c.args.question.document.items (question_view c.args.question) (g.F.FileSet.holding c.args.files.now) (g.F.FileSet.holding c.load_ramp.new.files) _ (map planned_view c.in_ok-answers.answers.items)
     (requests_view c.in-Ok.steps.items) c.over.result c.load_ramp.ensures.kept c.in_ok-answers.ensures.exact (ap steps_of (sym c.bytes.ensures) ∙ c.in-Ok.ensures.exact) over
 
 pub returns-in-Ok-clause-failed : goal.returns-in-Ok-clause-failed
@@ -23,7 +23,7 @@ returns-in-Ok-clause-kept g c = kept_once _ _ _ _ c.load_ramp.ensures.kept c.ove
 
 pub returns-in-Err-clause-exact : goal.returns-in-Err-clause-exact
 returns-in-Err-clause-exact g c =
-    of_no_steps (keeping_view c.args.asked.now) c.args.question.document.items (book_question_view c.args.question) (g.F.FileSet.holding c.args.files.now) (g.F.FileSet.holding c.load_ramp.new.files) (map planned_view c.in_ok-answers.answers.items)
+    of_no_steps (keeping_view c.args.asked.now) c.args.question.document.items (question_view c.args.question) (g.F.FileSet.holding c.args.files.now) (g.F.FileSet.holding c.load_ramp.new.files) (map planned_view c.in_ok-answers.answers.items)
     c.in-Err.fault c.steps_refused.result c.load_ramp.ensures.kept c.in_ok-answers.ensures.exact c.steps_refused.ensures.refusal (λ other. ap steps_of (sym c.bytes.ensures) ∙ c.in-Err.ensures.exact other)
 
 pub returns-in-Err-clause-left : goal.returns-in-Err-clause-left
@@ -35,7 +35,7 @@ returns-in-Err-clause-kept g c = inl c.load_ramp.ensures.kept
 pub returns-in_err-answers-clause-exact : goal.returns-in_err-answers-clause-exact
 returns-in_err-answers-clause-exact g c =
     let is : c.from_residual.result ≡ Err c.in_err-answers.field-0.0 = search rules in
-    of_none (keeping_view c.args.asked.now) c.args.question.document.items (book_question_view c.args.question) (g.F.FileSet.holding c.args.files.now) (g.F.FileSet.holding c.load_ramp.new.files) c.in_err-answers.field-0.0 c.from_residual.result is
+    of_none (keeping_view c.args.asked.now) c.args.question.document.items (question_view c.args.question) (g.F.FileSet.holding c.args.files.now) (g.F.FileSet.holding c.load_ramp.new.files) c.in_err-answers.field-0.0 c.from_residual.result is
     c.load_ramp.ensures.kept c.in_err-answers.ensures.exact
 
 pub returns-in_err-answers-clause-left : goal.returns-in_err-answers-clause-left

@@ -1,12 +1,12 @@
 use Rattle.std.proofs.Common.{inl}
-use Rattle.flagops_files.specs.Question.{book_question_view}
+use Rattle.flagops_files.specs.Question.{question_view}
 use Rattle.flagops_ramps.specs.Words.{keeping_view}
 use Rattle.flagops_ramps.proofs.Kept.{failed_once, kept_once, kept_whole, left_once, no_question}
 use Rattle.flagops_ramps.proofs.keeping.keep.Goals as goal
 
 pub returns-in-Ok-clause-exact : goal.returns-in-Ok-clause-exact
 returns-in-Ok-clause-exact g c =
-    kept_whole (keeping_view c.args.asked.now) (g.F.FileSet.holding c.args.files.now) (g.F.FileSet.holding c.load_book_question.new.files) _ c.in-Ok.question.document.items (book_question_view c.in-Ok.question) c.against.result
+    kept_whole (keeping_view c.args.asked.now) (g.F.FileSet.holding c.args.files.now) (g.F.FileSet.holding c.load_question.new.files) _ c.in-Ok.question.document.items (question_view c.in-Ok.question) c.against.result
     c.in-Ok.ensures.kept c.in-Ok.ensures.exact c.in-Ok.ensures.bytes c.against.ensures.exact
 
 pub returns-in-Ok-clause-failed : goal.returns-in-Ok-clause-failed
@@ -20,7 +20,7 @@ returns-in-Ok-clause-kept g c = kept_once _ _ _ _ c.in-Ok.ensures.kept c.against
 
 pub returns-in-Err-clause-exact : goal.returns-in-Err-clause-exact
 returns-in-Err-clause-exact g c =
-    no_question (keeping_view c.args.asked.now) (g.F.FileSet.holding c.args.files.now) (g.F.FileSet.holding c.load_book_question.new.files) c.in-Err.refused c.of.result c.of.ensures.refusal c.in-Err.ensures.kept c.in-Err.ensures.exact
+    no_question (keeping_view c.args.asked.now) (g.F.FileSet.holding c.args.files.now) (g.F.FileSet.holding c.load_question.new.files) c.in-Err.refused c.of.result c.of.ensures.refusal c.in-Err.ensures.kept c.in-Err.ensures.exact
 
 pub returns-in-Err-clause-left : goal.returns-in-Err-clause-left
 returns-in-Err-clause-left g c = inl c.in-Err.ensures.kept

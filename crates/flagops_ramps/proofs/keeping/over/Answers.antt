@@ -1,5 +1,5 @@
 use Rattle.std.proofs.Common.{ap, map, ℕ, Vec, Global}
-use Rattle.flagops_files.specs.Question.{book_question_view}
+use Rattle.flagops_files.specs.Question.{question_view}
 use Rattle.plan_text.specs.Answer.{planned_view}
 use Rattle.ramp_steps.specs.Steps.{requests_view}
 use Rattle.flagops_ramps.specs.Words.{keeping_view}
@@ -8,10 +8,10 @@ use Rattle.flagops_ramps.proofs.keeping.over.Goals as goal
 
 pub returns-clause-exact : goal.returns-clause-exact
 returns-clause-exact g c =
-    over_counted (keeping_view c.args.asked.now) c.args.question.document.items (book_question_view c.args.question) (map planned_view c.args.answers.now) (requests_view c.args.steps.now) _ _ c.count.new.question.document.items
-    (book_question_view c.count.new.question) c.counted.result (ap (λ (v : Vec ℕ Global). v.items) c.count.ensures.document) c.count.ensures.kept c.counted.ensures.exact
+    over_counted (keeping_view c.args.asked.now) c.args.question.document.items (question_view c.args.question) (map planned_view c.args.answers.now) (requests_view c.args.steps.now) _ _ c.count.new.question.document.items
+    (question_view c.count.new.question) c.counted.result (ap (λ (v : Vec ℕ Global). v.items) c.count.ensures.document) c.count.ensures.kept c.counted.ensures.exact
 
 pub returns-in_default-clause-exact : goal.returns-in_default-clause-exact
 returns-in_default-clause-exact g c =
     let files = g.F.FileSet.holding c.args.files.now in
-    over_want (keeping_view c.args.asked.now) c.args.question.document.items (book_question_view c.args.question) (map planned_view c.args.answers.now) (requests_view c.args.steps.now) files files c.out_of_memory.result c.out_of_memory.ensures.want
+    over_want (keeping_view c.args.asked.now) c.args.question.document.items (question_view c.args.question) (map planned_view c.args.answers.now) (requests_view c.args.steps.now) files files c.out_of_memory.result c.out_of_memory.ensures.want

@@ -1,5 +1,5 @@
 use Rattle.std.proofs.Common.{is_some, map}
-use Rattle.flagops_files.specs.Question.{book_question_view}
+use Rattle.flagops_files.specs.Question.{question_view}
 use Rattle.plan_text.specs.Answer.{planned_view}
 use Rattle.ramp_steps.specs.Steps.{requests_view}
 use Rattle.flagops_ramps.specs.Doubts.{doubt_of_steps, settle}
@@ -11,11 +11,11 @@ use Rattle.flagops_ramps.proofs.verifying.reported.Goals as goal
 pub returns-in-Ok-clause-exact : goal.returns-in-Ok-clause-exact
 returns-in-Ok-clause-exact g c =
     let a = c.args.right.now in
-    let doubt = doubt_of_steps (book_question_view a.question) (requests_view a.steps.items) in
+    let doubt = doubt_of_steps (question_view a.question) (requests_view a.steps.items) in
     told_so (settle call.VerifyRamp c.args.asked.now.rollout.strict doubt) (is_some c.in-Ok.remark) (report_valid (map planned_view a.answers.items)) c.valid.result (rw c.as_slice-steps.ensures.value at c.in-Ok.ensures.exact) (rw c.as_slice.ensures.value at c.valid.ensures.exact)
 
 pub returns-in-Err-clause-exact : goal.returns-in-Err-clause-exact
 returns-in-Err-clause-exact g c =
     let a = c.args.right.now in
-    let doubt = doubt_of_steps (book_question_view a.question) (requests_view a.steps.items) in
+    let doubt = doubt_of_steps (question_view a.question) (requests_view a.steps.items) in
     refused_so (settle call.VerifyRamp c.args.asked.now.rollout.strict doubt) (report_valid (map planned_view a.answers.items)) c.in-Err.told (rw c.as_slice-steps.ensures.value at c.in-Err.ensures.exact)

@@ -2,6 +2,14 @@ use Rattle.flag_defs.specs.Flags.{flags_view}
 use Rattle.plan_text.specs.Answer.{planned_view}
 use Rattle.flagops_rollouts.proofs.Omissions.{told_names_of}
 use Rattle.flagops_rollouts.proofs.Verdicts.{applied}
+use Rattle.std.proofs.Common.{◌≡◌, ◌∙◌, [], ◌∷◌, Err, ap}
+use Rattle.std.proofs.lemmas.Result.{err_from_is_err_and}
+use Rattle.flagops_files.specs.Told.{attempt, file}
+use Rattle.flagops_rollouts.proofs.Attempted.{at_first, behind_plan, document_read, document_refused, plan_refused}
+use Rattle.flagops_rollouts.specs.Attempts.{Attempts, plan_read}
+use Rattle.flagops_rollouts.specs.Loaded.{IsDocumentAt}
+use Rattle.flagops_rollouts.specs.Subjects.{applied_subjects}
+use Rattle.flagops_shell.specs.Files.{Holding}
 use Rattle.flagops_rollouts.proofs.applying.apply.Goals as goal
 
 pub returns-clause-exact : goal.returns-clause-exact
@@ -11,3 +19,30 @@ returns-clause-exact g c =
 
 pub returns-clause-notes : goal.returns-clause-notes
 returns-clause-notes g c = told_names_of c.args.document.now (flags_view c.in_ok-loaded.loaded.flags) c.applied.result c.applied.ensures.notes
+
+pub returns-in_err-loaded-clause-first : goal.returns-in_err-loaded-clause-first
+returns-in_err-loaded-clause-first g c =
+    let document = c.args.document.now in
+    let first : Holding → Attempts = λ at. attempt (file document) (IsDocumentAt at document) ∷ [] in
+    let p = err_from_is_err_and c.from_residual.result c.from_residual.ensures.1 in
+    let is : c.from_residual.result ≡ Err c.in_err-loaded.field-0.0 = p.1 ∙ ap Err p.2 in
+    at_first (g.F.FileSet.holding c.args.files.now) first (λ at. plan_read at c.args.plan.now (applied_subjects document c.args.plan.now)) c.in_err-loaded.field-0.0 c.from_residual.result is
+    (document_refused document c.in_err-loaded.field-0.0 (g.F.FileSet.holding c.args.files.now) c.in_err-loaded.ensures.exact c.in_err-loaded.ensures.names)
+
+pub returns-in_err-planned-clause-first : goal.returns-in_err-planned-clause-first
+returns-in_err-planned-clause-first g c =
+    let document = c.args.document.now in
+    let old = g.F.FileSet.holding c.args.files.now in
+    let first : Holding → Attempts = λ at. attempt (file document) (IsDocumentAt at document) ∷ [] in
+    let p = err_from_is_err_and c.from_residual-in_err-planned.result c.from_residual-in_err-planned.ensures.1 in
+    let is : c.from_residual-in_err-planned.result ≡ Err c.in_err-planned.field-0.0 = p.1 ∙ ap Err p.2 in
+    plan_refused old first _ c.load_document.ensures.kept c.args.plan.now (applied_subjects document c.args.plan.now) c.in_err-planned.field-0.0 c.from_residual-in_err-planned.result is
+    (document_read document (flags_view c.in_ok-loaded.loaded.flags) old c.in_ok-loaded.ensures.exact) c.in_err-planned.ensures.exact c.in_err-planned.ensures.names
+
+pub returns-clause-first : goal.returns-clause-first
+returns-clause-first g c =
+    let document = c.args.document.now in
+    let old = g.F.FileSet.holding c.args.files.now in
+    let first : Holding → Attempts = λ at. attempt (file document) (IsDocumentAt at document) ∷ [] in
+    behind_plan old first _ c.load_document.ensures.kept c.args.plan.now (applied_subjects document c.args.plan.now) (planned_view c.in_ok-planned.planned) c.applied.result
+    (document_read document (flags_view c.in_ok-loaded.loaded.flags) old c.in_ok-loaded.ensures.exact) c.in_ok-planned.ensures.exact c.applied.ensures.names

@@ -12,6 +12,8 @@ use Rattle.plan_text.specs.Answer.{planned_view}
 use Rattle.flagops_files.specs.Question.{question_view}
 use Rattle.flagops_shell.proofs.Kept.{kept_after}
 use Rattle.flagops_rollouts.proofs.Edited.{comes_so, failed_after, kept_whole, left_after, no_plan_so, no_question}
+use Rattle.flagops_rollouts.proofs.Attempted.{at_first, behind_plan, plan_refused, question_read}
+use Rattle.flagops_rollouts.specs.Attempts.{plan_read, question_attempts}
 use Rattle.flagops_rollouts.proofs.keeping.keep.Goals as goal
 
 pub returns-in_err-question-clause-exact : goal.returns-in_err-question-clause-exact
@@ -71,3 +73,36 @@ returns-clause-left g c = left_after _ _ _ _ c.args.document.now c.args.write c.
 
 pub returns-clause-kept : goal.returns-clause-kept
 returns-clause-kept g c = kept_after _ _ _ _ _ c.load_question.ensures.kept c.load_planned.ensures.kept c.answer.ensures.kept
+
+pub returns-in_err-question-clause-first : goal.returns-in_err-question-clause-first
+returns-in_err-question-clause-first g c =
+    let document = c.args.document.now in
+    let request = c.args.request.now in
+    let book = c.args.book.now in
+    let made : Subjects = (file request, is_of_kept_request) ∷ (file c.args.plan.now, is_of_kept_answer) ∷ (file document, is_of_kept_document) ∷ doubt_subjects request book in
+    let p = err_from_is_err_and c.from_residual.result c.from_residual.ensures.1 in
+    let is : c.from_residual.result ≡ Err c.in_err-question.field-0.0 = p.1 ∙ ap Err p.2 in
+    at_first (g.F.FileSet.holding c.args.files.now) (λ at. question_attempts at document request book) (λ at. plan_read at c.args.plan.now made) c.in_err-question.field-0.0 c.from_residual.result is
+    c.in_err-question.ensures.first
+
+pub returns-in_err-planned-clause-first : goal.returns-in_err-planned-clause-first
+returns-in_err-planned-clause-first g c =
+    let document = c.args.document.now in
+    let request = c.args.request.now in
+    let book = c.args.book.now in
+    let old = g.F.FileSet.holding c.args.files.now in
+    let made : Subjects = (file request, is_of_kept_request) ∷ (file c.args.plan.now, is_of_kept_answer) ∷ (file document, is_of_kept_document) ∷ doubt_subjects request book in
+    let p = err_from_is_err_and c.from_residual-in_err-planned.result c.from_residual-in_err-planned.ensures.1 in
+    let is : c.from_residual-in_err-planned.result ≡ Err c.in_err-planned.field-0.0 = p.1 ∙ ap Err p.2 in
+    plan_refused old (λ at. question_attempts at document request book) _ c.load_question.ensures.kept c.args.plan.now made c.in_err-planned.field-0.0 c.from_residual-in_err-planned.result is
+    (question_read document request book (question_view c.in_ok-question.question) old c.in_ok-question.ensures.exact) c.in_err-planned.ensures.exact c.in_err-planned.ensures.names
+
+pub returns-clause-first : goal.returns-clause-first
+returns-clause-first g c =
+    let document = c.args.document.now in
+    let request = c.args.request.now in
+    let book = c.args.book.now in
+    let old = g.F.FileSet.holding c.args.files.now in
+    let made : Subjects = (file request, is_of_kept_request) ∷ (file c.args.plan.now, is_of_kept_answer) ∷ (file document, is_of_kept_document) ∷ doubt_subjects request book in
+    behind_plan old (λ at. question_attempts at document request book) _ c.load_question.ensures.kept c.args.plan.now made (planned_view c.in_ok-planned.planned) c.answer.result
+    (question_read document request book (question_view c.in_ok-question.question) old c.in_ok-question.ensures.exact) c.in_ok-planned.ensures.exact c.answer.ensures.names

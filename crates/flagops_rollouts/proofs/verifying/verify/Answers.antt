@@ -3,6 +3,13 @@ use Rattle.std.proofs.lemmas.Result.{err_from_is_err_and}
 use Rattle.plan_text.specs.Answer.{planned_view}
 use Rattle.flagops_files.specs.Question.{question_view}
 use Rattle.flagops_rollouts.proofs.Verdicts.{failed_second, unanswered, verified}
+use Rattle.std.specs.Prelude.{◌∷◌}
+use Rattle.flagops_files.specs.Told.{file}
+use Rattle.flagops_rollouts.proofs.Attempted.{at_first, behind_plan, plan_refused, question_read}
+use Rattle.flagops_rollouts.specs.Attempts.{plan_read, question_attempts}
+use Rattle.flagops_rollouts.specs.Doubts.{doubt_subjects}
+use Rattle.flagops_rollouts.specs.Refusal.{Subjects}
+use Rattle.flagops_rollouts.specs.Subjects.{is_of_answer, is_of_request}
 use Rattle.flagops_rollouts.proofs.verifying.verify.Goals as goal
 
 pub returns-clause-exact : goal.returns-clause-exact
@@ -22,3 +29,36 @@ returns-in_err-planned-clause-failed g c =
     let p = err_from_is_err_and c.from_residual-in_err-planned.result c.from_residual-in_err-planned.ensures.1 in
     let is : c.from_residual-in_err-planned.result ≡ Err c.in_err-planned.field-0.0 = p.1 ∙ ap Err p.2 in
     failed_second _ _ _ c.in_err-planned.field-0.0 c.from_residual-in_err-planned.result is c.in_ok-question.ensures.failed c.in_err-planned.ensures.failed
+
+pub returns-in_err-question-clause-first : goal.returns-in_err-question-clause-first
+returns-in_err-question-clause-first g c =
+    let document = c.args.document.now in
+    let request = c.args.request.now in
+    let book = c.args.book.now in
+    let made : Subjects = (file request, is_of_request) ∷ (file c.args.plan.now, is_of_answer) ∷ doubt_subjects request book in
+    let p = err_from_is_err_and c.from_residual.result c.from_residual.ensures.1 in
+    let is : c.from_residual.result ≡ Err c.in_err-question.field-0.0 = p.1 ∙ ap Err p.2 in
+    at_first (g.F.FileSet.holding c.args.files.now) (λ at. question_attempts at document request book) (λ at. plan_read at c.args.plan.now made) c.in_err-question.field-0.0 c.from_residual.result is
+    c.in_err-question.ensures.first
+
+pub returns-in_err-planned-clause-first : goal.returns-in_err-planned-clause-first
+returns-in_err-planned-clause-first g c =
+    let document = c.args.document.now in
+    let request = c.args.request.now in
+    let book = c.args.book.now in
+    let old = g.F.FileSet.holding c.args.files.now in
+    let made : Subjects = (file request, is_of_request) ∷ (file c.args.plan.now, is_of_answer) ∷ doubt_subjects request book in
+    let p = err_from_is_err_and c.from_residual-in_err-planned.result c.from_residual-in_err-planned.ensures.1 in
+    let is : c.from_residual-in_err-planned.result ≡ Err c.in_err-planned.field-0.0 = p.1 ∙ ap Err p.2 in
+    plan_refused old (λ at. question_attempts at document request book) _ c.load_question.ensures.kept c.args.plan.now made c.in_err-planned.field-0.0 c.from_residual-in_err-planned.result is
+    (question_read document request book (question_view c.in_ok-question.question) old c.in_ok-question.ensures.exact) c.in_err-planned.ensures.exact c.in_err-planned.ensures.names
+
+pub returns-clause-first : goal.returns-clause-first
+returns-clause-first g c =
+    let document = c.args.document.now in
+    let request = c.args.request.now in
+    let book = c.args.book.now in
+    let old = g.F.FileSet.holding c.args.files.now in
+    let made : Subjects = (file request, is_of_request) ∷ (file c.args.plan.now, is_of_answer) ∷ doubt_subjects request book in
+    behind_plan old (λ at. question_attempts at document request book) _ c.load_question.ensures.kept c.args.plan.now made (planned_view c.in_ok-planned.planned) c.verdict-outcome.result
+    (question_read document request book (question_view c.in_ok-question.question) old c.in_ok-question.ensures.exact) c.in_ok-planned.ensures.exact c.verdict-outcome.ensures.names

@@ -1,3 +1,4 @@
+use Rattle.std.proofs.Common.{arith}
 use Rattle.ofrep_service.specs.Logs.{path_in, paths_of}
 use Rattle.flagops_service.specs.Words.{answering_view}
 use Rattle.flagops_service.proofs.Posts.{all_posted, seen_at_posts}
@@ -12,7 +13,8 @@ returns-in-Err-streams-clause-unready g c = c.why_unready-in-Err-streams.ensures
 -- there is a post for each worker
 pub returns-in-Ok-streams-clause-posts : goal.returns-in-Ok-streams-clause-posts
 returns-in-Ok-streams-clause-posts g c =
-    all_posted (λ post. post.journal) path_in c.in-Ok-bind.posts.items c.in-Ok.logs.items (answering_view c.args.answering.now).log c.args.answering.now.workers c.in-Ok-bind.ensures c.in-Ok.ensures.logs
+    let posts = c.in-Ok-bind.posts in
+    omega (arith, posts.ok.0, all_posted (λ post. post.journal) path_in posts.items c.in-Ok.logs.items (answering_view c.args.answering.now).log c.args.answering.now.workers c.in-Ok-bind.ensures c.in-Ok.ensures.logs)
 
 -- each post has the log that was opened for it
 pub returns-in-Ok-streams-clause-logs : goal.returns-in-Ok-streams-clause-logs

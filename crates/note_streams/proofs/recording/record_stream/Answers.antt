@@ -1,8 +1,11 @@
-use Rattle.std.proofs.Common.{◌≡◌, ◌+◌, ◌-◌, ◌∙◌, ℕ, nat_eq, nat_lt, IfSome, List, [], length, Result, Err, ap, length-append, drop, ◌++◌, sym, subst, arith, rules}
+use Rattle.std.proofs.Common.{◌≡◌, ◌+◌, ◌-◌, ◌∙◌, ℕ, nat_eq, IfSome, List, [], length, Result, Err, ap, length-append, drop, ◌++◌, sym, subst, arith, rules}
 use Rattle.std.proofs.lemmas.List.{length-take-le}
 use Rattle.std.proofs.lemmas.Result.{err_from_is_err_and}
 use Rattle.line_batches.specs.Fill.{Grows}
+use Rattle.record_lines.specs.Outcomes.{contexts}
 use Rattle.record_lines.specs.Scene.{scene_of}
+use Rattle.record_lines.specs.View.{outcomes_view}
+use Rattle.record_lines.specs.declared.outcomes.Outcomes as code
 use Rattle.note_streams.specs.Batch.{CountsBatch, Leaves, RecordsBatch}
 use Rattle.note_streams.specs.Recorded.{recorded_of}
 use Rattle.note_streams.specs.Stop.{is_output_fault, of_fill}
@@ -10,7 +13,7 @@ use Rattle.note_streams.specs.declared.recording.Counted.{Counted}
 use Rattle.note_streams.specs.declared.stop.RecordStop.{RecordStop}
 use Rattle.note_streams.specs.declared.stop.RecordStop.TheVariants.{WantOfMemory}
 use Rattle.note_streams.proofs.Batches.{Known, begun}
-use Rattle.note_streams.proofs.Long.{KnownLong, begun_long, ended_long, next_batch_long}
+use Rattle.note_streams.proofs.Counts.{KnownCounts, ended_counts, first_counts, next_batch_counts}
 use Rattle.note_streams.proofs.Exits.{Comes, ended, failed, next_batch, no_output_fault, told, too_long, unfilled, wanted, wanted_first}
 use Rattle.note_streams.proofs.recording.record_stream.Goals as goal
 
@@ -26,7 +29,8 @@ batches-init g c =
       room = search rules;
       short = omega (arith, ap length empty);
       few = omega (arith, ap length empty);
-      long = subst (λ (t : List ℕ). KnownLong s t 0 start start) (sym empty) (begun_long s start);
+      fewer = omega (arith, ap contexts c.none.ensures);
+      counts = subst (λ (t : List ℕ). KnownCounts s t (outcomes_view c.none.result) start start) (sym empty) (first_counts s (outcomes_view c.none.result) start c.none.ensures);
       stands = subst (λ (t : List ℕ). Known s t 0 0 start start old old) (sym empty) (begun s start old);
     }
 
@@ -44,7 +48,9 @@ batches-preserved g c =
     let grows : Grows (g.I.Inlet.bytes c.batches.input) (g.I.Inlet.bytes c.fill.new.input) before after = c.in_ok-ended.ensures.grows in
     let same : c.as_slice.result.now ≡ after = search rules in
     let leaves = subst (λ (t : List ℕ). Leaves s t rest c.batches.totals.lines c.record_batch.new.totals.lines (g.O.Outlet.bytes c.batches.out) (g.O.Outlet.bytes c.record_batch.new.out)) same c.in_ok-rest.ensures.exact in
-    let counts = subst (λ (t : List ℕ). CountsBatch s t rest c.batches.totals.long c.record_batch.new.totals.long) same c.in_ok-rest.ensures.long in
+    let counted = outcomes_view c.batches.totals.outcomes in
+    let now_counted = outcomes_view c.record_batch.new.totals.outcomes in
+    let counts = subst (λ (t : List ℕ). CountsBatch s t rest counted now_counted) same c.in_ok-rest.ensures.counted in
     let more : length after ≡ length before + length grows.added = ap length grows.batch ∙ length-append before grows.added in
     let p = c.fill.new.piece in
     let items = c.batches.piece.items in
@@ -61,7 +67,8 @@ batches-preserved g c =
       room = omega (arith, cut, c.batches.piece.ok.0, c.batches.invariant.room);
       short = omega (arith, ap length own, leaves.short);
       few = omega (arith, ap length own, leaves.few, leaves.number, i.few, more);
-      long = subst (λ (t : List ℕ). KnownLong s t c.record_batch.new.totals.long start next) (sym own) (next_batch_long s before after rest c.batches.totals.long c.record_batch.new.totals.long start (g.I.Inlet.bytes c.batches.input) next grows counts i.long);
+      fewer = c.in_ok-rest.ensures.fewer;
+      counts = subst (λ (t : List ℕ). KnownCounts s t now_counted start next) (sym own) (next_batch_counts s before after rest counted now_counted start (g.I.Inlet.bytes c.batches.input) next grows counts i.counts);
       stands = subst (λ (n : ℕ). Known s kept lines n start next old new) size (subst (λ (t : List ℕ). Known s t c.record_batch.new.totals.lines (c.batches.taken + (length after - length before)) start (g.I.Inlet.bytes c.fill.new.input) old (g.O.Outlet.bytes c.record_batch.new.out)) (sym own)
           (next_batch s (g.I.Inlet.is_broken c.fill.new.input) start old before after rest c.batches.totals.lines c.record_batch.new.totals.lines c.batches.taken (g.I.Inlet.bytes c.batches.input) (g.I.Inlet.bytes c.fill.new.input) (g.O.Outlet.bytes c.batches.out) (g.O.Outlet.bytes c.record_batch.new.out) grows leaves i.stands));
     }
@@ -146,11 +153,13 @@ returns-then-ended-clause-told g c =
     let leaves = subst (λ (t : List ℕ). Leaves s t rest c.batches.totals.lines lines mid new) same c.in_ok-rest.ensures.exact in
     let stands = next_batch s cut start old before after rest c.batches.totals.lines lines c.batches.taken now next mid new grows leaves c.batches.invariant.stands in
     let taken : size ≡ c.batches.taken + (c.len.result - c.len-had.result) = search rules in
-    let counts = subst (λ (t : List ℕ). CountsBatch s t rest c.batches.totals.long c.record_batch.new.totals.long) same c.in_ok-rest.ensures.long in
+    let counted = outcomes_view c.batches.totals.outcomes in
+    let now_counted = outcomes_view c.record_batch.new.totals.outcomes in
+    let counts = subst (λ (t : List ℕ). CountsBatch s t rest counted now_counted) same c.in_ok-rest.ensures.counted in
     let at_end = c.in_ok-ended.ensures.ended c.if-ended.true in
-    let known = next_batch_long s before after rest c.batches.totals.long c.record_batch.new.totals.long start now next grows counts c.batches.invariant.long in
-    let long = subst (λ (n : ℕ). IfSome start (λ bytes. nat_lt 0 n ≡ (recorded_of s bytes).long)) (sym c.passed_over.ensures.long) (ended_long s rest c.record_batch.new.totals.long start next leaves.none leaves.short at_end known) in
-    told s cut start old rest lines size next new c.passed_over.result leaves.none at_end c.passed_over.ensures.torn (c.passed_over.ensures.empty ∙ ap (λ (n : ℕ). nat_eq n 0) (sym taken)) long stands
+    let known = next_batch_counts s before after rest counted now_counted start now next grows counts c.batches.invariant.counts in
+    let outcomes = subst (λ (o : code.Outcomes). IfSome start (λ bytes. outcomes_view o ≡ (recorded_of s bytes).outcomes)) (sym c.passed_over.ensures.outcomes) (ended_counts s rest now_counted start next leaves.none leaves.short at_end known) in
+    told s cut start old rest lines size next new c.passed_over.result leaves.none at_end c.passed_over.ensures.torn (c.passed_over.ensures.empty ∙ ap (λ (n : ℕ). nat_eq n 0) (sym taken)) outcomes stands
 
 pub returns-in_err-held-clause-exact : goal.returns-in_err-held-clause-exact
 returns-in_err-held-clause-exact g c =

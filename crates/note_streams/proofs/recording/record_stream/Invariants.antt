@@ -1,8 +1,10 @@
 use Rattle.std.proofs.Common.{◌≡◌, ◌≤◌, ◌+◌, ◌-◌, false, length}
 use Rattle.record_lines.specs.Record.{most_line}
+use Rattle.record_lines.specs.Outcomes.{contexts}
 use Rattle.record_lines.specs.Scene.{scene_of}
+use Rattle.record_lines.specs.View.{outcomes_view}
 use Rattle.note_streams.proofs.Batches.{Known}
-use Rattle.note_streams.proofs.Long.{KnownLong}
+use Rattle.note_streams.proofs.Counts.{KnownCounts}
 use Rattle.note_streams.proofs.recording.record_stream.Given as goal
 
 abbrev pub invariant-batches : goal.invariant-batches
@@ -12,7 +14,8 @@ invariant-batches g l = record {
   room : length l.piece.items ≡ 1048576;
   short : length l.held.items ≤ most_line;
   few : l.totals.lines + length l.held.items ≤ l.taken;
-  long : KnownLong (scene_of l.recorder) l.held.items l.totals.long (g.I.Inlet.bytes l.initial.input) (g.I.Inlet.bytes l.input);
+  fewer : contexts (outcomes_view l.totals.outcomes) ≤ l.totals.lines;
+  counts : KnownCounts (scene_of l.recorder) l.held.items (outcomes_view l.totals.outcomes) (g.I.Inlet.bytes l.initial.input) (g.I.Inlet.bytes l.input);
   stands : Known (scene_of l.recorder) l.held.items l.totals.lines l.taken (g.I.Inlet.bytes l.initial.input) (g.I.Inlet.bytes l.input) (g.O.Outlet.bytes l.initial.out) (g.O.Outlet.bytes l.out);
 }
 

@@ -1,12 +1,12 @@
-use Rattle.std.proofs.Common.{◌+◌, drop, refl, arith, rules}
-use Rattle.record_lines.specs.View.{recorded_view}
+use Rattle.std.proofs.Common.{◌+◌, drop, arith, rules}
+use Rattle.record_lines.specs.View.{outcomes_view, recorded_view}
 use Rattle.note_streams.specs.Runs.{runs_view}
-use Rattle.note_streams.proofs.Long.{end_long, next_long, stop_long}
+use Rattle.note_streams.proofs.Counts.{begun_counts, end_counts, fits_counts, next_counts, stop_counts}
 use Rattle.note_streams.proofs.Running.{at_run, begun, breaks, ended, fits, next, no_run, stops}
 use Rattle.note_streams.proofs.runs.write_runs.Goals as goal
 
 pub loop-run-init : goal.loop-run-init
-loop-run-init g c = record { whole = c.requires.whole; long = refl; under = begun (g.O.Outlet.bytes c.args.out.now) (runs_view c.args.runs.now) }
+loop-run-init g c = record { whole = c.requires.whole; counts = begun_counts (outcomes_view c.none-outcomes.result) (runs_view c.args.runs.now).outcomes c.none-outcomes.ensures; under = begun (g.O.Outlet.bytes c.args.out.now) (runs_view c.args.runs.now) }
 
 pub returns-then-not-write_whole-clause-exact : goal.returns-then-not-write_whole-clause-exact
 returns-then-not-write_whole-clause-exact g c =
@@ -28,6 +28,12 @@ overflow_add-lines g c =
     let under = at_run old mid c.loop-run.lines runs i c.run-item.result (omega arith) c.run-item.is c.loop-run.invariant.under in
     omega (arith, fits old mid mid c.loop-run.lines (recorded_view c.run-item.result) (runs_view (drop (i + 1) runs)) (runs_view runs) under, c.requires.room)
 
+pub both-outcomes-requires : goal.both-outcomes-requires
+both-outcomes-requires g c =
+    let runs = c.args.runs.now in
+    let fits = fits_counts runs c.loop-run.run-index c.run-item.result (omega arith) c.run-item.is (outcomes_view c.loop-run.outcomes) (runs_view runs).outcomes (runs_view runs).lines c.loop-run.invariant.counts c.requires.few in
+    omega (arith, fits, c.requires.room)
+
 pub returns-then-run-clause-exact : goal.returns-then-run-clause-exact
 returns-then-run-clause-exact g c =
     let runs = c.args.runs.now in
@@ -46,7 +52,7 @@ loop-run-preserved g c =
     let under = at_run old mid c.loop-run.lines runs i c.run-item.result (omega arith) c.run-item.is c.loop-run.invariant.under in
     record {
       whole = search rules;
-      long = next_long runs i c.run-item.result (omega arith) c.run-item.is c.loop-run.long c.counted_both-long.result (runs_view runs).long c.counted_both-long.ensures c.loop-run.invariant.long c.if-run.false;
+      counts = next_counts runs i c.run-item.result (omega arith) c.run-item.is (outcomes_view c.loop-run.outcomes) (outcomes_view c.both-outcomes.result) (runs_view runs).outcomes c.both-outcomes.ensures c.loop-run.invariant.counts c.if-run.false;
       under = next old mid (g.O.Outlet.bytes c.write_whole.new.out) c.loop-run.lines (recorded_view c.run-item.result) (runs_view (drop (i + 1) runs)) (runs_view runs) under c.if-run.false (search rules);
     }
 
@@ -56,12 +62,12 @@ returns-clause-exact g c =
     let i = c.loop-run.run-index in
     ended (g.O.Outlet.bytes c.args.out.now) (g.O.Outlet.bytes c.loop-run.out) c.loop-run.lines (runs_view (drop i runs)) (runs_view runs) (no_run runs i (omega arith)) c.loop-run.invariant.under
 
-pub returns-then-run-clause-long : goal.returns-then-run-clause-long
-returns-then-run-clause-long g c =
+pub returns-then-run-clause-counted : goal.returns-then-run-clause-counted
+returns-then-run-clause-counted g c =
     let runs = c.args.runs.now in
-    stop_long runs c.loop-run.run-index c.run-item.result (omega arith) c.run-item.is c.loop-run.long c.counted_both-long.result (runs_view runs).long c.counted_both-long.ensures c.loop-run.invariant.long c.if-run.true
+    stop_counts runs c.loop-run.run-index c.run-item.result (omega arith) c.run-item.is (outcomes_view c.loop-run.outcomes) (outcomes_view c.both-outcomes.result) (runs_view runs).outcomes c.both-outcomes.ensures c.loop-run.invariant.counts c.if-run.true
 
-pub returns-clause-long : goal.returns-clause-long
-returns-clause-long g c =
+pub returns-clause-counted : goal.returns-clause-counted
+returns-clause-counted g c =
     let runs = c.args.runs.now in
-    end_long runs c.loop-run.run-index c.loop-run.long (runs_view runs).long (omega arith) c.loop-run.invariant.long
+    end_counts runs c.loop-run.run-index (outcomes_view c.loop-run.outcomes) (runs_view runs).outcomes (omega arith) c.loop-run.invariant.counts

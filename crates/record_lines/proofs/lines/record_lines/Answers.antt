@@ -1,9 +1,9 @@
-use Rattle.std.proofs.Common.{◌≡◌, ◌+◌, ◌∙◌, false, true, drop, sym, ap, arith, rules}
+use Rattle.std.proofs.Common.{◌≡◌, ◌+◌, ◌∙◌, false, true, drop, sym, ap, subst, arith, rules}
 use Rattle.record_lines.specs.Lines.{lines_view}
 use Rattle.record_lines.specs.Record.{Recorded, joined, record_of}
 use Rattle.record_lines.specs.Scene.{scene_of}
 use Rattle.record_lines.specs.View.{recorded_view}
-use Rattle.record_lines.proofs.Folded.{joined-first, joined-refused, first_left, next_line, none_left, one_more}
+use Rattle.record_lines.proofs.Folded.{Few, few_more, few_nothing, joined-first, joined-refused, first_left, next_line, none_left, one_more}
 use Rattle.record_lines.proofs.lines.record_lines.Goals as goal
 
 pub loop-line-init : goal.loop-line-init
@@ -14,6 +14,7 @@ loop-line-init c =
       rest = ap (λ (r : Recorded). joined r all) c.nothing-out.ensures ∙ joined-first all;
       open_ = ap (λ (r : Recorded). r.refused) c.nothing-out.ensures;
       room = omega (arith, none);
+      few = subst Few (sym c.nothing-out.ensures) few_nothing;
     }
 
 pub returns-then-out : goal.returns-then-out
@@ -38,6 +39,7 @@ loop-line-preserved c =
       rest = next_line s lines i _ (recorded_view c.loop-line.out) new (record_of s (lines_view lines)) (first_left lines i _ (omega arith)) c.loop-line.invariant.rest c.in_ok-record_line.ensures;
       open_ = goes;
       room = one_more s _ (recorded_view c.loop-line.out) new i c.in_ok-record_line.ensures c.loop-line.invariant.room;
+      few = few_more s _ (recorded_view c.loop-line.out) new c.in_ok-record_line.ensures c.loop-line.invariant.few;
     }
 
 pub returns : goal.returns

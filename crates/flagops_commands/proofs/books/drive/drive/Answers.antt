@@ -1,17 +1,38 @@
 use Rattle.flag_defs.specs.Flags.{flags_view}
 use Rattle.flagops_drive.specs.Driven.{drive_output_view}
 use Rattle.flagops_drive.specs.File.{file_view}
-use Rattle.flagops_commands.specs.Refusal.{GivesOne, loads_book, loads_flags, loads_tree}
-use Rattle.flagops_commands.specs.Drive.{HasNoAsks, HasUnreadAsk, IsWritten}
+use Rattle.flagops_commands.specs.Refusal.{GivesOne, Refused, Subjects, TellsOfOne, loads_book, loads_flags, loads_tree}
+use Rattle.flagops_commands.specs.Drive.{HasNoAsks, HasUnreadAsk, IsWritten, before_at}
 use Rattle.flagops_shell.specs.Report.{outcome_view}
 use Rattle.flagops_commands.proofs.Driving.{at_first, driven, left_by_storing, no_asks, no_book, no_document, not_driven}
-use Rattle.flagops_commands.proofs.Losing.{driven_by, told_written}
+use Rattle.flagops_commands.proofs.Firsts.{among_first, among_last, behind_three, first_refused, second_refused, third_refused}
+use Rattle.flagops_commands.proofs.Losing.{driven_by}
 use Rattle.flagops_commands.proofs.Summary.{told_numbers}
 use Rattle.flagops_shell.proofs.Kept.{kept_after, others_after}
 use Rattle.flagops_commands.proofs.Refusing.{by_another, by_name, failed_last, for_no_asks, for_unread, in_any_case, in_any_mode, none_driven, wrong_workers}
-use Rattle.std.proofs.Common.{◌∙◌, Bool, IfSome, inl, refl, rules, subst}
-use Rattle.std.specs.Prelude.{Ok}
+use Rattle.std.proofs.Common.{◌≡◌, ◌∙◌, ◌++◌, ℕ, Bool, List, Option, IfSome, ap, inl, refl, rules, subst, sym}
+use Rattle.std.specs.Prelude.{Result, Ok, Err}
+use Rattle.std.proofs.lemmas.Result.{err_from_is_err_and}
+use Rattle.book_core.specs.Book.{Contents}
+use Rattle.flag_text.specs.Shape.{Shape}
+use Rattle.flagops_files.specs.Loading.{max_text}
+use Rattle.flagops_files.specs.Told.{file}
+use Rattle.flagops_shell.specs.Files.{Holding}
+use Rattle.flagops_shell.specs.declared.outcome.Outcome.{Outcome}
+use Rattle.flagops_commands.specs.Loaded.{IsDocumentAt, tree_at}
+use Rattle.flagops_commands.specs.Subjects.{driven_subjects, written_subjects}
+use Rattle.flagops_commands.specs.declared.refusal.ListedRefusal.{ListedRefusal}
 use Rattle.flagops_commands.proofs.books.drive.drive.Goals as goal
+
+-- what is attempted after the document
+abbrev AreAsks : List ℕ → Holding → Result Shape ListedRefusal → Type 0
+AreAsks asks at t = tree_at at asks max_text ≡ t
+
+abbrev IsBefore : List ℕ → Bool → Holding → Result (Option Contents) ListedRefusal → Type 0
+IsBefore book add at before = before_at at book add ≡ before
+
+abbrev made : List ℕ → List ℕ → Subjects
+made asks book = driven_subjects asks book ++ written_subjects book
 
 pub returns-in_err-flags-clause-exact : goal.returns-in_err-flags-clause-exact
 returns-in_err-flags-clause-exact g c =
@@ -151,5 +172,38 @@ returns-clause-numbers g c =
 pub returns-clause-calls : goal.returns-clause-calls
 returns-clause-calls g c = driven_by c.written.result c.written.ensures.calls
 
+pub returns-in_err-flags-clause-names : goal.returns-in_err-flags-clause-names
+returns-in_err-flags-clause-names g c =
+    let p = err_from_is_err_and c.from_residual.result c.from_residual.ensures.1 in
+    let is : c.from_residual.result ≡ Err c.in_err-flags.field-0.0 = p.1 ∙ ap Err p.2 in
+    first_refused (file c.args.document.now) (file c.args.asks.now) (file c.args.book.now) (λ at. IsDocumentAt at c.args.document.now) (AreAsks c.args.asks.now) (IsBefore c.args.book.now c.args.add) (made c.args.asks.now c.args.book.now) (g.F.FileSet.holding c.args.files.now) c.from_residual.result
+    c.in_err-flags.field-0.0 is c.in_err-flags.ensures.exact c.in_err-flags.ensures.names
+
+pub returns-in_err-loaded-clause-names : goal.returns-in_err-loaded-clause-names
+returns-in_err-loaded-clause-names g c =
+    let p = err_from_is_err_and c.from_residual-in_err-loaded.result c.from_residual-in_err-loaded.ensures.1 in
+    let is : c.from_residual-in_err-loaded.result ≡ Err c.in_err-loaded.field-0.0 = p.1 ∙ ap Err p.2 in
+    second_refused (file c.args.document.now) (file c.args.asks.now) (file c.args.book.now) (λ at. IsDocumentAt at c.args.document.now) (AreAsks c.args.asks.now) (IsBefore c.args.book.now c.args.add) (made c.args.asks.now c.args.book.now) (g.F.FileSet.holding c.args.files.now) c.from_residual-in_err-loaded.result
+    (flags_view c.in_ok-flags.flags) c.in_ok-flags.ensures.exact c.in_err-loaded.field-0.0 is (at_first _ _ _ c.load_flags.ensures.kept c.in_err-loaded.ensures.exact) c.in_err-loaded.ensures.names
+
+pub returns-in_err-before-clause-names : goal.returns-in_err-before-clause-names
+returns-in_err-before-clause-names g c =
+    let p = err_from_is_err_and c.from_residual-in_err-before.result c.from_residual-in_err-before.ensures.1 in
+    let is : c.from_residual-in_err-before.result ≡ Err c.in_err-before.field-0.0 = p.1 ∙ ap Err p.2 in
+    third_refused (file c.args.document.now) (file c.args.asks.now) (file c.args.book.now) (λ at. IsDocumentAt at c.args.document.now) (AreAsks c.args.asks.now) (IsBefore c.args.book.now c.args.add) (made c.args.asks.now c.args.book.now) (g.F.FileSet.holding c.args.files.now) c.from_residual-in_err-before.result
+    (flags_view c.in_ok-flags.flags) c.in_ok-flags.ensures.exact (file_view c.in_ok-loaded.loaded) (at_first _ _ _ c.load_flags.ensures.kept c.in_ok-loaded.ensures.exact) c.in_err-before.field-0.0 is (at_first _ _ _ (c.load_asks.ensures.kept ∙ c.load_flags.ensures.kept) c.in_err-before.ensures.exact) c.in_err-before.ensures.names
+
+pub returns-in_err-drive_output-clause-names : goal.returns-in_err-drive_output-clause-names
+returns-in_err-drive_output-clause-names g c =
+    let p = err_from_is_err_and c.from_residual-in_err-drive_output.result c.from_residual-in_err-drive_output.ensures.1 in
+    let is : c.from_residual-in_err-drive_output.result ≡ Err c.in_err-drive_output.field-0.0 = p.1 ∙ ap Err p.2 in
+    let driven : TellsOfOne (driven_subjects c.args.asks.now c.args.book.now) c.from_residual-in_err-drive_output.result = subst (λ (s : Result Outcome Refused). TellsOfOne (driven_subjects c.args.asks.now c.args.book.now) s) (sym is) c.in_err-drive_output.ensures.names in
+    behind_three (file c.args.document.now) (file c.args.asks.now) (file c.args.book.now) (λ at. IsDocumentAt at c.args.document.now) (AreAsks c.args.asks.now) (IsBefore c.args.book.now c.args.add) (made c.args.asks.now c.args.book.now) (g.F.FileSet.holding c.args.files.now) c.from_residual-in_err-drive_output.result
+    (flags_view c.in_ok-flags.flags) c.in_ok-flags.ensures.exact (file_view c.in_ok-loaded.loaded) (at_first _ _ _ c.load_flags.ensures.kept c.in_ok-loaded.ensures.exact) c.in_ok-before.before (at_first _ _ _ (c.load_asks.ensures.kept ∙ c.load_flags.ensures.kept) c.in_ok-before.ensures.exact)
+    (among_first (driven_subjects c.args.asks.now c.args.book.now) (written_subjects c.args.book.now) c.from_residual-in_err-drive_output.result driven)
+
 pub returns-clause-names : goal.returns-clause-names
-returns-clause-names g c = told_written c.args.document.now c.args.asks.now c.args.book.now c.written.result c.written.ensures.names
+returns-clause-names g c =
+    behind_three (file c.args.document.now) (file c.args.asks.now) (file c.args.book.now) (λ at. IsDocumentAt at c.args.document.now) (AreAsks c.args.asks.now) (IsBefore c.args.book.now c.args.add) (made c.args.asks.now c.args.book.now) (g.F.FileSet.holding c.args.files.now) c.written.result
+    (flags_view c.in_ok-flags.flags) c.in_ok-flags.ensures.exact (file_view c.in_ok-loaded.loaded) (at_first _ _ _ c.load_flags.ensures.kept c.in_ok-loaded.ensures.exact) c.in_ok-before.before (at_first _ _ _ (c.load_asks.ensures.kept ∙ c.load_flags.ensures.kept) c.in_ok-before.ensures.exact)
+    (among_last (driven_subjects c.args.asks.now c.args.book.now) (written_subjects c.args.book.now) c.written.result c.written.ensures.names)

@@ -7,8 +7,6 @@ use Rattle.record_lines.proofs.scene.Recorder.note_all.Given as goal
 
 abbrev pub invariant-loop-reach : goal.invariant-loop-reach
 invariant-loop-reach l = record {
-  text : l.out.text.items ++ flat_map (note_of (scene_of l.self)) (map reach_view (drop l.reach-index l.reached)) ≡ l.fn.out.text.items ++ flat_map (note_of (scene_of l.self)) (map reach_view l.reached);
-  long : (nat_lt 0 l.out.long || list_any is_long (map reach_view (drop l.reach-index l.reached))) ≡ (nat_lt 0 l.fn.out.long || list_any is_long (map reach_view l.reached));
-  lines : l.out.lines ≡ l.fn.out.lines;
-  refused : l.out.refused ≡ l.fn.out.refused;
+  text : l.text.items ++ flat_map (note_of (scene_of l.self)) (map reach_view (drop l.reach-index l.reached)) ≡ l.fn.text.items ++ flat_map (note_of (scene_of l.self)) (map reach_view l.reached);
+  long : (nat_lt 0 l.long || list_any is_long (map reach_view (drop l.reach-index l.reached))) ≡ list_any is_long (map reach_view l.reached);
 }

@@ -1,0 +1,10 @@
+//! What the library says of itself.
+ghost use Rattle.std.specs.Prelude.{◌≡◌};
+ghost use Rattle.flagops_c.specs.About.{about_text};
+
+/// The library's version, the kit that proves it, and the sum of its sources, a line each. `./build` writes the last two.
+pub(crate) fn about() -> &'static str
+    ensures { result.now ≡ about_text }
+{
+    "libflagops 0.1.0\nproved with rattle-kit-13f logic dac8208d650f15bf\nsources 31819243624e5121e62d8257405e310e5e488284c800642c786a7e2f75cb959a\n"
+}

@@ -1,0 +1,5 @@
+pub mod Documents
+pub mod Grammar
+pub mod Open
+pub mod Placing
+pub mod SecondNames
