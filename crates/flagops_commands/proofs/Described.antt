@@ -1,9 +1,8 @@
 -- What a person is told of what a command came to, as its trait shows it.
-use Rattle.std.proofs.Common.{◌≡◌, true, false, List, ℕ, Option, Some, None, IfOk, IfSome, IfErr, refl, subst}
+use Rattle.std.proofs.Common.{Option, Some, None, IfOk, IfSome, IfErr, refl, subst}
 use Rattle.std.specs.Prelude.{Result, Ok, Err}
 use Rattle.flagops_commands.specs.Refusal.{ComesFrom, Refused, call_name, call_of, is_want}
 use Rattle.flagops_shell.specs.Outcomes.{IsCallOf}
-use Rattle.flagops_commands.specs.declared.refusal.ListedCall.{ListedCall}
 use Rattle.flagops_shell.specs.Diagnostic.{Says}
 use Rattle.flagops_shell.specs.Ending.{Remarks}
 use Rattle.flagops_shell.specs.Files.{Holding}

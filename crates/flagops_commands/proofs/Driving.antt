@@ -1,5 +1,5 @@
 -- What was loaded in turn, driven and then stored, as the report of `drive`.
-use Rattle.std.proofs.Common.{◌≡◌, ◌≢◌, ℕ, Bool, List, Option, Some, None, true, false, IfSome, is_some, inl, inr, refl, ap, ◌∙◌, ◌||◌, subst, sym}
+use Rattle.std.proofs.Common.{◌≡◌, ◌≢◌, ℕ, Bool, List, Option, Some, None, true, false, IfSome, is_some, inr, refl, ap, ◌∙◌, ◌||◌, subst, sym}
 use Rattle.std.specs.Prelude.{IsErrOf, IsOk, Result, Ok, Err, option_map}
 use Rattle.book_core.specs.Book.{Contents}
 use Rattle.flag_defs.specs.Document.{Definitions}
@@ -10,17 +10,15 @@ use Rattle.flagops_drive.specs.Fault.{want}
 use Rattle.flagops_drive.specs.declared.fault.DriveRefusal.{DriveRefusal}
 use Rattle.flagops_drive.specs.declared.fault.DriveRefusal.TheVariants as reason
 use Rattle.flagops_commands.specs.Loaded.{IsDocumentAt, tree_at}
-use Rattle.flagops_shell.specs.Files.{Holding, KeepsOthers, Stores}
+use Rattle.flagops_shell.specs.Files.{Holding, KeepsOthers}
 use Rattle.flagops_files.specs.Loading.{max_text}
-use Rattle.flagops_shell.specs.Outcomes.{◌>>=◌, refused_by, beside, done}
-use Rattle.flagops_commands.specs.Refusal.{GivesOne, GivesUnlessWant, is_want, unwritable, Refused}
-use Rattle.flagops_shell.specs.Report.{Report, outcome_view}
+use Rattle.flagops_shell.specs.Outcomes.{◌>>=◌, refused_by}
+use Rattle.flagops_commands.specs.Refusal.{GivesOne, GivesUnlessWant, is_want, Refused}
+use Rattle.flagops_shell.specs.Report.{outcome_view}
 use Rattle.flagops_shell.specs.declared.outcome.Outcome.{Outcome}
 use Rattle.flagops_commands.specs.declared.refusal.ListedRefusal.{ListedRefusal}
-use Rattle.flagops_commands.specs.declared.refusal.ListedCall.TheVariants as call
 use Rattle.flagops_commands.specs.declared.refusal.ListedRefusal.TheVariants.{Drive}
 use Rattle.flagops_commands.specs.Drive.{AreRead, IsAnswered, IsDriveReport, IsDriveOutputOf, IsWritten, LeavesBook, admitted, before_at, doubt_of_asks, recorded, settle}
-use Rattle.flagops_shell.specs.Ending.{KeepsUnlessDone}
 
 -- ---- the whole
 

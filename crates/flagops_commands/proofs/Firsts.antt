@@ -1,13 +1,14 @@
 -- The first of what a command attempts in turn that is refused.
 use Rattle.std.proofs.Common.{◌≡◌, false, ◌∷◌, ◌++◌, Option, Some, None, IfSome, inl, inr, sym, subst}
 use Rattle.std.specs.Prelude.{Result, Ok, Err}
-use Rattle.flagops_commands.specs.Attempts.{Attempts, TellsOfFirst}
+use Rattle.flagops_commands.specs.Attempts.{Attempts, TellsOfFirst, attempts_of}
 use Rattle.flagops_commands.specs.Refusal.{Refused, Subjects, TellsOfOne, is_want}
 use Rattle.flagops_commands.specs.declared.refusal.ListedRefusal.{ListedRefusal}
 use Rattle.flagops_files.proofs.Told.{first_by_kind, told_left, told_right}
 use Rattle.flagops_files.specs.Told.{NamesSubject, Subject, attempt, by_kind}
 use Rattle.flagops_shell.specs.Diagnostic.{Says}
 use Rattle.flagops_shell.specs.Files.{Holding}
+use Rattle.flagops_words.specs.Asked.{Asked}
 
 -- ---- whatever the files hold
 
@@ -18,6 +19,10 @@ whatever (Some at) p = p
 pub in_any_files : {X : Type 0} (old : Option Holding) (attempts : Attempts) (r : Result X Refused) → TellsOfFirst attempts r → IfSome old (λ at. TellsOfFirst attempts r)
 in_any_files None attempts r told = tt
 in_any_files (Some at) attempts r told = told
+
+-- what the words ask for, as they were matched
+pub as_asked : {X : Type 0} (old : Option Holding) (a b : Asked) (r : Result X Refused) → a ≡ b → IfSome old (λ at. TellsOfFirst (attempts_of b at) r) → IfSome old (λ at. TellsOfFirst (attempts_of a at) r)
+as_asked {X} old a b r is told = subst (λ (x : Asked). IfSome old (λ at. TellsOfFirst (attempts_of x at) r)) (sym is) told
 
 -- ---- of several kinds
 

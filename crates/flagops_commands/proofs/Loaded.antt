@@ -1,5 +1,5 @@
 -- What was loaded, and a refusal to load it, as a listed command has them.
-use Rattle.std.proofs.Common.{◌≡◌, ◌∙◌, ap, ℕ, List, [], ◌∷◌, Option, Some, None, IfSome, true, false, Bool, refl, inl, inr, subst, sym, ◌||◌}
+use Rattle.std.proofs.Common.{◌≡◌, ◌∙◌, ap, ℕ, List, Option, Some, None, IfSome, true, false, Bool, refl, sym, ◌||◌}
 use Rattle.std.specs.Prelude.{Result, Ok, Err}
 use Rattle.bucket_core.specs.Rule.{Entries}
 use Rattle.book_core.specs.Book.{Contents}
@@ -11,7 +11,6 @@ use Rattle.flagops_shell.specs.Files.{Holding, load_of}
 use Rattle.flagops_shell.specs.Outcomes.{Lifts, refused_by}
 use Rattle.flagops_shell.specs.Report.{Report, outcome_view}
 use Rattle.flagops_shell.specs.declared.outcome.Outcome.{Outcome}
-use Rattle.flagops_shell.specs.declared.refused.Remark.{Remark}
 use Rattle.flagops_files.proofs.Told.{told_of, told_of_first}
 use Rattle.flagops_files.specs.Documents as documents
 use Rattle.flagops_files.specs.Loading as loading
@@ -28,7 +27,6 @@ use Rattle.flagops_rollouts.specs.declared.refusal.RolloutRefusal.{RolloutRefusa
 use Rattle.flagops_commands.specs.Loaded.{IsDocumentAt, book_at, bytes_at, choice_at, replaceable_at, rule_at, tree_at}
 use Rattle.flagops_commands.specs.Attempts.{rolled}
 use Rattle.flagops_commands.specs.Refusal.{Refused, call_of, is_unread, is_want, loads, rolls, unwritable}
-use Rattle.flagops_commands.specs.declared.refusal.ListedRefusal.{ListedRefusal}
 use Rattle.flagops_commands.specs.declared.refusal.ListedRefusal.TheVariants.{Load, Rollout}
 
 module _ (old : Option Holding) (path : List ℕ) where

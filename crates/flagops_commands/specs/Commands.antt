@@ -21,7 +21,6 @@ use Rattle.flagops_words.specs.Words.{asked_by, faults_of}
 use Rattle.flagops_commands.specs.Resolve.{IsResolveReport}
 use Rattle.flagops_rollouts.specs.Verify.{IsVerifyReport}
 use Rattle.flagops_commands.specs.declared.refusal.ListedCall.{ListedCall}
-use Rattle.flagops_commands.specs.declared.refusal.ListedCall.TheVariants as call
 use Rattle.flagops_words.specs.Asked.{Asked, bucket, price, resolve, verify, apply, keep, plan, drive, completions}
 
 -- what each command comes to over the files, and over those that it leaves

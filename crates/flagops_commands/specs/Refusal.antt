@@ -1,5 +1,5 @@
 -- Why a listed command is refused, and the line that a refusal is written as.
-use Rattle.std.specs.Prelude.{◌≡◌, ℕ, Bool, true, false, List, [], codes, decimal, Result}
+use Rattle.std.specs.Prelude.{ℕ, Bool, true, false, List, [], codes, decimal, Result}
 use Rattle.book_core.specs.Fault as books
 use Rattle.book_core.specs.declared.fault.BookFault.TheVariants as book
 use Rattle.book_share.specs.declared.drive_fault.DriveFault.TheVariants as sharing
@@ -21,9 +21,7 @@ use Rattle.flagops_files.specs.declared.refusal.Call.{Call}
 use Rattle.flagops_files.specs.declared.refusal.Refusal.TheVariants as file
 use Rattle.flagops_rollouts.specs.Refusal as rollouts
 use Rattle.flagops_rollouts.specs.Refusal.{doubt_name, doubt_number}
-use Rattle.flagops_rollouts.specs.declared.refusal.Doubt.{Doubt}
 use Rattle.flagops_rollouts.specs.declared.refusal.RolloutCall.{RolloutCall}
-use Rattle.flagops_rollouts.specs.declared.refusal.RolloutRefusal.{RolloutRefusal}
 use Rattle.flagops_commands.specs.declared.refusal.ListedCall.{ListedCall}
 use Rattle.flagops_commands.specs.declared.refusal.ListedCall.TheVariants as call
 use Rattle.flagops_commands.specs.declared.refusal.ListedRefusal.{ListedRefusal}

@@ -1,25 +1,19 @@
 -- What a person is told: of a refusal that is known by its kind the name of the file at a path, or of the word, that it is of; and
 -- what is told beside a report.
-use Rattle.std.specs.Prelude.{ℕ, Bool, true, false, List, [], ◌∷◌, ◌++◌, Ok, Err, codes}
+use Rattle.std.specs.Prelude.{ℕ, Bool, true, false, List, [], ◌∷◌, codes}
 use Rattle.flagops_drive.specs.declared.fault.DriveRefusal.{DriveRefusal}
 use Rattle.flagops_drive.specs.declared.fault.DriveRefusal.TheVariants as driving
-use Rattle.flagops_files.specs.declared.refusal.Call.TheVariants as file_call
-use Rattle.flagops_commands.specs.Refusal.{loads_book, loads_flags, loads_rule, loads_tree, rolled, stores_file, Remarks, Subjects, by}
-use Rattle.flagops_files.specs.Told.{NamesOne, file, word}
-use Rattle.flagops_shell.specs.Diagnostic.{Says}
+use Rattle.flagops_commands.specs.Refusal.{loads_book, loads_tree, stores_file, Subjects, by}
+use Rattle.flagops_files.specs.Told.{file, word}
 use Rattle.flagops_shell.specs.Files.{Holding}
 use Rattle.flagops_shell.specs.Report.{Report}
-use Rattle.flagops_commands.specs.declared.refusal.ListedCall.{ListedCall}
-use Rattle.flagops_commands.specs.declared.refusal.ListedCall.TheVariants as call
 use Rattle.flagops_commands.specs.declared.refusal.PriceMismatch.TheVariants.{Weight, BadKeys}
 use Rattle.flagops_commands.specs.declared.refusal.ListedRefusal.{ListedRefusal}
 use Rattle.flagops_commands.specs.declared.refusal.ListedRefusal.TheVariants.{Note, Price, Drive, Doubted, WouldLose}
-use Rattle.flagops_commands.specs.Calls.{loads_request}
 use Rattle.flagops_commands.specs.DriveSummary.{TellsPrinted}
 use Rattle.flagops_rollouts.specs.Doubts.{NamesDoubted}
 use Rattle.file_diagnostics.specs.Named.{Names, NamesWord}
-use Rattle.flagops_rollouts.specs.Subjects.{apply_subjects, keep_subjects, plan_subjects, verify_subjects}
-use Rattle.flagops_words.specs.Asked.{Asked, bucket, price, resolve, verify, apply, keep, plan, drive, completions}
+use Rattle.flagops_words.specs.Asked.{Asked, price, verify, apply, keep, plan, drive}
 
 -- a key file is refused as a file, for what it holds, or for a key
 abbrev pub is_of_keys : ListedRefusal → Bool

@@ -1,7 +1,7 @@
 use Rattle.flagops_drive.specs.Driven.{drive_output_view}
 use Rattle.flagops_commands.proofs.Losing.{failed_after, not_written, stored_by, told_stored, written_so}
 use Rattle.flagops_shell.proofs.Kept.{kept_after, others_after}
-use Rattle.std.proofs.Common.{inl, refl, rules}
+use Rattle.std.proofs.Common.{refl, rules}
 use Rattle.flagops_commands.proofs.books.drive.written.Goals as goal
 
 pub returns-in_err-check_losses-clause-exact : goal.returns-in_err-check_losses-clause-exact
