@@ -293,11 +293,14 @@ class PictureTest(ProgramTest):
         self.assert_mistake(["picture", "--ramp", "doc", "steps"], {}, "BOOK")
 
     def test_what_is_doubted_is_told_beside_the_picture(self):
-        member = ',"forbidden":[["blue","red"]]'
-        unread = ' has a member that is not read:\n  "forbidden"; perhaps "forbid" is meant\n'
+        member, twice = ',"forbidden":[["blue","red"]]', ',"flag":"color"'
+        told = {
+            member: ' has a member that is not read:\n  "forbidden"; perhaps "forbid" is meant\n',
+            twice: " has a member that stands more than once, and the last counts: flag\n",
+        }
         plain = {"doc": document(FIVES), "request": request('"red":3,"blue":7')}
         plain["steps"] = plain["request"].replace('"totals":', '"steps":[').replace("}}", "}]}")
-        for more, book, names in [(member, BOOK, ["asked"]), ("", EMPTY_BOOK, ["book"]), (member, EMPTY_BOOK, ["asked", "book"])]:
+        for more, book, names in [(member, BOOK, ["asked"]), (twice, BOOK, ["asked"]), ("", EMPTY_BOOK, ["book"]), (member, EMPTY_BOOK, ["asked", "book"])]:
             plain["book"] = book
             plain["plan"] = run(["plan", "doc", "request", "book"], plain).out
             plain["ramp"] = run(["ramp", "doc", "steps", "book"], plain).out
@@ -307,7 +310,7 @@ class PictureTest(ProgramTest):
             ]:
                 with self.subTest(words=words, names=names):
                     ran = run(words, {**plain, asked: plain[asked][:-1] + more + "}"})
-                    note = f'note: "{asked}"{unread}' if "asked" in names else ""
+                    note = f'note: "{asked}"{told[more]}' if "asked" in names else ""
                     note += 'note: "book" has no input on the page of the request' if "book" in names else ""
                     self.assertEqual((ran.status, ran.out), (0, run(words, plain).out))
                     self.assertEqual(ran.err[: len(note)], note)

@@ -26,6 +26,7 @@ DOUBTS = [
     (',"forbidden":[["blue","red"]]', BOOK, "16 Unread", 'note: "steps" has a member that is not read:\n  "forbidden"; perhaps "forbid" is meant\n'),
     # This name comes after `steps`.
     (',"weights":[]', BOOK, "16 Unread", 'note: "steps" has a member that is not read:\n  "weights"\n'),
+    (',"flag":"color"', BOOK, "16 Unread", 'note: "steps" has a member that stands more than once, and the last counts: flag\n'),
     ("", EMPTY_BOOK, "17 Unrecorded", 'note: "book" has no input on the page of the request'),
     (
         ',"forbidden":[]',

@@ -4,6 +4,7 @@ use Rattle.std.specs.Str.{bytes_eq}
 use Rattle.flag_text.specs.Reading.{tree_of}
 use Rattle.flag_text.specs.Shape.{Shape, object, Members, no_members, member}
 use Rattle.flag_text.specs.declared.fault.TextFault.{TextFault}
+use Rattle.repeated_names.specs.Repeated.{is_repeating}
 use Rattle.unread_members.specs.Unread.{reads}
 use Rattle.unread_members.specs.declared.reader.Reader.TheVariants as reader
 use Rattle.flagops_rollouts.specs.Doubts.{first_doubt, recorded_doubt}
@@ -34,9 +35,9 @@ abbrev pub if_read : Result Shape TextFault → Bool
 if_read (Ok t) = has_unread t
 if_read (Err e) = false
 
--- the bytes of a file of steps have one
+-- the bytes of a file of steps have one, or a name that stands more than once in an object, of which the last member is read
 abbrev pub is_unread : List ℕ → Bool
-is_unread bytes = if_read (tree_of bytes max_text)
+is_unread bytes = if_read (tree_of bytes max_text) || is_repeating bytes
 
 abbrev pub first_request : List (List ℕ) → List ℕ
 first_request [] = []

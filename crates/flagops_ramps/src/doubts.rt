@@ -16,7 +16,7 @@ use crate::refusal::{RampRefusal, StepCall};
 use file_diagnostics::of_unread;
 use flag_text::{TextFault, Tree, read_tree};
 use flagops_files::{Question, TEXT_LIMIT};
-use flagops_rollouts::{Doubt, NotedDoubt, doubt_in_evidence, remark_in};
+use flagops_rollouts::{Doubt, NotedDoubt, doubt_in_evidence, remark_in, repeated, with_more};
 use flagops_shell::{Refused, Remark};
 use std::alloc::{AllocError, Global};
 use std::thread::Threads;
@@ -133,11 +133,13 @@ fn unread(alloc: Global, path: &str, bytes: &[u8]) -> Result<Option<Remark>, All
     ensures unread { IfOk result (λ r. is_some r ≡ is_unread bytes.now) }
     ensures notes { IfOk result (λ r. IfSome r (Says (Names path.now))) }
 {
-    match read_tree(alloc, bytes, TEXT_LIMIT as usize) {
-        Ok(tree) => unread_in(alloc, path, tree),
-        Err(TextFault::WantOfMemory) => Err(AllocError),
-        Err(_) => Ok(None),
-    }
+    let unread = match read_tree(alloc, bytes, TEXT_LIMIT as usize) {
+        Ok(tree) => unread_in(alloc, path, tree)?,
+        Err(TextFault::WantOfMemory) => return Err(AllocError),
+        Err(_) => None,
+    };
+    let repeated = repeated(alloc, path, bytes)?;
+    Ok(with_more(path, unread, repeated))
 }
 
 fn unread_in(alloc: Global, path: &str, tree: Tree) -> Result<Option<Remark>, AllocError>
