@@ -1,33 +1,27 @@
 -- What a person is told of what a command that draws comes to.
-use Rattle.std.proofs.Common.{◌≡◌, ◌||◌, ◌++◌, ◌∙◌, ℕ, Bool, true, false, List, [], ◌∷◌, Option, Some, None, Result, Ok, Err, IfErr, IfOk, IfSome, inl, inr, refl, sym, ap, subst, option_map, is_some}
-use Rattle.flagops_files.specs.Question.{Question}
-use Rattle.flagops_rollouts.specs.Loaded.{book_question_subjects}
-use Rattle.flagops_rollouts.specs.Refusal.{ComesFrom, Refused, call_name, call_of, is_want, Subjects, TellsOf, TellsOfOne}
-use Rattle.flagops_files.specs.Told.{NamesOne, file}
+use Rattle.std.proofs.Common.{◌≡◌, ℕ, Bool, List, Option, Some, None, Result, Ok, Err, IfErr, IfOk, IfSome, inl, refl, sym, subst, option_map}
+use Rattle.flagops_rollouts.specs.Refusal.{ComesFrom, Refused, call_name, call_of, is_want}
 use Rattle.flagops_shell.specs.Outcomes.{IsCallOf}
 use Rattle.flagops_rollouts.specs.declared.refusal.RolloutCall.{RolloutCall}
 use Rattle.flagops_rollouts.specs.declared.refusal.Doubt.{Doubt}
-use Rattle.flagops_files.proofs.Told.{told_left, told_right}
 use Rattle.flagops_rollouts.specs.Doubts.{NamesDoubt, NamesDoubted}
 use Rattle.flagops_rollouts.specs.declared.doubts.NotedDoubt.{NotedDoubt}
 use Rattle.flagops_shell.specs.Diagnostic.{Says}
 use Rattle.flagops_shell.specs.Ending.{KeepsUnlessDone, Remarks}
 use Rattle.flagops_shell.specs.Files.{Holding}
-use Rattle.flagops_shell.specs.Report.{outcome_view}
 use Rattle.flagops_shell.specs.declared.outcome.Outcome.{Outcome}
 use Rattle.flagops_shell.specs.declared.refused.Remark.{Remark}
 use Rattle.flagops_shell.specs.declared.refused.Remark.TheVariants.{Short, Lines}
-use Rattle.flagops_pictures.specs.Diagnostics.{picture_subjects, picture_told, plan_subjects, plan_told}
+use Rattle.flagops_pictures.specs.Diagnostics.{TellsOfFirst, picture_attempts, picture_told, plan_attempts, plan_told}
 use Rattle.flagops_pictures.specs.Words.{Picturing, Planning}
-use Rattle.flagops_rollouts.specs.declared.refusal.RolloutRefusal.{RolloutRefusal}
 
 -- of a report its note, and of a refusal the name of what is refused
-pub picture_remarks : (a : Picturing) (files : Option Holding) (r : Result Outcome Refused) → TellsOfOne (picture_subjects a) r → IfOk r (λ o. IfSome o.remark (Says (NamesDoubted a.request a.book))) → IfSome files (λ at. Remarks is_want (picture_told a) r)
+pub picture_remarks : (a : Picturing) (files : Option Holding) (r : Result Outcome Refused) → IfSome files (λ at. TellsOfFirst (picture_attempts at a) r) → IfOk r (λ o. IfSome o.remark (Says (NamesDoubted a.request a.book))) → IfSome files (λ at. Remarks is_want (picture_told at a) r)
 picture_remarks a None r names notes = tt
 picture_remarks a (Some at) (Ok o) names notes = λ remark is. subst (λ (m : Option Remark). IfSome m (Says (NamesDoubted a.request a.book))) is notes
 picture_remarks a (Some at) (Err e) names notes = names
 
-pub plan_remarks : (p : Planning) (files : Option Holding) (r : Result Outcome Refused) → TellsOfOne (plan_subjects p) r → IfOk r (λ o. IfSome o.remark (Says (NamesDoubted p.request p.book))) → IfSome files (λ at. Remarks is_want (plan_told p) r)
+pub plan_remarks : (p : Planning) (files : Option Holding) (r : Result Outcome Refused) → IfSome files (λ at. TellsOfFirst (plan_attempts at p) r) → IfOk r (λ o. IfSome o.remark (Says (NamesDoubted p.request p.book))) → IfSome files (λ at. Remarks is_want (plan_told at p) r)
 plan_remarks p None r names notes = tt
 plan_remarks p (Some at) (Ok o) names notes = λ remark is. subst (λ (m : Option Remark). IfSome m (Says (NamesDoubted p.request p.book))) is notes
 plan_remarks p (Some at) (Err e) names notes = names

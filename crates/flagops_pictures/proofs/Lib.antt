@@ -1,9 +1,11 @@
 mod Diagnosed
 pub mod Drawings
 pub mod Matched
+mod Naming
 pub mod Pictures
 pub mod Planned
 mod Posing
+mod Questions
 pub mod Stepped
 pub mod Steps
 pub mod Wanted

@@ -1,20 +1,18 @@
 -- What was loaded in turn and then drawn, as one report.
-use Rattle.std.proofs.Common.{◌≡◌, ◌⊎◌, ◌||◌, ◌++◌, ℕ, List, Bool, is_some, true, false, Option, Some, None, IfErr, IfOk, IfSome, inl, inr, refl, sym, ap, ◌∙◌, subst}
+use Rattle.std.proofs.Common.{◌≡◌, ◌||◌, ℕ, List, Bool, is_some, true, false, Option, Some, None, IfSome, refl, sym, ap, ◌∙◌, subst}
 use Rattle.std.specs.Prelude.{Result, Ok, Err}
 use Rattle.flagops_rollouts.specs.Doubts.{doubt_of}
 use Rattle.flagops_shell.specs.Files.{Holding}
 use Rattle.flagops_rollouts.specs.Loaded.{plan_at, IsBookQuestionAt}
 use Rattle.flagops_files.specs.Question.{BookQuestion}
-use Rattle.flagops_files.proofs.Told.{told_right}
 use Rattle.flagops_files.specs.declared.refusal.Call.TheVariants as file
-use Rattle.flagops_rollouts.specs.Refusal.{GivesOne, GivesUnlessWant, call_of, is_want, loads_plan, Refused, Subjects, TellsOfOne}
+use Rattle.flagops_rollouts.specs.Refusal.{GivesOne, GivesUnlessWant, is_want, loads_plan, Refused}
 use Rattle.flagops_rollouts.specs.declared.refusal.RolloutCall.TheVariants as call
 use Rattle.flagops_shell.specs.Apart.{apart}
 use Rattle.flagops_shell.specs.Outcomes.{beside}
-use Rattle.flagops_shell.specs.Report.{Report, outcome_view}
+use Rattle.flagops_shell.specs.Report.{outcome_view}
 use Rattle.flagops_shell.specs.declared.outcome.Outcome.{Outcome}
 use Rattle.flagops_rollouts.specs.declared.refusal.RolloutCall.{RolloutCall}
-use Rattle.flagops_rollouts.specs.declared.refusal.RolloutRefusal.{RolloutRefusal}
 use Rattle.flagops_pictures.specs.Pictured.{IsDrawnOrDenied, IsPictureReport, IsPictured, as_question, asked_over, drawn_report, picture_calls}
 use Rattle.flagops_pictures.specs.Words.{Picturing}
 use Rattle.plan_text.specs.Answer.{Answer}
@@ -71,11 +69,6 @@ or_false false = refl
 
 pub no_failure : (start first last failed : Bool) → first ≡ (start || false) → last ≡ (first || false) → failed ≡ false → last ≡ (start || failed)
 no_failure start first last failed a b read = b ∙ (or_false first ∙ (a ∙ ap (λ (x : Bool). start || x) (sym read)))
-
--- what is told of one of the last is told of one of all
-pub tells_right : (xs ys : Subjects) (r : Result Outcome Refused) → TellsOfOne ys r → TellsOfOne (xs ++ ys) r
-tells_right xs ys (Ok o) told = tt
-tells_right xs ys (Err e) told = λ no_want. told_right xs ys e.refusal e.remark (told no_want)
 
 -- the picture of an answer that is right, and whether a person is told something beside it
 pub drawn_so : (refine : Option ℕ) (q : BookQuestion) (answer : Answer) (bytes : List ℕ) (r : Result Outcome Refused) → IsDrawnOrDenied (asked_over refine answer q) answer (Ok bytes)

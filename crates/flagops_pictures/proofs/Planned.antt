@@ -1,6 +1,6 @@
 -- A plan that is printed and drawn.
 use Rattle.std.proofs.Common.{◌≡◌, ◌⊎◌, ◌||◌, Bool, false, true, ℕ, List, Option, None, Some, Result, Ok, Err, unwrap_or, refl, ap, ◌∙◌, subst, sym, inl, inr}
-use Rattle.std.specs.Prelude.{IfErr, IfOk, IfSome, OnErr}
+use Rattle.std.specs.Prelude.{IfErr, IfOk, IfSome}
 use Rattle.book_core.specs.Book.{Contents}
 use Rattle.flagops_rollouts.specs.Doubts.{doubt_of, settle}
 use Rattle.flagops_rollouts.specs.Plan.{IsPlanOf, IsPlannedOn, plan_report, plan_status, report_planned}

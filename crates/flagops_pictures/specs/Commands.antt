@@ -15,7 +15,7 @@ use Rattle.flagops_pictures.specs.Ramps.{IsRampPicture}
 use Rattle.flagops_pictures.specs.Words.{Picturing, Planning, picture_by, picture_faults, plan_by, plan_faults, ramp_by, ramp_faults}
 
 abbrev pub picture_description : Description Picturing RolloutRefusal
-picture_description = described call_name call_of picture_by picture_faults (λ a at after. IsPictureReport at a) (λ a at. picture_told a) (λ a. picture_calls) (λ a old new. new ≡ old)
+picture_description = described call_name call_of picture_by picture_faults (λ a at after. IsPictureReport at a) (λ a at. picture_told at a) (λ a. picture_calls) (λ a old new. new ≡ old)
 
 -- `picture --ramp` is refused as `verify-ramp` is, and reports a want of memory by its name
 abbrev pub ramp_description : Description Verifying RampRefusal
@@ -23,6 +23,6 @@ ramp_description = reading (codes "verify-ramp") ramp_by ramp_faults (λ v at. I
 
 -- `plan --picture` changes one file, that of the picture, also where no rule fits
 abbrev pub plan_description : Description Planning RolloutRefusal
-plan_description = record (described call_name call_of plan_by plan_faults (λ p at after. IsPlanPicture at after p) (λ p at. plan_told p) (λ p. plan_calls) (λ p old new. (new ≡ old) ⊎ KeepsOthers old new p.picture)) {
+plan_description = record (described call_name call_of plan_by plan_faults (λ p at after. IsPlanPicture at after p) (λ p at. plan_told at p) (λ p. plan_calls) (λ p old new. (new ≡ old) ⊎ KeepsOthers old new p.picture)) {
   IsDone = λ status. (status ≡ 0) ⊎ (status ≡ 3);
 }

@@ -1,20 +1,44 @@
--- What a person is told of what a command that draws comes to: of a refusal the file or the word that was refused, and beside a report what
--- is doubted.
-use Rattle.std.specs.Prelude.{[], ◌∷◌, ◌++◌, List, ℕ, Ok, Err}
+-- What a person is told of what a command that draws comes to: of a refusal the first file or word that was refused, and beside a report
+-- what is doubted.
+use Rattle.std.specs.Prelude.{[], ◌∷◌, ◌++◌, Bool, true, false, List, map, ℕ, Result, Ok, Err}
 use Rattle.flagops_rollouts.specs.Doubts.{NamesDoubted, doubt_subjects}
-use Rattle.flagops_rollouts.specs.Subjects.{is_of_answer, is_of_request, is_of_size, the_plan}
-use Rattle.flagops_rollouts.specs.Loaded.{book_question_subjects}
-use Rattle.flagops_rollouts.specs.Refusal.{stores_file, Remarks, Subjects, by}
-use Rattle.flagops_files.specs.Told.{NamesOne, file, word}
+use Rattle.flagops_rollouts.specs.Subjects.{is_of_request, is_of_size, the_plan}
+use Rattle.flagops_rollouts.specs.Loaded.{plan_at}
+use Rattle.flagops_rollouts.specs.Refusal.{Refused, Remarks, Subjects, by, is_want, stores_file}
+use Rattle.flagops_rollouts.specs.declared.refusal.RolloutRefusal.{RolloutRefusal}
+use Rattle.flagops_rollouts.specs.declared.refusal.RolloutRefusal.TheVariants.{Load, Verify}
+use Rattle.flagops_files.specs.Question.{book_question_attempts}
+use Rattle.flagops_files.specs.Told as told
+use Rattle.flagops_files.specs.Told.{Attempt, NamesFirst, attempt_of, by_kind, file, within, word}
 use Rattle.flagops_shell.specs.Diagnostic.{Says}
+use Rattle.flagops_shell.specs.Files.{Holding}
 use Rattle.flagops_pictures.specs.Words.{Picturing, Planning}
+use Rattle.rollout_checks.specs.declared.verify_fault.VerifyFault.TheVariants as verdict
+
+-- what is attempted in turn, which a command on rollouts is refused for
+abbrev pub Attempts : Type 1
+Attempts = List (Attempt RolloutRefusal)
+
+-- a refusal is told by the name of what the first of them is about that is refused
+abbrev pub TellsOfFirst : {X : Type 0} → Attempts → Result X Refused → Type 0
+TellsOfFirst attempts r = told.TellsOfFirst is_want attempts r
+
+-- the files of a question over a book, in the order in which they are read
+abbrev pub question_attempts : Holding → List ℕ → List ℕ → List ℕ → Attempts
+question_attempts at document request book = map (within Load) (book_question_attempts at document request book)
+
+-- a plan is no answer to its request
+abbrev pub is_of_check : RolloutRefusal → Bool
+is_of_check (Verify (verdict.Check e)) = true
+is_of_check e = false
 
 -- the request or the plan, where the plan is not right
 abbrev pub checked_subjects : List ℕ → List ℕ → Subjects
-checked_subjects request plan = (file request, is_of_request) ∷ (file plan, is_of_answer) ∷ []
+checked_subjects request plan = (file request, is_of_request) ∷ (file plan, is_of_check) ∷ []
 
-abbrev pub picture_subjects : Picturing → Subjects
-picture_subjects a = book_question_subjects a.document a.request a.book ++ checked_subjects a.request a.plan
+-- the files of the question, the plan file, and then the check of the one against the other
+abbrev pub picture_attempts : Holding → Picturing → Attempts
+picture_attempts at a = question_attempts at a.document a.request a.book ++ (attempt_of (file a.plan) (plan_at at a.plan) ∷ by_kind (checked_subjects a.request a.plan))
 
 -- what `plan` refuses of a question
 abbrev pub planned_subjects : List ℕ → List ℕ → Subjects
@@ -24,13 +48,14 @@ planned_subjects request book = (file request, is_of_request) ∷ (word the_plan
 abbrev pub drawn_subjects : Planning → Subjects
 drawn_subjects p = (file p.picture, by stores_file) ∷ planned_subjects p.request p.book
 
-abbrev pub plan_subjects : Planning → Subjects
-plan_subjects p = book_question_subjects p.document p.request p.book ++ drawn_subjects p
+-- the files of the question, and then the plan and its picture
+abbrev pub plan_attempts : Holding → Planning → Attempts
+plan_attempts at p = question_attempts at p.document p.request p.book ++ by_kind (drawn_subjects p)
 
-abbrev pub picture_told : Picturing → Remarks
-picture_told a (Ok report) remark = Says (NamesDoubted a.request a.book) remark
-picture_told a (Err e) remark = NamesOne (picture_subjects a) e remark
+abbrev pub picture_told : Holding → Picturing → Remarks
+picture_told at a (Ok report) remark = Says (NamesDoubted a.request a.book) remark
+picture_told at a (Err e) remark = NamesFirst (picture_attempts at a) e remark
 
-abbrev pub plan_told : Planning → Remarks
-plan_told p (Ok report) remark = Says (NamesDoubted p.request p.book) remark
-plan_told p (Err e) remark = NamesOne (plan_subjects p) e remark
+abbrev pub plan_told : Holding → Planning → Remarks
+plan_told at p (Ok report) remark = Says (NamesDoubted p.request p.book) remark
+plan_told at p (Err e) remark = NamesFirst (plan_attempts at p) e remark

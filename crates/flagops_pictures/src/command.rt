@@ -9,7 +9,7 @@ ghost use Rattle.flagops_shell.specs.Diagnostic.{Says};
 ghost use Rattle.flagops_files.specs.Question.{book_question_view};
 ghost use Rattle.flagops_shell.specs.Report.{outcome_view};
 ghost use Rattle.flagops_pictures.specs.Commands.{picture_description};
-ghost use Rattle.flagops_pictures.specs.Diagnostics.{checked_subjects, picture_subjects};
+ghost use Rattle.flagops_pictures.specs.Diagnostics.{TellsOfFirst, checked_subjects, picture_attempts};
 ghost use Rattle.flagops_pictures.specs.Pictured.{IsPictureReport, IsPictured, as_question, drawn_report, picture_calls};
 ghost use Rattle.flagops_pictures.specs.Words as words;
 ghost use Rattle.flagops_pictures.specs.Words.{picturing_view};
@@ -18,12 +18,11 @@ ghost use Rattle.plan_text.specs.Answer.{planned_view};
 use crate::asked::Picturing;
 use crate::checking::checked_picture;
 use crate::doubts::noted;
+use crate::loading::load_question;
 use crate::words::read_picture;
 use clap::Error;
 use flagops_files::BookQuestion;
-use flagops_rollouts::{
-    Refused, RolloutCall, RolloutRefusal, load_book_question, load_planned, out_of_memory,
-};
+use flagops_rollouts::{Refused, RolloutCall, RolloutRefusal, load_planned, out_of_memory};
 use flagops_shell::{Command, FileSet, Outcome, Remark, Status};
 use flagops_words::factor_of;
 use plan_text::Planned;
@@ -69,12 +68,12 @@ fn outcome<R: Threads + Sync, F: FileSet>(
     ensures exact { IfSome (F.holding files.old) (λ at. GivesOne outcome_view result (IsPictureReport at (picturing_view asked.now))) }
     ensures calls { ComesFrom picture_calls result }
     ensures failed { F.has_failed files.new ≡ (F.has_failed files.old || is_file_fault result) }
-    ensures names { TellsOfOne (picture_subjects (picturing_view asked.now)) result }
+    ensures names { IfSome (F.holding files.old) (λ at. TellsOfFirst (picture_attempts at (picturing_view asked.now)) result) }
     ensures notes { IfOk result (λ o. IfSome o.remark (Says (NamesDoubted asked.now.request.now asked.now.book.now))) }
     ensures kept { F.holding files.new ≡ F.holding files.old }
 {
     let factor = factor_of(asked.refine);
-    let question = load_book_question(
+    let question = load_question(
         rt,
         alloc,
         files,

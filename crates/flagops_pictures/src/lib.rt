@@ -20,7 +20,8 @@
 //! Proved of each command (`specs/Commands.antt`): over files whose bytes are known it comes to what the files at the paths make
 //! (`Pictured`, `Ramps`, `Planning`), unless memory ran out; a file that could not be read or written is what it is refused for; only
 //! `plan --picture` changes a file, the one that it is to write, and only where the plan is printed; and a person is told of a refusal by
-//! the file or the word that was refused. `flagops_shell` has what is then written.
+//! the file or the word that was refused, of `picture` and `plan --picture` by the first that was (`Diagnostics`). `flagops_shell` has
+//! what is then written.
 #![tactic(auto)]
 
 mod asked;
@@ -28,6 +29,7 @@ mod checking;
 mod command;
 mod doubts;
 mod drawing;
+mod loading;
 mod planning;
 mod ramps;
 mod usage;

@@ -9,7 +9,7 @@ ghost use Rattle.flagops_files.specs.Question.{book_question_view, question_view
 ghost use Rattle.flagops_rollouts.specs.Refusal.{ComesFrom, GivesOne, is_file_fault, TellsOfOne};
 ghost use Rattle.flagops_shell.specs.Report.{outcome_view};
 ghost use Rattle.flagops_pictures.specs.Commands.{plan_description};
-ghost use Rattle.flagops_pictures.specs.Diagnostics.{drawn_subjects, plan_subjects};
+ghost use Rattle.flagops_pictures.specs.Diagnostics.{TellsOfFirst, drawn_subjects, plan_attempts};
 ghost use Rattle.flagops_pictures.specs.Pictured.{as_question};
 ghost use Rattle.flagops_pictures.specs.Planning.{IsOfBook, IsPictureOf, IsPlanPicture, IsPlanWith, KeepsUnlessPlanned, plan_calls};
 ghost use Rattle.flagops_pictures.specs.Words as words;
@@ -17,12 +17,11 @@ ghost use Rattle.flagops_pictures.specs.Words.{planning_view};
 
 use crate::asked::Planning;
 use crate::drawing::{Asked, drawn};
+use crate::loading::load_question;
 use crate::words::read_plan;
 use clap::Error;
 use flagops_files::{BookQuestion, Evidence, Question};
-use flagops_rollouts::{
-    Refused, RolloutCall, RolloutRefusal, load_book_question, out_of_memory, plan_answer, store,
-};
+use flagops_rollouts::{Refused, RolloutCall, RolloutRefusal, out_of_memory, plan_answer, store};
 use flagops_shell::{Command, FileSet, Outcome};
 use flagops_words::factor_of;
 use page_tally::BookFile;
@@ -67,13 +66,13 @@ fn outcome<R: Threads + Sync, F: FileSet>(
     ensures exact { IfSome (F.holding files.old) (λ at. GivesOne outcome_view result (IsPlanPicture at (F.holding files.new) (planning_view asked.now))) }
     ensures calls { ComesFrom plan_calls result }
     ensures failed { F.has_failed files.new ≡ (F.has_failed files.old || is_file_fault result) }
-    ensures names { TellsOfOne (plan_subjects (planning_view asked.now)) result }
+    ensures names { IfSome (F.holding files.old) (λ at. TellsOfFirst (plan_attempts at (planning_view asked.now)) result) }
     ensures notes { IfOk result (λ o. IfSome o.remark (Says (NamesDoubted asked.now.request.now asked.now.book.now))) }
     ensures left { (F.holding files.new ≡ F.holding files.old) ⊎ KeepsOthers (F.holding files.old) (F.holding files.new) asked.now.picture.now }
     ensures kept { KeepsUnlessPlanned (F.holding files.old) (F.holding files.new) result }
 {
     let factor = factor_of(asked.refine);
-    let question = load_book_question(
+    let question = load_question(
         rt,
         alloc,
         files,

@@ -1,28 +1,38 @@
-use Rattle.std.proofs.Common.{◌≡◌, ◌∙◌, Err, Result, ap, subst, sym}
+use Rattle.std.proofs.Common.{◌≡◌, ◌∙◌, ◌∷◌, Err, Result, ap, subst, sym}
 use Rattle.std.proofs.lemmas.Result.{err_from_is_err_and}
 use Rattle.plan_text.specs.Answer.{planned_view}
 use Rattle.flagops_files.specs.Question.{book_question_view}
 use Rattle.flagops_rollouts.proofs.Verdicts.{failed_second}
-use Rattle.flagops_rollouts.specs.Loaded.{book_question_subjects}
+use Rattle.flagops_rollouts.specs.Loaded.{plan_at}
+use Rattle.flagops_files.specs.Told.{attempt_of, by_kind, file}
 use Rattle.flagops_rollouts.specs.Refusal.{ComesFrom, Refused, call_of}
 use Rattle.flagops_shell.specs.declared.outcome.Outcome.{Outcome}
 use Rattle.flagops_pictures.specs.Diagnostics.{checked_subjects}
 use Rattle.flagops_pictures.specs.Pictured.{picture_calls}
 use Rattle.flagops_pictures.specs.Words.{picturing_view}
-use Rattle.flagops_pictures.proofs.Pictures.{no_failure, pictured, plan_comes, tells_right, unanswered}
+use Rattle.flagops_pictures.proofs.Pictures.{no_failure, pictured, plan_comes, unanswered}
+use Rattle.flagops_pictures.proofs.Naming.{in_check, in_plan, in_question}
 use Rattle.flagops_pictures.proofs.command.outcome.Goals as goal
 
 pub returns-clause-exact : goal.returns-clause-exact
 returns-clause-exact g c =
-    pictured (picturing_view c.args.asked.now) (book_question_view c.in_ok-question.question) (planned_view c.in_ok-planned.planned) _ _ c.pictured.result c.load_book_question.ensures.kept c.in_ok-question.ensures.exact c.in_ok-planned.ensures.exact c.pictured.ensures.exact
+    pictured (picturing_view c.args.asked.now) (book_question_view c.in_ok-question.question) (planned_view c.in_ok-planned.planned) _ _ c.pictured.result c.load_question.ensures.kept c.in_ok-question.ensures.exact c.in_ok-planned.ensures.exact c.pictured.ensures.exact
 
 pub returns-clause-failed : goal.returns-clause-failed
 returns-clause-failed g c = no_failure _ _ _ _ c.in_ok-question.ensures.failed c.in_ok-planned.ensures.failed c.pictured.ensures.read
 
 pub returns-clause-names : goal.returns-clause-names
 returns-clause-names g c =
-    let a = c.args.asked.now in
-    tells_right (book_question_subjects a.document.now a.request.now a.book.now) (checked_subjects a.request.now a.plan.now) c.pictured.result c.pictured.ensures.names
+    in_check (picturing_view c.args.asked.now) (book_question_view c.in_ok-question.question) (planned_view c.in_ok-planned.planned) _ _ c.pictured.result c.load_question.ensures.kept c.in_ok-question.ensures.exact c.in_ok-planned.ensures.exact c.pictured.ensures.names
+
+-- ---- a file of the question that is refused
+
+pub returns-in_err-question-clause-names : goal.returns-in_err-question-clause-names
+returns-in_err-question-clause-names g c =
+    let a = picturing_view c.args.asked.now in
+    let p = err_from_is_err_and c.from_residual.result c.from_residual.ensures.1 in
+    let is : c.from_residual.result ≡ Err c.in_err-question.field-0.0 = p.1 ∙ ap Err p.2 in
+    in_question a.document a.request a.book (λ at. attempt_of (file a.plan) (plan_at at a.plan) ∷ by_kind (checked_subjects a.request a.plan)) _ c.from_residual.result c.in_err-question.field-0.0 is c.in_err-question.ensures.names
 
 -- ---- a plan file that is refused
 
@@ -30,7 +40,7 @@ pub returns-in_err-planned-clause-exact : goal.returns-in_err-planned-clause-exa
 returns-in_err-planned-clause-exact g c =
     let p = err_from_is_err_and c.from_residual-in_err-planned.result c.from_residual-in_err-planned.ensures.1 in
     let is : c.from_residual-in_err-planned.result ≡ Err c.in_err-planned.field-0.0 = p.1 ∙ ap Err p.2 in
-    unanswered (picturing_view c.args.asked.now) (book_question_view c.in_ok-question.question) c.in_err-planned.field-0.0 _ _ c.from_residual-in_err-planned.result is c.load_book_question.ensures.kept c.in_ok-question.ensures.exact c.in_err-planned.ensures.exact
+    unanswered (picturing_view c.args.asked.now) (book_question_view c.in_ok-question.question) c.in_err-planned.field-0.0 _ _ c.from_residual-in_err-planned.result is c.load_question.ensures.kept c.in_ok-question.ensures.exact c.in_err-planned.ensures.exact
 
 pub returns-in_err-planned-clause-calls : goal.returns-in_err-planned-clause-calls
 returns-in_err-planned-clause-calls g c =
@@ -43,3 +53,10 @@ returns-in_err-planned-clause-failed g c =
     let p = err_from_is_err_and c.from_residual-in_err-planned.result c.from_residual-in_err-planned.ensures.1 in
     let is : c.from_residual-in_err-planned.result ≡ Err c.in_err-planned.field-0.0 = p.1 ∙ ap Err p.2 in
     failed_second _ _ _ c.in_err-planned.field-0.0 c.from_residual-in_err-planned.result is c.in_ok-question.ensures.failed c.in_err-planned.ensures.failed
+
+pub returns-in_err-planned-clause-names : goal.returns-in_err-planned-clause-names
+returns-in_err-planned-clause-names g c =
+    let p = err_from_is_err_and c.from_residual-in_err-planned.result c.from_residual-in_err-planned.ensures.1 in
+    let is : c.from_residual-in_err-planned.result ≡ Err c.in_err-planned.field-0.0 = p.1 ∙ ap Err p.2 in
+    in_plan (picturing_view c.args.asked.now) (book_question_view c.in_ok-question.question) _ _ c.from_residual-in_err-planned.result c.in_err-planned.field-0.0 is c.load_question.ensures.kept c.in_ok-question.ensures.exact c.in_err-planned.ensures.exact
+    c.in_err-planned.ensures.names

@@ -1,10 +1,10 @@
-use Rattle.std.proofs.Common.{rules, ◌≡◌, ◌∙◌, ℕ, List, ap, sym, subst}
+use Rattle.std.proofs.Common.{rules, ◌∙◌, ℕ, List, ap, sym, subst}
 use Rattle.std.specs.Prelude.{Result}
 use Rattle.book_core.specs.Book.{Contents}
 use Rattle.flag_defs.specs.Document.{Definitions}
 use Rattle.flag_defs.specs.Flags.{flags_view}
 use Rattle.plan_text.specs.Answer.{planned_view}
-use Rattle.rollout_checks.specs.Lawful.{IsPosed, Problem, problem_asked}
+use Rattle.rollout_checks.specs.Lawful.{IsPosed, Problem}
 use Rattle.rollout_checks.specs.Verified.{IsShown}
 use Rattle.rollout_checks.specs.declared.fault.RolloutFault.{RolloutFault}
 use Rattle.flagops_pictures.proofs.Posing.{posed_as}
