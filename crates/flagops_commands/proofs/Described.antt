@@ -1,7 +1,7 @@
 -- What a person is told of what a command came to, as its trait shows it.
 use Rattle.std.proofs.Common.{◌≡◌, true, false, List, ℕ, Option, Some, None, IfOk, IfSome, IfErr, refl, subst}
 use Rattle.std.specs.Prelude.{Result, Ok, Err}
-use Rattle.flagops_commands.specs.Refusal.{ComesFrom, Refused, call_name, call_of, is_want, TellsOfOne}
+use Rattle.flagops_commands.specs.Refusal.{ComesFrom, Refused, call_name, call_of, is_want}
 use Rattle.flagops_shell.specs.Outcomes.{IsCallOf}
 use Rattle.flagops_commands.specs.declared.refusal.ListedCall.{ListedCall}
 use Rattle.flagops_shell.specs.Diagnostic.{Says}
@@ -12,10 +12,11 @@ use Rattle.flagops_shell.specs.declared.outcome.Outcome.{Outcome}
 use Rattle.flagops_shell.specs.declared.refused.Remark.{Remark}
 use Rattle.flagops_words.specs.Asked.{Asked}
 use Rattle.flagops_commands.specs.Commands.{calls_of}
-use Rattle.flagops_commands.specs.Subjects.{notes_of, numbers_of, remark_of, subjects_of}
+use Rattle.flagops_commands.specs.Attempts.{TellsFirst, names_first, remark_of}
+use Rattle.flagops_commands.specs.Subjects.{notes_of, numbers_of}
 
--- of a report its note and its numbers, and of a refusal the name of what is refused
-pub remarks : (files : Option Holding) (a : Asked) (r : Result Outcome Refused) → TellsOfOne (subjects_of a) r → IfOk r (λ o. IfSome o.remark (Says (notes_of a)))
+-- of a report its note and its numbers, and of a refusal the name of the first that is refused
+pub remarks : (files : Option Holding) (a : Asked) (r : Result Outcome Refused) → IfSome files (λ at. TellsFirst (names_first a at) r) → IfOk r (λ o. IfSome o.remark (Says (notes_of a)))
     → IfOk r (λ o. IfSome files (λ at. IfSome o.remark (Says (numbers_of a at (outcome_view o))))) → IfSome files (λ at. Remarks is_want (remark_of a at) r)
 remarks None a r names notes numbers = tt
 remarks (Some at) a (Ok o) names notes numbers = λ remark is.

@@ -2,6 +2,7 @@ pub mod AddedUp
 mod Described
 mod Distinct
 pub mod Driving
+mod Firsts
 mod Gathered
 pub mod Hexadecimal
 mod Keys

@@ -10,7 +10,7 @@ use Rattle.flagops_rollouts.specs.Plan.{IsPlanReport}
 use Rattle.flagops_commands.specs.Price.{price_report}
 use Rattle.flagops_commands.specs.Calls.{bucket_calls, completions_calls, price_calls, resolve_calls, drive_calls}
 use Rattle.flagops_rollouts.specs.Calls.{verify_calls, apply_calls, keep_calls, plan_calls}
-use Rattle.flagops_commands.specs.Subjects.{remark_of}
+use Rattle.flagops_commands.specs.Attempts.{remark_of}
 use Rattle.flagops_shell.specs.Described.{described}
 use Rattle.flagops_commands.specs.Refusal.{Outcomes, call_name, call_of, rolls}
 use Rattle.flagops_commands.specs.declared.refusal.ListedRefusal.{ListedRefusal}

@@ -1,3 +1,4 @@
+pub mod Attempts
 pub mod Bucket
 pub mod Calls
 pub mod Commands

@@ -38,23 +38,11 @@ is_of_rules e = false
 abbrev pub old_weights : List ℕ
 old_weights = codes "the weights of OLD"
 
-abbrev pub price_subjects : List ℕ → List ℕ → List ℕ → List ℕ → Subjects
-price_subjects old new request keys =
-    (file old, by loads_rule) ∷ (file new, by loads_rule) ∷ (file request, by loads_request) ∷ (file keys, is_of_keys) ∷ (word old_weights, is_of_rules) ∷ []
-
--- a word is read as a file's text is
-abbrev pub reads_tree : ListedCall → Bool
-reads_tree (call.Load file_call.ReadTree) = true
-reads_tree c = false
-
-abbrev pub resolve_subjects : List ℕ → List ℕ → Subjects
-resolve_subjects document context = (file document, by loads_flags) ∷ (word (codes "DEFAULT"), by reads_tree) ∷ (file context, by loads_tree) ∷ []
-
--- asks are refused as a file, for what it holds, or for what is doubted of it
+-- asks that were read are refused for what they are, or for what is doubted of them
 abbrev pub is_of_asks : ListedRefusal → Bool
 is_of_asks (Drive driving.BadAsks) = true
 is_of_asks (Doubted d) = true
-is_of_asks e = by loads_tree e
+is_of_asks e = false
 
 -- asks that are not driven, as by too many workers
 abbrev pub is_of_driving : ListedRefusal → Bool
@@ -88,19 +76,13 @@ NamesDriven asks book driving.PageFull lines = Names book lines
 abbrev pub driven_subjects : List ℕ → List ℕ → Subjects
 driven_subjects asks book = (file asks, is_of_asks) ∷ (word the_workers, is_of_driving) ∷ (file book, is_of_adding) ∷ []
 
-abbrev pub drive_subjects : List ℕ → List ℕ → List ℕ → Subjects
-drive_subjects document asks book = (file document, by loads_flags) ∷ (file book, by loads_book) ∷ (file book, by stores_file) ∷ (file book, is_of_losing) ∷ driven_subjects asks book
-
 abbrev pub subjects_of : Asked → Subjects
 subjects_of (bucket rule key json) = bucket_subjects rule
-subjects_of (price old new request keys json) = price_subjects old new request keys
-subjects_of (resolve document key kind default context moment) = resolve_subjects document context
 subjects_of (verify document request book answer refine strict json) = rolled (verify_subjects document request book answer)
 subjects_of (plan document request book refine strict explain) = rolled (plan_subjects document request book)
 subjects_of (apply document answer key site strict) = rolled (apply_subjects document answer)
 subjects_of (keep document answer request book write refine strict) = rolled (keep_subjects document answer request book)
-subjects_of (drive document asks workers book add replace strict json) = drive_subjects document asks book
-subjects_of (completions shell) = []
+subjects_of asked = []
 
 -- what a person is told beside the report of a command that was not refused: what is doubted of a
 -- request or of an answer to it, what is left out of a document, and what the asks ended in
@@ -117,8 +99,3 @@ notes_of asked = λ lines. Unit {0}
 abbrev pub numbers_of : Asked → Holding → Report → List ℕ → Type 0
 numbers_of (drive document asks workers book add replace strict json) at report = TellsPrinted at asks book add json report.text
 numbers_of asked at report = λ lines. Unit {0}
-
--- the remark on what a command comes to over these files
-abbrev pub remark_of : Asked → Holding → Remarks
-remark_of asked at (Ok report) remark = Says (notes_of asked) remark × Says (numbers_of asked at report) remark
-remark_of asked at (Err e) remark = NamesOne (subjects_of asked) e remark

@@ -3,10 +3,11 @@ ghost use Rattle.std.specs.Prelude.{◌≡◌, ◌||◌, IfOk, IfSome};
 ghost use Rattle.flagops_commands.specs.Commands.{calls_of, IsOutcome, Leaves};
 ghost use Rattle.flagops_shell.specs.Ending.{KeepsUnlessDone};
 ghost use Rattle.flagops_words.specs.Asked.{asked_view};
-ghost use Rattle.flagops_commands.specs.Refusal.{ComesFrom, GivesOne, is_file_fault, TellsOfOne};
+ghost use Rattle.flagops_commands.specs.Refusal.{ComesFrom, GivesOne, is_file_fault};
 ghost use Rattle.flagops_shell.specs.Report.{outcome_view};
 ghost use Rattle.flagops_shell.specs.Diagnostic.{Says};
-ghost use Rattle.flagops_commands.specs.Subjects.{notes_of, numbers_of, subjects_of};
+ghost use Rattle.flagops_commands.specs.Attempts.{TellsFirst, names_first};
+ghost use Rattle.flagops_commands.specs.Subjects.{notes_of, numbers_of};
 
 use crate::books::drive::drive;
 use crate::completions::completions;
@@ -22,7 +23,7 @@ use std::sync::Wait;
 use std::thread::Threads;
 
 /// What the command answers, or why it is refused. `drive` alone waits, for its workers.
-#[tactic(auto, using(crate::proofs::Noted::nothing, crate::proofs::Noted::no_numbers, crate::proofs::Refusing::all_kept))]
+#[tactic(auto, using(crate::proofs::Noted::nothing, crate::proofs::Noted::no_numbers, crate::proofs::Refusing::all_kept, crate::proofs::Firsts::in_any_files))]
 pub fn outcome<R: Threads + Wait + Sync, F: FileSet>(
     rt: &R,
     alloc: Global,
@@ -34,7 +35,7 @@ pub fn outcome<R: Threads + Wait + Sync, F: FileSet>(
     ensures failed { F.has_failed files.new ≡ (F.has_failed files.old || is_file_fault result) }
     ensures left { Leaves (asked_view asked.now) (F.holding files.old) (F.holding files.new) }
     ensures kept { KeepsUnlessDone (F.holding files.old) (F.holding files.new) result }
-    ensures names { TellsOfOne (subjects_of (asked_view asked.now)) result }
+    ensures names { IfSome (F.holding files.old) (λ at. TellsFirst (names_first (asked_view asked.now) at) result) }
     ensures notes { IfOk result (λ o. IfSome o.remark (Says (notes_of (asked_view asked.now)))) }
     ensures numbers { IfOk result (λ o. IfSome (F.holding files.old) (λ at. IfSome o.remark (Says (numbers_of (asked_view asked.now) at (outcome_view o))))) }
 {

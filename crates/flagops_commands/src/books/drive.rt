@@ -9,11 +9,12 @@ ghost use Rattle.flagops_shell.specs.Ending.{KeepsUnlessDone};
 ghost use Rattle.flagops_shell.specs.Files.{KeepsOthers};
 ghost use Rattle.flagops_commands.specs.Refusal.{ComesFrom, GivesOne, GivesUnlessWant, is_file_fault, loads_book, stores_file, TellsOf, TellsOfOne, by};
 ghost use Rattle.flagops_shell.specs.Report.{outcome_view};
-ghost use Rattle.flagops_files.specs.Told.{file};
+ghost use Rattle.flagops_files.specs.Told.{NamesFirst, file};
 ghost use Rattle.flagops_shell.specs.Diagnostic.{Says};
 ghost use Rattle.file_diagnostics.specs.Named.{Names};
 ghost use Rattle.flagops_commands.specs.DriveSummary.{TellsPrinted};
-ghost use Rattle.flagops_commands.specs.Subjects.{drive_subjects, written_subjects};
+ghost use Rattle.flagops_commands.specs.Attempts.{TellsFirst, drive_attempts};
+ghost use Rattle.flagops_commands.specs.Subjects.{written_subjects};
 ghost use Rattle.flagops_commands.specs.declared.refusal.ListedRefusal.TheVariants.{WouldLose};
 
 use crate::books::asks::load_asks;
@@ -57,7 +58,7 @@ pub fn drive<R: Threads + Wait + Sync, F: FileSet>(
     ensures bad_workers { (e : Reason) → workers_refusal workers ≡ Some e → IsRefusedByName result }
     ensures bad_asks { IfSome (F.holding files.old) (λ at. HasNoAsks at asks.now → IsRefusedByName result) }
     ensures unread { IfSome (F.holding files.old) (λ at. strict ≡ true → HasUnreadAsk at asks.now → IsRefusedByName result) }
-    ensures names { TellsOfOne (drive_subjects document.now asks.now book.now) result }
+    ensures names { IfSome (F.holding files.old) (λ at. TellsFirst (NamesFirst (drive_attempts at document.now asks.now book.now add)) result) }
     ensures notes { IfOk result (λ o. IfSome o.remark (Says (Names asks.now))) }
     ensures numbers { IfOk result (λ o. IfSome (F.holding files.old) (λ at. IfSome o.remark (Says (TellsPrinted at asks.now book.now add json o.text.items)))) }
 {

@@ -9,9 +9,9 @@ ghost use Rattle.flagops_commands.specs.Resolve.{IsResolveReport, resolve_text};
 ghost use Rattle.flagops_commands.specs.Calls.{resolve_calls};
 ghost use Rattle.flagops_shell.specs.Outcomes.{refused_by};
 ghost use Rattle.flagops_shell.specs.Report.{outcome_view};
-ghost use Rattle.flagops_commands.specs.Refusal.{ComesFrom, GivesOne, GivesUnlessWant, is_file_fault, loads_tree, no_tree, TellsOf, TellsOfOne};
-ghost use Rattle.flagops_files.specs.Told.{word};
-ghost use Rattle.flagops_commands.specs.Subjects.{resolve_subjects};
+ghost use Rattle.flagops_commands.specs.Refusal.{ComesFrom, GivesOne, GivesUnlessWant, is_file_fault, loads_tree, no_tree, TellsOf};
+ghost use Rattle.flagops_files.specs.Told.{NamesFirst, word};
+ghost use Rattle.flagops_commands.specs.Attempts.{TellsFirst, resolve_attempts};
 
 use crate::loading::{load_flags, load_tree};
 use crate::refusal::{ListedCall, ListedRefusal, Refused, out_of_memory};
@@ -40,7 +40,7 @@ pub fn resolve<F: FileSet>(
     ensures calls { ComesFrom resolve_calls result }
     ensures failed { F.has_failed files.new ≡ (F.has_failed files.old || is_file_fault result) }
     ensures kept { F.holding files.new ≡ F.holding files.old }
-    ensures names { TellsOfOne (resolve_subjects document.now context.now) result }
+    ensures names { IfSome (F.holding files.old) (λ at. TellsFirst (NamesFirst (resolve_attempts at document.now default.now context.now)) result) }
 {
     let flags = load_flags(alloc, files, document)?;
     let default = default_in(alloc, default)?;

@@ -12,9 +12,10 @@ ghost use Rattle.flagops_shell.specs.Outcomes.{refused_by};
 ghost use Rattle.flagops_shell.specs.Report.{outcome_view};
 ghost use Rattle.flagops_commands.specs.Refusal.{ComesFrom, GivesUnlessWant, is_file_fault, TellsOf, TellsOfOne};
 ghost use Rattle.flagops_commands.specs.declared.refusal.PriceMismatch.TheVariants.{BadKeys};
-ghost use Rattle.flagops_files.specs.Told.{NamesSubject, file, word};
+ghost use Rattle.flagops_files.specs.Told.{NamesFirst, NamesSubject, file, word};
 ghost use Rattle.flagops_shell.specs.Diagnostic.{Says};
-ghost use Rattle.flagops_commands.specs.Subjects.{is_of_keys, is_of_rules, old_weights, price_subjects};
+ghost use Rattle.flagops_commands.specs.Attempts.{TellsFirst, price_attempts};
+ghost use Rattle.flagops_commands.specs.Subjects.{is_of_keys, is_of_rules, old_weights};
 ghost use Rattle.file_diagnostics.specs.Named.{Names};
 ghost use Rattle.book_core.specs.Page.{bytes_cmp};
 ghost use Rattle.price_core.specs.Pricing.{Pricing};
@@ -66,7 +67,7 @@ pub fn price<R: Threads + Sync, F: FileSet>(
     ensures calls { ComesFrom price_calls result }
     ensures failed { F.has_failed files.new ≡ (F.has_failed files.old || is_file_fault result) }
     ensures kept { F.holding files.new ≡ F.holding files.old }
-    ensures names { TellsOfOne (price_subjects old.now new.now request.now keys.now) result }
+    ensures names { IfSome (F.holding files.old) (λ at. TellsFirst (NamesFirst (price_attempts at old.now new.now request.now keys.now)) result) }
     ensures notes { IfOk result (λ o. IfSome o.remark (Says (Names request.now))) }
 {
     let old = load_rule(alloc, files, old)?;
