@@ -137,6 +137,17 @@ class Plan(ProgramTest):
                 files = {"d": document(), "r": asked, "b": BOOK}
                 self.assertEqual(run(["plan", "d", "r", "b", "--refine", "1"], files), run(["plan", "d", "r", "b"], files))
 
+    def test_finer_points(self):
+        """How many points a rule has is told where it was planned in finer ones, and of no set of names."""
+        asked = request('"red":45,"blue":55')
+        ran = run(["plan", "d", "r", "b", *by(10)], {"d": document(), "r": asked, "b": BOOK})
+        told = 'note: "r": with --refine 10 the rule has 100 points where it had 10:\n  later requests ask totals that sum to 100\n'
+        self.assertEqual((ran.status, ran.err), (0, told))
+        for asked, factor, book, _ in CUTS:
+            with self.subTest(asked=asked, factor=factor, book=book):
+                ran = run(["plan", "d", "r", "b", *by(factor)], {"d": document(), "r": asked, "b": book})
+                self.assertNotIn("points where it had", ran.err)
+
     def test_refusals(self):
         for buckets, asked, factor, refusal in REFUSED:
             with self.subTest(buckets=buckets, asked=asked, factor=factor):
