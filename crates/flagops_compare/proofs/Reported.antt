@@ -1,6 +1,6 @@
 -- From what was loaded to the report of the command, its picture, and what a person is told of it.
 use Rattle.std.proofs.Common.{◌≡◌, ◌⊎◌, ◌∙◌, ◌||◌, ◌++◌, ◌&&◌, true, false, Bool, ℕ, List, [], ◌∷◌, Option, None, Some, IfSome, IfOk, if◌then◌else◌, inl, inr, refl, sym, ap, subst, is_some, string_bytes}
-use Rattle.std.specs.Prelude.{Result, Ok, Err}
+use Rattle.std.specs.Prelude.{IfErr, OnErr, OnOk, Result, Ok, Err}
 use Rattle.clap.specs.Walk.{Text}
 use Rattle.flag_defs.specs.Document.{Definitions}
 use Rattle.flagops_compare.specs.Compared.{IsComparedOn}
@@ -23,14 +23,14 @@ use Rattle.flagops_files.specs.declared.refusal.Refusal.{Refusal}
 use Rattle.flagops_files.specs.Question.{IsEvidenceAt}
 use Rattle.flagops_shell.specs.Diagnostic.{Says}
 use Rattle.flagops_shell.specs.Ending.{KeepsUnlessDone}
-use Rattle.flagops_shell.specs.Files.{Holding, KeepsOthers}
+use Rattle.flagops_shell.specs.Files.{Holding, KeepsOthers, Stores}
 use Rattle.flagops_shell.specs.Report.{outcome_view}
 use Rattle.flagops_shell.specs.declared.outcome.Outcome.{Outcome}
 use Rattle.flagops_shell.specs.declared.refused.Remark.{Remark}
 use Rattle.flagops_shell.specs.declared.refused.Remark.TheVariants.{Short, Lines}
 use Rattle.page_switches.specs.Found.{PageFound}
 use Rattle.page_switches.specs.declared.fault.TallyFault.TheVariants as tally
-use Rattle.picture.specs.Spelling.{Pictures}
+use Rattle.picture.specs.Spelling.{IsPicture, Pictures}
 
 -- a refusal that wraps one is want of memory where that is
 not_want : (t : Told) (e : Refused) → t.refusal ≡ Load e.refusal → is_want t.refusal ≡ false → files.is_want e.refusal ≡ false
@@ -83,6 +83,15 @@ unwritten e t is fault no_want = is ∙ ap Load (fault (not_want t e is no_want)
 
 pub told_unwritten : (path : List ℕ) (e : Refused) (t : Told) → t.refusal ≡ Load e.refusal → t.remark ≡ e.remark → (files.is_want e.refusal ≡ false → Says (NamesSubject (file path)) e.remark) → is_want t.refusal ≡ false → Says (NamesSubject (file path)) t.remark
 told_unwritten path e t is same says no_want = subst (λ (m : Remark). Says (NamesSubject (file path)) m) (sym same) (says (not_want t e is no_want))
+
+module _ (ps : Pictures) (path : List ℕ) where
+  pub drawn_at : (old new : Option Holding) (bytes : List ℕ) (r : Result (Unit {0}) Told) → IsPicture ps bytes → OnOk r (Stores old new path bytes) → KeepsOthers old new path → OnErr r (new ≡ old)
+      → IfErr r (λ t. is_want t.refusal ≡ false → t.refusal ≡ Load unwritable) → IfErr r (λ t. is_want t.refusal ≡ false → Says (NamesSubject (file path)) t.remark) → IsDrawnAt ps path old new r
+  drawn_at old new bytes (Ok x) picture stores others refused fault names = (bytes, picture, stores, others)
+  drawn_at old new bytes (Err t) picture stores others refused fault names = ((λ no_want. (fault no_want, names no_want)), refused)
+
+  pub undrawn_at : (h : Option Holding) (t : Told) → t.refusal ≡ WantOfMemory → IsDrawnAt {X = Unit {0}} ps path h h (Err t)
+  undrawn_at h t is = ((is_none t is), refl)
 
 -- ---- a page that has no rules to compare, with `--strict`
 

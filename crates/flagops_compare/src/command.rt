@@ -89,7 +89,7 @@ fn outcome<R: Threads, F: FileSet>(
 }
 
 /// The report of what was loaded.
-#[tactic(auto, using(crate::proofs::Reported::compared_so, crate::proofs::Reported::tally_refused, crate::proofs::Reported::wanted, crate::proofs::Reported::noted_so, crate::proofs::Reported::same_left))]
+#[tactic(auto, using(crate::proofs::Reported::compared_so, crate::proofs::Reported::tally_refused, crate::proofs::Reported::wanted, crate::proofs::Reported::noted_so, crate::proofs::Reported::same_left, crate::proofs::Reported::tally_told, crate::proofs::Reported::want_told))]
 fn reported<F: FileSet>(
     alloc: Global,
     files: &mut F,
@@ -115,6 +115,7 @@ fn reported<F: FileSet>(
 }
 
 /// The report of pages, whose picture is written where one is asked for.
+#[tactic(auto, using(crate::proofs::Reported::undrawn, crate::proofs::Reported::drawn_too, crate::proofs::Reported::is_done, crate::proofs::Reported::left_but, crate::proofs::Reported::unshown, crate::proofs::Reported::untold, crate::proofs::Reported::refused_too, crate::proofs::Reported::refused_left, crate::proofs::Reported::refused_told, crate::proofs::Reported::same_left))]
 fn answered<F: FileSet>(
     alloc: Global,
     files: &mut F,
@@ -152,6 +153,7 @@ fn picture_path<'a>(asked: &Comparing<'a>, some_left: bool) -> Option<&'a str>
 }
 
 /// Replaces the file at a path by the picture of pages, whole or not at all.
+#[tactic(auto, using(crate::proofs::Reported::drawn_at, crate::proofs::Reported::undrawn_at))]
 fn draw_at<F: FileSet>(
     alloc: Global,
     files: &mut F,

@@ -1,5 +1,5 @@
 -- What the picture of an edit tells, and how high it is: what the edit of a rule does to recorded inputs.
-use Rattle.std.specs.Prelude.{ℕ, List, [], ◌∷◌, ◌++◌, length, map}
+use Rattle.std.specs.Prelude.{ℕ, List, [], ◌∷◌, ◌++◌, map}
 use Rattle.bucket_core.specs.Rule.{Entries, total_of, total_weight}
 use Rattle.price_core.specs.Limits.{Limits}
 use Rattle.price_core.specs.Pricing.{Pair}
