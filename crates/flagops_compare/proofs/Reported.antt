@@ -95,7 +95,7 @@ module _ (ps : Pictures) (path : List ℕ) where
 
 -- ---- a page that has no rules to compare, with `--strict`
 
-chosen : (b : Bool) (p : Option Text) (path : Text) → (if b then None else p) ≡ Some path → (if b then 1 else 0) ≡ 0
+chosen : (b : Bool) (p : Option Text) (path : Text) → (if b then None else p) ≡ Some path → ◌≡◌ {A = ℕ} (if b then 1 else 0) 0
 chosen true p path is = absurd (apart is)
   where
     apart : None ≡ Some path → ⊥

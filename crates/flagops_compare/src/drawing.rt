@@ -77,7 +77,7 @@ struct Count<'a> {
 }
 
 /// Adds the picture of a page by its rules, so far below the top, and gives how far below it that ends.
-#[tactic(auto, using(crate::proofs::Drawings::continues_one, crate::proofs::Drawings::continues_none))]
+#[tactic(auto, using(crate::proofs::Drawings::drawn_so, crate::proofs::Drawings::continues_none))]
 fn add_counted(
     alloc: Global,
     pictures: &mut String,

@@ -1,9 +1,8 @@
 use Rattle.std.proofs.Common.{◌+◌, ℕ, List, drop, string_bytes, subst, sym}
 use Rattle.flag_defs.specs.Flags.{flags_view}
-use Rattle.picture.proofs.Remaining.{ended, front}
 use Rattle.page_switches.specs.Found.{PageFound, page_view, pages_view}
 use Rattle.flagops_compare.specs.Drawn.{Continues, drawn_on, pages_drawn}
-use Rattle.flagops_compare.proofs.Drawings.{continues_both, continues_none}
+use Rattle.flagops_compare.proofs.Drawings.{continues_both, continues_none, ended, front}
 use Rattle.flagops_compare.proofs.drawing.add_pages.Goals as goal
 
 pub loop-page-preserved : goal.loop-page-preserved
