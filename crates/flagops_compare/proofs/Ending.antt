@@ -1,5 +1,5 @@
 -- What the command comes to, and what a person is told of it.
-use Rattle.std.proofs.Common.{◌≡◌, Option, Some, None, IfSome, IfOk, subst}
+use Rattle.std.proofs.Common.{Option, Some, None, IfSome, IfOk, subst}
 use Rattle.std.specs.Prelude.{Result, Ok, Err}
 use Rattle.flagops_compare.specs.Refusal.{is_want}
 use Rattle.flagops_compare.specs.Report.{TellsLeft, attempts_of, remark_of}

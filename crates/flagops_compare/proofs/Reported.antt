@@ -1,5 +1,5 @@
 -- From what was loaded to the report of the command, its picture, and what a person is told of it.
-use Rattle.std.proofs.Common.{◌≡◌, ◌⊎◌, ◌∙◌, ◌||◌, ◌++◌, ◌&&◌, true, false, Bool, ℕ, List, [], ◌∷◌, Option, None, Some, IfSome, IfOk, if◌then◌else◌, inl, inr, refl, sym, ap, subst, is_some, string_bytes}
+use Rattle.std.proofs.Common.{◌≡◌, ◌∙◌, ◌||◌, ◌&&◌, true, false, Bool, ℕ, List, Option, None, Some, IfSome, IfOk, if◌then◌else◌, inl, inr, refl, sym, ap, subst, is_some, string_bytes}
 use Rattle.std.specs.Prelude.{IfErr, OnErr, OnOk, Result, Ok, Err}
 use Rattle.clap.specs.Walk.{Text}
 use Rattle.flag_defs.specs.Document.{Definitions}
@@ -7,7 +7,7 @@ use Rattle.flagops_compare.specs.Compared.{IsComparedOn}
 use Rattle.flagops_compare.specs.Drawn.{Draws, DrawsAt, LeavesBut, pages_drawn}
 use Rattle.flagops_compare.specs.Loaded.{IsLoadedAt, Loaded, compare_attempts, loaded_of}
 use Rattle.flagops_compare.specs.Refusal.{is_want}
-use Rattle.flagops_compare.specs.Report.{IsCompareReport, IsWithLoaded, IsWithPages, NamesRefused, TellsLeft, TellsOfLoaded, attempts_of, compare_report, compare_status, has_left, picture_attempts, picture_path}
+use Rattle.flagops_compare.specs.Report.{IsCompareReport, IsWithLoaded, IsWithPages, NamesRefused, TellsLeft, TellsOfLoaded, attempts_of, compare_report, has_left, picture_attempts, picture_path}
 use Rattle.flagops_compare.specs.Step.{GivesOne, IsDrawnAt, TellsRefused, Told}
 use Rattle.flagops_compare.specs.Told.{note_lines}
 use Rattle.flagops_compare.specs.Words.{Comparing}

@@ -1,4 +1,4 @@
-use Rattle.std.proofs.Common.{◌+◌, ℕ, List, drop, string_bytes, subst, sym}
+use Rattle.std.proofs.Common.{◌+◌, List, drop, string_bytes, subst, sym}
 use Rattle.flag_defs.specs.Flags.{flags_view}
 use Rattle.page_switches.specs.Found.{PageFound, page_view, pages_view}
 use Rattle.flagops_compare.specs.Drawn.{Continues, drawn_on, pages_drawn}
