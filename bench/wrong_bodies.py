@@ -16,7 +16,7 @@ TOP = os.path.dirname(os.path.dirname(os.path.realpath(__file__)))
 PAGE = os.path.join(TOP, "docs", "WRONG_BODIES.md")
 HEAD = """# Wrong bodies
 
-Each line is an edit of one function that the prover refuses, since a clause of a contract is false of it. `rt ci` tries those of the gate, `bench/wrong.sh [CRATE ..]` the others; [CHECKS.md](CHECKS.md#wrong-bodies) says when. A clause is named as "clause of function", or by the function alone where it has only one. This page is written by `bench/wrong_bodies.py`.
+Each line is an edit of one function that the prover has to refuse, since a clause of a contract is false of it. `rt ci` tries those of the gate, `bench/wrong.sh [CRATE ..]` the others; [CHECKS.md](CHECKS.md#wrong-bodies) says when, which were never tried, and of which the clause was only read. A clause is named as "clause of function", or by the function alone where it has only one. This page is written by `bench/wrong_bodies.py`.
 """
 
 

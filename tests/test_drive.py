@@ -212,7 +212,9 @@ class Drive(ProgramTest):
         ]:
             with self.subTest(before=before, words=words):
                 files = {"d": document(), "a": "[]", "b": before}
-                ran = self.assert_ends(["drive", *words, "d", "a", "2", "b"], files, 1, f"refused {refusal}\n")
+                ran = run(["drive", *words, "d", "a", "2", "b"], files)
+                self.assertEqual((ran.status, ran.out), (1, f"refused {refusal}\n"))
+                self.assertTrue(ran.err.startswith("note: " if words == ["--strict"] else "error: "), ran.err)
                 self.assertEqual(ran.files, files)
                 if not words:
                     ran = run(["drive", "--replace", "d", "a", "2", "b"], files)

@@ -221,7 +221,7 @@ class FiltersTest(ProgramTest):
                 "missing": {"if": [{"missing": "$flagd.timestamp"}, "red", pick]},
                 "computed": {"if": [{"var": {"cat": ["$flagd.", "timestamp"]}}, pick, "red"]},
                 "scope": {"if": [{"var": ["", 0]}, pick, "red"]},
-                "bucket": {"fractional": [{"var": "key"}, [{"var": "$flagd"}, 1], ["red", 1]]},
+                "bucket": {"fractional": [{"var": "key"}, [{"if": [{"var": "$flagd"}, "red", "red"]}, 1], ["red", 1]]},
             }.items()
         }
         document = compact({"flags": flags})

@@ -269,7 +269,8 @@ class Tallies(ProgramTest):
         ran = run(["ramp", "d", "s", "t"], files)
         self.assertEqual(ran.status, 0, ran.out)
         self.assertTrue(ran.err.startswith('note: "t" counts no input'), ran.err)
-        self.assert_ends(["ramp", "--strict", "d", "s", "t"], files, 1, "refused ramp 17 Unrecorded\n")
+        strict = run(["ramp", "--strict", "d", "s", "t"], files)
+        self.assertEqual((strict.status, strict.out, strict.err), (1, "refused ramp 17 Unrecorded\n", ran.err))
 
     def test_pictures_on_books_alone(self):
         """Pictures are drawn of books alone."""

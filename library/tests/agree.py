@@ -133,7 +133,7 @@ def by_drive(seat, kinds, folder):
     drawn = [ask_for(kinds) for _ in range(asks)]
     with open(os.path.join(folder, 'asks'), 'w') as file:
         json.dump(drawn, file)
-    done = subprocess.run([program, 'drive', 'flags', 'asks', '1', 'book'], cwd=folder, capture_output=True, check=True)
+    done = subprocess.run([program, 'drive', '--replace', 'flags', 'asks', '1', 'book'], cwd=folder, capture_output=True, check=True)
     wrong, lines = 0, done.stdout.splitlines()
     for ask, line in zip(drawn, lines[:asks], strict=True):
         text = json.dumps(ask['context']).encode()

@@ -135,7 +135,7 @@ uint32_t flagops_apply(const uint8_t *document, size_t document_len, const uint8
 
 /* -- the library -- */
 
-/* The library's version, and the kit that it is proved with. ROOM. */
+/* The library's version, the kit that proves it, and the sum of its sources, a line each. ROOM. */
 uint32_t flagops_about(uint8_t *out, size_t room, size_t *written);
 
 #ifdef __cplusplus

@@ -5,6 +5,7 @@ ghost use Rattle.flag_defs.specs.Flags.{flags_view};
 ghost use Rattle.flagops_shell.specs.Report.{outcome_view};
 ghost use Rattle.flagops_pictures.specs.Commands.{ramp_description};
 ghost use Rattle.flagops_pictures.specs.Ramps.{AreTold, Continues, IsRampDrawn, IsRampPicture, IsRampPictureOf};
+ghost use Rattle.flagops_ramps.specs.Attempts.{IsOfFirst, verify_files_on_book};
 ghost use Rattle.flagops_ramps.specs.Judging.{AreRightAnswers, IsOfBook, answered_view};
 ghost use Rattle.flagops_ramps.specs.Report.{GivesOne, is_file_fault};
 ghost use Rattle.flagops_ramps.specs.Diagnostics.{Diagnoses, IsOfVerify};
@@ -55,7 +56,7 @@ impl<'w, R: Threads + Sync, F: FileSet> Command<'w, R, F> for PicturingRamp<'w> 
         Ok(PicturingRamp { answers })
     }
 
-    #[tactic(auto, using(flagops_ramps::proofs::Diagnosed::verify_remarks, flagops_ramps::proofs::Diagnosed::wants, flagops_ramps::proofs::Diagnosed::all_kept))]
+    #[tactic(auto, using(flagops_ramps::proofs::Diagnosed::verify_remarks_on_book, flagops_ramps::proofs::Diagnosed::wants, flagops_ramps::proofs::Diagnosed::all_kept))]
     fn answer(
         &self,
         rt: &R,
@@ -71,7 +72,6 @@ impl<'w, R: Threads + Sync, F: FileSet> Command<'w, R, F> for PicturingRamp<'w> 
 }
 
 /// The pictures of what the files at the paths ask and answer.
-#[tactic(auto, using(flagops_ramps::proofs::Diagnosed::wanting))]
 fn pictured<R: Threads + Sync, F: FileSet>(
     rt: &R,
     alloc: Global,
@@ -80,7 +80,7 @@ fn pictured<R: Threads + Sync, F: FileSet>(
 ) -> Result<Outcome, Refused<RampRefusal>>
     ensures exact { IfSome (F.holding files.old) (λ at. GivesOne outcome_view result (IsRampPicture at (verifying_view asked.now))) }
     ensures failed { F.has_failed files.new ≡ (F.has_failed files.old || is_file_fault result) }
-    ensures names { Diagnoses (IsOfVerify (verifying_view asked.now)) result }
+    ensures names { IfSome (F.holding files.old) (λ at. Diagnoses (IsOfFirst (verify_files_on_book at (verifying_view asked.now)) (IsOfVerify (verifying_view asked.now))) result) }
     ensures notes { IfOk result (λ o. IfSome o.remark (Says (NamesDoubted asked.now.rollout.steps.now asked.now.rollout.book.now))) }
     ensures kept { F.holding files.new ≡ F.holding files.old }
 {

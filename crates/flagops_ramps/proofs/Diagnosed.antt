@@ -4,17 +4,11 @@ use Rattle.std.specs.Prelude.{true, false, codes, decimal}
 use Rattle.flagops_rollouts.specs.Doubts.{NamesDoubt, NamesDoubted}
 use Rattle.flagops_files.specs.Lines.{NamesFile}
 use Rattle.flagops_rollouts.specs.declared.doubts.NotedDoubt.{NotedDoubt}
-use Rattle.flagops_files.specs.Question.{book_question_subjects, question_subjects}
 use Rattle.flagops_files.specs.Refusal as files
-use Rattle.flagops_files.specs.Refusal.{by, loads_book, loads_evidence, loads_file, loads_flags}
 use Rattle.flagops_files.specs.Told.{NamesOne, file}
-use Rattle.flagops_files.specs.declared.refusal.Call.{Call}
-use Rattle.flagops_files.specs.declared.refusal.Call.TheVariants as call
-use Rattle.flagops_files.specs.declared.refusal.Refusal.{Refusal}
 use Rattle.flagops_rollouts.specs.Refusal as rolling
 use Rattle.flagops_rollouts.specs.Subjects.{applied_subjects, is_of_kept_document}
 use Rattle.flagops_rollouts.specs.declared.refusal.Doubt.{Doubt}
-use Rattle.flagops_files.proofs.Told.{told_left, told_right}
 use Rattle.file_diagnostics.specs.Named.{Names, opening_words, quoted}
 use Rattle.flagops_shell.specs.Diagnostic.{Says}
 use Rattle.flagops_shell.specs.Ending.{KeepsUnlessDone, Remarks}
@@ -23,10 +17,10 @@ use Rattle.flagops_shell.specs.declared.outcome.Outcome.{Outcome}
 use Rattle.flagops_shell.specs.declared.refused.Remark.{Remark}
 use Rattle.flagops_shell.specs.declared.refused.Remark.TheVariants.{Short, Lines}
 use Rattle.flagops_ramps.specs.Apply.{TellsOmittedAt}
-use Rattle.flagops_ramps.specs.Commands.{keep_told, ramp_told, step_told, verify_told}
+use Rattle.flagops_ramps.specs.Attempts.{IsOfFirst, ramp_files, step_files, verify_files, verify_files_on_book}
+use Rattle.flagops_ramps.specs.Commands.{keep_told, ramp_told, step_told, verify_told, verify_told_on_book}
 use Rattle.flagops_ramps.specs.Diagnostics.{Diagnoses, Diagnosis, IsOfAnswers, IsOfDoubted, IsOfKeep, IsOfRamp, IsOfSize, IsOfStep, IsOfVerify, NamesPath, NamesStep, put_subjects, told_by}
 use Rattle.flagops_ramps.specs.Refusal.{is_unread, is_want}
-use Rattle.flagops_ramps.proofs.Loaded.{not_want}
 use Rattle.flagops_shell.proofs.Lifted as lifted
 use Rattle.rollout_checks.specs.declared.fault.RolloutFault.{RolloutFault}
 use Rattle.rollout_checks.specs.declared.verify_fault.VerifyFault.TheVariants as verdict
@@ -78,56 +72,13 @@ for_request request book (Some d) told = told request
 pub wanting : (Is : Diagnosis) (t : Told) → is_want t.refusal ≡ true → is_want t.refusal ≡ false → Is t.refusal t.remark
 wanting Is t want no_want = absurd (let both : true ≡ false = sym want ∙ no_want in cc)
 
--- what refuses a load is told as every other command tells it
-loaded : (Is : Diagnosis) (t : Told) (e : files.Refused) → t.refusal ≡ refusal.Load e.refusal → t.remark ≡ e.remark → (files.is_want e.refusal ≡ false → Is (refusal.Load e.refusal) e.remark) → is_want t.refusal ≡ false → Is t.refusal t.remark
-loaded Is t e is same named no_want =
-    subst (λ (x : RampRefusal). Is x t.remark) (sym is) (subst (λ (m : Remark). Is (refusal.Load e.refusal) m) (sym same) (named (not_want t e is no_want)))
-
-pub ramp_loaded : (a : Ramping) (t : Told) (e : files.Refused) → t.refusal ≡ refusal.Load e.refusal → t.remark ≡ e.remark
-    → (files.is_want e.refusal ≡ false → NamesOne (question_subjects a.document a.steps a.book) e.refusal e.remark) → is_want t.refusal ≡ false → IsOfRamp a t.refusal t.remark
-ramp_loaded a t e is same named = loaded (IsOfRamp a) t e is same named
-
-pub verify_loaded : (v : Verifying) (t : Told) (e : files.Refused) → t.refusal ≡ refusal.Load e.refusal → t.remark ≡ e.remark
-    → (files.is_want e.refusal ≡ false → NamesOne (question_subjects v.rollout.document v.rollout.steps v.rollout.book) e.refusal e.remark) → is_want t.refusal ≡ false → IsOfVerify v t.refusal t.remark
-verify_loaded v t e is same named =
-    loaded (IsOfVerify v) t e is same (λ wanted. told_left (question_subjects v.rollout.document v.rollout.steps v.rollout.book) ((file v.ramp, by loads_file) ∷ []) e.refusal e.remark (named wanted))
-
--- a file that has to be a book is refused as one that may be a tally, too
-as_evidence : (c : Call) → loads_book c ≡ true → loads_evidence c ≡ true
-as_evidence call.Load is = refl
-as_evidence call.ReadBook is = refl
-as_evidence call.ReadTally is = refl
-as_evidence call.ReadTree is = cc
-as_evidence call.ReadRule is = cc
-as_evidence call.ReadFlags is = cc
-as_evidence call.ReadPlanned is = cc
-as_evidence call.Store is = cc
-
-of_evidence : (document request book : List ℕ) (e : Refusal) (remark : Remark) → NamesOne (book_question_subjects document request book) e remark → NamesOne (question_subjects document request book) e remark
-of_evidence document request book e remark (inl named) = inl named
-of_evidence document request book e remark (inr (inl named)) = inr (inl named)
-of_evidence document request book e remark (inr (inr (inl (is, named)))) = inr (inr (inl (as_evidence (files.call_of e) is, named)))
-of_evidence document request book e remark (inr (inr (inr named))) = absurd named
-
-pub verify_loaded_on_book : (v : Verifying) (t : Told) (e : files.Refused) → t.refusal ≡ refusal.Load e.refusal → t.remark ≡ e.remark
-    → (files.is_want e.refusal ≡ false → NamesOne (book_question_subjects v.rollout.document v.rollout.steps v.rollout.book) e.refusal e.remark) → is_want t.refusal ≡ false → IsOfVerify v t.refusal t.remark
-verify_loaded_on_book v t e is same named = verify_loaded v t e is same (λ wanted. of_evidence v.rollout.document v.rollout.steps v.rollout.book e.refusal e.remark (named wanted))
-
-pub step_loaded : (a : Applying) (t : Told) (e : files.Refused) → t.refusal ≡ refusal.Load e.refusal → t.remark ≡ e.remark → loads_flags (files.call_of e.refusal) ≡ true
-    → (files.is_want e.refusal ≡ false → Says (Names a.document) e.remark) → is_want t.refusal ≡ false → IsOfStep a t.refusal t.remark
-step_loaded a t e is same comes named = loaded (IsOfStep a) t e is same (λ wanted. inl (comes, named wanted))
-
-pub answers_loaded : (path : List ℕ) (t : Told) (e : files.Refused) → t.refusal ≡ refusal.Load e.refusal → t.remark ≡ e.remark → loads_file (files.call_of e.refusal) ≡ true
-    → (files.is_want e.refusal ≡ false → Says (Names path) e.remark) → is_want t.refusal ≡ false → IsOfAnswers path t.refusal t.remark
-answers_loaded path t e is same comes named = loaded (IsOfAnswers path) t e is same (λ wanted. inl (comes, named wanted))
-
--- and a file could not be read as every other command sees it
+-- a file could not be read as every other command sees it
 pub failed_load : (old new : Bool) (t : Told) (e : files.Refused) → t.refusal ≡ refusal.Load e.refusal → new ≡ (old || files.is_unread e.refusal) → new ≡ (old || is_unread t.refusal)
 failed_load old new t e is failed = failed ∙ ap (λ b. old || b) (sym (ap is_unread is))
 
 -- answers that are no answers
-of_answers : (v : Verifying) (e : RampRefusal) (remark : Remark) → IsOfAnswers v.ramp e remark → IsOfVerify v e remark
-of_answers v (refusal.Load e) remark named = told_right (question_subjects v.rollout.document v.rollout.steps v.rollout.book) ((file v.ramp, by loads_file) ∷ []) e remark named
+pub of_answers : (v : Verifying) (e : RampRefusal) (remark : Remark) → IsOfAnswers v.ramp e remark → IsOfVerify v e remark
+of_answers v (refusal.Load e) remark named = absurd named
 of_answers v (refusal.Read f) remark named = named
 of_answers v (refusal.Ramp f) remark named = absurd named
 of_answers v (refusal.Print f) remark named = absurd named
@@ -138,12 +89,8 @@ of_answers v refusal.OtherRule remark named = absurd named
 of_answers v (refusal.Rollout e) remark named = absurd named
 of_answers v (refusal.Doubted c d) remark named = absurd named
 
-pub verify_answers : {X : Type 0} (v : Verifying) (t : Told) (r : Result X Told) → r ≡ Err t → (is_want t.refusal ≡ false → IsOfAnswers v.ramp t.refusal t.remark) → Diagnoses (IsOfVerify v) r
-verify_answers {X} v t r is named = subst (λ (s : Result X Told). Diagnoses (IsOfVerify v) s) (sym is) (λ wanted. of_answers v t.refusal t.remark (named wanted))
-
 pub step_answers : (a : Applying) (e : RampRefusal) (remark : Remark) → IsOfAnswers a.ramp e remark → IsOfStep a e remark
-step_answers a (refusal.Load e) remark (inl named) = inr (inl named)
-step_answers a (refusal.Load e) remark (inr none) = absurd none
+step_answers a (refusal.Load e) remark named = absurd named
 step_answers a (refusal.Read f) remark named = named
 step_answers a (refusal.Ramp f) remark named = absurd named
 step_answers a (refusal.Print f) remark named = absurd named
@@ -211,7 +158,7 @@ step_said path step (Lines lines) said = step_path path step _ said
 
 -- what refuses answers refuses to put one
 pub keep_wrong : (k : Keeping) (e : RampRefusal) (remark : Remark) → IsOfVerify k.answered e remark → IsOfKeep k e remark
-keep_wrong k (refusal.Load e) remark named = named
+keep_wrong k (refusal.Load e) remark named = absurd named
 keep_wrong k (refusal.Ramp f) remark named = named
 keep_wrong k (refusal.Print f) remark named = named
 keep_wrong k (refusal.Read f) remark named = named
@@ -222,12 +169,8 @@ keep_wrong k refusal.OtherRule remark named = absurd named
 keep_wrong k (refusal.Rollout e) remark named = absurd named
 keep_wrong k (refusal.Doubted c d) remark named = named
 
-pub keep_loaded : (k : Keeping) (t : Told) (e : files.Refused) → t.refusal ≡ refusal.Load e.refusal → t.remark ≡ e.remark
-    → (files.is_want e.refusal ≡ false → NamesOne (question_subjects k.answered.rollout.document k.answered.rollout.steps k.answered.rollout.book) e.refusal e.remark) → is_want t.refusal ≡ false → IsOfKeep k t.refusal t.remark
-keep_loaded k t e is same named no_want = keep_wrong k t.refusal t.remark (verify_loaded k.answered t e is same named no_want)
-
-pub keep_answers : {X : Type 0} (k : Keeping) (t : Told) (r : Result X Told) → r ≡ Err t → (is_want t.refusal ≡ false → IsOfAnswers k.answered.ramp t.refusal t.remark) → Diagnoses (IsOfKeep k) r
-keep_answers {X} k t r is named = subst (λ (s : Result X Told). Diagnoses (IsOfKeep k) s) (sym is) (λ wanted. keep_wrong k t.refusal t.remark (of_answers k.answered t.refusal t.remark (named wanted)))
+pub keep_answers : (k : Keeping) (e : RampRefusal) (remark : Remark) → IsOfAnswers k.answered.ramp e remark → IsOfKeep k e remark
+keep_answers k e remark named = keep_wrong k e remark (of_answers k.answered e remark named)
 
 pub keep_steps : (k : Keeping) (t : Told) (f : RolloutFault) → t.refusal ≡ refusal.Verify (verdict.Request f) → Says (NamesPath k.answered.rollout.steps) t.remark → IsOfKeep k t.refusal t.remark
 keep_steps k t f is said = keep_wrong k t.refusal t.remark (verify_steps k.answered t f is said)
@@ -265,24 +208,35 @@ failed_put old new t e is failed = failed ∙ ap (λ b. old || b) (sym (ap is_un
 
 -- ---- what a command tells of what it comes to
 
-remarks : (Notes : List ℕ → Type 0) (Is : Diagnosis) (files : Option Holding) (r : Result Outcome Told) → Diagnoses Is r → IfOk r (λ o. IfSome o.remark (Says Notes)) → IfSome files (λ at. Remarks is_want (told_by Notes Is) r)
-remarks Notes Is None r names notes = tt
-remarks Notes Is (Some at) (Ok o) names notes = λ remark is. subst (λ (m : Option Remark). IfSome m (Says Notes)) is notes
-remarks Notes Is (Some at) (Err t) names notes = names
+module _ (Notes : Holding → List ℕ → Type 0) (Is : Holding → Diagnosis) where
+  remarks : (files : Option Holding) (r : Result Outcome Told) → IfSome files (λ at. Diagnoses (Is at) r) → IfSome files (λ at. IfOk r (λ o. IfSome o.remark (Says (Notes at)))) → IfSome files (λ at. Remarks is_want (told_by (Notes at) (Is at)) r)
+  remarks None r names notes = tt
+  remarks (Some at) (Ok o) names notes = λ remark is. subst (λ (m : Option Remark). IfSome m (Says (Notes at))) is notes
+  remarks (Some at) (Err t) names notes = names
 
-pub ramp_remarks : (a : Ramping) (files : Option Holding) (r : Result Outcome Told) → Diagnoses (IsOfRamp a) r → IfOk r (λ o. IfSome o.remark (Says (NamesDoubted a.steps a.book))) → IfSome files (λ at. Remarks is_want (ramp_told a) r)
-ramp_remarks a files r names notes = remarks (NamesDoubted a.steps a.book) (IsOfRamp a) files r names notes
+whatever : {P : Type 0} (files : Option Holding) → P → IfSome files (λ at. P)
+whatever None p = tt
+whatever (Some at) p = p
 
-pub verify_remarks : (v : Verifying) (files : Option Holding) (r : Result Outcome Told) → Diagnoses (IsOfVerify v) r → IfOk r (λ o. IfSome o.remark (Says (NamesDoubted v.rollout.steps v.rollout.book))) → IfSome files (λ at. Remarks is_want (verify_told v) r)
-verify_remarks v files r names notes = remarks (NamesDoubted v.rollout.steps v.rollout.book) (IsOfVerify v) files r names notes
+pub ramp_remarks : (a : Ramping) (files : Option Holding) (r : Result Outcome Told) → IfSome files (λ at. Diagnoses (IsOfFirst (ramp_files at a) (IsOfRamp a)) r) → IfOk r (λ o. IfSome o.remark (Says (NamesDoubted a.steps a.book)))
+    → IfSome files (λ at. Remarks is_want (ramp_told a at) r)
+ramp_remarks a files r names notes = remarks (λ at. NamesDoubted a.steps a.book) (λ at. IsOfFirst (ramp_files at a) (IsOfRamp a)) files r names (whatever files notes)
 
-pub keep_remarks : (k : Keeping) (files : Option Holding) (r : Result Outcome Told) → Diagnoses (IsOfKeep k) r → IfOk r (λ o. IfSome o.remark (Says (NamesDoubted k.answered.rollout.steps k.answered.rollout.book))) → IfSome files (λ at. Remarks is_want (keep_told k) r)
-keep_remarks k files r names notes = remarks (NamesDoubted k.answered.rollout.steps k.answered.rollout.book) (IsOfKeep k) files r names notes
+pub verify_remarks : (v : Verifying) (files : Option Holding) (r : Result Outcome Told) → IfSome files (λ at. Diagnoses (IsOfFirst (verify_files at v) (IsOfVerify v)) r) → IfOk r (λ o. IfSome o.remark (Says (NamesDoubted v.rollout.steps v.rollout.book)))
+    → IfSome files (λ at. Remarks is_want (verify_told v at) r)
+verify_remarks v files r names notes = remarks (λ at. NamesDoubted v.rollout.steps v.rollout.book) (λ at. IsOfFirst (verify_files at v) (IsOfVerify v)) files r names (whatever files notes)
 
-pub step_remarks : (a : Applying) (files : Option Holding) (r : Result Outcome Told) → Diagnoses (IsOfStep a) r → IfSome files (λ at. IfOk r (λ o. IfSome o.remark (Says (TellsOmittedAt at a.document))))
+pub verify_remarks_on_book : (v : Verifying) (files : Option Holding) (r : Result Outcome Told) → IfSome files (λ at. Diagnoses (IsOfFirst (verify_files_on_book at v) (IsOfVerify v)) r) → IfOk r (λ o. IfSome o.remark (Says (NamesDoubted v.rollout.steps v.rollout.book)))
+    → IfSome files (λ at. Remarks is_want (verify_told_on_book v at) r)
+verify_remarks_on_book v files r names notes = remarks (λ at. NamesDoubted v.rollout.steps v.rollout.book) (λ at. IsOfFirst (verify_files_on_book at v) (IsOfVerify v)) files r names (whatever files notes)
+
+pub keep_remarks : (k : Keeping) (files : Option Holding) (r : Result Outcome Told) → IfSome files (λ at. Diagnoses (IsOfFirst (verify_files at k.answered) (IsOfKeep k)) r)
+    → IfOk r (λ o. IfSome o.remark (Says (NamesDoubted k.answered.rollout.steps k.answered.rollout.book))) → IfSome files (λ at. Remarks is_want (keep_told k at) r)
+keep_remarks k files r names notes = remarks (λ at. NamesDoubted k.answered.rollout.steps k.answered.rollout.book) (λ at. IsOfFirst (verify_files at k.answered) (IsOfKeep k)) files r names (whatever files notes)
+
+pub step_remarks : (a : Applying) (files : Option Holding) (r : Result Outcome Told) → IfSome files (λ at. Diagnoses (IsOfFirst (step_files at a) (IsOfStep a)) r) → IfSome files (λ at. IfOk r (λ o. IfSome o.remark (Says (TellsOmittedAt at a.document))))
     → IfSome files (λ at. Remarks is_want (step_told a at) r)
-step_remarks a None r names notes = tt
-step_remarks a (Some at) r names notes = remarks (TellsOmittedAt at a.document) (IsOfStep a) (Some at) r names notes
+step_remarks a files r names notes = remarks (λ at. TellsOmittedAt at a.document) (λ at. IsOfFirst (step_files at a) (IsOfStep a)) files r names notes
 
 -- each want of memory is reported by the command's name
 pub wants : {X E : Type 0} (name : List ℕ) (r : Result X E) → IfErr r (λ e. name ≡ name)

@@ -1,6 +1,7 @@
 mod Applied
 mod Besides
 pub mod Diagnosed
+pub mod Firsts
 mod Kept
 mod Loaded
 pub mod Matched

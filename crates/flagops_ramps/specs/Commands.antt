@@ -8,6 +8,7 @@ use Rattle.flagops_shell.specs.Diagnostic.{RemarksOf}
 use Rattle.flagops_shell.specs.Files.{Holding}
 use Rattle.flagops_shell.specs.Running.{Description}
 use Rattle.flagops_ramps.specs.Apply.{IsStepReport, TellsOmittedAt}
+use Rattle.flagops_ramps.specs.Attempts.{IsOfFirst, ramp_files, step_files, verify_files, verify_files_on_book}
 use Rattle.flagops_ramps.specs.Diagnostics.{IsOfKeep, IsOfRamp, IsOfStep, IsOfVerify, told_by}
 use Rattle.flagops_ramps.specs.Keep.{IsKeepReport}
 use Rattle.flagops_ramps.specs.Ramp.{IsRampReport}
@@ -17,30 +18,34 @@ use Rattle.flagops_ramps.specs.Words.{Applying, Keeping, Ramping, Verifying, kee
 use Rattle.flagops_ramps.specs.declared.refusal.RampRefusal.{RampRefusal}
 
 -- a command that leaves all files as they are, and reports each want of memory by its own name
-abbrev pub reading : {A : Type 0} → List ℕ → (List Text → Option A) → (List Text → Kinds) → (A → Holding → Came → Type 0) → (A → RemarksOf RampRefusal) → Description A RampRefusal
+abbrev pub reading : {A : Type 0} → List ℕ → (List Text → Option A) → (List Text → Kinds) → (A → Holding → Came → Type 0) → (A → Holding → RemarksOf RampRefusal) → Description A RampRefusal
 reading name asked_by faults_of MayCome MayTell = record {
   asked_by = asked_by;
   faults_of = faults_of;
   MayCome = λ a at after. MayCome a at;
-  MayTell = λ a at. MayTell a;
+  MayTell = λ a at. MayTell a at;
   call_of = λ a e. name;
   MayWant = λ a call. call ≡ name;
   MayLeave = λ a old new. new ≡ old;
   IsDone = λ status. status ≡ 0;
 }
 
--- what a person is told of each command
-abbrev pub ramp_told : Ramping → RemarksOf RampRefusal
-ramp_told a = told_by (NamesDoubted a.steps a.book) (IsOfRamp a)
+-- what a person is told of each command: of a refusal the first of its files that is refused, or why what is made of them is
+abbrev pub ramp_told : Ramping → Holding → RemarksOf RampRefusal
+ramp_told a at = told_by (NamesDoubted a.steps a.book) (IsOfFirst (ramp_files at a) (IsOfRamp a))
 
-abbrev pub verify_told : Verifying → RemarksOf RampRefusal
-verify_told v = told_by (NamesDoubted v.rollout.steps v.rollout.book) (IsOfVerify v)
+abbrev pub verify_told : Verifying → Holding → RemarksOf RampRefusal
+verify_told v at = told_by (NamesDoubted v.rollout.steps v.rollout.book) (IsOfFirst (verify_files at v) (IsOfVerify v))
+
+-- the same where what was recorded has to be a book
+abbrev pub verify_told_on_book : Verifying → Holding → RemarksOf RampRefusal
+verify_told_on_book v at = told_by (NamesDoubted v.rollout.steps v.rollout.book) (IsOfFirst (verify_files_on_book at v) (IsOfVerify v))
 
 abbrev pub step_told : Applying → Holding → RemarksOf RampRefusal
-step_told a at = told_by (TellsOmittedAt at a.document) (IsOfStep a)
+step_told a at = told_by (TellsOmittedAt at a.document) (IsOfFirst (step_files at a) (IsOfStep a))
 
-abbrev pub keep_told : Keeping → RemarksOf RampRefusal
-keep_told k = told_by (NamesDoubted k.answered.rollout.steps k.answered.rollout.book) (IsOfKeep k)
+abbrev pub keep_told : Keeping → Holding → RemarksOf RampRefusal
+keep_told k at = told_by (NamesDoubted k.answered.rollout.steps k.answered.rollout.book) (IsOfFirst (verify_files at k.answered) (IsOfKeep k))
 
 abbrev pub ramp_description : Description Ramping RampRefusal
 ramp_description = reading (codes "ramp") ramp_by ramp_faults (λ a at. IsRampReport at a) ramp_told
@@ -49,7 +54,7 @@ abbrev pub verify_description : Description Verifying RampRefusal
 verify_description = reading (codes "verify-ramp") verify_by verify_faults (λ v at. IsVerdictReport at v) verify_told
 
 abbrev pub step_description : Description Applying RampRefusal
-step_description = record (reading (codes "apply") step_by step_faults (λ a at. IsStepReport at a) (λ a. told_by (λ lines. ⊥) (IsOfStep a))) { MayTell = step_told }
+step_description = reading (codes "apply") step_by step_faults (λ a at. IsStepReport at a) step_told
 
 -- `apply --step --keep`, which changes the document alone, and only where it is to be written and nothing is refused
 abbrev pub keep_description : Description Keeping RampRefusal
@@ -57,7 +62,7 @@ keep_description = record {
   asked_by = keep_by;
   faults_of = keep_faults;
   MayCome = λ k at after. IsKeepReport at after k;
-  MayTell = λ k at. keep_told k;
+  MayTell = λ k at. keep_told k at;
   call_of = λ k e. codes "apply";
   MayWant = λ k call. call ≡ codes "apply";
   MayLeave = λ k old new. LeavesDocument old new k.answered.rollout.document k.write;

@@ -6,9 +6,6 @@ use Rattle.flagops_rollouts.specs.Doubts.{NamesDoubt}
 use Rattle.flagops_files.specs.Lines.{NamesFile}
 use Rattle.flagops_rollouts.specs.Subjects.{applied_subjects, is_of_kept_answer, is_of_kept_document, the_plan}
 use Rattle.flagops_rollouts.specs.Refusal as rolling
-use Rattle.flagops_files.specs.Question.{question_subjects}
-use Rattle.flagops_files.specs.Refusal as files
-use Rattle.flagops_files.specs.Refusal.{by, loads_file, loads_flags}
 use Rattle.flagops_files.specs.Told.{NamesOne, file}
 use Rattle.file_diagnostics.specs.Named.{Names, NamesWord}
 use Rattle.flagops_shell.specs.Diagnostic.{RemarksOf, Says}
@@ -19,7 +16,7 @@ use Rattle.flagops_ramps.specs.Refusal.{is_want}
 use Rattle.flagops_ramps.specs.Report.{Told}
 use Rattle.flagops_ramps.specs.Words.{Applying, Keeping, Ramping, Verifying}
 use Rattle.flagops_ramps.specs.declared.refusal.RampRefusal.{RampRefusal}
-use Rattle.flagops_ramps.specs.declared.refusal.RampRefusal.TheVariants.{Load, Rollout, Ramp, Print, Read, Verify, Lines, NoStep, OtherRule, Doubted}
+use Rattle.flagops_ramps.specs.declared.refusal.RampRefusal.TheVariants.{Rollout, Ramp, Print, Read, Verify, Lines, NoStep, OtherRule, Doubted}
 
 -- lines begin with the path of a file as a JSON text, or with what is shown of a long one
 abbrev pub NamesPath : List ℕ → List ℕ → Type 0
@@ -38,9 +35,8 @@ abbrev pub Diagnoses : {X : Type 0} → Diagnosis → Result X Told → Type 0
 Diagnoses Is (Ok x) = Unit {0}
 Diagnoses Is (Err t) = is_want t.refusal ≡ false → Is t.refusal t.remark
 
--- the file of answers at a path is refused by its path
+-- bytes at a path that are no answers are refused by its path
 abbrev pub IsOfAnswers : List ℕ → Diagnosis
-IsOfAnswers path (Load e) remark = NamesOne ((file path, by loads_file) ∷ []) e remark
 IsOfAnswers path (Read e) remark = Says (NamesPath path) remark
 IsOfAnswers path e remark = ⊥
 
@@ -56,35 +52,28 @@ IsOfSize e remark = ⊥
 
 -- ---- by command
 
--- `ramp` is refused by one of its files, by the steps or one of them, for the size of its answers, or for what is doubted of them
+-- `ramp` is refused, over its files, by the steps or one of them, for the size of its answers, or for what is doubted of them
 abbrev pub IsOfRamp : Ramping → Diagnosis
-IsOfRamp a (Load e) remark = NamesOne (question_subjects a.document a.steps a.book) e remark
 IsOfRamp a (Ramp e) remark = Says (NamesPath a.steps) remark
 IsOfRamp a (Print e) remark = Says (NamesWord the_plan) remark
 IsOfRamp a (Doubted c d) remark = Says (NamesDoubt a.steps a.book d) remark
 IsOfRamp a e remark = ⊥
-
--- the files of answers and of what they are judged by
-abbrev pub answered_subjects : Verifying → files.Subjects
-answered_subjects v = question_subjects v.rollout.document v.rollout.steps v.rollout.book ++ ((file v.ramp, by loads_file) ∷ [])
 
 -- answers are refused by the file of the steps, where a step is refused, and else by their own
 abbrev pub judged_path : Verifying → VerifyFault → List ℕ
 judged_path v (Request e) = v.rollout.steps
 judged_path v (Check e) = v.ramp
 
--- `verify-ramp` is refused by one of its files, by answers that are not right, or for what is doubted of them
+-- `verify-ramp` is refused, over its files, by answers that are none or not right, or for what is doubted of them
 abbrev pub IsOfVerify : Verifying → Diagnosis
-IsOfVerify v (Load e) remark = NamesOne (answered_subjects v) e remark
 IsOfVerify v (Read e) remark = Says (NamesPath v.ramp) remark
 IsOfVerify v (Verify e) remark = Says (NamesPath (judged_path v e)) remark
 IsOfVerify v Lines remark = Says (NamesPath v.ramp) remark
 IsOfVerify v (Doubted c d) remark = Says (NamesDoubt v.rollout.steps v.rollout.book d) remark
 IsOfVerify v e remark = ⊥
 
--- `apply --step` is refused by one of its files, by the step that its answers lack, or as `apply` is
+-- `apply --step` is refused, over its files, by answers that are none, by the step that they lack, or as `apply` is
 abbrev pub IsOfStep : Applying → Diagnosis
-IsOfStep a (Load e) remark = NamesOne ((file a.document, by loads_flags) ∷ (file a.ramp, by loads_file) ∷ []) e remark
 IsOfStep a (Rollout e) remark = NamesOne (applied_subjects a.document a.ramp) e remark
 IsOfStep a (Read e) remark = Says (NamesPath a.ramp) remark
 IsOfStep a NoStep remark = Says (NamesStep a.ramp a.step) remark

@@ -1,4 +1,5 @@
 pub mod Apply
+pub mod Attempts
 pub mod Commands
 pub mod Diagnostics
 pub mod Doubts

@@ -5,6 +5,7 @@ ghost use Rattle.flagops_rollouts.specs.Omitted.{TellsOmitted};
 ghost use Rattle.flagops_shell.specs.Diagnostic.{Says};
 ghost use Rattle.flagops_shell.specs.Report.{outcome_view};
 ghost use Rattle.flagops_ramps.specs.Apply.{IsStepOver, IsStepReport, TellsOmittedAt, answer_to};
+ghost use Rattle.flagops_ramps.specs.Attempts.{IsOfFirst, answers_file, step_files};
 ghost use Rattle.flagops_ramps.specs.Commands.{step_description};
 ghost use Rattle.flagops_ramps.specs.Diagnostics.{Diagnoses, IsOfStep};
 ghost use Rattle.flagops_ramps.specs.Report.{GivesOne, is_file_fault};
@@ -56,7 +57,7 @@ impl<'w, R, F: FileSet> Command<'w, R, F> for Applying<'w> {
 }
 
 /// The report of the files that are asked for.
-#[tactic(auto, using(crate::proofs::Diagnosed::step_loaded, crate::proofs::Diagnosed::failed_load))]
+#[tactic(auto, using(crate::proofs::Diagnosed::failed_load))]
 fn applied<F: FileSet>(
     alloc: Global,
     files: &mut F,
@@ -64,7 +65,7 @@ fn applied<F: FileSet>(
 ) -> Result<Outcome, Refused<RampRefusal>>
     ensures exact { IfSome (F.holding files.old) (λ at. GivesOne outcome_view result (IsStepReport at (applying_view asked.now))) }
     ensures failed { F.has_failed files.new ≡ (F.has_failed files.old || is_file_fault result) }
-    ensures names { Diagnoses (IsOfStep (applying_view asked.now)) result }
+    ensures names { IfSome (F.holding files.old) (λ at. Diagnoses (IsOfFirst (step_files at (applying_view asked.now)) (IsOfStep (applying_view asked.now))) result) }
     ensures notes { IfSome (F.holding files.old) (λ at. IfOk result (λ o. IfSome o.remark (Says (TellsOmittedAt at asked.now.document.now)))) }
     ensures kept { F.holding files.new ≡ F.holding files.old }
 {
@@ -75,7 +76,6 @@ fn applied<F: FileSet>(
 }
 
 /// The report on a document, of answers that stand in a file.
-#[tactic(auto, using(crate::proofs::Diagnosed::step_answers))]
 fn against<F: FileSet>(
     alloc: Global,
     files: &mut F,
@@ -84,7 +84,7 @@ fn against<F: FileSet>(
 ) -> Result<Outcome, Refused<RampRefusal>>
     ensures exact { IfSome (F.holding files.old) (λ at. GivesOne outcome_view result (IsStepOver (applying_view asked.now) document.now.bytes.items (flags_view document.now.flags) (answers_at at asked.now.ramp.now))) }
     ensures failed { F.has_failed files.new ≡ (F.has_failed files.old || is_file_fault result) }
-    ensures names { Diagnoses (IsOfStep (applying_view asked.now)) result }
+    ensures names { IfSome (F.holding files.old) (λ at. Diagnoses (IsOfFirst (answers_file at asked.now.ramp.now) (IsOfStep (applying_view asked.now))) result) }
     ensures notes { IfOk result (λ o. IfSome o.remark (Says (TellsOmitted asked.now.document.now (flags_view document.now.flags)))) }
     ensures kept { F.holding files.new ≡ F.holding files.old }
 {

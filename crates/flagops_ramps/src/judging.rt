@@ -4,6 +4,7 @@ ghost use Rattle.flag_defs.specs.Flags.{flags_view};
 ghost use Rattle.flagops_files.specs.Lines.{NamesFile};
 ghost use Rattle.flagops_files.specs.Question.{book_question_view, question_view};
 ghost use Rattle.flagops_shell.specs.Diagnostic.{Says};
+ghost use Rattle.flagops_ramps.specs.Attempts.{IsOfFirst, answers_file, verify_files, verify_files_on_book};
 ghost use Rattle.flagops_ramps.specs.Judging.{AreRightAnswers, IsFoundAt, IsFoundOf, IsFoundOnBook, IsFoundOver, IsOfBook, answered_view, answers_at, on_book, read_as, refused_as};
 ghost use Rattle.flagops_ramps.specs.Refusal.{is_unread, is_want};
 ghost use Rattle.flagops_ramps.specs.Diagnostics.{Diagnoses, IsOfAnswers, IsOfVerify, NamesPath, NamesStep, judged_path};
@@ -49,7 +50,7 @@ pub struct RightAnswers {
 }
 
 /// The answers of the file that is asked for, with the files that they are judged by, where they are right; or the first refusal.
-#[tactic(auto, using(crate::proofs::Diagnosed::verify_loaded, crate::proofs::Diagnosed::failed_load))]
+#[tactic(auto, using(crate::proofs::Diagnosed::failed_load))]
 pub fn load_answers<R: Threads + Sync, F: FileSet>(
     rt: &R,
     alloc: Global,
@@ -59,7 +60,7 @@ pub fn load_answers<R: Threads + Sync, F: FileSet>(
     ensures exact { IfSome (F.holding files.old) (λ at. GivesOne answered_view result (IsFoundAt at (verifying_view asked.now))) }
     ensures right { IfOk result (AreRightAnswers (option_map (λ m. m.number) asked.now.rollout.refine)) }
     ensures failed { F.has_failed files.new ≡ (F.has_failed files.old || is_file_fault result) }
-    ensures names { Diagnoses (IsOfVerify (verifying_view asked.now)) result }
+    ensures names { IfSome (F.holding files.old) (λ at. Diagnoses (IsOfFirst (verify_files at (verifying_view asked.now)) (IsOfVerify (verifying_view asked.now))) result) }
     ensures kept { F.holding files.new ≡ F.holding files.old }
 {
     let rollout = &asked.rollout;
@@ -78,7 +79,7 @@ pub fn load_answers<R: Threads + Sync, F: FileSet>(
 }
 
 /// The same where what was recorded has to be a book: a tally is refused as a file that is none.
-#[tactic(auto, using(crate::proofs::Diagnosed::verify_loaded_on_book, crate::proofs::Diagnosed::failed_load))]
+#[tactic(auto, using(crate::proofs::Diagnosed::failed_load))]
 pub fn load_answers_on_book<R: Threads + Sync, F: FileSet>(
     rt: &R,
     alloc: Global,
@@ -89,7 +90,7 @@ pub fn load_answers_on_book<R: Threads + Sync, F: FileSet>(
     ensures right { IfOk result (AreRightAnswers (option_map (λ m. m.number) asked.now.rollout.refine)) }
     ensures book { IfOk result (λ a. IsOfBook a.question.evidence) }
     ensures failed { F.has_failed files.new ≡ (F.has_failed files.old || is_file_fault result) }
-    ensures names { Diagnoses (IsOfVerify (verifying_view asked.now)) result }
+    ensures names { IfSome (F.holding files.old) (λ at. Diagnoses (IsOfFirst (verify_files_on_book at (verifying_view asked.now)) (IsOfVerify (verifying_view asked.now))) result) }
     ensures kept { F.holding files.new ≡ F.holding files.old }
 {
     let rollout = &asked.rollout;
@@ -127,7 +128,6 @@ fn on_book(question: BookQuestion) -> Question
 }
 
 /// The same to a question, whose answers stand in a file.
-#[tactic(auto, using(crate::proofs::Diagnosed::verify_answers, crate::proofs::Diagnosed::verify_steps))]
 fn against<R: Threads + Sync, F: FileSet>(
     rt: &R,
     alloc: Global,
@@ -139,7 +139,7 @@ fn against<R: Threads + Sync, F: FileSet>(
     ensures right { IfOk result (AreRightAnswers (option_map (λ m. m.number) asked.now.rollout.refine)) }
     ensures evidence { IfOk result (λ a. a.question.evidence ≡ question.evidence) }
     ensures failed { F.has_failed files.new ≡ (F.has_failed files.old || is_file_fault result) }
-    ensures names { Diagnoses (IsOfVerify (verifying_view asked.now)) result }
+    ensures names { IfSome (F.holding files.old) (λ at. Diagnoses (IsOfFirst (answers_file at asked.now.ramp.now) (IsOfVerify (verifying_view asked.now))) result) }
     ensures kept { F.holding files.new ≡ F.holding files.old }
 {
     let answers = load_ramp(alloc, files, asked.ramp)?;
@@ -232,7 +232,7 @@ pub(crate) fn verified_on<R: Threads + Sync>(
 }
 
 /// The answers of the file at a path.
-#[tactic(auto, using(crate::proofs::Diagnosed::answers_loaded, crate::proofs::Diagnosed::failed_load))]
+#[tactic(auto, using(crate::proofs::Diagnosed::failed_load))]
 pub(crate) fn load_ramp<F: FileSet>(
     alloc: Global,
     files: &mut F,
@@ -240,7 +240,7 @@ pub(crate) fn load_ramp<F: FileSet>(
 ) -> Result<Vec<Planned>, Refused<RampRefusal>>
     ensures exact { IfSome (F.holding files.old) (λ at. GivesUnlessWant (λ v. map planned_view v.items) result (answers_at at path.now)) }
     ensures failed { F.has_failed files.new ≡ (F.has_failed files.old || is_file_fault result) }
-    ensures names { Diagnoses (IsOfAnswers path.now) result }
+    ensures names { IfSome (F.holding files.old) (λ at. Diagnoses (IsOfFirst (answers_file at path.now) (IsOfAnswers path.now)) result) }
     ensures kept { F.holding files.new ≡ F.holding files.old }
 {
     match load(alloc, files, path, RAMP_LIMIT) {

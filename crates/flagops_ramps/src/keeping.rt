@@ -1,6 +1,6 @@
 //! The command `apply --step --keep`: a document with the rule of the answer to a step, and all else as it was.
 ghost use denote.Param.Send.{IsSync};
-ghost use Rattle.std.specs.Prelude.{◌≡◌, ◌≤◌, ◌-◌, ◌||◌, drop, false, is_ok, is_some, length, map, option_map, true, IfErr, IfOk, IfSome, Ok};
+ghost use Rattle.std.specs.Prelude.{◌≡◌, ◌≤◌, ◌-◌, ◌||◌, drop, false, is_ok, is_some, length, map, option_map, true, IfOk, IfSome, Ok};
 ghost use Rattle.flag_defs.specs.Flags.{flags_view};
 ghost use Rattle.flagops_files.specs.Question.{question_view};
 ghost use Rattle.flagops_rollouts.specs.Doubts.{NamesDoubted};
@@ -10,6 +10,7 @@ ghost use Rattle.flagops_shell.specs.Ending.{KeepsUnlessDone};
 ghost use Rattle.flagops_shell.specs.Outcomes.{Lifts};
 ghost use Rattle.flagops_shell.specs.Report.{outcome_view};
 ghost use Rattle.flagops_ramps.specs.Apply.{answer_to};
+ghost use Rattle.flagops_ramps.specs.Attempts.{IsOfFirst, answers_file, verify_files};
 ghost use Rattle.flagops_ramps.specs.Commands.{keep_description};
 ghost use Rattle.flagops_ramps.specs.Diagnostics.{Diagnoses, IsOfKeep};
 ghost use Rattle.flagops_ramps.specs.Judging.{answers_at, refused_as};
@@ -80,7 +81,7 @@ impl<'w, R: Threads + Sync, F: FileSet> Command<'w, R, F> for Keeping<'w> {
 }
 
 /// The report of the files that are asked for.
-#[tactic(auto, using(crate::proofs::Diagnosed::keep_loaded, crate::proofs::Diagnosed::failed_load))]
+#[tactic(auto, using(crate::proofs::Diagnosed::failed_load))]
 fn keep<R: Threads + Sync, F: FileSet>(
     rt: &R,
     alloc: Global,
@@ -91,7 +92,7 @@ fn keep<R: Threads + Sync, F: FileSet>(
     ensures failed { F.has_failed files.new ≡ (F.has_failed files.old || is_file_fault result) }
     ensures left { LeavesDocument (F.holding files.old) (F.holding files.new) asked.now.answered.rollout.document.now asked.now.write }
     ensures kept { KeepsUnlessDone (F.holding files.old) (F.holding files.new) result }
-    ensures names { Diagnoses (IsOfKeep (keeping_view asked.now)) result }
+    ensures names { IfSome (F.holding files.old) (λ at. Diagnoses (IsOfFirst (verify_files at (keeping_view asked.now).answered) (IsOfKeep (keeping_view asked.now))) result) }
     ensures notes { IfOk result (λ o. IfSome o.remark (Says (NamesDoubted asked.now.answered.rollout.steps.now asked.now.answered.rollout.book.now))) }
 {
     let rollout = &asked.answered.rollout;
@@ -110,7 +111,6 @@ fn keep<R: Threads + Sync, F: FileSet>(
 }
 
 /// The report on a question, whose answers stand in a file.
-#[tactic(auto, using(crate::proofs::Diagnosed::keep_answers, crate::proofs::Diagnosed::keep_steps))]
 fn against<R: Threads + Sync, F: FileSet>(
     rt: &R,
     alloc: Global,
@@ -122,7 +122,7 @@ fn against<R: Threads + Sync, F: FileSet>(
     ensures failed { F.has_failed files.new ≡ (F.has_failed files.old || is_file_fault result) }
     ensures left { LeavesDocument (F.holding files.old) (F.holding files.new) asked.now.answered.rollout.document.now asked.now.write }
     ensures kept { KeepsUnlessDone (F.holding files.old) (F.holding files.new) result }
-    ensures names { Diagnoses (IsOfKeep (keeping_view asked.now)) result }
+    ensures names { IfSome (F.holding files.old) (λ at. Diagnoses (IsOfFirst (answers_file at asked.now.answered.ramp.now) (IsOfKeep (keeping_view asked.now))) result) }
     ensures notes { IfOk result (λ o. IfSome o.remark (Says (NamesDoubted asked.now.answered.rollout.steps.now asked.now.answered.rollout.book.now))) }
 {
     let answers = load_ramp(alloc, files, asked.answered.ramp)?;

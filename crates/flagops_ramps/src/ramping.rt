@@ -8,6 +8,7 @@ ghost use Rattle.flagops_files.specs.Question.{question_view};
 ghost use Rattle.flagops_rollouts.specs.Doubts.{NamesDoubted};
 ghost use Rattle.flagops_shell.specs.Diagnostic.{Says};
 ghost use Rattle.flagops_shell.specs.Report.{outcome_view, status_number};
+ghost use Rattle.flagops_ramps.specs.Attempts.{IsOfFirst, ramp_files};
 ghost use Rattle.flagops_ramps.specs.Doubts.{beside, doubt_of_steps, settle};
 ghost use Rattle.flagops_ramps.specs.Commands.{ramp_description};
 ghost use Rattle.flagops_ramps.specs.Diagnostics.{Diagnoses, IsOfRamp, IsOfSize, NamesPath};
@@ -74,7 +75,7 @@ impl<'w, R: Threads + Sync, F: FileSet> Command<'w, R, F> for Ramping<'w> {
 }
 
 /// The report of the files that are asked for.
-#[tactic(auto, using(crate::proofs::Diagnosed::ramp_loaded, crate::proofs::Diagnosed::failed_load))]
+#[tactic(auto, using(crate::proofs::Diagnosed::failed_load))]
 fn planned<R: Threads + Sync, F: FileSet>(
     rt: &R,
     alloc: Global,
@@ -83,7 +84,7 @@ fn planned<R: Threads + Sync, F: FileSet>(
 ) -> Result<Outcome, Refused<RampRefusal>>
     ensures exact { IfSome (F.holding files.old) (λ at. GivesOne outcome_view result (IsRampReport at (ramping_view asked.now))) }
     ensures failed { F.has_failed files.new ≡ (F.has_failed files.old || is_file_fault result) }
-    ensures names { Diagnoses (IsOfRamp (ramping_view asked.now)) result }
+    ensures names { IfSome (F.holding files.old) (λ at. Diagnoses (IsOfFirst (ramp_files at (ramping_view asked.now)) (IsOfRamp (ramping_view asked.now))) result) }
     ensures notes { IfOk result (λ o. IfSome o.remark (Says (NamesDoubted asked.now.steps.now asked.now.book.now))) }
     ensures kept { F.holding files.new ≡ F.holding files.old }
 {

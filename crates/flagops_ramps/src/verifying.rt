@@ -4,6 +4,7 @@ ghost use Rattle.std.specs.Prelude.{◌≡◌, ◌||◌, false, true, is_some, m
 ghost use Rattle.flagops_rollouts.specs.Doubts.{NamesDoubted};
 ghost use Rattle.flagops_shell.specs.Diagnostic.{Says};
 ghost use Rattle.flagops_shell.specs.Report.{outcome_view};
+ghost use Rattle.flagops_ramps.specs.Attempts.{IsOfFirst, verify_files};
 ghost use Rattle.flagops_ramps.specs.Doubts.{beside};
 ghost use Rattle.flagops_ramps.specs.Commands.{verify_description};
 ghost use Rattle.flagops_ramps.specs.Diagnostics.{Diagnoses, IsOfVerify};
@@ -66,7 +67,7 @@ fn verdict<R: Threads + Sync, F: FileSet>(
 ) -> Result<Outcome, Refused<RampRefusal>>
     ensures exact { IfSome (F.holding files.old) (λ at. GivesOne outcome_view result (IsVerdictReport at (verifying_view asked.now))) }
     ensures failed { F.has_failed files.new ≡ (F.has_failed files.old || is_file_fault result) }
-    ensures names { Diagnoses (IsOfVerify (verifying_view asked.now)) result }
+    ensures names { IfSome (F.holding files.old) (λ at. Diagnoses (IsOfFirst (verify_files at (verifying_view asked.now)) (IsOfVerify (verifying_view asked.now))) result) }
     ensures notes { IfOk result (λ o. IfSome o.remark (Says (NamesDoubted asked.now.rollout.steps.now asked.now.rollout.book.now))) }
     ensures kept { F.holding files.new ≡ F.holding files.old }
 {

@@ -8,6 +8,14 @@ use Rattle.flagops_ramps.specs.Report.{GivesOne}
 use Rattle.flagops_ramps.specs.Words.{applying_view}
 use Rattle.flagops_ramps.proofs.Applied.{answered_so, unanswered}
 use Rattle.flagops_ramps.proofs.applying.against.Goals as goal
+use Rattle.flagops_ramps.proofs.Firsts.{answers_were_read, made, told_as}
+use Rattle.flagops_ramps.specs.Diagnostics.{IsOfAnswers, IsOfStep}
+use Rattle.flagops_ramps.specs.Attempts.{answers_file}
+use Rattle.flagops_ramps.proofs.Diagnosed.{step_answers}
+use Rattle.std.specs.Prelude.{Err, Result}
+use Rattle.std.proofs.Common.{refl}
+use Rattle.flagops_ramps.specs.Report.{Told}
+use Rattle.flagops_shell.specs.declared.outcome.Outcome.{Outcome}
 
 pub returns-in-Ok-clause-exact : goal.returns-in-Ok-clause-exact
 returns-in-Ok-clause-exact g c =
@@ -20,3 +28,14 @@ returns-in-Ok-clause-exact g c =
 pub returns-in-Err-clause-exact : goal.returns-in-Err-clause-exact
 returns-in-Err-clause-exact g c =
     unanswered (applying_view c.args.asked.now) c.args.document.now.bytes.items (flags_view c.args.document.now.flags) (g.F.FileSet.holding c.args.files.now) c.in-Err.told c.in-Err.ensures.exact
+
+pub returns-in-Ok-clause-names : goal.returns-in-Ok-clause-names
+returns-in-Ok-clause-names g c =
+    let a = applying_view c.args.asked.now in
+    made (IsOfStep a) c.put.result (g.F.FileSet.holding c.args.files.now) (λ at. answers_file at a.ramp) (answers_were_read a.ramp (map planned_view c.in-Ok.answers.items) (g.F.FileSet.holding c.args.files.now) c.in-Ok.ensures.exact) c.put.ensures.names
+
+pub returns-in-Err-clause-names : goal.returns-in-Err-clause-names
+returns-in-Err-clause-names g c =
+    let a = applying_view c.args.asked.now in
+    let r : Result Outcome Told = Err c.in-Err.told in
+    told_as (IsOfStep a) r (IsOfAnswers a.ramp) (g.F.FileSet.holding c.args.files.now) (λ at. answers_file at a.ramp) c.in-Err.told refl (step_answers a) c.in-Err.ensures.names

@@ -5,6 +5,14 @@ use Rattle.ramp_steps.specs.Steps.{requests_view, steps_of}
 use Rattle.flagops_ramps.specs.Words.{keeping_view}
 use Rattle.flagops_ramps.proofs.Kept.{failed_once, kept_once, left_once, of_both, of_no_steps, of_none}
 use Rattle.flagops_ramps.proofs.keeping.against.Goals as goal
+use Rattle.flagops_ramps.proofs.Firsts.{answers_were_read, made, told_as}
+use Rattle.flagops_ramps.specs.Diagnostics.{IsOfAnswers, IsOfKeep}
+use Rattle.flagops_ramps.specs.Attempts.{answers_file}
+use Rattle.flagops_ramps.specs.Ramp.{of_steps}
+use Rattle.flagops_ramps.proofs.Diagnosed.{keep_answers, keep_steps}
+use Rattle.std.specs.Prelude.{Result}
+use Rattle.flagops_ramps.specs.Report.{Told}
+use Rattle.flagops_shell.specs.declared.outcome.Outcome.{Outcome}
 
 pub returns-in-Ok-clause-exact : goal.returns-in-Ok-clause-exact
 returns-in-Ok-clause-exact g c =
@@ -43,3 +51,23 @@ returns-in_err-answers-clause-left g c = inl c.load_ramp.ensures.kept
 
 pub returns-in_err-answers-clause-kept : goal.returns-in_err-answers-clause-kept
 returns-in_err-answers-clause-kept g c = inl c.load_ramp.ensures.kept
+
+pub returns-in-Ok-clause-names : goal.returns-in-Ok-clause-names
+returns-in-Ok-clause-names g c =
+    let k = keeping_view c.args.asked.now in
+    let path = k.answered.ramp in
+    made (IsOfKeep k) c.over.result (g.F.FileSet.holding c.args.files.now) (λ at. answers_file at path) (answers_were_read path (map planned_view c.in_ok-answers.answers.items) (g.F.FileSet.holding c.args.files.now) c.in_ok-answers.ensures.exact) c.over.ensures.names
+
+pub returns-in-Err-clause-names : goal.returns-in-Err-clause-names
+returns-in-Err-clause-names g c =
+    let k = keeping_view c.args.asked.now in
+    let path = k.answered.ramp in
+    made (IsOfKeep k) (let r : Result Outcome Told = Err c.steps_refused.result in r) (g.F.FileSet.holding c.args.files.now) (λ at. answers_file at path) (answers_were_read path (map planned_view c.in_ok-answers.answers.items) (g.F.FileSet.holding c.args.files.now) c.in_ok-answers.ensures.exact)
+    (λ wanted. keep_steps k c.steps_refused.result (of_steps c.in-Err.fault) c.steps_refused.ensures.refusal c.steps_refused.ensures.names)
+
+pub returns-in_err-answers-clause-names : goal.returns-in_err-answers-clause-names
+returns-in_err-answers-clause-names g c =
+    let k = keeping_view c.args.asked.now in
+    let path = k.answered.ramp in
+    let is : c.from_residual.result ≡ Err c.in_err-answers.field-0.0 = search rules in
+    told_as (IsOfKeep k) c.from_residual.result (IsOfAnswers path) (g.F.FileSet.holding c.args.files.now) (λ at. answers_file at path) c.in_err-answers.field-0.0 is (keep_answers k) c.in_err-answers.ensures.names
