@@ -139,7 +139,7 @@ module _ (a : Comparing) (pages : List PageFound) (ps : Pictures) where
     asked = asked_for (a.strict && has_left pages) a.picture path there
 
     pub refused_too : (old new : Option Holding) → IsDrawnAt {X = Unit {0}} ps path old new (Err t) → GivesOne (Err t) (IsWithPages old new a ps pages)
-    refused_too old new (fault, same) = λ no_want. ((fault no_want).0, ap is_some asked, same)
+    refused_too old new (fault, same) = λ no_want. ((fault no_want).0, ap is_some there, same)
 
     pub refused_left : (old new : Option Holding) → IsDrawnAt {X = Unit {0}} ps path old new (Err t) → LeavesBut a.picture old new
     refused_left old new (fault, same) = left_as a.picture old new same

@@ -50,7 +50,7 @@ picture_path a pages = if a.strict && has_left pages then None else a.picture
 -- they were.
 abbrev pub IsWithPages : Option Holding → Option Holding → Comparing → Pictures → List PageFound → Came → Type 0
 IsWithPages old new a ps pages (Ok report) = (report ≡ compare_report a pages) × DrawsAt ps (picture_path a pages) old new
-IsWithPages old new a ps pages (Err e) = (e ≡ Load unwritable) × (is_some a.picture ≡ true) × (new ≡ old)
+IsWithPages old new a ps pages (Err e) = (e ≡ Load unwritable) × (is_some (picture_path a pages) ≡ true) × (new ≡ old)
 
 abbrev pub IsWithCompared : Option Holding → Option Holding → Comparing → Loaded → Result (List PageFound) TallyFault → Came → Type 0
 IsWithCompared old new a l (Err e) r = (r ≡ Err (tally_refusal e)) × (new ≡ old)
