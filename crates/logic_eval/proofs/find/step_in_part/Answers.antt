@@ -1,11 +1,7 @@
-use Rattle.std.proofs.Common.{◌≡◌, true, map, Some, None, option_map, option_and_then, ap, sym, ◌∙◌}
+use Rattle.std.proofs.Common.{map, option_map, option_and_then, ap, sym, ◌∙◌}
 use Rattle.std.specs.Prelude.{slice_get}
-use Rattle.flag_text.specs.Shape.{is_tidy, items_are_tidy, members_are_tidy}
-use Rattle.flag_text.specs.View.{view, items_view, members_view}
+use Rattle.flag_text.specs.View.{view, members_view}
 use Rattle.flag_text.proofs.Halving.{names_rise-tidy, is_tidy-find_member}
-use Rattle.logic_values.proofs.Members.{view_object}
-use Rattle.logic_values.proofs.Truths.{view_list}
-use Rattle.logic_values.specs.Views.{value_view}
 use Rattle.logic_eval.specs.Scope.{step, index_of}
 use Rattle.logic_eval.proofs.Parts.{held, at_some_index, object_tidy, list_tidy}
 use Rattle.logic_eval.proofs.Paths.{step_list}
