@@ -1,0 +1,3 @@
+mod Nothing
+mod Read
+mod Shallow

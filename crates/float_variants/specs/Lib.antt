@@ -1,0 +1,4 @@
+pub mod Floats
+pub mod Law
+pub mod Reading
+pub mod View

@@ -1,0 +1,26 @@
+//! Documents whose variants may be any numbers of JSON.
+//!
+//! [`read_with_floats`] reads the text of a flag document as `flag_text` does, but for variants with a number that is not whole:
+//! each value of these stands as a text, which is its spelling. So every definition above speaks of flags with text values, and
+//! who prints such a value prints the text as it is.
+//!
+//! ```rust
+//! use float_variants::read_with_floats;
+//!
+//! let text = br#"{"flags":{"ratio":{"state":"ENABLED","variants":{"low":0.5,"high":1}}}}"#;
+//! let tree = read_with_floats(alloc, text, 1000)?;      // its `low` is the text `0.5`, its `high` the text `1`
+//! ```
+//!
+//! Proved, over the definitions of `specs/Floats` and `specs/Reading`: which tree the bytes stand for, with each refusal at its
+//! place in the order, unless memory runs out; and, as a law, that a document whose numbers are all whole stands for what it always
+//! stood for.
+#![tactic(auto)]
+
+mod laws;
+mod numbers;
+mod read;
+mod texts;
+mod variants;
+
+pub use laws::floats_change_nothing;
+pub use read::read_with_floats;
