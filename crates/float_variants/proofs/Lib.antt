@@ -1,3 +1,4 @@
+mod Counted
 mod Nothing
-mod Read
+mod Readings
 mod Shallow

@@ -1,7 +1,8 @@
 //! Which variants have numbers that are not whole.
-ghost use Rattle.std.specs.Prelude.{◌≡◌};
+ghost use Rattle.std.specs.Prelude.{◌≡◌, nat_le};
 ghost use Rattle.json.specs.Value.{members_view, value_view};
-ghost use Rattle.float_variants.specs.Floats.{all_counting, are_floats, has_floats, has_name};
+ghost use Rattle.float_variants.specs.Floats.{all_counting, are_floats, has_floats, has_name, member_count};
+ghost use Rattle.limits.specs.Limits as limit;
 ghost use Rattle.float_variants.specs.View.{test_of};
 
 use crate::numbers::has_whole_numbers;
@@ -45,9 +46,19 @@ pub(crate) fn has_floats(value: &Value<'_>) -> bool
 fn are_floats(members: &Vec<(&str, Value<'_>)>) -> bool
     ensures { result ≡ are_floats (members_view members.now.items) }
 {
-    members.len() <= VARIANTS
-        && (all_counting(Trait::Number, members) || all_counting(Trait::Object, members))
+    if !are_few(members) {
+        return false;
+    }
+    (all_counting(Trait::Number, members) || all_counting(Trait::Object, members))
         && !all_counting(Trait::Whole, members)
+}
+
+/// Whether a flag may have so many variants.
+#[tactic(auto, using(crate::proofs::Counted::counted))]
+fn are_few(members: &Vec<(&str, Value<'_>)>) -> bool
+    ensures { result ≡ nat_le (member_count (members_view members.now.items)) limit.variants }
+{
+    members.len() <= VARIANTS
 }
 
 /// Whether this holds of each value that counts: of members of one name the last.

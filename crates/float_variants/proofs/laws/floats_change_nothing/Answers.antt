@@ -1,4 +1,4 @@
-use Rattle.float_variants.proofs.Read.{nothing_changes}
+use Rattle.float_variants.proofs.Readings.{nothing_changes}
 use Rattle.float_variants.proofs.laws.floats_change_nothing.Goals as goal
 
 pub returns : goal.returns

@@ -4,7 +4,7 @@ use Rattle.flag_text.specs.Outcome.{GivesUnless}
 use Rattle.flag_text.specs.View.{view}
 use Rattle.flag_text.specs.declared.fault.TextFault.TheVariants.{WantOfMemory}
 use Rattle.float_variants.specs.Reading.{text_with_floats}
-use Rattle.float_variants.proofs.Read.{is_no_text, no_text, not_both, within}
+use Rattle.float_variants.proofs.Readings.{is_no_text, no_text, not_both, within}
 use Rattle.float_variants.proofs.read.read_with_floats.Goals as goal
 
 pub returns-in-Ok-clause-exact : goal.returns-in-Ok-clause-exact

@@ -61,14 +61,6 @@ not_both e = cc
 pub is_no_text : (bytes : List ℕ) → (IsUtf8 bytes → ⊥) → is_utf8 bytes ≡ false
 is_no_text bytes n = elim (cases_Bool (is_utf8 bytes)) [ inl u ↦ absurd (n (IsUtf8-from_is_utf8 bytes u)) | inr u ↦ u ]
 
--- a text that is no value is refused
-pub refused : (text : List ℕ) (e : TextFault) → if_value (value_in text) ≡ Err e → text_with_floats text ≡ Err e
-refused text e = go (value_in text)
-  where
-    go : (o : Option Json) → if_value o ≡ Err e → if_tree (option_and_then (λ i. tree_from (with_texts i)) o) ≡ Err e
-    go None h = h
-    go (Some j) h = cc
-
 -- the value of tokens that are those of a value
 read_back : (text : List ℕ) (j : Json) → tokens text ≡ json_tokens j → depth j ≤ json_levels → value_in text ≡ Some j
 read_back text j same shallow =
