@@ -2,3 +2,5 @@ mod Counted
 mod Nothing
 mod Readings
 mod Shallow
+mod Spelled
+mod Unmarked

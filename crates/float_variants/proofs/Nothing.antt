@@ -46,7 +46,7 @@ none_of true true c e = ap not e
 none_of true false c e = refl
 none_of false b c e = refl
 
-no_floats : (j : Json) → has_whole_numbers j ≡ true → has_floats j ≡ false
+pub no_floats : (j : Json) → has_whole_numbers j ≡ true → has_floats j ≡ false
 no_floats null h = refl
 no_floats (boolean b) h = refl
 no_floats (number s) h = refl

@@ -62,7 +62,7 @@ pub is_no_text : (bytes : List ℕ) → (IsUtf8 bytes → ⊥) → is_utf8 bytes
 is_no_text bytes n = elim (cases_Bool (is_utf8 bytes)) [ inl u ↦ absurd (n (IsUtf8-from_is_utf8 bytes u)) | inr u ↦ u ]
 
 -- the value of tokens that are those of a value
-read_back : (text : List ℕ) (j : Json) → tokens text ≡ json_tokens j → depth j ≤ json_levels → value_in text ≡ Some j
+pub read_back : (text : List ℕ) (j : Json) → tokens text ≡ json_tokens j → depth j ≤ json_levels → value_in text ≡ Some j
 read_back text j same shallow =
     ap (option_and_then (λ p. if_last p.0 p.1)) (ap (value json_levels) (same ∙ sym (append-nil (json_tokens j))) ∙ value-json_tokens j json_levels [] shallow)
 

@@ -1,7 +1,11 @@
 -- What the types of this crate stand for.
-use Rattle.std.specs.Prelude.{ℕ, List, Bool}
+use Rattle.std.specs.Prelude.{ℕ, List, Bool, string_bytes}
+use Rattle.flag_text.specs.Shape.{Shape}
+use Rattle.flag_text.specs.View.{view}
 use Rattle.json.specs.Json.{Json}
 use Rattle.float_variants.specs.Floats.{has_whole_numbers, is_number, is_object, of_document, of_flag, of_flags, of_variants}
+use Rattle.float_variants.specs.declared.marks.Mark.{Mark}
+use Rattle.float_variants.specs.declared.read.Document.{Document}
 use Rattle.float_variants.specs.declared.texts.Level.{Level}
 use Rattle.float_variants.specs.declared.texts.Level.TheVariants as level
 use Rattle.float_variants.specs.declared.variants.Trait.{Trait}
@@ -26,3 +30,11 @@ rank level.Document = 3
 rank level.Flags = 2
 rank level.Flag = 1
 rank level.Variants = 0
+
+-- a flag's key, and whether its variants have floats
+abbrev pub mark_view : Mark → List ℕ × Bool
+mark_view m = (string_bytes m.key, m.has_floats)
+
+-- the tree of a document
+abbrev pub tree_view : Document → Shape
+tree_view d = view d.tree
