@@ -1,5 +1,5 @@
 -- The readings of a document, and of its text with texts in place of floats.
-use Rattle.std.proofs.Common.{◌≡◌, ◌≢◌, ℕ, ◌≤◌, Bool, true, false, cond, List, [], ◌++◌, length, Option, Some, None, option_map, option_and_then, Result, Ok, Err, refl, sym, ap, ◌∙◌, arith, inl, inr, append-nil}
+use Rattle.std.proofs.Common.{◌≡◌, ◌≢◌, ℕ, ◌≤◌, true, false, List, [], length, Option, Some, None, option_map, option_and_then, Result, Ok, Err, refl, sym, ap, ◌∙◌, subst, arith, inl, inr, append-nil}
 use Rattle.std.proofs.lemmas.Bool.{cases_Bool}
 use Rattle.std.proofs.lemmas.Str.{IsUtf8-from_is_utf8, is_utf8-from_IsUtf8}
 use Rattle.std.specs.Prelude.{nat_lt, if◌then◌else◌}
@@ -11,6 +11,7 @@ use Rattle.json.specs.Lex.{tokens}
 use Rattle.json.specs.Tree.{depth, json_tokens}
 use Rattle.json.proofs.Printed.Trees.{value-json_tokens}
 use Rattle.flag_text.specs.Grammar.{tree_from, value_in}
+use Rattle.flag_text.specs.Outcome.{GivesUnless}
 use Rattle.flag_text.specs.Reading.{doc_of, if_json, json_levels, json_of, shape_of}
 use Rattle.flag_text.specs.Shape.{Shape}
 use Rattle.flag_text.specs.declared.fault.TextFault.{TextFault}
@@ -77,3 +78,7 @@ rewritten text bytes limit j e shallow same utf8 h =
     doc_within bytes limit h (is_utf8-from_IsUtf8 bytes utf8) ∙ text_reads bytes
     ∙ ap (λ o. if_tree (option_and_then tree_from o)) (read_back bytes (with_texts j) same (texts_nest j json_levels shallow))
     ∙ ap (λ o. if_tree (option_and_then (λ i. tree_from (with_texts i)) o)) (sym (is_value (value_in text) j e))
+
+-- a fault that is passed on
+pub passed_on : {X Y E : Type 0} → (want e : E) (seen_by : X → Y) (r : Result X E) (w : Result Y E) → r ≡ Err e → (e ≢ want → w ≡ Err e) → GivesUnless want seen_by r w
+passed_on want e seen_by r w is h = subst (λ x. GivesUnless want seen_by x w) (sym is) h

@@ -1,5 +1,5 @@
 -- The texts of values.
-use Rattle.std.proofs.Common.{◌≡◌, ℕ, ◌≤◌, List, [], ◌∷◌, ◌++◌, Some, refl, ap, append-nil}
+use Rattle.std.proofs.Common.{◌≡◌, ℕ, ◌≤◌, List, [], ◌∷◌, Some, ap, append-nil}
 use Rattle.json.specs.Json.{Json, number, string}
 use Rattle.json.specs.Print.{print, print_from}
 use Rattle.json.specs.Token.{Token}

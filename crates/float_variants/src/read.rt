@@ -35,11 +35,7 @@ pub struct Document {
 ///
 /// Refusals, in this order: `TooLarge`, before anything is read; `NotJson`. The first, and the second of bytes that are not UTF-8,
 /// take no memory.
-pub fn read_with_floats(
-    alloc: Global,
-    bytes: &[u8],
-    max: usize,
-) -> Result<Document, TextFault>
+pub fn read_with_floats(alloc: Global, bytes: &[u8], max: usize) -> Result<Document, TextFault>
     ensures exact { GivesUnless TextFault.WantOfMemory tree_view result (doc_with_floats bytes.now max) }
     ensures marks { IfOk result (λ d. map mark_view d.marks.items ≡ marks_of_text bytes.now) }
     ensures tidy { IfOk result (λ d. is_tidy (view d.tree) ≡ true) }

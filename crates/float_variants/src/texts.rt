@@ -95,11 +95,7 @@ fn write_member(
 }
 
 /// Writes the text of a value as a text.
-fn write_spelled(
-    alloc: Global,
-    writer: &mut Writer,
-    value: &Value<'_>,
-) -> Result<(), AllocError>
+fn write_spelled(alloc: Global, writer: &mut Writer, value: &Value<'_>) -> Result<(), AllocError>
     requires { HasNumbers (value_view value.now) }
     ensures tokens { OnOk result (writer.new.tokens ≡ writer.old.tokens ++ json_tokens (spelled (value_view value.now))) }
     ensures before { writer.new.before ≡ writer.old.before }

@@ -1,4 +1,4 @@
-use Rattle.std.proofs.Common.{◌≡◌, ◌+◌, ◌*◌, ℕ, ◌++◌, drop}
+use Rattle.std.proofs.Common.{◌≡◌, ◌+◌, ◌*◌, ◌++◌, drop}
 use Rattle.json.specs.Tree.{MembersHaveNumbers, members_tokens}
 use Rattle.json.specs.Value.{members_view}
 use Rattle.float_variants.specs.Floats.{each_member}
