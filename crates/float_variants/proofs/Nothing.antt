@@ -1,11 +1,9 @@
 -- A document whose numbers are all whole has no variants with floats, and stays as it is.
 use Rattle.std.proofs.Common.{◌≡◌, ℕ, Bool, true, false, cond, not, ◌&&◌, ◌||◌, List, codes, refl, ap, ◌∙◌}
-use Rattle.std.specs.Prelude.{nat_le}
 use Rattle.std.specs.Str.{bytes_eq}
 use Rattle.json.specs.Json.{Json, null, boolean, number, string, array, object, Members, no_members, member}
-use Rattle.limits.specs.Limits as limit
 use Rattle.flag_text.proofs.Bools.{both, left, right}
-use Rattle.float_variants.specs.Floats.{all_counting, each_member, has_floats, has_name, has_whole_numbers, in_object, is_number, is_object, member_count, members_have_whole_numbers, of_document, of_flag, of_flags, of_variants, with_texts}
+use Rattle.float_variants.specs.Floats.{all_counting, are_within, each_member, has_floats, has_name, has_whole_numbers, in_object, is_number, is_object, members_have_whole_numbers, of_document, of_flag, of_flags, of_variants, with_texts}
 
 -- ---- a value that stays
 
@@ -53,7 +51,7 @@ no_floats (number s) h = refl
 no_floats (string s) h = refl
 no_floats (array js) h = refl
 no_floats (object ms) h =
-    none_of (nat_le (member_count ms) limit.variants) (all_counting is_number ms || all_counting is_object ms) (all_counting has_whole_numbers ms) (all_whole ms h)
+    none_of (are_within ms) (all_counting is_number ms || all_counting is_object ms) (all_counting has_whole_numbers ms) (all_whole ms h)
 
 -- ---- the levels
 

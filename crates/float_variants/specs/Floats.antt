@@ -1,9 +1,9 @@
 -- Which variants have numbers that are not whole, and a document with them as texts (flagd: flag definitions; RFC 8259, section 6).
-use Rattle.std.specs.Prelude.{ℕ, suc, List, codes, Bool, true, false, not, ◌&&◌, ◌||◌, nat_le, is_some, option_and_then, if◌then◌else◌}
+use Rattle.std.specs.Prelude.{ℕ, suc, List, codes, Bool, true, false, not, ◌&&◌, ◌||◌, nat_le, nat_lt, is_some, option_and_then, if◌then◌else◌}
 use Rattle.std.specs.Str.{bytes_eq}
 use Rattle.json.specs.Json.{Json, null, boolean, number, string, array, object, Items, no_items, item, Members, no_members, member}
 use Rattle.json.specs.Print.{print}
-use Rattle.json.specs.Tree.{json_tokens}
+use Rattle.json.specs.Tree.{json_tokens, members_depth}
 use Rattle.limits.specs.Limits as limit
 use Rattle.flag_text.specs.Grammar.{tree_from}
 use Rattle.flag_text.specs.Readers.{as_whole}
@@ -63,9 +63,13 @@ abbrev pub all_counting : (Json → Bool) → Members → Bool
 all_counting f no_members = true
 all_counting f (member k j ms) = (has_name k ms || f j) && all_counting f ms
 
--- at most 64 members, of numbers alone or of objects alone, in which some number is not whole
+-- how many members a flag's variants may have, and how deep these may nest
+abbrev pub are_within : Members → Bool
+are_within ms = nat_le (member_count ms) limit.variants && nat_lt (members_depth ms) limit.expression_levels
+
+-- within the limits, of numbers alone or of objects alone, in which some number is not whole
 abbrev pub are_floats : Members → Bool
-are_floats ms = nat_le (member_count ms) limit.variants && ((all_counting is_number ms || all_counting is_object ms) && not (all_counting has_whole_numbers ms))
+are_floats ms = are_within ms && ((all_counting is_number ms || all_counting is_object ms) && not (all_counting has_whole_numbers ms))
 
 -- variants with numbers that are not whole
 abbrev pub has_floats : Json → Bool

@@ -18,6 +18,7 @@
 //! in whose place it stands, of a number its spelling.
 #![tactic(auto)]
 
+mod depth;
 mod laws;
 mod marks;
 mod numbers;

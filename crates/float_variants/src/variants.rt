@@ -1,13 +1,13 @@
 //! Which variants have numbers that are not whole.
-ghost use Rattle.std.specs.Prelude.{◌≡◌, nat_le};
+ghost use Rattle.std.specs.Prelude.{◌≡◌};
 ghost use Rattle.json.specs.Value.{members_view, value_view};
-ghost use Rattle.float_variants.specs.Floats.{all_counting, are_floats, has_floats, has_name, member_count};
-ghost use Rattle.limits.specs.Limits as limit;
+ghost use Rattle.float_variants.specs.Floats.{all_counting, are_floats, are_within, has_floats, has_name};
 ghost use Rattle.float_variants.specs.View.{test_of};
 
+use crate::depth::members_fit;
 use crate::numbers::has_whole_numbers;
 use json::Value;
-use limits::VARIANTS;
+use limits::{EXPRESSION_LEVELS, VARIANTS};
 
 /// What the values of variants are tested for.
 #[derive(Clone, Copy)]
@@ -32,8 +32,8 @@ impl Trait {
     }
 }
 
-/// Whether the value is variants with numbers that are not whole: an object of at most 64 members, of numbers alone or of objects
-/// alone, in which some number is not whole.
+/// Whether the value is variants with numbers that are not whole: an object within the limits of a flag's variants, of numbers
+/// alone or of objects alone, in which some number is not whole.
 pub(crate) fn has_floats(value: &Value<'_>) -> bool
     ensures { result ≡ has_floats (value_view value.now) }
 {
@@ -46,19 +46,19 @@ pub(crate) fn has_floats(value: &Value<'_>) -> bool
 fn are_floats(members: &Vec<(&str, Value<'_>)>) -> bool
     ensures { result ≡ are_floats (members_view members.now.items) }
 {
-    if !are_few(members) {
+    if !are_within(members) {
         return false;
     }
     (all_counting(Trait::Number, members) || all_counting(Trait::Object, members))
         && !all_counting(Trait::Whole, members)
 }
 
-/// Whether a flag may have so many variants.
+/// Whether a flag may have so many variants, which nest so deep.
 #[tactic(auto, using(crate::proofs::Counted::counted))]
-fn are_few(members: &Vec<(&str, Value<'_>)>) -> bool
-    ensures { result ≡ nat_le (member_count (members_view members.now.items)) limit.variants }
+fn are_within(members: &Vec<(&str, Value<'_>)>) -> bool
+    ensures { result ≡ are_within (members_view members.now.items) }
 {
-    members.len() <= VARIANTS
+    members.len() <= VARIANTS && members_fit(members, EXPRESSION_LEVELS as usize - 1)
 }
 
 /// Whether this holds of each value that counts: of members of one name the last.
