@@ -249,6 +249,17 @@ def costly_evaluations():
     yield resolved("100 fractionals of 90 buckets", {"if": [{"in": ["z", [split(24, "k")] * 100]}, "on", "off"]}, json.dumps({"targetingKey": "k"}))
     wide_context = json.dumps({f"m{n}": n for n in range(200_000)})
     yield resolved("a member among 200,000", {"if": [{"in": [0, [{"var": "m199999"}] * 3000]}, "on", "off"]}, wide_context)
+    inner = {f"m{n}": n for n in range(200_000)}
+    sought = [f"o.m{n * 4}" for n in range(40_000)]
+    absent = {"if": [{"in": [0, {"missing": {"var": "names"}}]}, "on", "off"]}
+    yield resolved("40,000 paths into an inner object of 200,000 members", absent, json.dumps({"names": sought, "o": inner}), '{"code":null')
+    items = [{**{f"m{n}": n for n in range(40_000)}, "names": [f"m{n}x" for n in range(25_000)]}]
+    absent_in_items = {"if": [{"in": [0, {"map": [{"var": "xs"}, {"missing": {"var": "names"}}]}]}, "on", "off"]}
+    yield resolved("25,000 names sought in an item of 40,000 members", absent_in_items, json.dumps({"xs": items}), '{"code":null')
+    whole = {"if": [{"in": [0, {"map": [{"merge": [{"var": "xs"}, []]}, {"missing": {"var": "names"}}]}]}, "on", "off"]}
+    yield resolved("25,000 names sought in an item that merge hands on", whole, json.dumps({"xs": items}), '{"code":null')
+    by_default = {"if": [{"in": ["z", {"map": [{"var": "xs"}, {"fractional": [["on", 1], ["off", 1]]}]}]}, "on", "off"]}
+    yield resolved("a key of 65 KB at 6,000 elements", by_default, json.dumps({"xs": [0] * 6_000, "targetingKey": "k" * 65_000}), '{"code":null')
     deep = {}
     for _ in range(100):
         deep = {"a": deep}

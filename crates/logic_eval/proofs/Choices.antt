@@ -8,7 +8,8 @@ use Rattle.bucket_core.specs.Reading.{weight_of, bucket_with}
 use Rattle.bucket_core.specs.Rule.{Entries, at, total_weight, choice}
 use Rattle.bucket_core.proofs.Points.{total_weight-cons, at-nil, at-here, at-past}
 use Rattle.flag_text.specs.Shape.{Shape, null, boolean, whole, other, text, list, object}
-use Rattle.bucket_core.specs.Point.{point_of}
+use Rattle.bucket_core.specs.Point.{point_of, scale}
+use Rattle.murmur_core.specs.Murmur.{hash}
 use Rattle.logic_values.specs.declared.fault.EvalFault.{EvalFault}
 use Rattle.logic_values.specs.declared.fault.EvalFault.TheVariants.{BadBuckets}
 use Rattle.logic_eval.specs.declared.fractional.WeightedVariant.{WeightedVariant}
@@ -181,3 +182,8 @@ module _ (site : ℕ) (input : Option (Result (List ℕ) EvalFault)) (ps : List 
           let z : eqb (total_weight r) 0 ≡ false = not_zero (total_weight r) t w n in
           let same : u ≡ s = cc k in
           rw (z, same) (bind_ok p (let x : Run (List ℕ) = ends (Ok s) in x) (reached site r) s p (ends_ok p (Ok s) s refl) ∙ at_site r w (buckets_entries ps r b))
+
+-- the point of a hash input, by its hash
+pub scaled : (total h : ℕ) (s : List ℕ) → h ≡ hash s 0 → scale total h ≡ point_of total s
+unfolding point_of
+scaled total h s e = ap (scale total) e

@@ -7,6 +7,7 @@ mod Exits
 mod Items
 mod Joined
 mod Names
+mod Parts
 mod Paths
 mod Reaching
 mod Results

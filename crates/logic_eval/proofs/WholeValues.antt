@@ -339,7 +339,7 @@ with_flagd-tidy t (text s) h k = k
 with_flagd-tidy t (list ts) h k = k
 with_flagd-tidy t (object ms) h k = with_member-tidy (codes "$flagd") t ms h k
 
-flagd-tidy : (s : Situation) → s.moment < 2 ^ 53 → is_tidy (flagd s) ≡ true
+pub flagd-tidy : (s : Situation) → s.moment < 2 ^ 53 → is_tidy (flagd s) ≡ true
 flagd-tidy s h = let small : nat_lt s.moment (2 ^ 53) ≡ true = grind (arith, h) in rw small refl
 
 pub root_scope-tidy : (s : Situation) → is_tidy s.context ≡ true → s.moment < 2 ^ 53 → is_tidy (root_scope s) ≡ true

@@ -56,6 +56,7 @@ weighted_variant_view (Computed name weight) = (value_view name, value_view weig
 -- what stands at a place
 abbrev pub place_view : Place → Shape
 place_view (place.Lent t) = view t.now
+place_view (place.Given p) = view p.tree.now
 place_view (place.Held v) = value_view v.now
 
 -- what was found in a scope

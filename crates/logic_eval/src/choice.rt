@@ -15,9 +15,10 @@ ghost use Rattle.logic_eval.specs.Views.{progress, default_view, input_view, wei
 ghost use Rattle.logic_values.specs.Views.{seen_view, value_view};
 
 use crate::fractional::{Input, WeightedVariant};
+use crate::hashed::{HashInput, hashed, shared};
 use crate::meter::{Meter, Reached};
 use crate::scope::Subject;
-use bucket_core::point;
+use bucket_core::scale;
 use logic_values::text::MOST_BYTES;
 use logic_values::{EvalFault, Seen, Value, copy};
 use std::alloc::{AllocError, Global};
@@ -41,10 +42,11 @@ pub(crate) fn decide<'a>(
     if total == 0 {
         return Ok(Value::Null);
     }
-    let Some(input) = input_text(meter.alloc, &mut meter.default, &input, subject)? else {
+    let Some(input) = input_of(meter.alloc, &mut meter.default, &input, subject)? else {
         return Ok(Value::Null);
     };
-    let chosen = chosen(meter.alloc, share_at(shares, point(total, input.as_str())))?;
+    let HashInput { text: input, hash } = input;
+    let chosen = chosen(meter.alloc, share_at(shares, scale(total, hash)))?;
     meter.reached.push(Reached { site, input, total })?;
     Ok(chosen)
 }
@@ -60,47 +62,50 @@ fn chosen<'a>(alloc: Global, share: Option<&WeightedVariant<'a>>) -> Result<Valu
     }
 }
 
-// The text that is hashed, where there is one.
-fn input_text(
+// What is hashed, where there is something.
+fn input_of(
     alloc: Global,
-    default: &mut Option<Arc<String>>,
+    default: &mut Option<HashInput>,
     input: &Input,
     subject: Subject,
-) -> Result<Option<Arc<String>>, EvalFault>
-    ensures exact { GivesUnless WantOfMemory (option_map (λ t. string_bytes (arc_value t))) result (input_result (input_view (default_view subject.entry) input.now)) }
+) -> Result<Option<HashInput>, EvalFault>
+    ensures exact { GivesUnless WantOfMemory (option_map (λ h. string_bytes (arc_value h.text))) result (input_result (input_view (default_view subject.entry) input.now)) }
 {
     match input {
         Input::Given(value) => match value.seen() {
-            Seen::Text(text) => Ok(Some(Arc::new(alloc, String::from_str(alloc, text)?)?)),
+            Seen::Text(text) => {
+                let text = Arc::new(alloc, String::from_str(alloc, text)?)?;
+                Ok(Some(hashed(text)))
+            }
             _ => Ok(None),
         },
         Input::Default => match subject.key {
-            Some(key) => Ok(Some(default_text(alloc, default, subject.flag, key)?)),
+            Some(key) => Ok(Some(default_input(alloc, default, subject.flag, key)?)),
             None => Ok(None),
         },
     }
 }
 
-// The default input, unless it is too long. It is made once, however many sites it reaches.
-fn default_text(
+// The default input, unless it is too long. It is made and hashed once, however many sites it reaches.
+fn default_input(
     alloc: Global,
-    default: &mut Option<Arc<String>>,
+    default: &mut Option<HashInput>,
     flag: &str,
     key: &str,
-) -> Result<Arc<String>, EvalFault>
-    ensures exact { GivesUnless WantOfMemory (λ t. string_bytes (arc_value t)) result (made (flag.now ++ key.now)) }
+) -> Result<HashInput, EvalFault>
+    ensures exact { GivesUnless WantOfMemory (λ h. string_bytes (arc_value h.text)) result (made (flag.now ++ key.now)) }
 {
     if flag.len() + key.len() > MOST_BYTES {
         return Err(EvalFault::TextTooLong);
     }
-    if let Some(text) = default {
-        if is_joined(text.as_str(), flag, key) {
-            return Ok(text.clone()?);
+    if let Some(input) = default {
+        if is_joined(input.text.as_str(), flag, key) {
+            return Ok(shared(input)?);
         }
     }
-    let text = Arc::new(alloc, joined(alloc, flag, key)?)?;
-    *default = Some(text.clone()?);
-    Ok(text)
+    let input = hashed(Arc::new(alloc, joined(alloc, flag, key)?)?);
+    *default = Some(shared(&input)?);
+    Ok(input)
 }
 
 fn is_joined(text: &str, flag: &str, key: &str) -> bool

@@ -33,8 +33,9 @@ pub(crate) const MOST_UNITS: u64 = 100_000;
 /// where a text that is made has more than 65,536 bytes; and `TooLong` where what came before costs
 /// more than 100,000 units. `WantOfMemory` may come at any step.
 ///
-/// It takes about as many steps as units, but for a path inside one of the context's values, which looks at an object's
-/// members one by one, and for the buckets of each site that is reached, which are walked.
+/// It takes about as many steps as units, but for the buckets of each site that is reached, which are walked, and for a path
+/// inside an object that the expression holds, whose members are looked at one by one. In the context a member is found by
+/// halving. The default hash input is made and hashed once, and compared at each further site that it reaches.
 pub fn eval(
     alloc: Global,
     expr: &Expr,

@@ -12,14 +12,16 @@ ghost use Rattle.std.specs.List.{slice_split};
 use crate::scope::Scope;
 use flag_text::{Tree, member_by_halving};
 use logic_values::number::digits_value;
-use logic_values::{Root, Seen, Value, copy, seen_tree};
+use logic_values::{Part, Root, Seen, Value, copy, seen_tree};
 use std::alloc::{AllocError, Global};
 
 /// Where a value stands that a path comes to.
 #[derive(Clone, Copy)]
 pub(crate) enum Place<'s, 'a> {
-    /// In the expression or the context.
+    /// In the expression.
     Lent(&'a Tree),
+    /// In the context.
+    Given(Part<'a>),
     /// In a value that was made.
     Held(&'s Value<'a>),
 }
@@ -40,6 +42,7 @@ impl<'s, 'a> Place<'s, 'a> {
     {
         match self {
             Place::Lent(tree) => seen_tree(tree),
+            Place::Given(part) => seen_tree(part.tree),
             Place::Held(value) => value.seen(),
         }
     }
@@ -50,6 +53,7 @@ impl<'s, 'a> Place<'s, 'a> {
     {
         match self {
             Place::Lent(tree) => Ok(Value::Lent(tree)),
+            Place::Given(part) => Ok(Value::Given(part)),
             Place::Held(value) => copy(alloc, value),
         }
     }
@@ -76,13 +80,30 @@ fn item_at<'a>(items: &'a [Tree], name: &str) -> Option<&'a Tree>
     }
 }
 
-// One step of a path: an object's member, or a list's item by its index.
+// One step of a path in the expression: an object's member, or a list's item by its index. It looks at the members one by one.
 fn step<'a>(tree: &'a Tree, name: &str) -> Option<&'a Tree>
     ensures { option_map (λ t. view t.now) result ≡ step (view tree.now) name.now }
 {
     match tree {
         Tree::Object(_) => tree.member(name),
         Tree::List(items) => item_at(items.as_slice(), name),
+        _ => None,
+    }
+}
+
+// One step of a path in the context: a member is found by halving.
+fn step_in_part<'a>(part: Part<'a>, name: &str) -> Option<Part<'a>>
+    ensures { option_map (λ p. view p.tree.now) result ≡ step (view part.entry.tree.now) name.now }
+{
+    match part.tree {
+        Tree::Object(members) => {
+            let tree = member_by_halving(members.as_slice(), name)?;
+            Some(Part { tree })
+        }
+        Tree::List(items) => {
+            let tree = item_at(items.as_slice(), name)?;
+            Some(Part { tree })
+        }
         _ => None,
     }
 }
@@ -104,8 +125,9 @@ fn step_in_value<'s, 'a>(value: &'s Value<'a>, name: &str) -> Option<Place<'s, '
 {
     match value {
         Value::Lent(tree) => Some(Place::Lent(step(tree, name)?)),
+        Value::Given(part) => Some(Place::Given(step_in_part(*part, name)?)),
         Value::Items(values) => Some(Place::Held(value_at(values.as_slice(), name)?)),
-        Value::Context(root) => Some(Place::Lent(at_root(*root, name)?)),
+        Value::Context(root) => Some(Place::Given(at_root(*root, name)?)),
         Value::Fold(so_far, current) => Some(Place::Held(in_fold(so_far, current, name)?)),
         _ => None,
     }
@@ -117,6 +139,7 @@ fn step_from<'s, 'a>(place: Place<'s, 'a>, name: &str) -> Option<Place<'s, 'a>>
 {
     match place {
         Place::Lent(tree) => Some(Place::Lent(step(tree, name)?)),
+        Place::Given(part) => Some(Place::Given(step_in_part(part, name)?)),
         Place::Held(value) => step_in_value(value, name),
     }
 }
@@ -147,21 +170,21 @@ fn enter<'s, 'a>(scope: Scope<'s, 'a>, name: &str) -> Option<Place<'s, 'a>>
     ensures { option_map place_view result ≡ step (scope_view scope.entry) name.now }
 {
     match scope {
-        Scope::Root(root) => Some(Place::Lent(at_root(root, name)?)),
+        Scope::Root(root) => Some(Place::Given(at_root(root, name)?)),
         Scope::Item(value) => step_in_value(value, name),
         Scope::Fold(so_far, current) => Some(Place::Held(in_fold(so_far, current, name)?)),
     }
 }
 
 // A member of the context, with `$flagd` in its place.
-fn at_root<'a>(root: Root<'a>, name: &str) -> Option<&'a Tree>
-    ensures { option_map (λ t. view t.now) result ≡ step (with_flagd (view root.entry.flagd.now) (object (members_view root.entry.members.now))) name.now }
+fn at_root<'a>(root: Root<'a>, name: &str) -> Option<Part<'a>>
+    ensures { option_map (λ p. view p.tree.now) result ≡ step (with_flagd (view root.entry.flagd.now) (object (members_view root.entry.members.now))) name.now }
 {
     if name == "$flagd" {
-        Some(root.flagd)
-    } else {
-        member_by_halving(root.members, name)
+        return Some(Part { tree: root.flagd });
     }
+    let tree = member_by_halving(root.members, name)?;
+    Some(Part { tree })
 }
 
 // The value so far or the item of a `reduce`.

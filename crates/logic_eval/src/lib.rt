@@ -32,6 +32,7 @@ mod context;
 mod evaluation;
 mod find;
 mod fractional;
+mod hashed;
 mod laws;
 mod meter;
 mod missing;

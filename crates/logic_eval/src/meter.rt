@@ -11,6 +11,7 @@ ghost use Rattle.logic_eval.specs.Views.{progress, place_view, scope_view};
 ghost use Rattle.logic_values.specs.Views.{value_view};
 
 use crate::find::Place;
+use crate::hashed::HashInput;
 use crate::scope::Scope;
 use flag_text::Tree;
 use logic_values::{EvalFault, Root, Value};
@@ -38,7 +39,7 @@ pub(crate) struct Meter {
     /// The sites that it reached so far, in their order.
     pub(crate) reached: Vec<Reached>,
     /// The default hash input, once a site was reached by it.
-    pub(crate) default: Option<Arc<String>>,
+    pub(crate) default: Option<HashInput>,
 }
 
 impl Meter {
@@ -100,6 +101,7 @@ pub(crate) fn pay_for_value(meter: &mut Meter, value: &Value) -> Result<(), Eval
 {
     match value {
         Value::Lent(tree) => pay_for(meter, tree),
+        Value::Given(part) => pay_for(meter, part.tree),
         Value::Name(name) => meter.pay(1 + name.len() as u64 / 64),
         Value::Text(text) => meter.pay(1 + text.len() as u64 / 64),
         Value::Items(items) => {
@@ -132,6 +134,7 @@ pub(crate) fn pay_for_place(meter: &mut Meter, place: Place) -> Result<(), EvalF
 {
     match place {
         Place::Lent(tree) => pay_for(meter, tree),
+        Place::Given(part) => pay_for(meter, part.tree),
         Place::Held(value) => pay_for_value(meter, value),
     }
 }

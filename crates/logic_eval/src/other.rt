@@ -17,6 +17,7 @@ pub(crate) fn has_other(value: &Value) -> bool
 {
     match value {
         Value::Lent(tree) => tree_has_other(tree),
+        Value::Given(part) => tree_has_other(part.tree),
         Value::Items(items) => values_have_other(items),
         Value::Context(root) => root_has_other(*root),
         Value::Fold(so_far, current) => has_other(so_far) || has_other(current),

@@ -62,6 +62,7 @@ fn scalar(alloc: Global, value: Value) -> Result<Tree, AllocError>
 {
     match value {
         Value::Lent(tree) => scalar_tree(alloc, tree),
+        Value::Given(part) => scalar_tree(alloc, part.tree),
         Value::Name(name) => Ok(Tree::Text(String::from_str(alloc, name)?)),
         Value::Null => Ok(Tree::Null),
         Value::Bool(b) => Ok(Tree::Bool(b)),

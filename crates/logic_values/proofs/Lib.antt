@@ -6,4 +6,5 @@ mod Ranges
 pub mod Items
 pub mod Members
 pub mod Surfaces
+pub mod Tidy
 pub mod Truths

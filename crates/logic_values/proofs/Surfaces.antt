@@ -5,6 +5,7 @@ use Rattle.std.specs.Borrow.{Bor}
 use Rattle.flag_text.specs.declared.tree.Tree.{Tree}
 use Rattle.flag_text.specs.Shape.{null, boolean, list}
 use Rattle.flag_text.specs.View.{view, items_of}
+use Rattle.logic_values.specs.declared.part.Part.{Part}
 use Rattle.logic_values.specs.declared.value.Value.{Value, the_lemmas}
 use Rattle.logic_values.specs.declared.value.Value.TheVariants as value
 use Rattle.logic_values.specs.Lists.{items_in}
@@ -26,6 +27,9 @@ in_items v = ap items_in (value_items v) ∙ shapes_of_items (map value_view v.i
 
 pub value_lent : (t : Bor Tree) → value_view (value.Lent t) ≡ view t.now
 value_lent t = simp the_lemmas refl
+
+pub value_given : (p : Part) → value_view (value.Given p) ≡ view p.tree.now
+value_given p = simp the_lemmas refl
 
 pub value_fold : (so_far current : Box Value Global) → value_view (value.Fold so_far current) ≡ reduce_scope (value_view so_far.value) (value_view current.value)
 value_fold so_far current = simp the_lemmas refl

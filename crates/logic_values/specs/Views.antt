@@ -18,6 +18,7 @@ root_view r = with_flagd (view r.flagd.now) (object (members_view r.members.now)
 -- one level, with each value inside already seen as its shape
 abbrev pub value_step : Value-F Shape → Shape
 value_step (Value-F.Lent t) = view t.now
+value_step (Value-F.Given p) = view p.tree.now
 value_step (Value-F.Name s) = text s.now
 value_step Value-F.Null = null
 value_step (Value-F.Bool b) = boolean b

@@ -15,6 +15,7 @@ pub mod comparison;
 mod fault;
 pub mod lists;
 pub mod number;
+mod part;
 mod root;
 mod seen;
 pub mod text;
@@ -24,6 +25,7 @@ mod value;
 pub mod version;
 
 pub use fault::EvalFault;
+pub use part::Part;
 pub use root::Root;
 pub use seen::{Seen, seen_tree};
 pub use value::{Value, copy, fold, items_of};

@@ -1,12 +1,14 @@
 //! Lists of values: `merge`, and `in` of a list or a text.
-ghost use Rattle.std.specs.Prelude.{◌≡◌, ◌++◌, IfOk, OnOk, flat_map, map};
+ghost use Rattle.std.specs.Prelude.{◌≡◌, ◌++◌, true, IfOk, OnOk, flat_map, map};
 ghost use Rattle.std.specs.List.{list_any};
-ghost use Rattle.flag_text.specs.View.{view};
+ghost use Rattle.flag_text.specs.Shape.{items_are_tidy};
+ghost use Rattle.flag_text.specs.View.{view, items_view};
 ghost use Rattle.logic_values.specs.Comparison.{is_same};
 ghost use Rattle.logic_values.specs.Lists.{parts_of, is_in};
 ghost use Rattle.logic_values.specs.Views.{seen_view, value_view};
 
 use crate::comparison::is_same;
+use crate::part::Part;
 use crate::seen::{Seen, seen_tree};
 use crate::text::occurs_in;
 use crate::value::Value;
@@ -33,6 +35,7 @@ fn push_parts<'a>(items: &mut Vec<Value<'a>>, value: Value<'a>) -> Result<(), Al
 {
     match value {
         Value::Lent(tree) => push_tree(items, tree),
+        Value::Given(part) => push_part(items, part),
         Value::Items(parts) => push_values(items, parts),
         _ => {
             items.push(value)?;
@@ -58,6 +61,28 @@ fn push_lent<'a>(items: &mut Vec<Value<'a>>, parts: &'a [Tree]) -> Result<(), Al
 {
     for part in parts {
         items.push(Value::Lent(part))?;
+    }
+    Ok(())
+}
+
+fn push_part<'a>(items: &mut Vec<Value<'a>>, part: Part<'a>) -> Result<(), AllocError>
+    ensures { OnOk result (map value_view items.new.items ≡ map value_view items.old.items ++ parts_of (view part.entry.tree.now)) }
+{
+    match part.tree.as_list() {
+        Some(parts) => push_given(items, parts),
+        None => {
+            items.push(Value::Given(part))?;
+            Ok(())
+        }
+    }
+}
+
+fn push_given<'a>(items: &mut Vec<Value<'a>>, parts: &'a [Tree]) -> Result<(), AllocError>
+    requires { items_are_tidy (items_view parts.now) ≡ true }
+    ensures { OnOk result (map value_view items.new.items ≡ map value_view items.old.items ++ map view parts.now) }
+{
+    for tree in parts {
+        items.push(Value::Given(Part { tree }))?;
     }
     Ok(())
 }

@@ -54,6 +54,7 @@ impl<'a> Value<'a> {
     {
         match self {
             Value::Lent(tree) => seen_tree(tree),
+            Value::Given(part) => seen_tree(part.tree),
             Value::Name(name) => Seen::Text(name),
             Value::Null => Seen::Null,
             Value::Bool(b) => Seen::Bool(*b),

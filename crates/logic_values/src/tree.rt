@@ -17,6 +17,7 @@ pub(crate) fn tree_of(alloc: Global, value: Value) -> Result<Tree, AllocError>
 {
     match value {
         Value::Lent(tree) => tree.copy(alloc),
+        Value::Given(part) => part.tree.copy(alloc),
         Value::Name(name) => Ok(Tree::Text(String::from_str(alloc, name)?)),
         Value::Null => Ok(Tree::Null),
         Value::Bool(b) => Ok(Tree::Bool(b)),

@@ -1,10 +1,12 @@
 //! The values of an evaluation.
-ghost use Rattle.std.specs.Prelude.{◌≡◌, IfOk, map};
-ghost use Rattle.flag_text.specs.View.{view};
+ghost use Rattle.std.specs.Prelude.{◌≡◌, true, IfOk, map};
+ghost use Rattle.flag_text.specs.Shape.{items_are_tidy};
+ghost use Rattle.flag_text.specs.View.{view, items_view};
 ghost use Rattle.logic_values.specs.Lists.{items_in};
 ghost use Rattle.logic_values.specs.Objects.{reduce_scope};
 ghost use Rattle.logic_values.specs.Views.{value_view};
 
+use crate::part::Part;
 use crate::root::Root;
 use crate::tree::tree_of;
 use flag_text::Tree;
@@ -14,8 +16,10 @@ use std::alloc::{AllocError, Global};
 /// of an object are not copied.
 #[derive(Drop)]
 pub enum Value<'a> {
-    /// A value that the expression or the context holds.
+    /// A value that the expression holds, or the names that a context gives `missing`.
     Lent(&'a Tree),
+    /// A value that the context holds.
+    Given(Part<'a>),
     /// A text that the expression holds: the name of a bucket.
     Name(&'a str),
     /// Null.
@@ -56,6 +60,7 @@ pub fn copy<'a>(alloc: Global, value: &Value<'a>) -> Result<Value<'a>, AllocErro
 {
     match value {
         Value::Lent(tree) => Ok(Value::Lent(tree)),
+        Value::Given(part) => Ok(Value::Given(*part)),
         Value::Name(name) => Ok(Value::Name(name)),
         Value::Null => Ok(Value::Null),
         Value::Bool(b) => Ok(Value::Bool(*b)),
@@ -102,6 +107,7 @@ pub fn items_of<'a>(alloc: Global, value: Value<'a>) -> Result<Vec<Value<'a>>, A
     match value {
         Value::Items(items) => Ok(items),
         Value::Lent(tree) => lent_items(alloc, tree),
+        Value::Given(part) => given_items(alloc, part),
         Value::Name(_) => Ok(Vec::new(alloc)),
         Value::Null => Ok(Vec::new(alloc)),
         Value::Bool(_) => Ok(Vec::new(alloc)),
@@ -128,6 +134,26 @@ fn lent<'a>(alloc: Global, trees: &'a [Tree]) -> Result<Vec<Value<'a>>, AllocErr
     let mut values = Vec::with_capacity(alloc, trees.len())?;
     for tree in trees {
         values.push(Value::Lent(tree))?;
+    }
+    Ok(values)
+}
+
+fn given_items<'a>(alloc: Global, part: Part<'a>) -> Result<Vec<Value<'a>>, AllocError>
+    ensures { IfOk result (λ v. map value_view v.items ≡ items_in (view part.entry.tree.now)) }
+{
+    match part.tree {
+        Tree::List(items) => given(alloc, items.as_slice()),
+        _ => Ok(Vec::new(alloc)),
+    }
+}
+
+fn given<'a>(alloc: Global, trees: &'a [Tree]) -> Result<Vec<Value<'a>>, AllocError>
+    requires { items_are_tidy (items_view trees.now) ≡ true }
+    ensures { IfOk result (λ v. map value_view v.items ≡ map view trees.now) }
+{
+    let mut values = Vec::with_capacity(alloc, trees.len())?;
+    for tree in trees {
+        values.push(Value::Given(Part { tree }))?;
     }
     Ok(values)
 }

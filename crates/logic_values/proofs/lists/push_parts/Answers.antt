@@ -1,8 +1,7 @@
-use Rattle.std.proofs.Common.{◌≡◌, map, ap, sym, ◌∙◌}
-use Rattle.flag_text.specs.View.{view}
+use Rattle.std.proofs.Common.{◌≡◌, map, ap, ◌∙◌}
 use Rattle.logic_values.specs.Lists.{parts_of}
 use Rattle.logic_values.specs.Views.{value_view}
-use Rattle.logic_values.proofs.Surfaces.{value_items, value_lent}
+use Rattle.logic_values.proofs.Surfaces.{value_items}
 use Rattle.logic_values.proofs.Items.{shapes_of_items}
 use Rattle.logic_values.proofs.lists.push_parts.Goals as goal
 

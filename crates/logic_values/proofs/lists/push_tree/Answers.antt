@@ -1,5 +1,3 @@
-use Rattle.std.proofs.Common.{◌∷◌, [], ◌++◌, map, ap, ◌∙◌}
-use Rattle.std.proofs.lemmas.List.{map-append}
 use Rattle.flag_text.specs.View.{view}
 use Rattle.logic_values.specs.Views.{value_view}
 use Rattle.logic_values.proofs.Items.{pushed}

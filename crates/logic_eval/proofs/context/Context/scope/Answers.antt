@@ -1,6 +1,11 @@
-use Rattle.flag_text.specs.View.{members_view}
-use Rattle.flag_text.proofs.Halving.{names_rise-tidy}
+use Rattle.std.proofs.Common.{ap, ◌∙◌}
+use Rattle.flag_text.specs.Shape.{is_tidy}
+use Rattle.logic_eval.specs.Views.{situation}
+use Rattle.logic_eval.proofs.WholeValues.{flagd-tidy}
 use Rattle.logic_eval.proofs.context.Context.scope.Goals as goal
 
 pub invariant_of-result : goal.invariant_of-result
-invariant_of-result c = record { rising = names_rise-tidy (members_view c.args.self.now.members.now) c.args.self.now.tidy }
+invariant_of-result c = record {
+  tidy = c.args.self.now.tidy;
+  flagd_tidy = ap is_tidy c.requires ∙ flagd-tidy (situation c.args.self.now) c.args.self.now.small;
+}
