@@ -137,6 +137,25 @@ class Plan(ProgramTest):
                 files = {"d": document(), "r": asked, "b": BOOK}
                 self.assertEqual(run(["plan", "d", "r", "b", "--refine", "1"], files), run(["plan", "d", "r", "b"], files))
 
+    def test_finer_points(self):
+        """How many points a rule has is told where it was planned in finer ones, and of no set of names."""
+        asked = request('"red":45,"blue":55')
+        ran = run(["plan", "d", "r", "b", *by(10)], {"d": document(), "r": asked, "b": BOOK})
+        told = 'note: "r": with --refine 10 the rule has 100 points where it had 10:\n  later requests ask totals that sum to 100\n'
+        self.assertEqual((ran.status, ran.err), (0, told))
+        for asked, factor, book, _ in CUTS:
+            with self.subTest(asked=asked, factor=factor, book=book):
+                ran = run(["plan", "d", "r", "b", *by(factor)], {"d": document(), "r": asked, "b": book})
+                self.assertNotIn("points where it had", ran.err)
+
+    def test_totals_of_coarser_points(self):
+        """Where the totals sum to a part of the rule's points it is told by how much to multiply them, and else it is not."""
+        files = {"d": document(FIVES), "r": RED_3, "b": BOOK}
+        ran = self.assert_ends(["plan", "d", "r", "b", *by(5)], files, 1, "refused plan 6 TotalsSum\n")
+        self.assertIn("\n  that is 5 times as many: multiply each total by 5\n", ran.err)
+        other = self.assert_ends(["plan", "d", "r", "b"], {**files, "r": request('"red":3,"blue":6')}, 1, "refused plan 6 TotalsSum\n")
+        self.assertNotIn("multiply", other.err)
+
     def test_refusals(self):
         for buckets, asked, factor, refusal in REFUSED:
             with self.subTest(buckets=buckets, asked=asked, factor=factor):

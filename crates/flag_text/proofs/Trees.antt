@@ -7,7 +7,7 @@ use Rattle.json.specs.Lex.{tokens}
 use Rattle.json.specs.Token.{Token}
 use Rattle.serde_json.specs.Data as parsed
 use Rattle.serde_json.specs.Read.{of_json, of_items, of_members, number_of, max_depth, read, converted}
-use Rattle.flag_text.specs.Grammar.{put, tree_from, items_from, members_from}
+use Rattle.flag_text.specs.Grammar.{put, tree_from, items_from, members_from, value_in}
 use Rattle.flag_text.specs.Reading.{number_shape, shape_of, items_shape, members_shape, if_json}
 use Rattle.flag_text.specs.Shape.{Shape, list, object, item, member}
 use Rattle.flag_text.specs.declared.fault.TextFault.TheVariants.{NotJson}
@@ -87,3 +87,11 @@ none_read (Some (j, t ∷ r)) e = refl
 
 pub whole_refused : (text : List ℕ) → converted tree_from (json.value max_depth (tokens text)) ≡ None → if_json (read text) ≡ Err NotJson
 whole_refused text e = ap if_json (none_read (json.value max_depth (tokens text)) e)
+
+-- what a text reads as is the tree of its value
+pub tree_reads : (text : List ℕ) → option_map shape_of (read text) ≡ option_and_then tree_from (value_in text)
+tree_reads text = go (value_in text)
+  where
+    go : (o : Option json.Json) → option_map shape_of (option_and_then of_json o) ≡ option_and_then tree_from o
+    go None = refl
+    go (Some j) = sym (tree_from-data j)

@@ -5,9 +5,14 @@ use Rattle.std.specs.Fmt.{signed_decimal}
 use Rattle.std.specs.Ordering.{nat_cmp, match_ordering}
 use Rattle.std.specs.Cmp.Lexicographic.{slice_cmp}
 use Rattle.json.specs.Json as json
+use Rattle.json.specs.Lex.{tokens}
 use Rattle.serde_json.specs.Read.{number_of}
 use Rattle.flag_text.specs.Shape.{Shape, null, boolean, whole, other, text, list, object, Items, no_items, item, Members, no_members, member}
-use Rattle.flag_text.specs.Reading.{number_shape}
+use Rattle.flag_text.specs.Reading.{json_levels, number_shape}
+
+-- the value that bytes are, where its lists and objects nest no deeper than is read
+abbrev pub value_in : List ℕ → Option json.Json
+value_in bytes = option_and_then (λ p. json.if_last p.0 p.1) (json.value json_levels (tokens bytes))
 
 -- the members, with t at the name k
 abbrev pub put : List ℕ → Shape → Members → Members

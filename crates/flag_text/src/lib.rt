@@ -42,6 +42,7 @@ mod whole;
 
 pub use fault::TextFault;
 pub use named::{member_by_halving, position_of};
+pub use number::number_tree;
 pub use outlet::{Outlet, WriteOutlet, write_whole};
 pub use plain::plain_text;
 pub use print::print_tree;

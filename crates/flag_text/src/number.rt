@@ -9,7 +9,7 @@ use crate::tree::{MAX_WHOLE, Tree, is_in_range};
 use fast_float::Numeral;
 
 /// The tree of a number's text, none where it is too large for a float.
-pub(crate) fn number_tree(text: &str) -> Option<Tree>
+pub fn number_tree(text: &str) -> Option<Tree>
     ensures { option_map view result ≡ option_map number_shape (number_of text.now) }
 {
     let bytes = text.as_bytes();

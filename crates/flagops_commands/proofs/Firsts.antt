@@ -1,6 +1,9 @@
 -- The first of what a command attempts in turn that is refused.
-use Rattle.std.proofs.Common.{◌≡◌, false, ◌∷◌, ◌++◌, Option, Some, None, IfSome, inl, inr, sym, subst}
-use Rattle.std.specs.Prelude.{Result, Ok, Err}
+use Rattle.std.proofs.Common.{◌≡◌, false, ℕ, List, ◌∷◌, ◌++◌, IfOk, Option, Some, None, IfSome, inl, inr, sym, subst}
+use Rattle.std.specs.Prelude.{Bool, Result, Ok, Err, unwrap_or}
+use Rattle.flagops_commands.specs.Subjects.{numbers_of}
+use Rattle.flagops_rollouts.specs.Finer.{TellsFinerOf}
+use Rattle.flagops_shell.specs.Report.{outcome_view}
 use Rattle.flagops_commands.specs.Attempts.{Attempts, TellsOfFirst, attempts_of}
 use Rattle.flagops_commands.specs.Refusal.{Refused, Subjects, TellsOfOne, is_want}
 use Rattle.flagops_commands.specs.declared.refusal.ListedRefusal.{ListedRefusal}
@@ -8,7 +11,8 @@ use Rattle.flagops_files.proofs.Told.{first_by_kind, told_left, told_right}
 use Rattle.flagops_files.specs.Told.{NamesSubject, Subject, attempt, by_kind}
 use Rattle.flagops_shell.specs.Diagnostic.{Says}
 use Rattle.flagops_shell.specs.Files.{Holding}
-use Rattle.flagops_words.specs.Asked.{Asked}
+use Rattle.flagops_shell.specs.declared.outcome.Outcome.{Outcome}
+use Rattle.flagops_words.specs.Asked.{Asked, plan}
 
 -- ---- whatever the files hold
 
@@ -19,6 +23,16 @@ whatever (Some at) p = p
 pub in_any_files : {X : Type 0} (old : Option Holding) (attempts : Attempts) (r : Result X Refused) → TellsOfFirst attempts r → IfSome old (λ at. TellsOfFirst attempts r)
 in_any_files None attempts r told = tt
 in_any_files (Some at) attempts r told = told
+
+pub told_in_any_files : {E : Type 0} (P : Outcome → List ℕ → Type 0) (old : Option Holding) (r : Result Outcome E) → IfOk r (λ o. IfSome o.remark (Says (P o))) → IfOk r (λ o. IfSome old (λ at. IfSome o.remark (Says (P o))))
+told_in_any_files P old (Ok o) told = whatever old told
+told_in_any_files P old (Err e) told = tt
+
+-- the points of a plan
+pub points_told : {E : Type 0} (old : Option Holding) (a : Asked) (document request book : List ℕ) (refine : Option ℕ) (strict explain : Bool) (r : Result Outcome E) → a ≡ plan document request book refine strict explain
+    → IfOk r (λ o. IfSome o.remark (Says (TellsFinerOf request (unwrap_or refine 1) o.text.items))) → IfOk r (λ o. IfSome old (λ at. IfSome o.remark (Says (numbers_of a at (outcome_view o)))))
+points_told old a document request book refine strict explain r is told =
+    subst (λ (x : Asked). IfOk r (λ o. IfSome old (λ at. IfSome o.remark (Says (numbers_of x at (outcome_view o)))))) (sym is) (told_in_any_files (λ o. TellsFinerOf request (unwrap_or refine 1) o.text.items) old r told)
 
 -- what the words ask for, as they were matched
 pub as_asked : {X : Type 0} (old : Option Holding) (a b : Asked) (r : Result X Refused) → a ≡ b → IfSome old (λ at. TellsOfFirst (attempts_of b at) r) → IfSome old (λ at. TellsOfFirst (attempts_of a at) r)

@@ -1,6 +1,6 @@
 -- What a person is told: of a refusal that is known by its kind the name of the file at a path, or of the word, that it is of; and
 -- what is told beside a report.
-use Rattle.std.specs.Prelude.{ℕ, Bool, true, false, List, [], ◌∷◌, codes}
+use Rattle.std.specs.Prelude.{ℕ, Bool, true, false, List, [], ◌∷◌, codes, unwrap_or}
 use Rattle.flagops_drive.specs.declared.fault.DriveRefusal.{DriveRefusal}
 use Rattle.flagops_drive.specs.declared.fault.DriveRefusal.TheVariants as driving
 use Rattle.flagops_commands.specs.Refusal.{loads_book, loads_tree, stores_file, Subjects, by}
@@ -12,6 +12,7 @@ use Rattle.flagops_commands.specs.declared.refusal.ListedRefusal.{ListedRefusal}
 use Rattle.flagops_commands.specs.declared.refusal.ListedRefusal.TheVariants.{Note, Price, Drive, Doubted, WouldLose}
 use Rattle.flagops_commands.specs.DriveSummary.{TellsPrinted}
 use Rattle.flagops_rollouts.specs.Doubts.{NamesDoubted}
+use Rattle.flagops_rollouts.specs.Finer.{TellsFinerOf}
 use Rattle.file_diagnostics.specs.Named.{Names, NamesWord}
 use Rattle.flagops_words.specs.Asked.{Asked, price, verify, apply, keep, plan, drive}
 
@@ -78,7 +79,8 @@ notes_of (keep document answer request book write refine strict) = NamesDoubted 
 notes_of (drive document asks workers book add replace strict json) = Names asks
 notes_of asked = λ lines. Unit {0}
 
--- and the numbers that are told: of `drive`, those of what it printed
+-- and the numbers that are told: of `plan`, how many points its rule has where it was planned in finer ones, and of `drive`, those of what it printed
 abbrev pub numbers_of : Asked → Holding → Report → List ℕ → Type 0
+numbers_of (plan document request book refine strict explain) at report = TellsFinerOf request (unwrap_or refine 1) report.text
 numbers_of (drive document asks workers book add replace strict json) at report = TellsPrinted at asks book add json report.text
 numbers_of asked at report = λ lines. Unit {0}

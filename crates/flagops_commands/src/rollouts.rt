@@ -1,5 +1,5 @@
 //! The commands on rollouts, where each refusal is one of the listed commands.
-ghost use Rattle.std.specs.Prelude.{◌≡◌, ◌||◌, IfOk, IfSome, option_map};
+ghost use Rattle.std.specs.Prelude.{◌≡◌, ◌||◌, IfOk, IfSome, option_map, unwrap_or};
 ghost use Rattle.file_diagnostics.specs.Named.{Names};
 ghost use Rattle.flagops_commands.specs.Attempts.{TellsOfFirst, rolled};
 ghost use Rattle.flagops_commands.specs.Refusal.{ComesFrom, GivesOne, is_file_fault, rolls};
@@ -8,6 +8,7 @@ ghost use Rattle.flagops_rollouts.specs.Apply.{IsApplyReport};
 ghost use Rattle.flagops_rollouts.specs.Attempts.{apply_attempts, keep_attempts, plan_attempts, verify_attempts};
 ghost use Rattle.flagops_rollouts.specs.Calls.{apply_calls, keep_calls, plan_calls, verify_calls};
 ghost use Rattle.flagops_rollouts.specs.Doubts.{NamesDoubted};
+ghost use Rattle.flagops_rollouts.specs.Finer.{TellsFinerOf};
 ghost use Rattle.flagops_rollouts.specs.Keep.{IsKeepReport, LeavesDocument};
 ghost use Rattle.flagops_rollouts.specs.Plan.{IsPlanReport};
 ghost use Rattle.flagops_rollouts.specs.Verify.{IsVerifyReport};
@@ -41,6 +42,7 @@ pub(crate) fn plan<R: Threads + Sync, F: FileSet>(
     ensures kept { F.holding files.new ≡ F.holding files.old }
     ensures names { IfSome (F.holding files.old) (λ at. TellsOfFirst (rolled (plan_attempts at document.now request.now book.now)) result) }
     ensures notes { IfOk result (λ o. IfSome o.remark (Says (NamesDoubted request.now book.now))) }
+    ensures numbers { IfOk result (λ o. IfSome o.remark (Says (TellsFinerOf request.now (unwrap_or (option_map (λ m. m.number) refine) 1) o.text.items))) }
 {
     match flagops_rollouts::plan(
         rt, alloc, files, document, request, book, refine, strict, explain,

@@ -3,6 +3,7 @@ use Rattle.std.proofs.Common.{◌≡◌, ◌⊎◌, ◌||◌, Bool, false, true,
 use Rattle.std.specs.Prelude.{IfErr, IfOk, IfSome}
 use Rattle.book_core.specs.Book.{Contents}
 use Rattle.flagops_rollouts.specs.Doubts.{doubt_of, settle}
+use Rattle.flagops_rollouts.specs.Finer.{is_finer}
 use Rattle.flagops_rollouts.specs.Plan.{IsPlanOf, IsPlannedOn, plan_report, plan_status, report_planned}
 use Rattle.flagops_shell.specs.Files.{Holding, KeepsOthers, Stores}
 use Rattle.flagops_files.specs.Question.{BookQuestion, Question, book_question_view}
@@ -123,17 +124,17 @@ printed_status : (told : Bool) (answer : Answer) (text : Result (List ℕ) PlanF
 printed_status told answer (Ok t) = answer_status answer
 printed_status told answer (Err e) = tt
 
-settled_status : (explain : Bool) (settled : Result Bool RolloutRefusal) (answer : Answer) → HasStatus (settled >>= λ told. beside (explain || told) (plan_report answer))
-settled_status explain (Ok told) answer = printed_status (explain || told) answer (plan_line answer)
-settled_status explain (Err e) answer = tt
+settled_status : (m : ℕ) (explain : Bool) (settled : Result Bool RolloutRefusal) (answer : Answer) → HasStatus (settled >>= λ told. beside ((explain || told) || is_finer m answer) (plan_report answer))
+settled_status m explain (Ok told) answer = printed_status ((explain || told) || is_finer m answer) answer (plan_line answer)
+settled_status m explain (Err e) answer = tt
 
-planned_status : (explain : Bool) (settled : Result Bool RolloutRefusal) (planned : Result Planned RolloutFault) → HasStatus (report_planned explain settled planned)
-planned_status explain settled (Ok p) = settled_status explain settled (planned_view p)
-planned_status explain settled (Err f) = tt
+planned_status : (m : ℕ) (explain : Bool) (settled : Result Bool RolloutRefusal) (planned : Result Planned RolloutFault) → HasStatus (report_planned m explain settled planned)
+planned_status m explain settled (Ok p) = settled_status m explain settled (planned_view p)
+planned_status m explain settled (Err f) = tt
 
 -- a plan has a rule or shows that none fits
 pub status_of : (strict explain : Bool) (refine : Option ℕ) (q : Question) (report : Report) → IsPlanOf strict explain refine (Ok q) (Ok report) → (report.status ≡ 0) ⊎ (report.status ≡ 3)
-status_of strict explain refine q report (planned, may, is, reads) = subst HasStatus (sym is) (planned_status explain (settle call.Plan strict (doubt_of q)) planned)
+status_of strict explain refine q report (planned, may, is, reads) = subst HasStatus (sym is) (planned_status (unwrap_or refine 1) explain (settle call.Plan strict (doubt_of q)) planned)
 
 -- no read failed before the last step
 or_false : (b : Bool) → (b || false) ≡ b

@@ -1,11 +1,12 @@
 -- What is told of a doubt, and what becomes of an answer that is doubted.
 use Rattle.std.proofs.Common.{◌≡◌, ◌||◌, ◌++◌, List, [], ◌∷◌, ℕ, Bool, false, Option, Some, None, IfSome, inl, inr, refl, ap, subst, sym, ◌∙◌}
-use Rattle.std.specs.Prelude.{IfOk, Result, Ok, Err}
+use Rattle.std.specs.Prelude.{IfOk, Result, Ok, Err, unwrap_or}
 use Rattle.std.proofs.lemmas.List.{append_assoc}
 use Rattle.plan_text.specs.Answer.{Answer, planned_view}
 use Rattle.plan_text.specs.declared.planned.Planned.{Planned}
 use Rattle.flagops_rollouts.specs.declared.doubts.NotedDoubt.{NotedDoubt}
 use Rattle.flagops_rollouts.specs.Doubts.{NamesDoubt, NamesDoubted, doubt_of, doubt_subjects, settle}
+use Rattle.flagops_rollouts.specs.Finer.{is_finer}
 use Rattle.flagops_rollouts.specs.Plan.{Holds, IsPlanOf, MayBePlanned, plan_report}
 use Rattle.flagops_rollouts.specs.Verify.{IsVerdict, MayBeTold, valid_as}
 use Rattle.flagops_rollouts.proofs.Telling.{told_among}
@@ -68,12 +69,14 @@ module _ (strict : Bool) (refine : Option ℕ) (q : Question) where
     pub plan_doubted : (e : Refused) → MayBePlanned refine q (Ok p) → (is_want e.refusal ≡ false → settle call.Plan strict (doubt_of q) ≡ Err e.refusal) → GivesOne outcome_view (Err e) (IsPlanOf strict explain refine (Ok q))
     plan_doubted e may refused = λ wanted. (Ok p, may, rw (refused wanted) refl, tt)
 
-    -- a person is told of the doubt that was noted, or of the plan in words
-    pub plan_told : (noted shown : Bool) (r : Result Outcome Refused) → MayBePlanned refine q (Ok p) → settle call.Plan strict (doubt_of q) ≡ Ok noted → shown ≡ (explain || noted)
+    -- a person is told of the doubt that was noted, of the plan in words, or of finer points
+    pub plan_told : (noted told shown : Bool) (r : Result Outcome Refused) → MayBePlanned refine q (Ok p) → settle call.Plan strict (doubt_of q) ≡ Ok noted → told ≡ (explain || noted) → shown ≡ (told || is_finer (unwrap_or refine 1) (planned_view p))
         → GivesUnlessWant outcome_view r (beside shown (plan_report (planned_view p))) → IfOk r (λ o. Holds (planned_view p) o.text.items) → GivesOne outcome_view r (IsPlanOf strict explain refine (Ok q))
-    plan_told noted shown r may is same given back = go r (subst (λ (b : Bool). GivesUnlessWant outcome_view r (beside b (plan_report (planned_view p)))) same given) back
+    plan_told noted told shown r may is first same given back =
+        let whole : shown ≡ ((explain || noted) || is_finer (unwrap_or refine 1) (planned_view p)) = same ∙ ap (λ (b : Bool). b || is_finer (unwrap_or refine 1) (planned_view p)) first in
+        go r (subst (λ (b : Bool). GivesUnlessWant outcome_view r (beside b (plan_report (planned_view p)))) whole given) back
       where
-        go : (s : Result Outcome Refused) → GivesUnlessWant outcome_view s (beside (explain || noted) (plan_report (planned_view p))) → IfOk s (λ o. Holds (planned_view p) o.text.items) → GivesOne outcome_view s (IsPlanOf strict explain refine (Ok q))
+        go : (s : Result Outcome Refused) → GivesUnlessWant outcome_view s (beside ((explain || noted) || is_finer (unwrap_or refine 1) (planned_view p)) (plan_report (planned_view p))) → IfOk s (λ o. Holds (planned_view p) o.text.items) → GivesOne outcome_view s (IsPlanOf strict explain refine (Ok q))
         go (Ok o) given back = (Ok p, may, rw is (sym given), back)
         go (Err e) given back = λ wanted. (Ok p, may, rw is (sym (given wanted)), tt)
 

@@ -6,6 +6,7 @@ mod Edits
 mod Loaded
 mod Omissions
 mod Passed
+pub mod Points
 mod Tallies
 pub mod Telling
 pub mod Valid

@@ -39,6 +39,7 @@ use Rattle.flagops_rollouts.proofs.Asked.{asked_is, placed, refused_alike}
 use Rattle.flagops_rollouts.proofs.Valid.{outcome_over}
 use Rattle.flagops_rollouts.specs.Doubts.{doubt_of, first_doubt, is_unread, recorded_doubt, settle}
 use Rattle.flagops_rollouts.specs.Foreign.{is_foreign, is_mixed}
+use Rattle.flagops_rollouts.specs.Finer.{is_finer}
 use Rattle.flagops_rollouts.specs.Plan.{IsPlanOf, ReadsBack, plan_report, report_planned}
 use Rattle.flagops_rollouts.specs.Tallies.{TalliesPlanAsAnyBooks, TalliesPlanAsBooks, TalliesTellAsAnyBooks, TalliesTellAsBooks, over}
 use Rattle.flagops_rollouts.specs.Unrecorded.{is_bare, is_unrecorded, page_asked, page_in}
@@ -150,11 +151,11 @@ module _ (asks : TalliesAskAsBooks) (refining : Refining) (flags : Definitions) 
       let alike = asks refining flags request book t p of is in
       plan_back counts p (inputs_on book t.page) it alike.1 (subst (λ (b : Result Problem RolloutFault). IsPlanned b it) alike.0 plan)
 
-  planned_beside : has_foreign t.page (inputs_on book t.page) ≡ false → (strict explain : Bool) (r : Result TallyProblem RolloutFault) (it : Result Planned RolloutFault) → tally_problem_of refining flags request t ≡ r → IsTallyPlanned r it
-      → report_planned explain (settle call.Plan strict (doubt_of (over flags request (Tally t)))) it ≡ report_planned explain (settle call.Plan strict (doubt_of (over flags request (Book book)))) it
-  planned_beside own strict explain r (Err e) is plan = refl
-  planned_beside own strict explain (Err f) (Ok a) is plan = absurd plan
-  planned_beside own strict explain (Ok p) (Ok a) is plan = ap (λ (d : Option Doubt). report_planned explain (settle call.Plan strict d) (Ok a)) (doubted_alike refining flags request book t p of own is)
+  planned_beside : has_foreign t.page (inputs_on book t.page) ≡ false → (m : ℕ) (strict explain : Bool) (r : Result TallyProblem RolloutFault) (it : Result Planned RolloutFault) → tally_problem_of refining flags request t ≡ r → IsTallyPlanned r it
+      → report_planned m explain (settle call.Plan strict (doubt_of (over flags request (Tally t)))) it ≡ report_planned m explain (settle call.Plan strict (doubt_of (over flags request (Book book)))) it
+  planned_beside own m strict explain r (Err e) is plan = refl
+  planned_beside own m strict explain (Err f) (Ok a) is plan = absurd plan
+  planned_beside own m strict explain (Ok p) (Ok a) is plan = ap (λ (d : Option Doubt). report_planned m explain (settle call.Plan strict d) (Ok a)) (doubted_alike refining flags request book t p of own is)
 
   module _ (answer : Answer) (verdict : Result (Unit {0}) VerifyFault) where
     told_to : (r : Result TallyProblem RolloutFault) → tally_problem_of refining flags request t ≡ r → IsTallyOutcome r answer verdict → IsOutcome (problem_of refining flags request book) answer verdict
@@ -187,7 +188,7 @@ plans_alike counts asks strict explain refine flags request book t r of apart ow
     to (it, may, is, back) = (
       it,
       record { answers = planned_to asks refining flags request book t of apart (tally_problem_of refining flags request t) it refl may.answers; ordered = may.ordered; whole = may.whole },
-      is ∙ planned_beside asks refining flags request book t of apart own strict explain (tally_problem_of refining flags request t) it refl may.answers,
+      is ∙ planned_beside asks refining flags request book t of apart own (unwrap_or refine 1) strict explain (tally_problem_of refining flags request t) it refl may.answers,
       back,
     )
 
@@ -196,7 +197,7 @@ plans_alike counts asks strict explain refine flags request book t r of apart ow
         let plan = planned_back asks refining flags request book t of apart counts (tally_problem_of refining flags request t) it refl may.answers in (
           it,
           record { answers = plan; ordered = may.ordered; whole = may.whole },
-          is ∙ sym (planned_beside asks refining flags request book t of apart own strict explain (tally_problem_of refining flags request t) it refl plan),
+          is ∙ sym (planned_beside asks refining flags request book t of apart own (unwrap_or refine 1) strict explain (tally_problem_of refining flags request t) it refl plan),
           back,
         )
 
@@ -226,9 +227,15 @@ told_again : (b c : Bool) (r : Result Report RolloutRefusal) → beside b r ≡ 
 told_again b c (Ok report) = refl
 told_again b c (Err e) = refl
 
-noted_planned : (explain : Bool) (d e : Option Doubt) (it : Result Planned RolloutFault) → beside (explain || is_some e) (report_planned explain (settle call.Plan false d) it) ≡ report_planned explain (settle call.Plan false e) it
-noted_planned explain d e (Err f) = refl
-noted_planned explain d e (Ok p) = sym (told_again (explain || is_some e) (explain || is_some d) (plan_report (planned_view p)))
+-- that what was planned has finer points is told on both
+abbrev finer_in : ℕ → Result Planned RolloutFault → Bool
+finer_in m (Ok p) = is_finer m (planned_view p)
+finer_in m (Err f) = false
+
+noted_planned : (m : ℕ) (explain : Bool) (d e : Option Doubt) (it : Result Planned RolloutFault)
+    → beside ((explain || is_some e) || finer_in m it) (report_planned m explain (settle call.Plan false d) it) ≡ report_planned m explain (settle call.Plan false e) it
+noted_planned m explain d e (Err f) = refl
+noted_planned m explain d e (Ok p) = sym (told_again ((explain || is_some e) || is_finer m (planned_view p)) ((explain || is_some d) || is_finer m (planned_view p)) (plan_report (planned_view p)))
 
 noted_told : (json : Bool) (d e : Option Doubt) (answer : Answer) (verdict : Result (Unit {0}) VerifyFault) → beside (is_some e) (told json (settle call.Verify false d) answer verdict) ≡ told json (settle call.Verify false e) answer verdict
 noted_told json d e answer (Err f) = refl
@@ -253,23 +260,23 @@ plans_as_any counts asks explain refine flags request book t r of apart = (to, f
 
     to : IsPlanOf false explain refine (Ok (over flags request (Tally t))) r → (noted : Bool) × IsPlanOf false explain refine (Ok (over flags request (Book book))) (beside noted r)
     to (it, may, is, back) = (
-      explain || is_some on_book,
+      (explain || is_some on_book) || finer_in (unwrap_or refine 1) it,
       (
         it,
         record { answers = planned_to asks refining flags request book t of apart (tally_problem_of refining flags request t) it refl may.answers; ordered = may.ordered; whole = may.whole },
-        ap (beside (explain || is_some on_book)) is ∙ noted_planned explain on_tally on_book it,
-        reads_beside it (explain || is_some on_book) r back,
+        ap (beside ((explain || is_some on_book) || finer_in (unwrap_or refine 1) it)) is ∙ noted_planned (unwrap_or refine 1) explain on_tally on_book it,
+        reads_beside it ((explain || is_some on_book) || finer_in (unwrap_or refine 1) it) r back,
       ),
     )
 
     from : IsPlanOf false explain refine (Ok (over flags request (Book book))) r → (noted : Bool) × IsPlanOf false explain refine (Ok (over flags request (Tally t))) (beside noted r)
     from (it, may, is, back) = (
-      explain || is_some on_tally,
+      (explain || is_some on_tally) || finer_in (unwrap_or refine 1) it,
       (
         it,
         record { answers = planned_back asks refining flags request book t of apart counts (tally_problem_of refining flags request t) it refl may.answers; ordered = may.ordered; whole = may.whole },
-        ap (beside (explain || is_some on_tally)) is ∙ noted_planned explain on_book on_tally it,
-        reads_beside it (explain || is_some on_tally) r back,
+        ap (beside ((explain || is_some on_tally) || finer_in (unwrap_or refine 1) it)) is ∙ noted_planned (unwrap_or refine 1) explain on_book on_tally it,
+        reads_beside it ((explain || is_some on_tally) || finer_in (unwrap_or refine 1) it) r back,
       ),
     )
 

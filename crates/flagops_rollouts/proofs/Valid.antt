@@ -204,6 +204,6 @@ module _ (refine : Option ℕ) (q : Question) (report : Report) (p : Planned) wh
 pub plans_are_valid : (strict explain : Bool) (refine : Option ℕ) (q : Question) (report : Report) → IsOfInputs q.evidence → IsPlanOf strict explain refine (Ok q) (Ok report) → IsValidPlan refine q report.text
 plans_are_valid strict explain refine q report of (planned, may, is, back) = go planned may is back
   where
-    go : (planned : Result Planned RolloutFault) → MayBePlanned refine q planned → Ok report ≡ report_planned explain (settle call.Plan strict (doubt_of q)) planned → ReadsBack planned (Ok report) → IsValidPlan refine q report.text
+    go : (planned : Result Planned RolloutFault) → MayBePlanned refine q planned → Ok report ≡ report_planned (unwrap_or refine 1) explain (settle call.Plan strict (doubt_of q)) planned → ReadsBack planned (Ok report) → IsValidPlan refine q report.text
     go (Err e) may is back = absurd (refused (sym is))
     go (Ok p) may is back = planned_valid refine q report p of may back

@@ -4,6 +4,7 @@ pub mod ByHand
 pub mod Calls
 pub mod Doubts
 pub mod FileLines
+pub mod Finer
 pub mod Foreign
 pub mod Keep
 pub mod Keeping

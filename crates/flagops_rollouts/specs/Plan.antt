@@ -16,6 +16,7 @@ use Rattle.flagops_files.specs.Question.{Question}
 use Rattle.flagops_rollouts.specs.Loaded.{IsQuestionAt}
 use Rattle.flagops_shell.specs.Report.{Report}
 use Rattle.flagops_rollouts.specs.Doubts.{doubt_of, settle}
+use Rattle.flagops_rollouts.specs.Finer.{is_finer}
 use Rattle.flagops_rollouts.specs.declared.refusal.RolloutCall.TheVariants as call
 use Rattle.flagops_files.specs.declared.evidence.Evidence.{Evidence}
 use Rattle.flagops_files.specs.declared.evidence.Evidence.TheVariants.{Book, Tally}
@@ -32,9 +33,9 @@ plan_status (none_exists kind names) = 3
 abbrev pub plan_report : Answer → Result Report RolloutRefusal
 plan_report answer = refused_by PrintPlanned (plan_line answer) >>= λ text. Ok (record { text = text; status = plan_status answer; is_told = false })
 
--- the report of what was planned, beside which a person is told of a doubt, or of the plan in words where that is asked for
-abbrev pub report_planned : Bool → Result Bool RolloutRefusal → Result Planned RolloutFault → Result Report RolloutRefusal
-report_planned explain settled planned = refused_by Plan planned >>= λ p. settled >>= λ told. beside (explain || told) (plan_report (planned_view p))
+-- the report of what was planned by a factor, beside which a person is told of a doubt, of the plan in words where that is asked for, and of finer points
+abbrev pub report_planned : ℕ → Bool → Result Bool RolloutRefusal → Result Planned RolloutFault → Result Report RolloutRefusal
+report_planned m explain settled planned = refused_by Plan planned >>= λ p. settled >>= λ told. beside ((explain || told) || is_finer m (planned_view p)) (plan_report (planned_view p))
 
 -- What is planned on the rule refined by a factor, least over the recorded inputs: over those of a book, or over all inputs of
 -- which so many fall on each point as a tally says.
@@ -65,7 +66,7 @@ ReadsBack (Ok p) (Ok report) = Holds (planned_view p) report.text
 abbrev pub IsPlanOf : Bool → Bool → Option ℕ → Result Question RolloutRefusal → Outcomes
 IsPlanOf strict explain refine (Err e) r = r ≡ Err e
 IsPlanOf strict explain refine (Ok q) r =
-    (planned : Result Planned RolloutFault) × MayBePlanned refine q planned × (r ≡ report_planned explain (settle call.Plan strict (doubt_of q)) planned) × ReadsBack planned r
+    (planned : Result Planned RolloutFault) × MayBePlanned refine q planned × (r ≡ report_planned (unwrap_or refine 1) explain (settle call.Plan strict (doubt_of q)) planned) × ReadsBack planned r
 
 unfoldable pub IsPlanReport : Holding → List ℕ → List ℕ → List ℕ → Option ℕ → Bool → Bool → Outcomes
 IsPlanReport at document request book refine strict explain r =

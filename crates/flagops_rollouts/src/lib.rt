@@ -25,6 +25,7 @@ mod applying;
 mod by_hand;
 mod doubts;
 mod explained;
+mod finer;
 mod keep_refusal;
 mod keeping;
 mod kept;
@@ -41,6 +42,7 @@ mod verifying;
 
 pub use applying::{applied, apply};
 pub use doubts::{NotedDoubt, joined, remark_in};
+pub use finer::with_points;
 pub use keep_refusal::KeepRefusal;
 pub use keeping::{keep, put as put_document};
 pub use kept::kept_at as document_with_rule;

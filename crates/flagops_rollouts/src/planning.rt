@@ -3,6 +3,7 @@ ghost use Rattle.std.specs.Prelude.{◌≡◌, ◌<◌, ◌||◌, [], ◌∷◌,
 ghost use Rattle.plan_text.specs.Answer.{IsOrdered, planned_view};
 ghost use Rattle.plan_text.specs.PlanFile.{IsWhole};
 ghost use Rattle.flagops_rollouts.specs.ByHand.{TellsPlanned, TellsPlannedAt};
+ghost use Rattle.flagops_rollouts.specs.Finer.{TellsFinerOf};
 ghost use Rattle.flagops_rollouts.specs.Plan.{Holds, IsPlanOf, IsPlanReport, IsPlannedOn, MayBePlanned, plan_report, plan_status};
 ghost use Rattle.flag_defs.specs.Flags.{flags_view};
 ghost use Rattle.flagops_files.specs.Question.{question_view};
@@ -19,6 +20,7 @@ ghost use Rattle.file_diagnostics.specs.Named.{Names};
 
 use crate::doubts::settled;
 use crate::explained::told;
+use crate::finer::with_points;
 use crate::loading::load_question;
 use crate::refusal::{Refused, RolloutCall, RolloutRefusal};
 use flag_defs::Flags;
@@ -34,7 +36,8 @@ use std::thread::Threads;
 
 /// The plan file of the rule that meets a request and costs the recorded inputs the least, or of a set of names which
 /// shows that no rule meets it, as a line. The status tells which of the two. What is doubted of it is told, or refused
-/// where that is asked for; and with `explain` what the rule changes, or what stands in the way of any.
+/// where that is asked for; and with `explain` what the rule changes, or what stands in the way of any. That the rule has finer
+/// points than its site is told too, where it was planned by a factor above 1.
 #[tactic(auto, unfolding(crate::specs::Plan::IsPlanReport))]
 pub fn plan<R: Threads + Sync, F: FileSet>(
     rt: &R,
@@ -54,6 +57,7 @@ pub fn plan<R: Threads + Sync, F: FileSet>(
     ensures names { TellsOfOne (plan_subjects document.now request.now book.now) result }
     ensures first { IfSome (F.holding files.old) (λ at. TellsOfFirst (plan_attempts at document.now request.now book.now) result) }
     ensures notes { IfOk result (λ o. IfSome o.remark (Says (NamesDoubted request.now book.now))) }
+    ensures finer { IfOk result (λ o. IfSome o.remark (Says (TellsFinerOf request.now (unwrap_or (option_map (λ m. m.number) refine) 1) o.text.items))) }
     ensures edit { explain ≡ true → IfSome (F.holding files.old) (λ at. IfOk result (λ o. IfSome o.remark (Says (TellsPlannedAt at document.now request.now book.now (unwrap_or (option_map (λ m. m.number) refine) 1) o.text.items)))) }
 {
     let question = load_question(rt, alloc, files, document, request, book, factor_of(refine))?;
@@ -80,6 +84,7 @@ pub fn answer(
     ensures read { is_file_fault result ≡ false }
     ensures names { TellsOfOne ((file request.now, is_of_request) ∷ (word the_plan, is_of_size) ∷ doubt_subjects request.now book.now) result }
     ensures notes { IfOk result (λ o. IfSome o.remark (Says (NamesDoubted request.now book.now))) }
+    ensures finer { IfOk result (λ o. IfSome o.remark (Says (TellsFinerOf request.now (unwrap_or (option_map (λ m. m.number) refine) 1) o.text.items))) }
     ensures edit { explain ≡ true → IfOk result (λ o. IfSome o.remark (Says (TellsPlanned request.now (question_view question.now) (unwrap_or (option_map (λ m. m.number) refine) 1) o.text.items))) }
 {
     let planned = match planned(rt, alloc, question, refine) {
@@ -101,9 +106,10 @@ pub fn answer(
         question,
         strict,
     )?;
-    let remark = told(
+    let words = told(
         rt, alloc, request, book, question, &planned, refine, explain, noted,
     );
+    let remark = with_points(alloc, request, book, &planned, refine, words);
     let outcome = printed(alloc, &planned, remark);
     // The program ends soon, and its memory with it.
     mem::forget(planned);

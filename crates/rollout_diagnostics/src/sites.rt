@@ -253,6 +253,25 @@ fn put_sums(
             lines,
             ",\n  and the rule at {place} has {total} points (a variant that is not named gets none)",
         );
+        if let Some(times) = times_as_many(low, high, total) {
+            write!(
+                lines,
+                "\n  that is {times} times as many: multiply each total by {times}",
+            );
+        }
     }
     Ok(())
+}
+
+/// How many times as many points a rule has as totals sum to, where they sum to a part of it that goes into it without a rest.
+fn times_as_many(low: u128, high: u128, total: u128) -> Option<u128> {
+    if low == 0 || low != high || total % low != 0 {
+        return None;
+    }
+    let times = total / low;
+    if times > 1 {
+        Some(times)
+    } else {
+        None
+    }
 }

@@ -1,6 +1,6 @@
 use Rattle.std.proofs.Common.{ap}
 use Rattle.flagops_words.specs.Asked.{asked_view}
-use Rattle.flagops_commands.proofs.Firsts.{as_asked}
+use Rattle.flagops_commands.proofs.Firsts.{as_asked, points_told}
 use Rattle.flagops_commands.proofs.commands.outcome.Goals as goal
 
 pub returns-in-Price-clause-names : goal.returns-in-Price-clause-names
@@ -20,3 +20,6 @@ returns-in-Keep-clause-names g c = as_asked (g.F.FileSet.holding c.args.files.no
 
 pub returns-in-Drive-clause-names : goal.returns-in-Drive-clause-names
 returns-in-Drive-clause-names g c = as_asked (g.F.FileSet.holding c.args.files.now) _ _ c.drive.result (ap asked_view c.in-Drive.is) c.drive.ensures.names
+
+pub returns-in-Plan-clause-numbers : goal.returns-in-Plan-clause-numbers
+returns-in-Plan-clause-numbers g c = points_told (g.F.FileSet.holding c.args.files.now) _ _ _ _ _ _ _ c.plan.result (ap asked_view c.in-Plan.is) c.plan.ensures.numbers

@@ -1,0 +1,6 @@
+mod Counted
+mod Nothing
+mod Readings
+mod Shallow
+mod Spelled
+mod Unmarked
