@@ -3,6 +3,7 @@ import json
 import os
 import random
 import unittest
+import xml.etree.ElementTree as tree
 from collections import Counter
 from math import lcm
 from typing import NamedTuple
@@ -195,8 +196,62 @@ def answer_of(edit):
     return Answer("".join(lines), texts, left)
 
 
+SVG = "{http://www.w3.org/2000/svg}"
+
+# Where the bars begin, how wide they are, and the heights of the old rule's and the new one's.
+LEFT, WIDTH, HEIGHTS = 40, 1120, (184, 320)
+
+
+def pieces_of(rule):
+    """The bar of a rule: for each bucket its name, where it begins and how wide it is."""
+    total, point, pieces = sum(weight for _, weight in rule), 0, []
+    for name, weight in rule:
+        begin, end = (LEFT + WIDTH * it // total for it in (point, point + weight))
+        pieces.append((name, begin, end - begin))
+        point += weight
+    return pieces
+
+
+def bars_in(picture):
+    """The bars of a picture of a page, by their heights."""
+    bars = {height: [] for height in HEIGHTS}
+    for group in picture.iter(SVG + "g"):
+        rects = group.findall(SVG + "rect")
+        if group.find(SVG + "title") is None or int(rects[0].get("y")) not in bars or rects[0].get("height") != "80":
+            continue
+        for rect in rects:
+            box = (int(rect.get("x")), int(rect.get("width")))
+            assert box == (int(rects[0].get("x")), int(rects[0].get("width")))
+        bars[int(rects[0].get("y"))].append((group.find(SVG + "title").text, *box))
+    return [bars[height] for height in HEIGHTS]
+
+
+def texts_in(picture):
+    """The texts of a picture but for those on its bars."""
+    return [node.text for node in picture.iter(SVG + "text") if node.get("class") != "l"]
+
+
+def words_of(page, before, after, rows, inputs):
+    """What the picture of a page says, in its order."""
+    both = Counter(), Counter()
+    for total, rule in zip(both, (before, after)):
+        for name, weight in rule:
+            total[name] += weight
+    names = list(dict.fromkeys(name for name, _ in [*before, *after]))
+    return [
+        *[page.flag, f"Site: {page.site}", f"Inputs: {inputs}", f"Switch: {sum(k for _, _, k in rows)}"],
+        *["Before", f"Points: {sum(both[0].values())}", "After", f"Points: {sum(both[1].values())}"],
+        *["Variant", "Before", "After", *(str(it) for name in names for it in (name, both[0][name], both[1][name]))],
+        *["From", "To", "Inputs", *(str(it) for row in rows for it in row)],
+    ]
+
+
 def takes_compare():
     return run(["compare", "--help"], {}).status == 0
+
+
+def takes_pictures():
+    return "--picture" in run(["compare", "--help"], {}).out
 
 
 @unittest.skipUnless(takes_compare(), "the program has no compare")
@@ -278,6 +333,56 @@ class Compare(ProgramTest):
                 self.assertEqual((ran.out, ran.status), (f"refused {line}\n", 1))
                 self.assertIn(f'"{named}"', ran.err.splitlines()[0])
         self.assert_ends(["compare", "old", "new", "book"], {"old": good, "new": good, "book": book}, 0, "switch 0 of 0\n")
+
+    @unittest.skipUnless(takes_pictures(), "compare draws no picture")
+    def test_pictures(self):
+        """The picture has both rules of each page that is compared, and what is printed; nothing else changes."""
+        draw = random.Random(SEED + 2)
+        seen = Counter()
+        for number in range(CASES):
+            edit = Edit(draw)
+            wanted = answer_of(edit)
+            files, words = {**edit.files(), "old.svg": "before"}, edit.words()
+            with self.subTest(number=number, files=files, words=words):
+                plain = run(words, files)
+                ran = run([*words, "--picture", "old.svg"], files)
+                self.assertEqual((ran.out, ran.status, ran.err), (plain.out, plain.status, plain.err))
+                self.assertEqual({**ran.files, "old.svg": "before"}, plain.files)
+                self.assert_drawn(edit, wanted, ran.files["old.svg"], seen)
+                strict = run([*words, "--strict", "--picture", "old.svg"], files)
+                self.assertEqual(strict.status, 1 if wanted.left else 0)
+                self.assertEqual(strict.files["old.svg"], "before" if wanted.left else ran.files["old.svg"])
+                seen["left" if wanted.left else "whole"] += 1
+        self.assertGreater(min(seen[it] for it in ["left", "whole", "page", "row"]), 0, seen)
+
+    def assert_drawn(self, edit, wanted, text, seen):
+        """The pictures of the pages that are compared, one below the other."""
+        root = tree.fromstring(text)
+        pictures = root.findall(SVG + "g")
+        pages = [it for it in wanted.texts if "switches" in it]
+        self.assertEqual(len(pictures), len(pages))
+        left = {page for page, _, _ in wanted.left}
+        compared = [page for page in edit.pages if edit.flag in (None, page.flag) and page not in left]
+        for picture, page, found in zip(pictures, compared, pages):
+            before, after = rule_at(edit.old, page)[0], rule_at(edit.new, page)[0]
+            rows = [(row["from"], row["to"], row["inputs"]) for row in found["switches"]]
+            self.assertEqual(texts_in(picture), words_of(page, before, after, rows, found["inputs"]))
+            self.assertEqual(bars_in(picture), [pieces_of(before), pieces_of(after)])
+            seen.update(["page", *("row" for _ in rows)])
+
+    @unittest.skipUnless(takes_pictures(), "compare draws no picture")
+    def test_pictures_that_are_not_written(self):
+        """A refusal changes no file, and the file of the picture is named where it can't be written."""
+        good, book = text_of({}), '{"book":1}\n'
+        files = {"old": good, "new": good, "book": book}
+        ran = run(["compare", "old", "new", "book", "--picture", "none/out.svg"], files)
+        self.assertEqual((ran.out, ran.status, ran.files), ("refused store 1 Unwritable\n", 1, files))
+        self.assertIn('"none/out.svg"', ran.err.splitlines()[0])
+        ran = run(["compare", "old", "new", "book", "--picture", "none/out.svg"], {**files, "new": "{}"})
+        self.assertEqual((ran.out, ran.status), ("refused read_flags 2 NoFlags\n", 1))
+        self.assertIn('"new"', ran.err.splitlines()[0])
+        ran = run(["compare", "old", "new", "book", "--picture", "out.svg"], {**files, "new": "{}"})
+        self.assertNotIn("out.svg", ran.files)
 
     def test_words(self):
         for words in [["compare"], ["compare", "old"], ["compare", "old", "new"], ["compare", "old", "new", "book", "more"]]:

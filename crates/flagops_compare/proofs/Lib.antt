@@ -1,3 +1,4 @@
+pub mod Drawings
 pub mod Ending
 pub mod Matched
 pub mod Reported

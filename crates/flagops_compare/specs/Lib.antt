@@ -1,5 +1,6 @@
 pub mod Command
 pub mod Compared
+pub mod Drawn
 pub mod FileLines
 pub mod Loaded
 pub mod Printed

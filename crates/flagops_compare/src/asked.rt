@@ -11,6 +11,8 @@ pub struct Comparing<'a> {
     pub book: &'a str,
     /// The flag whose pages are compared, where it is not all.
     pub flag: Option<&'a str>,
+    /// The file that the picture is written to, where one is asked for.
+    pub picture: Option<&'a str>,
     /// Whether a page that has no rules to compare is no success.
     pub strict: bool,
     /// Whether the answer is printed as JSON.

@@ -1,34 +1,43 @@
 //! The command `compare`.
-ghost use Rattle.std.specs.Prelude.{◌≡◌, ◌||◌, false, is_some, IfErr, IfOk, IfSome, Ok, ⊤};
+ghost use Rattle.std.specs.Prelude.{◌≡◌, ◌&&◌, ◌||◌, false, is_some, if◌then◌else◌, IfErr, IfOk, IfSome, None, Ok, OnErr, OnOk, ⊤, option_copied};
+ghost use Rattle.flag_defs.specs.Flags.{flags_view};
 ghost use Rattle.flagops_compare.specs.Command.{description};
+ghost use Rattle.flagops_compare.specs.Drawn.{LeavesBut, pages_drawn};
 ghost use Rattle.flagops_compare.specs.Loaded.{loaded_view};
-ghost use Rattle.flagops_compare.specs.Report.{IsCompareReport, IsWithLoaded, TellsLeft, TellsOfLoaded, compare_report, compare_status, has_left};
-ghost use Rattle.flagops_compare.specs.Step.{GivesOne, TellsRefused, TellsTally, is_file_fault};
+ghost use Rattle.flagops_compare.specs.Refusal.{is_want};
+ghost use Rattle.flagops_compare.specs.Report.{IsCompareReport, IsWithLoaded, IsWithPages, TellsLeft, TellsOfLoaded, attempts_of, compare_report, compare_status, has_left, picture_attempts};
+ghost use Rattle.flagops_compare.specs.Step.{GivesOne, IsDrawnAt, TellsRefused, is_file_fault};
 ghost use Rattle.flagops_compare.specs.Told.{note_lines};
 ghost use Rattle.flagops_compare.specs.Words as words;
 ghost use Rattle.flagops_compare.specs.Words.{comparing_view};
-ghost use Rattle.flagops_compare.specs.declared.refusal.CompareRefusal.TheVariants.{OtherTally, WantOfMemory};
+ghost use Rattle.flagops_compare.specs.declared.refusal.CompareRefusal.TheVariants.{Load, OtherTally, WantOfMemory};
 ghost use Rattle.flagops_files.specs.Lines.{NamesFile};
+ghost use Rattle.flagops_files.specs.Refusal.{unwritable};
+ghost use Rattle.flagops_files.specs.Told.{NamesSubject, file};
 ghost use Rattle.flagops_shell.specs.Diagnostic.{Says};
-ghost use Rattle.flagops_shell.specs.Report.{status_number};
+ghost use Rattle.flagops_shell.specs.Ending.{KeepsUnlessDone};
+ghost use Rattle.flagops_shell.specs.Files.{KeepsOthers, Stores};
+ghost use Rattle.flagops_shell.specs.Report.{outcome_view, status_number};
 ghost use Rattle.page_switches.specs.Found.{AreSums, pages_view};
 
 use crate::asked::Comparing;
 use crate::comparing::compared;
+use crate::drawing::drawn;
 use crate::loading::{Loaded, load_both};
 use crate::printing::printed;
 use crate::refusal::CompareRefusal;
 use crate::telling::note_lines;
 use crate::words::read_comparing;
-use flagops_files::file_line;
+use flagops_files::{file_line, store};
 use flagops_shell::{Command, FileSet, Outcome, Refused, Remark, Status};
-use page_switches::{Comparison, Edit, TallyFault};
+use page_switches::{Comparison, Edit, PageFound, TallyFault};
 use std::alloc::{AllocError, Global};
 use std::convert::AsStr;
 use std::thread::Threads;
 
 /// It prints what the edit from one document to another does to recorded users; a person is told of pages that have no rules to
-/// compare, which with `--strict` are no success. Files are only read.
+/// compare, which with `--strict` are no success. Files are only read, but for that
+/// of the picture.
 impl<'w, R: Threads, F: FileSet> Command<'w, R, F> for Comparing<'w> {
     type Refusal = CompareRefusal;
 
@@ -44,7 +53,7 @@ impl<'w, R: Threads, F: FileSet> Command<'w, R, F> for Comparing<'w> {
         read_comparing(alloc, words)
     }
 
-    #[tactic(auto, using(crate::proofs::Ending::remarks, crate::proofs::Ending::stays))]
+    #[tactic(auto, using(crate::proofs::Ending::remarks))]
     fn answer(
         &self,
         rt: &R,
@@ -59,36 +68,39 @@ impl<'w, R: Threads, F: FileSet> Command<'w, R, F> for Comparing<'w> {
     }
 }
 
-/// What the files at the paths come to.
-#[tactic(auto, using(crate::proofs::Reported::reported, crate::proofs::Reported::refused, crate::proofs::Reported::named, crate::proofs::Reported::tally_told, crate::proofs::Reported::noted))]
+/// What the files at the paths come to, whose picture is written where one is asked for.
 fn outcome<R: Threads, F: FileSet>(
     rt: &R,
     alloc: Global,
     files: &mut F,
     asked: &Comparing<'_>,
 ) -> Result<Outcome, Refused<CompareRefusal>>
-    ensures exact { IfSome (F.holding files.old) (λ at. GivesOne result (IsCompareReport at (comparing_view asked.now))) }
+    ensures exact { IfSome (F.holding files.old) (λ at. GivesOne result (IsCompareReport at (F.holding files.new) (comparing_view asked.now))) }
     ensures failed { F.has_failed files.new ≡ (F.has_failed files.old || is_file_fault result) }
-    ensures kept { F.holding files.new ≡ F.holding files.old }
-    ensures names { IfSome (F.holding files.old) (λ at. TellsRefused at (comparing_view asked.now) result) }
+    ensures left { LeavesBut (option_copied asked.now.picture) (F.holding files.old) (F.holding files.new) }
+    ensures kept { KeepsUnlessDone (F.holding files.old) (F.holding files.new) result }
+    ensures names { IfSome (F.holding files.old) (λ at. TellsRefused (attempts_of at (comparing_view asked.now)) (comparing_view asked.now) result) }
     ensures notes { IfSome (F.holding files.old) (λ at. IfOk result (λ o. IfSome o.remark (Says (TellsLeft at (comparing_view asked.now))))) }
 {
     match load_both(rt, alloc, files, asked.old, asked.new, asked.book) {
-        Ok(loaded) => reported(alloc, asked, &loaded),
+        Ok(loaded) => reported(alloc, files, asked, &loaded),
         Err(refused) => Err(Refused::of(refused)),
     }
 }
 
 /// The report of what was loaded.
-#[tactic(auto, using(crate::proofs::Reported::shown_so, crate::proofs::Reported::tally_refused, crate::proofs::Reported::wanted, crate::proofs::Reported::want_named, crate::proofs::Reported::noted_so))]
-fn reported(
+#[tactic(auto, using(crate::proofs::Reported::compared_so, crate::proofs::Reported::tally_refused, crate::proofs::Reported::wanted, crate::proofs::Reported::noted_so, crate::proofs::Reported::same_left, crate::proofs::Reported::tally_told, crate::proofs::Reported::want_told))]
+fn reported<F: FileSet>(
     alloc: Global,
+    files: &mut F,
     asked: &Comparing<'_>,
     loaded: &Loaded,
 ) -> Result<Outcome, Refused<CompareRefusal>>
-    ensures exact { GivesOne result (IsWithLoaded (comparing_view asked.now) (Ok (loaded_view loaded.now))) }
-    ensures read { is_file_fault result ≡ false }
-    ensures names { TellsTally (comparing_view asked.now) result }
+    ensures exact { GivesOne result (IsWithLoaded (F.holding files.old) (F.holding files.new) (comparing_view asked.now) (Ok (loaded_view loaded.now))) }
+    ensures failed { F.has_failed files.new ≡ (F.has_failed files.old || is_file_fault result) }
+    ensures left { LeavesBut (option_copied asked.now.picture) (F.holding files.old) (F.holding files.new) }
+    ensures kept { KeepsUnlessDone (F.holding files.old) (F.holding files.new) result }
+    ensures names { TellsRefused (picture_attempts (option_copied asked.now.picture)) (comparing_view asked.now) result }
     ensures notes { IfOk result (λ o. IfSome o.remark (Says (TellsOfLoaded (comparing_view asked.now) (loaded_view loaded.now)))) }
 {
     let edit = Edit {
@@ -96,9 +108,86 @@ fn reported(
         new: &loaded.new,
     };
     match compared(alloc, edit, asked.flag, &loaded.evidence) {
-        Ok(compared) => shown(alloc, asked, &compared),
+        Ok(compared) => answered(alloc, files, asked, edit, &compared),
         Err(TallyFault::WantOfMemory) => Err(out_of_memory()),
         Err(TallyFault::OtherTally) => Err(other_tally(alloc, asked.book)),
+    }
+}
+
+/// The report of pages, whose picture is written where one is asked for.
+#[tactic(auto, using(crate::proofs::Reported::undrawn, crate::proofs::Reported::drawn_too, crate::proofs::Reported::is_done, crate::proofs::Reported::left_but, crate::proofs::Reported::unshown, crate::proofs::Reported::untold, crate::proofs::Reported::refused_too, crate::proofs::Reported::refused_left, crate::proofs::Reported::refused_told, crate::proofs::Reported::same_left))]
+fn answered<F: FileSet>(
+    alloc: Global,
+    files: &mut F,
+    asked: &Comparing<'_>,
+    edit: Edit<'_>,
+    compared: &Comparison,
+) -> Result<Outcome, Refused<CompareRefusal>>
+    requires { AreSums compared.now }
+    ensures exact { GivesOne result (IsWithPages (F.holding files.old) (F.holding files.new) (comparing_view asked.now) (pages_drawn (flags_view edit.entry.old.now) (flags_view edit.entry.new.now) (pages_view compared.now.pages.items)) (pages_view compared.now.pages.items)) }
+    ensures failed { F.has_failed files.new ≡ (F.has_failed files.old || is_file_fault result) }
+    ensures left { LeavesBut (option_copied asked.now.picture) (F.holding files.old) (F.holding files.new) }
+    ensures kept { KeepsUnlessDone (F.holding files.old) (F.holding files.new) result }
+    ensures names { TellsRefused (picture_attempts (option_copied asked.now.picture)) (comparing_view asked.now) result }
+    ensures notes { IfOk result (λ o. IfSome o.remark (Says (λ lines. lines ≡ note_lines asked.now.old.now asked.now.new.now (pages_view compared.now.pages.items)))) }
+{
+    let outcome = shown(alloc, asked, compared)?;
+    let Some(path) = picture_path(asked, compared.left > 0) else {
+        return Ok(outcome);
+    };
+    match draw_at(alloc, files, path, edit, compared.pages.as_slice()) {
+        Ok(()) => Ok(outcome),
+        Err(refused) => Err(refused),
+    }
+}
+
+/// Where the picture that is asked for is written: nowhere where `--strict` finds a page that has no rules to compare.
+fn picture_path<'a>(asked: &Comparing<'a>, some_left: bool) -> Option<&'a str>
+    ensures { option_copied result ≡ (if asked.now.strict && some_left then None else option_copied asked.now.picture) }
+{
+    if asked.strict && some_left {
+        None
+    } else {
+        asked.picture
+    }
+}
+
+/// Replaces the file at a path by the picture of pages, whole or not at all.
+#[tactic(auto, using(crate::proofs::Reported::drawn_at, crate::proofs::Reported::undrawn_at))]
+fn draw_at<F: FileSet>(
+    alloc: Global,
+    files: &mut F,
+    path: &str,
+    edit: Edit<'_>,
+    pages: &[PageFound],
+) -> Result<(), Refused<CompareRefusal>>
+    ensures drawn { IsDrawnAt (pages_drawn (flags_view edit.entry.old.now) (flags_view edit.entry.new.now) (pages_view pages.now)) path.now (F.holding files.old) (F.holding files.new) result }
+    ensures failed { F.has_failed files.new ≡ (F.has_failed files.old || is_file_fault result) }
+{
+    match drawn(alloc, edit, pages) {
+        Ok(text) => write_at(alloc, files, path, text.as_bytes()),
+        Err(AllocError) => Err(out_of_memory()),
+    }
+}
+
+/// Replaces the file at a path by these bytes, whole or not at all.
+#[tactic(auto, using(crate::proofs::Reported::unwritten, crate::proofs::Reported::told_unwritten))]
+fn write_at<F: FileSet>(
+    alloc: Global,
+    files: &mut F,
+    path: &str,
+    bytes: &[u8],
+) -> Result<(), Refused<CompareRefusal>>
+    ensures stored { OnOk result (Stores (F.holding files.old) (F.holding files.new) path.now bytes.now) }
+    ensures others { KeepsOthers (F.holding files.old) (F.holding files.new) path.now }
+    ensures refused { OnErr result (F.holding files.new ≡ F.holding files.old) }
+    ensures fault { IfErr result (λ t. is_want t.refusal ≡ false → t.refusal ≡ Load unwritable) }
+    ensures names { IfErr result (λ t. is_want t.refusal ≡ false → Says (NamesSubject (file path.now)) t.remark) }
+    ensures failed { F.has_failed files.new ≡ (F.has_failed files.old || is_file_fault result) }
+{
+    match store(alloc, files, path, bytes) {
+        Ok(()) => Ok(()),
+        Err(refused) => Err(Refused::of(refused)),
     }
 }
 
@@ -109,7 +198,7 @@ fn shown(
     compared: &Comparison,
 ) -> Result<Outcome, Refused<CompareRefusal>>
     requires { AreSums compared.now }
-    ensures exact { GivesOne result (λ came. came ≡ compare_report (comparing_view asked.now) (Ok (pages_view compared.now.pages.items))) }
+    ensures exact { IfOk result (λ o. outcome_view o ≡ compare_report (comparing_view asked.now) (pages_view compared.now.pages.items)) }
     ensures wants { IfErr result (λ e. e.refusal ≡ WantOfMemory) }
     ensures notes { IfOk result (λ o. IfSome o.remark (Says (λ lines. lines ≡ note_lines asked.now.old.now asked.now.new.now (pages_view compared.now.pages.items)))) }
 {

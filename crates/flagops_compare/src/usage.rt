@@ -2,7 +2,7 @@
 ghost use Rattle.std.specs.Prelude.{◌≡◌, IfOk, false};
 ghost use Rattle.clap.specs.Simple.{new_app, with_rule};
 ghost use Rattle.clap.specs.Words.{app_of, rule_of};
-ghost use Rattle.flagops_compare.specs.Words.{compare_app, compare_files, flag_option};
+ghost use Rattle.flagops_compare.specs.Words.{compare_app, compare_files, flag_option, picture_option};
 
 use clap::{Arg, Command};
 use flagops_words::about;
@@ -20,7 +20,11 @@ pub(crate) fn usage<'a>(alloc: Global) -> Result<Command<'a>, AllocError>
         "End with status 1 where a page has no rules to compare",
     );
     let json = flag(alloc, "json", "Print the answer as JSON, in a line");
-    files(alloc)?.arg(only(alloc))?.arg(strict)?.arg(json)
+    files(alloc)?
+        .arg(only(alloc))?
+        .arg(picture(alloc))?
+        .arg(strict)?
+        .arg(json)
 }
 
 /// The command with its files.
@@ -50,4 +54,14 @@ fn only<'a>(alloc: Global) -> Arg<'a>
     Arg::new(alloc, "KEY")
         .long("flag")
         .help("Compare on the pages of this flag alone")
+}
+
+/// `--picture FILE`.
+fn picture<'a>(alloc: Global) -> Arg<'a>
+    ensures rule { rule_of result ≡ picture_option }
+    ensures local { result.global ≡ false }
+{
+    Arg::new(alloc, "FILE")
+        .long("picture")
+        .help("Write the picture of the change to this file, as SVG")
 }

@@ -39,6 +39,7 @@ fn comparing_in<'a>(matches: &ArgMatches<'a>) -> Option<Comparing<'a>>
         new: matches.get_str("NEW")?,
         book: matches.get_str("BOOK")?,
         flag: text_at(matches, "KEY"),
+        picture: text_at(matches, "FILE"),
         strict: is_strict(matches),
         json: is_json(matches),
     })

@@ -24,6 +24,9 @@ text_of word.NotAllowed = codes "not allowed"
 text_of word.NoRule = codes "No rule keeps the limits."
 text_of word.Over = codes "Their points are more than all that they may become can take:"
 text_of word.Under = codes "They need more points than have or may take one of them:"
+text_of word.Site = codes "Site"
+text_of word.Inputs = codes "Inputs"
+text_of word.Switched = codes "Switch"
 
 abbrev pub class_of : Style → List ℕ
 class_of style.Title = codes "t"

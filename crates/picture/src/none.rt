@@ -92,7 +92,7 @@ fn add_set<'a>(
 }
 
 /// Adds a name with the look of its variant.
-fn add_named<'a>(
+pub(crate) fn add_named<'a>(
     elements: &mut Vec<Element<'a>>,
     variant: &'a str,
     limits: &[Limit],

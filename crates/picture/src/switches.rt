@@ -121,7 +121,7 @@ fn price_of(prices: &Prices, from: &str, to: &str) -> Option<u64>
 }
 
 /// Adds the names of a switch at a height, and gives that of its numbers. Long names have lines of their own.
-fn add_names<'a>(
+pub(crate) fn add_names<'a>(
     elements: &mut Vec<Element<'a>>,
     from: &'a str,
     to: &'a str,

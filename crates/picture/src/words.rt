@@ -23,6 +23,9 @@ pub enum Word {
     NoRule,
     Over,
     Under,
+    Site,
+    Inputs,
+    Switched,
 }
 
 impl Word {
@@ -49,6 +52,9 @@ impl Word {
             Word::NoRule => "No rule keeps the limits.",
             Word::Over => "Their points are more than all that they may become can take:",
             Word::Under => "They need more points than have or may take one of them:",
+            Word::Site => "Site",
+            Word::Inputs => "Inputs",
+            Word::Switched => "Switch",
         }
     }
 }
