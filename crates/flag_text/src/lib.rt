@@ -47,6 +47,6 @@ pub use outlet::{Outlet, WriteOutlet, write_whole};
 pub use plain::plain_text;
 pub use print::print_tree;
 pub use push::{push_string, push_text, push_tree};
-pub use read::{JSON_LEVELS, TREE_LEVELS, read_doc, read_tree, whole_tree};
+pub use read::{JSON_LEVELS, TREE_LEVELS, read_doc, read_doc_with, read_tree, whole_tree};
 pub use tokens::read_value;
 pub use tree::{MAX_WHOLE, Tree, is_in_range};

@@ -33,11 +33,26 @@ pub fn read_doc(alloc: Global, bytes: &[u8], max: usize) -> Result<Tree, TextFau
     ensures large { IsErrOf result TextFault.TooLarge ↔ (max < length bytes.now) }
     ensures no_text { length bytes.now ≤ max → is_utf8 bytes.now ≡ false → IsErrOf result TextFault.NotJson }
 {
+    read_doc_with(alloc, bytes, max, &mut Scratch::new(alloc))
+}
+
+/// As [`read_doc`], with room that the caller keeps from text to text. What the room holds makes no difference.
+pub fn read_doc_with(
+    alloc: Global,
+    bytes: &[u8],
+    max: usize,
+    scratch: &mut Scratch,
+) -> Result<Tree, TextFault>
+    ensures exact { GivesUnless TextFault.WantOfMemory view result (doc_of bytes.now max) }
+    ensures tidy { IfOk result (λ t. is_tidy (view t) ≡ true) }
+    ensures large { IsErrOf result TextFault.TooLarge ↔ (max < length bytes.now) }
+    ensures no_text { length bytes.now ≤ max → is_utf8 bytes.now ≡ false → IsErrOf result TextFault.NotJson }
+{
     if bytes.len() > max {
         return Err(TextFault::TooLarge);
     }
     match basic::from_utf8(bytes) {
-        Ok(text) => text_tree(alloc, text, &mut Scratch::new(alloc)),
+        Ok(text) => text_tree(alloc, text, scratch),
         Err(_) => Err(TextFault::NotJson),
     }
 }

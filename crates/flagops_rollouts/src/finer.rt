@@ -53,7 +53,7 @@ fn behind(noted: Option<Remark>, line: Remark) -> Remark
                 Err(AllocError) => Remark::Short,
             }
         }
-        _ => Remark::Short,
+        (Some(Remark::Short), _) | (Some(_), Remark::Short) => Remark::Short,
     }
 }
 
@@ -67,16 +67,13 @@ fn of_points(alloc: Global, request: &str, factor: u32, rule: &Rule) -> Remark
 }
 
 #[tactic(auto, unfolding(crate::specs::Finer::finer_line, crate::specs::Finer::finer_text))]
-fn finer_line(
-    alloc: Global,
-    request: &str,
-    factor: u32,
-    total: u32,
-) -> Result<String, AllocError>
+fn finer_line(alloc: Global, request: &str, factor: u32, total: u32) -> Result<String, AllocError>
     requires { 0 < factor }
     ensures { IfOk result (λ s. IsFinerLine request.now factor total (string_bytes s)) }
 {
     let name = quoted_name(alloc, request)?;
     let before = total / factor;
-    format!(in alloc; "note: {name}: with --refine {factor} the rule has {total} points where it had {before}:\n  later requests ask totals that sum to {total}\n")
+    format!(in alloc;
+        "note: {name}: with --refine {factor} the rule has {total} points where it had {before}:\n  later requests ask totals that sum to {total}\n"
+    )
 }

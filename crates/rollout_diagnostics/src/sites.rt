@@ -269,9 +269,5 @@ fn times_as_many(low: u128, high: u128, total: u128) -> Option<u128> {
         return None;
     }
     let times = total / low;
-    if times > 1 {
-        Some(times)
-    } else {
-        None
-    }
+    if times > 1 { Some(times) } else { None }
 }

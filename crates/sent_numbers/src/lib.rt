@@ -23,4 +23,4 @@ mod respelling;
 mod walk;
 
 pub use laws::whole_numbers_stay;
-pub use read::{read_sent, read_sent_tree, shallow};
+pub use read::{read_sent, read_sent_tree, read_sent_with, shallow};

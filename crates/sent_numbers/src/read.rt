@@ -9,7 +9,8 @@ ghost use Rattle.sent_numbers.specs.Sent.{if_shallow, respelled, sent_of, sent_t
 
 use crate::respelling::respelled;
 use crate::walk::are_spelled_whole;
-use flag_text::{TREE_LEVELS, TextFault, Tree, read_doc};
+use flag_text::{TREE_LEVELS, TextFault, Tree, read_doc_with};
+use json::Scratch;
 use simdutf8::basic;
 use std::alloc::Global;
 
@@ -24,25 +25,40 @@ pub fn read_sent(alloc: Global, bytes: &[u8], max: usize) -> Result<Tree, TextFa
     ensures large { IsErrOf result TextFault.TooLarge ↔ (max < length bytes.now) }
     ensures no_text { length bytes.now ≤ max → is_utf8 bytes.now ≡ false → IsErrOf result TextFault.NotJson }
 {
+    read_sent_with(alloc, bytes, max, &mut Scratch::new(alloc))
+}
+
+/// As [`read_sent`], with room that the caller keeps from text to text. What the room holds makes no difference.
+pub fn read_sent_with(
+    alloc: Global,
+    bytes: &[u8],
+    max: usize,
+    scratch: &mut Scratch,
+) -> Result<Tree, TextFault>
+    ensures exact { GivesUnless TextFault.WantOfMemory view result (sent_of bytes.now max) }
+    ensures tidy { IfOk result (λ t. is_tidy (view t) ≡ true) }
+    ensures large { IsErrOf result TextFault.TooLarge ↔ (max < length bytes.now) }
+    ensures no_text { length bytes.now ≤ max → is_utf8 bytes.now ≡ false → IsErrOf result TextFault.NotJson }
+{
     if bytes.len() > max {
         return Err(TextFault::TooLarge);
     }
     match basic::from_utf8(bytes) {
-        Ok(text) => respelled_tree(alloc, text.as_bytes()),
+        Ok(text) => respelled_tree(alloc, text.as_bytes(), scratch),
         Err(_) => Err(TextFault::NotJson),
     }
 }
 
 /// The tree that a text stands for once it is respelled, which most are as themselves.
-fn respelled_tree(alloc: Global, text: &[u8]) -> Result<Tree, TextFault>
+fn respelled_tree(alloc: Global, text: &[u8], scratch: &mut Scratch) -> Result<Tree, TextFault>
     ensures exact { GivesUnless TextFault.WantOfMemory view result (if_json (json_of (respelled text.now))) }
     ensures tidy { IfOk result (λ t. is_tidy (view t) ≡ true) }
 {
     if are_spelled_whole(text) {
-        return read_doc(alloc, text, usize::MAX);
+        return read_doc_with(alloc, text, usize::MAX, scratch);
     }
     let respelled = respelled(alloc, text)?;
-    read_doc(alloc, respelled.as_slice(), usize::MAX)
+    read_doc_with(alloc, respelled.as_slice(), usize::MAX, scratch)
 }
 
 /// The tree that the bytes of a JSON text stand for, as [`read_sent`] reads them, where it has at most 120 levels, as a context may.

@@ -9,12 +9,12 @@ use Rattle.sent_numbers.proofs.read.respelled_tree.Goals as goal
 
 pub returns-then-are_spelled_whole-clause-exact : goal.returns-then-are_spelled_whole-clause-exact
 returns-then-are_spelled_whole-clause-exact c =
-    subst (λ x. GivesUnless WantOfMemory view c.read_doc.result x)
+    subst (λ x. GivesUnless WantOfMemory view c.read_doc_with.result x)
     (doc_within c.args.text.now _ (omega arith) ∙ ap (λ b. if_json (json_of b)) (sym (respelled_as_it_is c.args.text.now (sym c.are_spelled_whole.ensures ∙ c.if-are_spelled_whole.true))))
-    c.read_doc.ensures.exact
+    c.read_doc_with.ensures.exact
 
 pub returns-clause-exact : goal.returns-clause-exact
 returns-clause-exact c =
-    subst (λ x. GivesUnless WantOfMemory view c.read_doc-2.result x)
+    subst (λ x. GivesUnless WantOfMemory view c.read_doc_with-2.result x)
     (doc_within c.as_slice.result.now _ (omega arith) ∙ ap (λ b. if_json (json_of b)) (c.as_slice.ensures.value ∙ c.in_ok-respelled.ensures))
-    c.read_doc-2.ensures.exact
+    c.read_doc_with-2.ensures.exact

@@ -6,7 +6,7 @@ use Rattle.flag_text.specs.View.{view}
 use Rattle.flag_text.specs.declared.fault.TextFault.TheVariants.{WantOfMemory}
 use Rattle.sent_numbers.specs.Sent.{respelled}
 use Rattle.sent_numbers.proofs.Stays.{is_no_text, sent_text, sent_no_text, not_both}
-use Rattle.sent_numbers.proofs.read.read_sent.Goals as goal
+use Rattle.sent_numbers.proofs.read.read_sent_with.Goals as goal
 
 pub returns-in-Ok-clause-exact : goal.returns-in-Ok-clause-exact
 returns-in-Ok-clause-exact c =

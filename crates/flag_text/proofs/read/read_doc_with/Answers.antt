@@ -3,10 +3,10 @@ use Rattle.serde_json.specs.Read.{read}
 use Rattle.flag_text.specs.Reading.{if_json, doc_of}
 use Rattle.flag_text.proofs.Readings.{doc_of-utf8, doc_of-none, no_utf8}
 use Rattle.flag_text.proofs.Rising.{is_tidy-text}
-use Rattle.flag_text.proofs.read.read_doc.Goals as goal
-use Rattle.flag_text.proofs.read.read_doc.Goals.{After-drop-new-in-Ok}
+use Rattle.flag_text.proofs.read.read_doc_with.Goals as goal
+use Rattle.flag_text.proofs.read.read_doc_with.Goals.{After-text_tree}
 
-same : (c : After-drop-new-in-Ok) → if_json (read c.in-Ok.text.now) ≡ doc_of c.args.bytes.now c.args.max
+same : (c : After-text_tree) → if_json (read c.in-Ok.text.now) ≡ doc_of c.args.bytes.now c.args.max
 same c =
     let read_as = c.in-Ok.ensures in
     ap (λ bytes. if_json (read bytes)) read_as.0 ∙ sym (doc_of-utf8 c.args.bytes.now c.args.max (omega arith) read_as.1)
