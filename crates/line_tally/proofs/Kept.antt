@@ -1,5 +1,5 @@
 -- What a line leaves is a tally.
-use Rattle.std.proofs.Common.{◌≡◌, ◌≢◌, ◌<◌, ◌≤◌, ◌+◌, ℕ, true, false, List, length, get_or, set, Option, Some, None, option_map, nat_lt, refl, sym, ap, ◌∙◌, subst, ⊎_elim, arith, length-set}
+use Rattle.std.proofs.Common.{◌≡◌, ◌≢◌, ◌<◌, ◌+◌, ℕ, true, false, List, length, get_or, set, Option, Some, None, option_map, nat_lt, refl, sym, ap, ◌∙◌, subst, ⊎_elim, arith, length-set}
 use borrow.Author.Tests.{ltb-true, lt-ltb}
 use Rattle.std.specs.Option.{is_some, option_or}
 use Rattle.std.proofs.lemmas.Bool.{and_from, and_parts, cases_eq}
@@ -73,12 +73,12 @@ pub spelled_on : (note : Noted) (page : PageName) (line input : List ℕ) → li
 spelled_on note page line input spelled same inputs = spelled ∙ ap note_line (noted_same note page input same inputs)
 
 -- what was counted, part by part
-pub counted_is : (v : Tallied) (line input : List ℕ) (page : PageName) (total : ℕ) (before last : List ℕ) (first : Option (List ℕ)) (inputs : ℕ) (counts : List ℕ) (at had : ℕ) → IsTally v → is_above_last v.before line ≡ true → IsNote (noted_on v.page input) → line ≡ line_on v.page input → has_room v input ≡ true
-    → page ≡ v.page → total ≡ v.total → before ≡ line → first ≡ option_or v.first (Some line) → last ≡ line → inputs ≡ v.inputs → counts ≡ v.counts → at ≡ point_of v.total input → had ≡ get_or v.counts (point_of v.total input) 0
-    → IsTally (record { page = page; total = total; before = Some before; first = first; last = Some last; inputs = inputs + 1; counts = set counts at (had + 1) })
+pub counted_is : (v : Tallied) (line input : List ℕ) (page : PageName) (total : ℕ) (before last first : Option (List ℕ)) (inputs : ℕ) (counts : List ℕ) (at had : ℕ) → IsTally v → is_above_last v.before line ≡ true → IsNote (noted_on v.page input) → line ≡ line_on v.page input → has_room v input ≡ true
+    → page ≡ v.page → total ≡ v.total → before ≡ Some line → first ≡ option_or v.first (Some line) → last ≡ Some line → inputs ≡ v.inputs → counts ≡ v.counts → at ≡ point_of v.total input → had ≡ get_or v.counts (point_of v.total input) 0
+    → IsTally (record { page = page; total = total; before = before; first = first; last = last; inputs = inputs + 1; counts = set counts at (had + 1) })
 counted_is v line input page total before last first inputs counts at had is above note spelled room p t b f l n c a h =
-    let new : Tallied = record { page = page; total = total; before = Some before; first = first; last = Some last; inputs = inputs + 1; counts = set counts at (had + 1) } in
-    let same : new ≡ tallied v line input = λ i. record { page = p i; total = t i; before = Some (b i); first = f i; last = Some (l i); inputs = n i + 1; counts = set (c i) (a i) (h i + 1) } in
+    let new : Tallied = record { page = page; total = total; before = before; first = first; last = last; inputs = inputs + 1; counts = set counts at (had + 1) } in
+    let same : new ≡ tallied v line input = λ i. record { page = p i; total = t i; before = b i; first = f i; last = l i; inputs = n i + 1; counts = set (c i) (a i) (h i + 1) } in
     subst IsTally (sym same) (tallied_is v line input is above note spelled room)
 
 pub none_first : {X : Type 0} (f : X → List ℕ) (o : Option X) (line own : List ℕ) → is_some o ≡ false → own ≡ line → Some own ≡ option_or (option_map f o) (Some line)
@@ -91,3 +91,11 @@ some_first f (Some x) line some = refl
 
 pub room_is : (v : Tallied) (input : List ℕ) → v.inputs < most_in_all → get_or v.counts (point_of v.total input) 0 < most_at_point → has_room v input ≡ true
 room_is v input more few = and_from (nat_lt v.inputs most_in_all) (nat_lt (get_or v.counts (point_of v.total input) 0) most_at_point) (lt-ltb v.inputs most_in_all more) (lt-ltb (get_or v.counts (point_of v.total input) 0) most_at_point few)
+
+-- what was passed over, part by part
+pub passed_by : (v : Tallied) (line : List ℕ) (before last : Option (List ℕ)) → IsTally v → is_above_last v.before line ≡ true → before ≡ Some line → last ≡ v.last
+    → IsTally (record { page = v.page; total = v.total; before = before; first = v.first; last = last; inputs = v.inputs; counts = v.counts })
+passed_by v line before last is above b l =
+    let new : Tallied = record { page = v.page; total = v.total; before = before; first = v.first; last = last; inputs = v.inputs; counts = v.counts } in
+    let same : new ≡ passed v line = λ i. record { page = v.page; total = v.total; before = b i; first = v.first; last = l i; inputs = v.inputs; counts = v.counts } in
+    subst IsTally (sym same) (passed_is v line is above)

@@ -1,4 +1,5 @@
 mod Counted
+mod Heads
 mod Kept
 pub mod Refused
 mod Sorted

@@ -1,5 +1,5 @@
 -- Notes whose lines rise are all tallied, and the lines of a page of a book can be put so.
-use Rattle.std.proofs.Common.{◌≡◌, ◌≢◌, ◌<◌, ◌≤◌, ◌+◌, ℕ, Bool, true, false, if◌then◌else◌, eqb, List, [], ◌∷◌, map, length, get_or, Option, Some, None, Result, Ok, Err, refl, sym, ap, ◌∙◌, subst, ⊎_elim, arith, length-set}
+use Rattle.std.proofs.Common.{◌≡◌, ◌≢◌, ◌<◌, ◌≤◌, ◌+◌, ℕ, Bool, true, false, if◌then◌else◌, eqb, List, [], ◌∷◌, map, length, get_or, Some, None, Result, Ok, refl, sym, ap, ◌∙◌, subst, ⊎_elim, arith, length-set}
 use Rattle.std.specs.Cmp.Lexicographic.{nat_list_cmp_total}
 use Rattle.std.specs.List.{AllByRecursion}
 use Rattle.std.specs.List.Sorted.{IsStrictlySortedBy}
@@ -10,12 +10,12 @@ use Rattle.std.specs.declared.cmp.Ordering.{Ordering}
 use Rattle.std.specs.declared.cmp.Ordering.TheVariants.{Less, Equal, Greater}
 use Rattle.std.proofs.lemmas.Bool.{cases_Bool}
 use Rattle.std.proofs.lemmas.Cmp.{tied_itself}
-use Rattle.std.proofs.lemmas.List.{get_or-replicate, length-replicate}
+use Rattle.std.proofs.lemmas.List.{length-replicate}
 use Rattle.std.proofs.lemmas.List.Elements.{All-from_recursion, recursion_from_All}
 use Rattle.std.proofs.lemmas.List.Sorted.{All-permutation, IsPermutation-cons, IsPermutation-middle, IsPermutation-refl, IsPermutation-sym, IsPermutation-trans, length_permutation}
 use Rattle.bucket_core.specs.Point.{point_of}
 use Rattle.bucket_core.proofs.Hashes.{point_of-below}
-use Rattle.book_core.specs.Book.{Inputs, IsExposure}
+use Rattle.book_core.specs.Book.{Inputs}
 use Rattle.book_core.specs.Page.{PageName, bytes_cmp, page_eq}
 use Rattle.book_core.specs.PageOrder.{pages_total}
 use Rattle.book_core.proofs.Ordered.{All-weaker}
@@ -26,7 +26,7 @@ use Rattle.note_lines.proofs.Lines.{one_note}
 use Rattle.tally_core.specs.Law.{TalliesInAnyOrder, lines_on}
 use Rattle.tally_core.specs.Tally.{line_on, most_at_point, noted_on}
 use Rattle.tally_core.proofs.Zeros.{zero_all}
-use Rattle.line_tally.specs.Law.{AreTalliedAs, BookPagesAreTallied, SortedNotesAreTallied, inputs_of, with_notes}
+use Rattle.line_tally.specs.Law.{BookPagesAreTallied, SortedNotesAreTallied, inputs_of, with_notes}
 use Rattle.line_tally.specs.Lines.{Tallied, finished, has_room, passed, tallied, untallied, with_note}
 use Rattle.line_tally.specs.declared.fault.LineTallyFault.{LineTallyFault}
 use Rattle.line_tally.proofs.Counted.{one_at}

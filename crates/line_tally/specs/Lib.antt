@@ -3,6 +3,8 @@ pub use Rattle.book_core.specs.Page
 pub use Rattle.note_lines.specs.Note
 pub use Rattle.tally_core.specs.Join
 pub use Rattle.tally_core.specs.Tally
+pub mod Head
+pub mod Last
 pub mod Law
 pub mod Lines
 pub mod Refusals

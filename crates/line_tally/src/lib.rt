@@ -11,6 +11,7 @@
 
 mod fault;
 mod laws;
+mod page_lines;
 mod tally;
 
 pub use fault::LineTallyFault;

@@ -6,20 +6,21 @@ use Rattle.bucket_core.specs.Point.{point_of}
 use Rattle.page_tally.specs.Folding.{is_above_last}
 use Rattle.note_lines.specs.Note.{IsNote}
 use Rattle.tally_core.specs.Tally.{noted_on, line_on}
+use Rattle.line_tally.specs.Last.{last_line}
 use Rattle.line_tally.specs.Lines.{Tallied, has_room}
 use Rattle.line_tally.proofs.Kept.{counted_is, none_first, room_is, some_first}
 use Rattle.line_tally.proofs.tally.LineTally.count.Goals as goal
 use Rattle.line_tally.proofs.tally.LineTally.count.Goals.{then-is_none+in_ok-to_vec+in-Some-1, then-is_none+in_ok-to_vec+in-None-1, else-is_none}
 
-pub invariant_of-self : goal.invariant_of-self
-invariant_of-self c =
+pub invariant_of-self-2 : goal.invariant_of-self-2
+invariant_of-self-2 c =
     let a = c.self.inside in
     let x = c.if-is_none.self-inside in
     let line = c.args.line.now in
     let input = c.args.input.now in
     let at = c.point-at.result in
     let items : Vec ℕ Global → List ℕ = λ v. v.items in
-    let v : Tallied = record { page = a.page; total = a.total; before = option_map items a.before; first = option_map items a.first; last = option_map items a.last; inputs = a.inputs; counts = a.counts.items } in
+    let v : Tallied = record { page = a.page; total = a.total; before = option_map items a.before; first = option_map items a.first; last = last_line a.last (option_map items a.before); inputs = a.inputs; counts = a.counts.items } in
     let above : is_above_last v.before line ≡ true = subst (λ (t : Tallied). is_above_last t.before line ≡ true) (sym c.self.view_is) c.requires.above in
     let note : IsNote (noted_on v.page input) = subst (λ (t : Tallied). IsNote (noted_on t.page input)) (sym c.self.view_is) c.requires.note in
     let spelled : line ≡ line_on v.page input = subst (λ (t : Tallied). line ≡ line_on t.page input) (sym c.self.view_is) c.requires.spelled in
@@ -35,7 +36,8 @@ invariant_of-self c =
     ] in
     let still : at < length x.counts.items = omega (arith, inside, ap length parts.4) in
     let had : c.index_mut.result.now ≡ get_or v.counts (point_of v.total input) 0 = get_or_read x.counts.items at c.index_mut.result.now still c.index_mut.ensures.value 0 ∙ ap (λ (xs : List ℕ). get_or xs at 0) parts.4 ∙ ap (λ (q : ℕ). get_or v.counts q 0) place in
-    let before : c.in_ok-before.before.items ≡ line = search rules in
-    let last : c.in_ok-last.last.items ≡ line = search rules in
-    counted_is v line input x.page x.total c.in_ok-before.before.items c.in_ok-last.last.items (option_map items x.first) x.inputs x.counts.items at c.index_mut.result.now c.self.invariant above note spelled room
-    parts.0 parts.1 before parts.2 last parts.3 parts.4 place had
+    let next : c.in_ok-next.next.items ≡ line = search rules in
+    let dest : c.replace-before.new.dest ≡ Some c.in_ok-next.next = search rules in
+    let before : option_map items c.replace-before.new.dest ≡ Some line = ap (option_map items) dest ∙ ap (λ (l : List ℕ). Some l) next in
+    counted_is v line input x.page x.total (option_map items c.replace-before.new.dest) (option_map items c.replace-before.new.dest) (option_map items x.first) x.inputs x.counts.items at c.index_mut.result.now c.self.invariant above note spelled room
+    parts.0 parts.1 before parts.2 before parts.3 parts.4 place had
