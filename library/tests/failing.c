@@ -63,7 +63,7 @@ static uint32_t feed(flagops_seat *seat, const uint8_t *bytes, size_t len) {
     return n;
 }
 
-enum { NEW, OPEN, SHARE, SHARE_FIRST, SHARE_AGAIN, FEED, FEED_PART, FEED_NOTHING, CONNECT, FRAME_END, CONTEXT, RESOLVE, RESOLVE_KEPT, KEYS, RECORD, NOTES, ABOUT, TALLY, PLAN, VERIFY, APPLY, CALLS };
+enum { NEW, OPEN, SHARE, SHARE_FIRST, SHARE_AGAIN, FEED, FEED_PART, FEED_NOTHING, CONNECT, FRAME_END, CONTEXT, CONTEXT_FIRST, RESOLVE, RESOLVE_KEPT, KEYS, RECORD, NOTES, ABOUT, TALLY, PLAN, VERIFY, APPLY, CALLS };
 
 /* The files of a rollout. */
 static const char *const REQUEST = "{\"plan\":1,\"flag\":\"checkout\",\"totals\":{\"on\":30,\"off\":70}}";
@@ -84,6 +84,7 @@ static uint32_t call(int which, flagops_seat *one, flagops_seat *two, answer *a)
     case CONNECT: return flagops_connect(one);
     case FRAME_END: { bool end = false; uint32_t n = flagops_at_frame_end(one, &end); expect(end, "nothing came"); return n; }
     case CONTEXT: return flagops_context(one, BYTES(ANN));
+    case CONTEXT_FIRST: return flagops_context(two, BYTES(ANN));
     case RESOLVE: *a = resolve(one, "checkout", FLAGOPS_BOOL, "false", ANN); return a->number;
     case RESOLVE_KEPT: return a->number = flagops_resolve_kept(one, BYTES("checkout"), FLAGOPS_BOOL, BYTES("false"), 0, a->bytes, sizeof a->bytes, &a->written, &a->details);
     case KEYS: return a->number = flagops_keys(one, a->bytes, sizeof a->bytes, &a->written);
@@ -111,7 +112,9 @@ static bool refused_at(int which, long count) {
     uint32_t number = call(which, &one, &two, &a);
     bool refused = left < 0;
     left = -1;
-    expect(number == (refused ? FLAGOPS_MEMORY : FLAGOPS_OK) || (which == CONTEXT && number == FLAGOPS_OK), "want of memory is told, and nothing else");
+    /* (a seat does without the room that it keeps) */
+    bool is_spared = which == CONTEXT_FIRST && count == 0;
+    expect(number == (refused && !is_spared ? FLAGOPS_MEMORY : FLAGOPS_OK), "want of memory is told, and nothing else");
     if (number == FLAGOPS_MEMORY) {
         a.number = number;
         expect(is_untouched(&a), "nothing is written");

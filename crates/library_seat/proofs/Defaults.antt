@@ -18,7 +18,7 @@ use lib.Utf8.{encode}
 pub are : (found : Bool) (bytes text name : List ℕ) → found ≡ bytes_eq bytes text → found ≡ true → text ≡ name → bytes ≡ name
 are found bytes text name is so says = (bytes_eq-Decides bytes text).0 (sym is ∙ so) ∙ says
 
-view-Truth : (b : Bool) → view (Truth b) ≡ boolean b
+pub view-Truth : (b : Bool) → view (Truth b) ≡ boolean b
 view-Truth b = search (rules, the_lemmas)
 
 -- what the names of truth values stand for

@@ -63,7 +63,7 @@ brings old new piece ss gives quiet works = record {
   works = works;
 }
 
-same : (old new : Feed) → IsSame old new → connection_view new ≡ connection_view old
+pub same : (old new : Feed) → IsSame old new → connection_view new ≡ connection_view old
 same old new s =
     ap₂ (λ (n : ℕ) (l : List ℕ). connection n l new.stage) s.last s.kept ∙ ap (λ (t : Stage). connection old.last old.kept.items t) s.stage
 

@@ -34,6 +34,17 @@ pub record Breaks (piece : List ℕ) (fault : FrameFault) (old new : Connection)
   pub failed : is_failed new.stage ≡ true
   pub shown : (stream : List ℕ) → HasGiven old stream → HasGiven new (stream ++ piece) × Gains stream (stream ++ piece) [] × ShowsFault (stream ++ piece) fault
 
+-- no byte comes, where the stream so far shows no fault
+pub record IsIdle (piece : List ℕ) (c : Connection) : Type 0 where
+  pub none : piece ≡ []
+  pub stream : List ℕ
+  pub given : HasGiven c stream
+  pub quiet : ShowsNothing stream
+
+-- it is told that nothing came, and nothing has changed
+abbrev pub HearsNothing : Heard → Heard → Type 0
+HearsNothing old new = new ≡ record old { came = false }
+
 -- what a refusal of the piece says: want of memory has not taken it, Failed comes after a fault, and each other one is that of the stream
 abbrev pub Refuses : List ℕ → Refusal → Connection → Connection → Type 0
 Refuses piece WantOfMemory old new = new ≡ old

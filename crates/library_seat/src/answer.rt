@@ -1,15 +1,14 @@
 //! What a resolution is answered with.
-ghost use Rattle.std.specs.Prelude.{◌≡◌, ◌++◌, IfOk, OnOk, length, is_some, option_map, string_bytes};
+ghost use Rattle.std.specs.Prelude.{◌≡◌, ◌++◌, true, IfOk, OnOk, length, is_some, option_map, string_bytes};
 ghost use Rattle.flag_text.specs.Printing.{text_of};
+ghost use Rattle.flag_text.specs.Shape.{is_whole};
+ghost use Rattle.flag_text.specs.View.{view};
 ghost use Rattle.flag_resolve.specs.Views.{resolution_view};
 ghost use Rattle.library_seat.specs.Answer.{answer_text, code_number, details_of, reason_number, variant_bytes};
 
 use flag_resolve::{Code, Reason, Resolution};
-use flag_text::push_tree;
+use flag_text::{Tree, push_tree};
 use std::alloc::{AllocError, Global};
-
-/// The room that most answers need no more than.
-const ROOM: usize = 64;
 
 /// What the bytes of an answer are made of, and why it is this answer.
 #[repr(C)]
@@ -26,31 +25,37 @@ pub struct Details {
     pub has_variant: bool,
 }
 
-/// The bytes of an answer, with how many of them are the value.
-#[derive(Drop)]
-pub(crate) struct Answer {
-    pub(crate) text: String,
-    pub(crate) details: Details,
+/// Writes the answer of a resolution into a text, in the place of what the text had.
+pub(crate) fn write_answer(
+    alloc: Global,
+    text: &mut String,
+    resolution: &Resolution,
+) -> Result<Details, AllocError>
+    ensures text { OnOk result (string_bytes text.new ≡ answer_text (resolution_view resolution.now)) }
+    ensures details { IfOk result (λ details. details ≡ details_of (resolution_view resolution.now)) }
+{
+    text.clear();
+    push_value(alloc, text, &resolution.value)?;
+    let value = text.len();
+    push_name(text, &resolution.variant)?;
+    Ok(Details {
+        reason: reason_number(resolution.reason),
+        code: code_number(resolution.code),
+        value,
+        has_variant: has_name(&resolution.variant),
+    })
 }
 
-/// The answer of a resolution.
-pub(crate) fn answer_of(alloc: Global, resolution: &Resolution) -> Result<Answer, AllocError>
-    ensures text { IfOk result (λ a. string_bytes a.text ≡ answer_text (resolution_view resolution.now)) }
-    ensures details { IfOk result (λ a. a.details ≡ details_of (resolution_view resolution.now)) }
+/// Adds a value as JSON. A truth value, as most are, is no more than its name.
+fn push_value(alloc: Global, text: &mut String, value: &Tree) -> Result<(), AllocError>
+    requires { is_whole (view value.now) ≡ true }
+    ensures { OnOk result (string_bytes text.new ≡ string_bytes text.old ++ text_of (view value.now)) }
 {
-    let mut text = String::with_capacity(alloc, ROOM)?;
-    push_tree(alloc, &mut text, &resolution.value)?;
-    let value = text.len();
-    push_name(&mut text, &resolution.variant)?;
-    Ok(Answer {
-        text,
-        details: Details {
-            reason: reason_number(resolution.reason),
-            code: code_number(resolution.code),
-            value,
-            has_variant: has_name(&resolution.variant),
-        },
-    })
+    match value {
+        Tree::Bool(true) => text.push_str("true"),
+        Tree::Bool(false) => text.push_str("false"),
+        _ => push_tree(alloc, text, value),
+    }
 }
 
 /// Adds the name of a variant, where there is one.

@@ -1,5 +1,5 @@
 //! Streams of snapshots, in pieces.
-ghost use Rattle.std.specs.Prelude.{◌≡◌, ℕ, List, Some, None, IfErr, IfOk, IsErrOf, option_map, true, ◌↔◌};
+ghost use Rattle.std.specs.Prelude.{◌≡◌, ◌≢◌, ℕ, List, [], Some, None, IfErr, IfOk, IsErrOf, IsOk, option_map, true, ◌↔◌};
 ghost use Rattle.std.specs.List.{last_or};
 ghost use Rattle.snap_core.specs.Hub.{Numbered};
 ghost use Rattle.snap_core.specs.HubView.{snapshot_view};
@@ -8,7 +8,7 @@ ghost use Rattle.sync_frames.specs.Frames.{IsDone};
 ghost use Rattle.sync_frames.specs.declared.fault.FrameFault.{FrameFault as Fault};
 ghost use Rattle.sync_frames.specs.declared.fault.FrameFault.TheVariants as frame;
 ghost use Rattle.library_seat.specs.Connection.{HasGiven, ShowsNow, begun};
-ghost use Rattle.library_seat.specs.Feeding.{Brings, Feeding, Refuses, hearing};
+ghost use Rattle.library_seat.specs.Feeding.{Brings, Feeding, HearsNothing, IsIdle, Refuses, hearing};
 ghost use Rattle.library_seat.specs.Refusal.{of_frame};
 ghost use Rattle.library_seat.specs.Seat.{with_connection};
 ghost use Rattle.library_seat.specs.View.{connection_view, seat_view};
@@ -19,12 +19,13 @@ use crate::refusal::Refusal;
 use crate::seat::Seat;
 use snap_core::Snapshot;
 use std::alloc::Global;
-use sync_frames::Feed;
+use sync_frames::{Feed, FrameFault};
 
 impl Seat {
     /// Takes the next piece of a stream, cut anywhere. Where it makes frames of snapshots whole, the seat has the flags of the
     /// newest from now on, `number` is its number, and `came` says so. A fault of the stream comes as
-    /// [`sync_frames::Feed::feed`] says it, and leaves the flags. Where memory runs out the piece is not taken.
+    /// [`sync_frames::Feed::feed`] says it, and leaves the flags. Where memory runs out the piece is not taken. A piece without a
+    /// byte takes none, and changes nothing where no fault waits.
     pub fn feed(
         &mut self,
         alloc: Global,
@@ -39,6 +40,9 @@ impl Seat {
         ensures waiting { (fault : Fault) → waiting_in (seat_view self.old).connection.stage ≡ Some fault → IsErrOf result (of_frame fault) }
         ensures length { ShowsNow (seat_view self.old).connection piece.now frame.Length → IsErrOf result (refusal.Frame frame.Length) }
         ensures stays { ShowsNow (seat_view self.old).connection piece.now frame.NotRising → IsErrOf result (refusal.Frame frame.NotRising) }
+        ensures idle { IsIdle piece.now (seat_view self.old).connection → IsOk result × HearsNothing
+            (record { seat = seat_view self.old; number = number.old; came = came.old })
+            (record { seat = seat_view self.new; number = number.new; came = came.new }) }
     {
         match take_piece(alloc, &mut self.feed, piece) {
             Ok(newest) => {
@@ -95,10 +99,22 @@ fn take_piece(alloc: Global, feed: &mut Feed, piece: &[u8]) -> Result<Option<Sna
     ensures waiting { (fault : Fault) → waiting_in (connection_view feed.old).stage ≡ Some fault → IsErrOf result (of_frame fault) }
     ensures length { ShowsNow (connection_view feed.old) piece.now frame.Length → IsErrOf result (refusal.Frame frame.Length) }
     ensures stays { ShowsNow (connection_view feed.old) piece.now frame.NotRising → IsErrOf result (refusal.Frame frame.NotRising) }
+    ensures idle { IsIdle piece.now (connection_view feed.old) → IsOk result }
 {
     match feed.feed(alloc, piece) {
         Ok(snapshots) => Ok(newest_of(snapshots)),
-        Err(fault) => Err(Refusal::of_frame(fault)),
+        Err(fault) => refused(piece, fault),
+    }
+}
+
+/// What a fault of a piece comes to. There is nothing to take memory for where the piece has no byte.
+fn refused(piece: &[u8], fault: FrameFault) -> Result<Option<Snapshot>, Refusal>
+    ensures nothing { IfOk result (λ newest. (newest ≡ None) × (piece.now ≡ []) × (fault ≡ frame.WantOfMemory)) }
+    ensures refused { IfErr result (λ e. (e ≡ of_frame fault) × (fault ≡ frame.WantOfMemory → piece.now ≢ [])) }
+{
+    match fault {
+        FrameFault::WantOfMemory if piece.is_empty() => Ok(None),
+        fault => Err(Refusal::of_frame(fault)),
     }
 }
 

@@ -22,6 +22,7 @@ mod refusal;
 mod resolving;
 mod room;
 mod seat;
+mod workspace;
 
 pub use answer::Details;
 pub use asked::Asked;

@@ -11,14 +11,18 @@ ghost use Rattle.library_seat.specs.declared.refusal.Refusal.TheVariants as refu
 
 use crate::asked::{Asked, Question, ReadContext};
 use crate::refusal::Refusal;
+use crate::workspace::Workspace;
 use flag_resolve::Kind;
-use flag_text::{Tree, read_tree};
-use limits::{LATEST_MOMENT, TEXT_BYTES};
-use sent_numbers::read_sent_tree;
+use flag_text::Tree;
+use limits::LATEST_MOMENT;
 use std::alloc::Global;
 
 /// Reads what is asked. The refusals come in the order of the kind, the key, the moment and the default.
-pub(crate) fn question_of<'a>(alloc: Global, asked: &Asked<'a>) -> Result<Question<'a>, Refusal>
+pub(crate) fn question_of<'a>(
+    alloc: Global,
+    asked: &Asked<'a>,
+    workspace: &mut Workspace,
+) -> Result<Question<'a>, Refusal>
     ensures exact { GivesUnless refusal.WantOfMemory question_view result (question_of (asked_view asked.now)) }
     ensures key { IfOk result (λ q. q.key.now ≡ asked.now.key.now) }
     ensures early { IfSome (early_refusal (asked_view asked.now)) (λ e. IsErrOf result e) }
@@ -32,7 +36,7 @@ pub(crate) fn question_of<'a>(alloc: Global, asked: &Asked<'a>) -> Result<Questi
     let Some(moment) = moment_of(asked.moment) else {
         return Err(Refusal::Moment);
     };
-    match default_of(alloc, asked.default) {
+    match default_of(alloc, asked.default, workspace) {
         Ok(default) => Ok(Question {
             key,
             kind,
@@ -80,7 +84,7 @@ fn moment_of(moment: u64) -> Option<u64>
 }
 
 /// The default that some bytes stand for.
-fn default_of(alloc: Global, bytes: &[u8]) -> Result<Tree, Refusal>
+fn default_of(alloc: Global, bytes: &[u8], workspace: &mut Workspace) -> Result<Tree, Refusal>
     ensures exact { GivesUnless refusal.WantOfMemory view result (default_of bytes.now) }
     ensures whole { IfOk result (λ t. is_whole (view t) ≡ true) }
     ensures early { IfSome (text_refusal bytes.now) (λ e. IsErrOf result (refusal.Default e)) }
@@ -88,7 +92,7 @@ fn default_of(alloc: Global, bytes: &[u8]) -> Result<Tree, Refusal>
     if let Some(tree) = truth_of(bytes) {
         return Ok(tree);
     }
-    match read_tree(alloc, bytes, TEXT_BYTES) {
+    match workspace.read_tree(alloc, bytes) {
         Ok(tree) => Ok(tree),
         Err(fault) => Err(Refusal::of_default(fault)),
     }
@@ -110,11 +114,15 @@ fn truth_of(bytes: &[u8]) -> Option<Tree>
 }
 
 /// The context that some bytes stand for.
-pub(crate) fn context_of(alloc: Global, bytes: &[u8]) -> Result<ReadContext, Refusal>
+pub(crate) fn context_of(
+    alloc: Global,
+    bytes: &[u8],
+    workspace: &mut Workspace,
+) -> Result<ReadContext, Refusal>
     ensures exact { GivesUnless refusal.WantOfMemory context_view result (context_of bytes.now) }
     ensures early { IfSome (text_refusal bytes.now) (λ e. IsErrOf result (refusal.Context e)) }
 {
-    match read_sent_tree(alloc, bytes, TEXT_BYTES) {
+    match workspace.read_sent_tree(alloc, bytes) {
         Ok(tree) => Ok(ReadContext { tree }),
         Err(fault) => Err(Refusal::of_context(fault)),
     }

@@ -1,5 +1,5 @@
 //! Resolutions, the notes of what they reach, and keys.
-ghost use Rattle.std.specs.Prelude.{◌≡◌, ◌≢◌, [], None, IfOk, IsErrOf, IsOk, OnOk, OnErr, IfSome, map, option_map};
+ghost use Rattle.std.specs.Prelude.{◌≡◌, ◌≢◌, [], None, IfOk, IsErrOf, IsOk, OnOk, OnErr, IfSome, map, option_map, string_bytes};
 ghost use Rattle.flag_defs.specs.Flags.{flags_view};
 ghost use Rattle.flag_resolve.specs.Views.{resolution_view};
 ghost use Rattle.logic_eval.specs.Views.{reach_view};
@@ -12,7 +12,7 @@ ghost use Rattle.library_seat.specs.Told.{Answers, Gives, Takes};
 ghost use Rattle.library_seat.specs.View.{asked_view, context_view, question_view, seat_view};
 ghost use Rattle.library_seat.specs.declared.refusal.Refusal.TheVariants as refusal;
 
-use crate::answer::{Details, answer_of};
+use crate::answer::{Details, write_answer};
 use crate::asked::{Asked, Question, ReadContext};
 use crate::keys::keys_text;
 use crate::lines::lines_of;
@@ -42,8 +42,8 @@ impl Seat {
             (record { seat = seat_view self.new; room = record { bytes = out.new; written = written.new }; details = details.new }) }
         ensures early { IfSome (early_refusal (asked_view asked.now)) (λ e. IsErrOf result e) }
     {
-        let question = question_of(alloc, asked)?;
-        let context = context_of(alloc, context)?;
+        let question = question_of(alloc, asked, &mut self.workspace)?;
+        let context = context_of(alloc, context, &mut self.workspace)?;
         let resolution = resolution_of(alloc, self.flags(), &question, &context)?;
         self.give(alloc, question.key, &resolution, out, written, details)
     }
@@ -63,10 +63,13 @@ impl Seat {
         ensures no_context { (seat_view self.old).context ≡ None → IsErrOf result refusal.NoContext }
         ensures early { (seat_view self.old).context ≢ None → IfSome (early_refusal (asked_view asked.now)) (λ e. IsErrOf result e) }
     {
+        if self.context.is_none() {
+            return Err(Refusal::NoContext);
+        }
+        let question = question_of(alloc, asked, &mut self.workspace)?;
         let Some(context) = &self.context else {
             return Err(Refusal::NoContext);
         };
-        let question = question_of(alloc, asked)?;
         let resolution = resolution_of(alloc, self.flags(), &question, context)?;
         self.give(alloc, question.key, &resolution, out, written, details)
     }
@@ -108,15 +111,15 @@ impl Seat {
             (record { seat = seat_view self.old; room = record { bytes = out.old; written = written.old }; details = details.old })
             (record { seat = seat_view self.new; room = record { bytes = out.new; written = written.new }; details = details.new }) }
     {
-        let answer = answer_of(alloc, resolution)?;
-        let text = answer.text.as_bytes();
-        if text.len() > out.len() {
-            *written = text.len();
+        let told = write_answer(alloc, &mut self.workspace.answer, resolution)?;
+        let wanted = self.workspace.answer.len();
+        if wanted > out.len() {
+            *written = wanted;
             return Err(Refusal::Room);
         }
         self.note(alloc, key, resolution.reached.as_slice())?;
-        write(text, out, written);
-        *details = answer.details;
+        write(self.workspace.answer.as_bytes(), out, written);
+        *details = told;
         Ok(())
     }
 
@@ -125,6 +128,7 @@ impl Seat {
     fn note(&mut self, alloc: Global, key: &str, reached: &[Reached]) -> Result<(), AllocError>
         ensures noted { OnOk result (seat_view self.new ≡ noted key.now (map reach_view reached.now) (seat_view self.old)) }
         ensures refused { OnErr result (seat_view self.new ≡ seat_view self.old) }
+        ensures answer { string_bytes self.new.workspace.answer ≡ string_bytes self.old.workspace.answer }
     {
         if self.notes.most() == 0 {
             return Ok(());

@@ -16,6 +16,7 @@ use crate::held::{HeldFlags, shared};
 use crate::opening::flags_of;
 use crate::question::context_of;
 use crate::refusal::Refusal;
+use crate::workspace::Workspace;
 use flag_defs::Flags;
 use kept_lines::KeptLines;
 use std::alloc::Global;
@@ -28,6 +29,7 @@ pub struct Seat {
     pub(crate) context: Option<ReadContext>,
     pub(crate) notes: KeptLines,
     pub(crate) feed: Feed,
+    pub(crate) workspace: Workspace,
 }
 
 impl Seat {
@@ -40,6 +42,7 @@ impl Seat {
             context: None,
             notes: KeptLines::new(alloc, 0),
             feed: new_feed(alloc),
+            workspace: Workspace::new(alloc),
         }
     }
 
@@ -74,7 +77,7 @@ impl Seat {
         // these need no memory
         ensures early { IfSome (text_refusal bytes.now) (λ e. IsErrOf result (refusal.Context e)) }
     {
-        let context = context_of(alloc, bytes)?;
+        let context = context_of(alloc, bytes, &mut self.workspace)?;
         self.context = Some(context);
         Ok(())
     }
