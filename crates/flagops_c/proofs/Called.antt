@@ -1,5 +1,5 @@
 -- What the number of an answer tells.
-use Rattle.std.proofs.Common.{◌≡◌, ◌≢◌, ℕ, Option, Some, None, Result, Ok, Err, IfSome, IfErr, IsErrOf, OnOk, ap, sym, subst, ◌∙◌, nat_eq, true≢false}
+use Rattle.std.proofs.Common.{◌≡◌, ◌≢◌, ℕ, Option, Some, None, Result, Ok, Err, IfSome, IfErr, IsErrOf, IsOk, OnOk, ap, sym, subst, ◌∙◌, nat_eq, true≢false}
 use Rattle.library_seat.specs.Refusal.{number_of}
 use Rattle.library_seat.specs.View.{seat_view}
 use Rattle.library_seat.specs.declared.refusal.Refusal.{Refusal}
@@ -28,3 +28,8 @@ pub done : (P Q : Type 0) (answer : Result (Unit {0}) Refusal) (n : ℕ) → n �
 done P Q (Ok it) n is refused holds zero = holds
 done P Q (Err e) n is refused holds zero =
     let wrong : 1 ≡ 0 = sym (is ∙ ap number_of refused.0) ∙ zero in absurd (true≢false (ap (λ (m : ℕ). nat_eq m 1) wrong))
+
+-- and of what was done
+pub succeeded : (answer : Result (Unit {0}) Refusal) (n : ℕ) → n ≡ result_number answer → IsOk answer → n ≡ 0
+succeeded (Ok it) n is ok = is
+succeeded (Err e) n is ok = absurd (true≢false (sym ok))

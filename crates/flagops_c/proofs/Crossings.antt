@@ -8,6 +8,7 @@ use Rattle.std.specs.contracts.boxed.Box as Box
 use Rattle.std.specs.contracts.impls.GlobalAllocator.TheImpl as memory
 use Rattle.std.specs.contracts.option.Option as Option
 use Rattle.std.specs.contracts.vec.Vec as Vec
+use Rattle.json.specs.contracts.scratch.Scratch as Scratch
 use Rattle.flag_text.proofs.tree.Tree.TheLaws.TheKnot.{crosses as trees}
 use Rattle.flag_text.specs.contracts.tree.Tree as Tree
 use Rattle.logic_ast.proofs.node.Node.TheLaws.TheKnot.{sync-Node, send-Node}
@@ -22,6 +23,7 @@ use Rattle.sync_frames.specs.contracts.stage.Stage as Stage
 use Rattle.library_seat.specs.contracts.asked.ReadContext as ReadContext
 use Rattle.library_seat.specs.contracts.held.HeldFlags as HeldFlags
 use Rattle.library_seat.specs.contracts.seat.Seat as Seat
+use Rattle.library_seat.specs.contracts.workspace.Workspace as Workspace
 
 -- ---- flags may be read by several threads at once
 
@@ -107,5 +109,11 @@ Stage-send = search (sendable, crosses) depth 40 fits 100000
 Feed-send : IsSend Feed.the_row
 Feed-send = declared_send Feed.the_type (search (sendable, crosses) depth 40, (search (sendable, crosses) depth 40, (Stage-send, tt)))
 
+Scratch-send : IsSend (Scratch.the_row Global.the_row memory.ghosts)
+Scratch-send = search (sendable, crosses) depth 40
+
+Workspace-send : IsSend Workspace.the_row
+Workspace-send = declared_send Workspace.the_type (search (sendable, crosses, Scratch-send) depth 40, (search (sendable, crosses) depth 40, tt))
+
 pub Seat-send : IsSend Seat.the_row
-Seat-send = declared_send Seat.the_type (search (sendable, crosses, HeldFlags-send) depth 40, (search (sendable, crosses, Context-send) depth 40, (search (sendable, crosses) depth 40, (Feed-send, tt))))
+Seat-send = declared_send Seat.the_type (search (sendable, crosses, HeldFlags-send) depth 40, (search (sendable, crosses, Context-send) depth 40, (search (sendable, crosses) depth 40, (Feed-send, (Workspace-send, tt)))))

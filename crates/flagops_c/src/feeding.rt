@@ -1,11 +1,11 @@
 //! The exports for streams.
-ghost use Rattle.std.specs.Prelude.{◌≡◌, ◌↔◌, ℕ, List, true, is_some, if◌then◌else◌, Some, None, option_map, IfSome};
+ghost use Rattle.std.specs.Prelude.{◌≡◌, ◌↔◌, ℕ, List, true, false, is_some, if◌then◌else◌, Some, None, option_map, IfSome};
 ghost use Rattle.sync_frames.specs.Feed.{waiting_in};
 ghost use Rattle.sync_frames.specs.Frames.{IsDone};
 ghost use Rattle.sync_frames.specs.declared.fault.FrameFault.{FrameFault as Fault};
 ghost use Rattle.sync_frames.specs.declared.fault.FrameFault.TheVariants as frame;
 ghost use Rattle.library_seat.specs.Connection.{HasGiven, ShowsNow, begun};
-ghost use Rattle.library_seat.specs.Feeding.{Feeding};
+ghost use Rattle.library_seat.specs.Feeding.{Feeding, IsIdle};
 ghost use Rattle.library_seat.specs.Refusal.{number_of, of_frame};
 ghost use Rattle.library_seat.specs.Seat.{with_connection};
 ghost use Rattle.flagops_c.specs.Calls.{Calls, result_number, standing};
@@ -16,7 +16,7 @@ use library_seat::Refusal;
 use std::alloc::Global;
 
 /// Takes the next piece of a stream, cut anywhere. The newest snapshot that it makes whole, if it makes one whole, is told by
-/// its number, and the seat has its flags.
+/// its number, and the seat has its flags. A piece without a byte takes no memory, and changes nothing where no fault waits.
 #[unsafe(no_mangle)]
 pub extern "C" fn flagops_feed(
     alloc: Global,
@@ -33,6 +33,8 @@ pub extern "C" fn flagops_feed(
     ensures waiting { IfSome (standing handle.old.seat) (λ s. (fault : Fault) → waiting_in s.connection.stage ≡ Some fault → result ≡ number_of (of_frame fault)) }
     ensures length { IfSome (standing handle.old.seat) (λ s. ShowsNow s.connection piece.now frame.Length → result ≡ 41) }
     ensures stays { IfSome (standing handle.old.seat) (λ s. ShowsNow s.connection piece.now frame.NotRising → result ≡ 42) }
+    ensures idle { IfSome (standing handle.old.seat) (λ s. IsIdle piece.now s.connection →
+        (result ≡ 0) × (standing handle.new.seat ≡ Some s) × (number.new ≡ number.old) × (came.new ≡ false)) }
     ensures empty { handle.old.seat ≡ None → (number.new ≡ number.old) × (came.new ≡ came.old) }
 {
     let Some(mut seat) = handle.take(alloc) else {

@@ -1,5 +1,5 @@
 -- A text that is refused before any memory is taken.
-use Rattle.std.proofs.Common.{◌≡◌, ℕ, ◌<◌, ◌≤◌, ◌↔◌, List, length, Bool, true, false, if◌then◌else◌, refl, sym, ap, subst, ◌∙◌, arith, nat_lt, Option, Some, None, Result, Ok, Err, IfSome, IsErrOf}
+use Rattle.std.proofs.Common.{◌≡◌, ℕ, ◌<◌, ◌≤◌, ◌↔◌, List, length, Bool, true, false, if◌then◌else◌, refl, ap, ◌∙◌, arith, nat_lt, Some, None, Result, Err, IfSome, IsErrOf}
 use Rattle.std.specs.Str.{is_utf8}
 use Rattle.flag_text.specs.declared.fault.TextFault.{TextFault}
 use Rattle.flag_text.specs.declared.fault.TextFault.TheVariants.{TooLarge, NotJson}

@@ -1,5 +1,5 @@
 -- A piece without a byte.
-use Rattle.std.proofs.Common.{◌≡◌, ◌≢◌, ℕ, ◌+◌, ◌<◌, ◌≤◌, List, [], ◌∷◌, ◌++◌, length, drop, refl, sym, ap, ap₂, subst, ◌∙◌, arith, true, false, true≢false, append-nil, Option, Some, None, Result, Ok, Err, IfOk, IfErr, IsErrOf, IsOk}
+use Rattle.std.proofs.Common.{◌≡◌, ◌≢◌, ℕ, ◌+◌, ◌<◌, ◌≤◌, List, [], ◌∷◌, ◌++◌, length, drop, refl, sym, ap, ap₂, subst, ◌∙◌, arith, true, true≢false, append-nil, Option, Some, None, Result, Ok, Err, IfOk, IfErr, IsErrOf, IsOk}
 use Rattle.std.specs.Prelude.{option_map}
 use Rattle.std.specs.List.{last_or}
 use Rattle.snap_core.specs.Hub.{Numbered}
@@ -94,11 +94,6 @@ waits_no_want stage.Reading ok f is want = cc
 waits_no_want (stage.Faulty g) ok f is want =
     let same_fault : g ≡ WantOfMemory = cc in true≢false (sym ok ∙ ap is_shown same_fault)
 waits_no_want stage.Failed ok f is want = cc
-
-reading_on : (s : Stage) → waiting_in s ≡ None → s ≡ stage.Reading
-reading_on stage.Reading none = refl
-reading_on (stage.Faulty fault) none = cc
-reading_on stage.Failed none = cc
 
 -- a feed that waits for no fault reads on
 reads_on : (s : Stage) → is_stage s ≡ true → ((f : FrameFault) → waiting_in s ≡ Some f → f ≡ WantOfMemory) → s ≡ stage.Reading

@@ -1,4 +1,4 @@
-use Rattle.std.proofs.Common.{◌≡◌, true, false, string_bytes, ap, sym, ◌∙◌}
+use Rattle.std.proofs.Common.{◌≡◌, true, false, string_bytes, ap, ◌∙◌}
 use Rattle.flag_text.specs.Printing.{text_of}
 use Rattle.flag_text.specs.View.{view}
 use Rattle.flag_text.specs.declared.tree.Tree.{Tree, Bool as Truth}

@@ -1,4 +1,4 @@
-use Rattle.std.proofs.Common.{Err, refl, ap}
+use Rattle.std.proofs.Common.{Err, ap}
 use Rattle.library_seat.proofs.EarlyTexts.{early_context}
 use Rattle.library_seat.proofs.question.context_of.Goals as goal
 
