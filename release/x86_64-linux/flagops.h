@@ -84,7 +84,7 @@ uint32_t flagops_keys(flagops_seat *seat, uint8_t *out, size_t room, size_t *wri
 /* The next bytes of a stream, cut anywhere. Where they make snapshots whole, the seat has the flags of the newest, *number is its
    number and *came is true; else *came is false. EMPTY, FRAME + fault: the flags stay, and until flagops_connect each call is
    refused with FRAME + FAILED. A fault behind whole snapshots comes with the next call. MEMORY: the bytes were not taken; pass
-   them again. */
+   them again. No bytes take no memory, and change nothing where no fault waits. */
 uint32_t flagops_feed(flagops_seat *seat, const uint8_t *piece, size_t piece_len, uint64_t *number, bool *came);
 /* The next bytes are of a new connection, whose numbers begin again. The flags stay. EMPTY. */
 uint32_t flagops_connect(flagops_seat *seat);
