@@ -12,8 +12,8 @@ returns g c =
       turns.0,
       turns.1,
       all_rest _ _ _
-          (λ old request response new is. guarded answers stands g.met.S.Recording.given (reply_to (rules_view old.rules) (asked_of request)) old.service request response new.service is.1)
-          (λ old request response new is. guarded_stays answers stands g.met.S.Recording.stays (reply_to (rules_view old.rules) (asked_of request)) old.service request response new.service is.1)
-          (λ old new is. looked_stays g.S.Recording.looked stands g.met.S.Recording.looked_stays old.service new.service is.3)
-          turns.0 c.args.guard.now c.answer_connections.new.service turns.1,
+          (λ old request response new is. guarded answers stands g.met.S.Recording.given (reply_to (rules_view old.service.rules) (asked_of request)) old.service.service request response new.service.service is.1)
+          (λ old request response new is. guarded_stays answers stands g.met.S.Recording.stays (reply_to (rules_view old.service.rules) (asked_of request)) old.service.service request response new.service.service is.1)
+          (λ old new is. looked_stays g.S.Recording.looked stands g.met.S.Recording.looked_stays old.service.service new.service.service is.3)
+          turns.0 c.args.logged.now c.answer_connections.new.service turns.1,
     )

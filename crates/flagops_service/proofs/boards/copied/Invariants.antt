@@ -1,5 +1,5 @@
 use Rattle.std.proofs.Common.{◌≡◌, map, string_bytes, take}
-use Rattle.flagops_service.proofs.command.copied.Given as goal
+use Rattle.flagops_service.proofs.boards.copied.Given as goal
 
 -- those that were met are copied
 abbrev pub invariant-loop-text : goal.invariant-loop-text
