@@ -22,9 +22,9 @@ const LATE_STATUS: u16 = 408;
 
 /// What becomes of a connection where nothing comes from its client.
 #[derive(Clone, Copy)]
-enum Due {
+enum Expiry {
     /// It is kept.
-    Nothing,
+    Kept,
     /// Its client had the time to read a refusal.
     Dropped,
     /// It had nothing to do for too long.
@@ -61,14 +61,14 @@ fn leave_if_due<S: Recording, T: Socket + Drop>(
     requires { PeersStand S.stands T.contents service.now peers.old }
     ensures { PeersStand S.stands T.contents service.now peers.new }
 {
-    match due(peers.get(key), now, making.patience) {
-        Due::Nothing => {}
-        Due::Dropped => leave(registry, service, peers, key),
-        Due::Idle => {
+    match expiry_of(peers.get(key), now, making.patience) {
+        Expiry::Kept => {}
+        Expiry::Dropped => leave(registry, service, peers, key),
+        Expiry::Idle => {
             making.traffic.count_closing(Closing::Idle);
             leave(registry, service, peers, key);
         }
-        Due::Late => {
+        Expiry::Late => {
             making.traffic.count_closing(Closing::Late);
             making.traffic.count_status(LATE_STATUS);
             leave_late(registry, service, peers, key);
@@ -76,26 +76,26 @@ fn leave_if_due<S: Recording, T: Socket + Drop>(
     }
 }
 
-/// What is due of a peer.
-fn due<T>(peer: Option<&Peer<T>>, now: Instant, patience: Patience) -> Due {
+/// What has become of a peer.
+fn expiry_of<T>(peer: Option<&Peer<T>>, now: Instant, patience: Patience) -> Expiry {
     let Some(peer) = peer else {
-        return Due::Nothing;
+        return Expiry::Kept;
     };
     let idle = now.duration_since(peer.active).as_secs();
     if peer.dropping.is_some() {
         return if idle >= DROPPING_SECONDS {
-            Due::Dropped
+            Expiry::Dropped
         } else {
-            Due::Nothing
+            Expiry::Kept
         };
     }
     if is_late(peer.begun, now, patience) {
-        return Due::Late;
+        return Expiry::Late;
     }
     if idle >= patience.idle_seconds {
-        Due::Idle
+        Expiry::Idle
     } else {
-        Due::Nothing
+        Expiry::Kept
     }
 }
 
