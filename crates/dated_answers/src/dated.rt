@@ -25,7 +25,7 @@ pub struct Dated<'a, R, S> {
     service: S,
 }
 
-impl<'a, R: Clock, S> Dated<'a, R, S> {
+impl<'a, R: Clock, S: Drop> Dated<'a, R, S> {
     /// A service with dates, whose times are added up in `traffic`.
     pub fn new(
         rt: &'a R,
@@ -45,7 +45,9 @@ impl<'a, R: Clock, S> Dated<'a, R, S> {
             service,
         })
     }
+}
 
+impl<R: Clock, S> Dated<'_, R, S> {
     /// Counts an answer that began then.
     fn count_time(&mut self, begun: io::Result<Instant>)
         ensures date { self.new.date ≡ self.old.date }
