@@ -203,6 +203,14 @@ class Answers(ServiceTest):
                 for status, told in (self.flag("color", body), self.every(body)):
                     self.assertEqual((status, told["errorCode"]), (400, "INVALID_CONTEXT"))
                     self.assertEqual(told["errorDetails"], f"`{way}` nests deeper than 120 levels")
+        for levels in (128, 5_000, 200_000):
+            for body in (b'{"context":' + b"[" * levels + b"]" * levels + b"}", b"[" * levels):
+                with self.subTest(levels=levels):
+                    for status, told in (self.flag("color", body), self.every(body)):
+                        self.assertEqual((status, told["errorCode"]), (400, "INVALID_CONTEXT"))
+        texts = b'{"context":{"a":"' + b"[" * 200 + b'\\"' + b"{" * 200 + b'"}}'
+        self.assertEqual(self.flag("color", texts)[0], 200)
+        self.assertEqual(self.flag("color", b"[" * 127)[1]["errorCode"], "PARSE_ERROR")
         fits = b'{"context":' + b'{"":' * 119 + b"{}" + b"}" * 120
         self.assertEqual(self.flag("color", fits)[0], 200)
 
@@ -229,11 +237,28 @@ class Answers(ServiceTest):
             self.assertEqual((status, body), (200, b"ok"))
         status, headers, _ = self.ask("GET", f"{FLAGS}/color")
         self.assertEqual((status, headers.get("Allow", headers.get("allow"))), (405, "POST"))
-        for path in ("/", "/ofrep/v1/evaluate/flag", f"{FLAGS}/", f"{FLAGS}/%FF", f"{FLAGS}/%zz"):
+        for path in ("/", "/ofrep/v1/evaluate/flag"):
             with self.subTest(path):
                 status, _, body = self.ask("POST", path)
                 self.assertEqual(status, 404)
                 self.assertIn("errorDetails", json.loads(body))
+        for segment in ("", "%FF", "%zz", "a/b", "%FF/"):
+            with self.subTest(segment):
+                status, told = self.flag(segment)
+                self.assertEqual((status, told["errorCode"], told["key"]), (404, "FLAG_NOT_FOUND", segment))
+                self.assertTrue(told["errorDetails"])
+
+    def test_head_is_get_without_its_body(self):
+        for path in ("/healthz", "/readyz", "/metrics"):
+            with self.subTest(path):
+                status, _, body = self.ask("GET", path)
+                told, headers, rest = self.ask("HEAD", path)
+                self.assertEqual((status, told, rest), (200, 200, b""))
+                self.assertGreater(int({name.lower(): value for name, value in headers.items()}["content-length"]), 0)
+        for method, path, methods in (("POST", "/healthz", "GET, HEAD"), ("PUT", "/metrics", "GET, HEAD"), ("HEAD", f"{FLAGS}/color", "POST")):
+            with self.subTest(method, path=path):
+                status, headers, _ = self.ask(method, path)
+                self.assertEqual((status, {name.lower(): value for name, value in headers.items()}["allow"]), (405, methods))
 
     def metrics(self):
         """What the service counts, by name."""
@@ -259,6 +284,22 @@ class Answers(ServiceTest):
         self.assertEqual(lines['ofrep_requests_total{status="404"}'], "1")
         self.assertEqual((lines["ofrep_notes_total"], lines["ofrep_snapshot"]), ("1", "1"))
         self.assertEqual(lines["ofrep_flags"], str(len(DOCUMENT["flags"])))
+        version = subprocess.run([PROGRAM, "--version"], capture_output=True, text=True, check=True).stdout.split()[1]
+        self.assertEqual(lines[f'flagops_build_info{{version="{version}"}}'], "1")
+
+    def test_each_family_has_its_kind_and_its_help(self):
+        _, _, body = self.ask("GET", "/metrics")
+        lines = body.decode().splitlines()
+        kinds = {line.split(" ")[2]: line.split(" ")[3] for line in lines if line.startswith("# TYPE ")}
+        helps = [line.split(" ")[2] for line in lines if line.startswith("# HELP ") and len(line.split(" ")) > 3]
+        self.assertEqual(sorted(kinds), sorted(helps))
+        for line in lines:
+            if not line.startswith("#"):
+                name, value = line.split("{")[0].split(" ")[0], line.rsplit(" ", 1)[1]
+                family = name if name in kinds else name.rsplit("_", 1)[0]
+                self.assertIn(family, kinds)
+                self.assertEqual(kinds[family] == "counter", family.endswith("_total"), family)
+                self.assertGreaterEqual(float(value), 0)
 
     def test_pieces_and_pipelines(self):
         body = context("mallory")
@@ -302,6 +343,14 @@ class Answers(ServiceTest):
         with self.connect() as stream:
             stream.sendall(b"POST / HTTP/1.1\r\nHost: h\r\nContent-Length: 4194305\r\n\r\n")
             self.assertTrue(stream.recv(4096).startswith(b"HTTP/1.1 413 "))
+
+    def test_who_is_still_sending_sees_the_refusal(self):
+        with self.connect() as stream:
+            stream.sendall(b"POST / HTTP/1.1\r\nHost: h\r\nContent-Length: 4194305\r\n\r\n" + b"x" * 60_000)
+            told = b""
+            while part := stream.recv(4096):
+                told += part
+        self.assertTrue(told.startswith(b"HTTP/1.1 413 "), told)
 
     def test_expect_continue(self):
         body = context("mallory")

@@ -2,7 +2,7 @@ use Rattle.std.proofs.Common.{◌≡◌, ℕ, ◌==◌, true, false, List, [], �
 use Rattle.std.proofs.lemmas.Bool.{eqb-true, false≢true}
 use Rattle.std.proofs.lemmas.Str.{IsUtf8-nil, is_utf8-from_IsUtf8}
 use Rattle.std.specs.Str.{is_utf8}
-use Rattle.ofrep_contexts.proofs.context.read_context.Goals as goal
+use Rattle.ofrep_contexts.proofs.context.read_context_with.Goals as goal
 
 -- an empty body is a text
 not_utf8 : (bytes : List ℕ) → (length bytes == 0) ≡ true → is_utf8 bytes ≡ false → ⊥
