@@ -1,5 +1,5 @@
 -- What dated answers rest on.
-use Rattle.std.proofs.Common.{◌⊎◌, ℕ, List, inl, inr}
+use Rattle.std.proofs.Common.{ℕ, List}
 use Rattle.http.specs.declared.request.Request.{Request}
 use Rattle.http1.specs.Fields.{Header}
 use Rattle.http_server.specs.declared.response.Response.{Response}
