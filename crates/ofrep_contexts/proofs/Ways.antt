@@ -84,7 +84,10 @@ of_tree other e = cc
 of_tree (text x) e = cc
 of_tree (list ts) e = cc
 
-not_deep : (b : Bool) → Err {A = Shape} (if b then fault.BodyTooDeep else fault.NotJson) ≡ Err fault.TooDeep → ⊥
+abbrev unread : Bool → Result Shape ContextFault
+unread b = Err (if b then fault.BodyTooDeep else fault.NotJson)
+
+not_deep : (b : Bool) → unread b ≡ Err fault.TooDeep → ⊥
 not_deep true e = cc
 not_deep false e = cc
 
