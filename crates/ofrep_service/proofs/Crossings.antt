@@ -19,7 +19,7 @@ use Rattle.snap_share.proofs.Crossings.{ReadSeat-send}
 use Rattle.ofrep_connections.specs.contracts.load.Load as Load
 use Rattle.access_lines.proofs.Crossings.{AccessLines-sync}
 use Rattle.ofrep_guards.proofs.Crossings.{KeyRing-sync}
-use Rattle.ofrep_worker.specs.contracts.counts.Counts as Counts
+use Rattle.ofrep_worker.proofs.Crossings.{Counts-sync}
 use Rattle.ofrep_service.specs.contracts.admin.AdminPost as AdminPost
 use Rattle.ofrep_service.specs.contracts.board.Board as Board
 use Rattle.ofrep_service.specs.contracts.posts.Post as Post
@@ -42,9 +42,6 @@ Global-send = search (sendable, crosses) depth 20
 
 RandomState-send : IsSend RandomState.the_row
 RandomState-send = search (sendable, crosses) depth 40
-
-Counts-sync : IsSync Counts.the_row
-Counts-sync = search (sendable, crosses) depth 120
 
 Load-sync : IsSync Load.the_row
 Load-sync = search (sendable, crosses) depth 40
