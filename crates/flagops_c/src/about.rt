@@ -6,5 +6,5 @@ ghost use Rattle.flagops_c.specs.About.{about_text};
 pub(crate) fn about() -> &'static str
     ensures { result.now ≡ about_text }
 {
-    "libflagops 0.1.0\nproved with rattle-kit-13f logic dac8208d650f15bf\nsources a063b42d8d804ebeb978d1bec5d2aad741fc922c9cfd17b5895a43e3ed4ec26a\n"
+    "libflagops 0.1.0\nproved with rattle-kit-13f logic dac8208d650f15bf\nsources 72715cbed062371a7663cd77404b15473ae9c14d8c4b9942ccafdc57911b3f27\n"
 }
