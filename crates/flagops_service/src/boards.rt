@@ -9,6 +9,7 @@ use access_lines::AccessLines;
 use ofrep_guards::{Keys, Paths};
 use ofrep_service::Board;
 use std::alloc::{AllocError, Global};
+use std::time::{Clock, SystemTime, UNIX_EPOCH};
 
 /// A board for what is asked for: the workers share the notes that are remembered, want a key of these where a file is named, and serve
 /// the evaluations alone where operations have an address of their own.
@@ -37,6 +38,23 @@ pub(crate) fn board_of(
     );
     board.watch_documents(answering.documents.len());
     Ok(board)
+}
+
+/// Shows that the snapshot of this number was published, from documents that are accepted now.
+pub(crate) fn show_published<R: Clock>(rt: &R, board: &Board, number: u64) {
+    board.publish(number);
+    board.accept_document(second_of(rt));
+}
+
+/// The second since 1970: 0 where the clock can't be read or is set before.
+fn second_of<R: Clock>(rt: &R) -> u64 {
+    let Ok(now) = SystemTime::now(rt) else {
+        return 0;
+    };
+    match now.duration_since(UNIX_EPOCH) {
+        Ok(since) => since.as_secs(),
+        Err(_) => 0,
+    }
 }
 
 /// Where the lines of requests wait, where they are wanted.

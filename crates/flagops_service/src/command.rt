@@ -16,7 +16,7 @@ ghost use Rattle.flagops_service.specs.Words.{answering_view, operators_of, path
 ghost use Rattle.ofrep_service.specs.Logs.{path_in, paths_of};
 
 use crate::asked::{Answering, OnBroken};
-use crate::boards::board_of;
+use crate::boards::{board_of, show_published};
 use crate::host::Host;
 use crate::keys::WatchedKeys;
 use crate::log_news::tell_lines;
@@ -335,7 +335,7 @@ where
     say_all_broken(&watched, err);
     say_published(alloc, err, 1, count, broken);
     let status = write_line(out, line.as_str(), 0);
-    board.publish(1);
+    show_published(rt, &board, 1);
     let was_stopped = attend(
         rt, answering, keys, &board, seats, posts, others, streams, admin, publisher, watched,
         files, err,

@@ -4,6 +4,7 @@ ghost use Rattle.source_merge.specs.View.{sources_view};
 ghost use Rattle.flagops_service.specs.Merging.{Publishes};
 ghost use Rattle.flagops_service.specs.Rereading.{State, Watches, state_of};
 
+use crate::boards::show_published;
 use crate::keys::WatchedKeys;
 use crate::log_news::{LogNews, tell_lines, tell_news};
 use crate::telling::{broken_in, say_made, say_published};
@@ -81,7 +82,7 @@ fn is_turn(second: u64, poll: u64) -> bool
 
 /// Publishes what the documents make now, unless they are too large together or memory runs out. Says whether that was want of
 /// memory, so that it is to be tried again at the next reading.
-fn publish<J: ShareName, R: Wait, E: Outlet>(
+fn publish<J: ShareName, R: Clock + Wait, E: Outlet>(
     rt: &R,
     watched: &Watched<'_>,
     publisher: &mut Publisher<J>,
@@ -106,7 +107,7 @@ fn publish<J: ShareName, R: Wait, E: Outlet>(
     let (count, broken) = (flags.len(), broken_in(&flags));
     match publisher.publish(rt, watched.alloc, flags) {
         Ok(number) => {
-            board.publish(number);
+            show_published(rt, board, number);
             say_published(watched.alloc, err, number, count, broken);
             false
         }

@@ -7,10 +7,11 @@ ghost use Rattle.recorded_answers.specs.Stand.{Works};
 use crate::board::Board;
 use crate::workers::worker_of;
 use access_lines::LoggedService;
+use dated_answers::Dated;
 use http_server::{Config, Service};
 use limits::STACK_BYTES;
 use log_file::LogPaths;
-use ofrep_connections::{Load, answer_connections};
+use ofrep_connections::{Load, Patience, answer_connections_with};
 use ofrep_guards::{AdminGuard, AdminRules, CountsStatus, OwnHosts};
 use recorded_answers::Recording;
 use snap_share::{ReadSeat, ShareName};
@@ -126,8 +127,9 @@ fn answer_operations<J: ShareName, R: Net + LogPaths + Clock>(
     let worker = worker_of(rt, alloc, keys, board, seat, None)?;
     let rules = AdminRules::new(&hosts, may_stop);
     let guard = AdminGuard::new(rules, &board.is_stopping, worker);
-    let mut logged = LoggedService::new(rt, alloc, board.lines.as_ref(), guard);
-    serve_operations(rt, alloc, keys, board, listener, &mut logged)
+    let logged = LoggedService::new(rt, alloc, board.lines.as_ref(), guard);
+    let mut dated = Dated::new(rt, alloc, board.counts.traffic(), logged)?;
+    serve_operations(rt, alloc, keys, board, listener, &mut dated)
 }
 
 /// Has a worker behind a guard, which was not asked to stop yet, answer the connections of a listener until all threads are to end or
@@ -138,24 +140,26 @@ fn serve_operations<'a, S: Recording + CountsStatus, R: Net + Clock>(
     keys: RandomState,
     board: &Board,
     listener: TcpListener,
-    logged: &mut LoggedService<'a, R, AdminGuard<'a, S>>,
+    dated: &mut Dated<'a, R, LoggedService<'a, R, AdminGuard<'a, S>>>,
 ) -> io::Result<()>
-    requires { logged.old.service.is_stopping ≡ false }
-    ensures { (turns : List (List Call)) × Works ⟦<LoggedService<'a, R, AdminGuard<'a, S>> as Service>⟧.answers ⟦<LoggedService<'a, R, AdminGuard<'a, S>> as Recording>⟧.looked logged.old turns logged.new }
+    requires { dated.old.service.service.is_stopping ≡ false }
+    ensures { (turns : List (List Call)) × Works ⟦<Dated<'a, R, LoggedService<'a, R, AdminGuard<'a, S>>> as Service>⟧.answers ⟦<Dated<'a, R, LoggedService<'a, R, AdminGuard<'a, S>>> as Recording>⟧.looked dated.old turns dated.new }
 {
     let config = Config {
         max_body_len: MOST_BODY,
         ..Config::default()
     };
     let load = Load::new();
-    answer_connections(
+    answer_connections_with(
         rt,
         alloc,
         keys,
         config,
+        Patience::default(),
+        board.counts.traffic(),
         listener,
         &load,
         &board.is_over,
-        logged,
+        dated,
     )
 }

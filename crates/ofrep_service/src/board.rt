@@ -101,6 +101,11 @@ impl Board {
         self.counts.refuse_document(place, is_refused);
     }
 
+    /// A document was accepted in this second since 1970.
+    pub fn accept_document(&self, second: u64) {
+        self.counts.accept_document(second);
+    }
+
     /// From now on a request shows one of these keys, where one is wanted.
     pub fn replace_keys<R: Wait>(&self, rt: &R, keys: Keys) {
         if let Some(ring) = &self.keys {

@@ -13,11 +13,12 @@ use crate::logs::Journal;
 use crate::posts::Post;
 use crate::streams::stream_beside;
 use access_lines::LoggedService;
+use dated_answers::Dated;
 use http_server::{Config, Service};
 use limits::{STACK_BYTES, TEXT_BYTES};
 use log_file::{LogPaths, SystemLog};
 use note_log::NoteLog;
-use ofrep_connections::answer_connections;
+use ofrep_connections::{Patience, answer_connections_with};
 use ofrep_guards::{CountsStatus, Guard, Rules};
 use ofrep_worker::OfrepWorker;
 use recorded_answers::Recording;
@@ -173,40 +174,44 @@ fn answer<J: ShareName, R: Net + LogPaths + Clock>(
         board.paths,
     )?;
     let guard = Guard::new(rules, worker);
-    let mut logged = LoggedService::new(rt, alloc, board.lines.as_ref(), guard);
-    serve(rt, alloc, keys, board, listener, &mut logged)
+    let logged = LoggedService::new(rt, alloc, board.lines.as_ref(), guard);
+    let mut dated = Dated::new(rt, alloc, board.counts.traffic(), logged)?;
+    serve(rt, alloc, keys, board, listener, &mut dated)
 }
 
 /// Has a worker behind a guard, which lists the board's origins, begins with its keys and serves its paths, answer the connections of
-/// a listener, each request logged where that is wanted, until the workers are to end or the system fails: turn by turn it looks for its log, and then answers. What its answers rest on stands in the end.
+/// a listener, each answer with its date and each request logged where that is wanted, until the workers are to end or the system
+/// fails: turn by turn it looks for its log, and then answers. What its answers rest on stands in the end.
 fn serve<'a, S: Recording + CountsStatus, R: Net + Clock>(
     rt: &R,
     alloc: Global,
     keys: RandomState,
     board: &Board,
     listener: TcpListener,
-    logged: &mut LoggedService<'a, R, Guard<'a, S>>,
+    dated: &mut Dated<'a, R, LoggedService<'a, R, Guard<'a, S>>>,
 ) -> io::Result<()>
-    requires origins { logged.old.service.rules.origins.now ≡ board.now.origins.items }
-    requires keys { (rules_view logged.old.service.rules).keys ≡ first_keys board.now.keys }
-    requires paths { logged.old.service.rules.paths ≡ board.now.paths }
-    ensures { (turns : List (List Call)) × Works ⟦<LoggedService<'a, R, Guard<'a, S>> as Service>⟧.answers ⟦<LoggedService<'a, R, Guard<'a, S>> as Recording>⟧.looked logged.old turns logged.new
-        × AllStand ⟦<LoggedService<'a, R, Guard<'a, S>> as Recording>⟧.stands logged.new (flat_map (λ calls. calls) turns) }
+    requires origins { dated.old.service.service.rules.origins.now ≡ board.now.origins.items }
+    requires keys { (rules_view dated.old.service.service.rules).keys ≡ first_keys board.now.keys }
+    requires paths { dated.old.service.service.rules.paths ≡ board.now.paths }
+    ensures { (turns : List (List Call)) × Works ⟦<Dated<'a, R, LoggedService<'a, R, Guard<'a, S>>> as Service>⟧.answers ⟦<Dated<'a, R, LoggedService<'a, R, Guard<'a, S>>> as Recording>⟧.looked dated.old turns dated.new
+        × AllStand ⟦<Dated<'a, R, LoggedService<'a, R, Guard<'a, S>>> as Recording>⟧.stands dated.new (flat_map (λ calls. calls) turns) }
 {
     let config = Config {
         max_body_len: TEXT_BYTES,
         max_pending: MOST_PENDING,
         ..Config::default()
     };
-    answer_connections(
+    answer_connections_with(
         rt,
         alloc,
         keys,
         config,
+        Patience::default(),
+        board.counts.traffic(),
         listener,
         &board.load,
         &board.is_stopping,
-        logged,
+        dated,
     )
 }
 
