@@ -31,10 +31,13 @@ or_false false e = e
 only_post : (requested : List ℕ) → takes (codes "POST") requested ≡ true → requested ≡ codes "POST"
 only_post requested h = (bytes_eq-Decides requested (codes "POST")).0 (or_false (bytes_eq requested (codes "POST")) h)
 
+some_of : (m n : List ℕ) → Some m ≡ Some n → m ≡ n
+some_of m n e = cc
+
 -- flags are evaluated for POST alone
 pub posts : (p : Place) (m requested : List ℕ) → Some m ≡ method_at p → takes m requested ≡ true → (requested ≡ codes "POST" → ⊥) → evaluates p ≡ false
-posts OneFlag m requested is h differs = absurd (differs (only_post requested (subst (λ (n : List ℕ). takes n requested ≡ true) cc h)))
-posts EveryFlag m requested is h differs = absurd (differs (only_post requested (subst (λ (n : List ℕ). takes n requested ≡ true) cc h)))
+posts OneFlag m requested is h differs = absurd (differs (only_post requested (subst (λ (n : List ℕ). takes n requested ≡ true) (some_of m (codes "POST") is) h)))
+posts EveryFlag m requested is h differs = absurd (differs (only_post requested (subst (λ (n : List ℕ). takes n requested ≡ true) (some_of m (codes "POST") is) h)))
 posts Health m requested is h differs = refl
 posts Metrics m requested is h differs = refl
 posts Nowhere m requested is h differs = refl
