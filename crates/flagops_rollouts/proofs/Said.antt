@@ -64,6 +64,11 @@ request_told path bytes unread repeated whole one named two also both =
 pub not_noted : (more : Bool) (settled : Result Bool RolloutRefusal) (e : Refused) (r : Result (Option Remark) Refused) → r ≡ Err e → (is_want e.refusal ≡ false → settled ≡ Err e.refusal) → GivesUnlessWant (λ x. is_some x) r (noted_with more settled)
 not_noted more settled e r is refused = subst (λ (s : Result (Option Remark) Refused). GivesUnlessWant (λ x. is_some x) s (noted_with more settled)) (sym is) (λ wanted. ap (noted_with more) (refused wanted))
 
+-- beside a refusal nothing is told
+pub nothing_said : (P : Holding → Outcome → Type 0) (old : Option Holding) (e : Refused) (r : Result Outcome Refused) → r ≡ Err e → IfSome old (λ at. IfOk r (P at))
+nothing_said P None e r is = tt
+nothing_said P (Some at) e r is = subst (λ (s : Result Outcome Refused). IfOk s (P at)) (sym is) tt
+
 -- ---- beside a plan
 
 module _ (request book : List ℕ) (q : Question) (m : ℕ) (explain : Bool) (answer : Answer) where
