@@ -7,6 +7,7 @@ pub mod Foreseen
 pub mod Law
 pub mod Lawful
 pub mod Limited
+pub mod Marked
 pub mod Meanings
 pub mod Meant
 pub mod Outlines
