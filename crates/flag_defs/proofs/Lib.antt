@@ -13,6 +13,7 @@ pub mod Meant
 pub mod Outlines
 pub mod Paired
 pub mod Parted
+pub mod Pieces
 pub mod Printed
 pub mod PrintedBytes
 pub mod Reasons
@@ -21,3 +22,4 @@ pub mod Targetings
 pub mod Trees
 pub mod Unreferred
 pub mod Weighed
+pub mod Wholes

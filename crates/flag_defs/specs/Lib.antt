@@ -16,5 +16,6 @@ pub mod Members
 pub mod Outline
 pub mod PrintedBytes
 pub mod Rules
+pub mod Spelled
 pub mod Targeting
 pub mod Weighing
