@@ -19,11 +19,11 @@ use Rattle.text_spans.specs.Path.{Step, name, index}
 -- the part at a path and then at another
 pub part_append : (p q : List Step) (t : Shape) → part_at (p ++ q) t ≡ option_and_then (part_at q) (part_at p t)
 part_append [] q t = refl
-part_append (s ∷ p) q t = by (step_into s t)
+part_append (s ∷ p) q t = by (step_into s t) (λ u. part_append p q u)
   where
-    by : (o : Option Shape) → option_and_then (part_at (p ++ q)) o ≡ option_and_then (part_at q) (option_and_then (part_at p) o)
-    by None = refl
-    by (Some u) = part_append p q u
+    by : (o : Option Shape) → ((u : Shape) → part_at (p ++ q) u ≡ option_and_then (part_at q) (part_at p u)) → option_and_then (part_at (p ++ q)) o ≡ option_and_then (part_at q) (option_and_then (part_at p) o)
+    by None again = refl
+    by (Some u) again = again u
 
 -- ---- a step of a way
 
@@ -88,19 +88,21 @@ followed_part [] done t path u e = by (reference_in t) e
     by : (o : Option (List ℕ)) → unless_reference o (part done t) ≡ part path u → Reaches done t path u
     by (Some evaluator) e = cc
     by None e = ([], sym (ap (λ spot. path_or spot done) e) ∙ sym (append-nil done), ap (λ spot. Some (shape_or spot t)) e)
-followed_part (s ∷ way) done t path u e = on (reference_in t) e
+followed_part (s ∷ way) done t path u e = on (reference_in t) (followed_part way done t path u) (λ v. followed_part way (done ++ s ∷ []) v path u) e
   where
     deeper : (v : Shape) → led s t ≡ inner v → Reaches (done ++ s ∷ []) v path u → Reaches done t path u
     deeper v is (steps, same, there) = (s ∷ steps, same ∙ append_assoc done (s ∷ []) steps, ap (option_and_then (part_at steps)) (stepped s t v is) ∙ there)
 
-    past : (i : Inside) → led s t ≡ i → going_on i (followed done t way) (λ v. followed (done ++ s ∷ []) v way) ≡ part path u → Reaches done t path u
-    past nothing is e = cc
-    past itself is e = followed_part way done t path u e
-    past (inner v) is e = deeper v is (followed_part way (done ++ s ∷ []) v path u e)
+    past : (i : Inside) → led s t ≡ i → (followed done t way ≡ part path u → Reaches done t path u) → ((v : Shape) → followed (done ++ s ∷ []) v way ≡ part path u → Reaches (done ++ s ∷ []) v path u)
+        → going_on i (followed done t way) (λ v. followed (done ++ s ∷ []) v way) ≡ part path u → Reaches done t path u
+    past nothing is again next e = cc
+    past itself is again next e = again e
+    past (inner v) is again next e = deeper v is (next v e)
 
-    on : (o : Option (List ℕ)) → unless_reference o (going_on (led s t) (followed done t way) (λ v. followed (done ++ s ∷ []) v way)) ≡ part path u → Reaches done t path u
-    on (Some evaluator) e = cc
-    on None e = past (led s t) refl e
+    on : (o : Option (List ℕ)) → (followed done t way ≡ part path u → Reaches done t path u) → ((v : Shape) → followed (done ++ s ∷ []) v way ≡ part path u → Reaches (done ++ s ∷ []) v path u)
+        → unless_reference o (going_on (led s t) (followed done t way) (λ v. followed (done ++ s ∷ []) v way)) ≡ part path u → Reaches done t path u
+    on (Some evaluator) again next e = cc
+    on None again next e = past (led s t) refl again next e
 
 -- ---- the place
 
