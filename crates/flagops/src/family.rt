@@ -1,6 +1,6 @@
 //! The families of commands: each has a contract of its own.
 ghost use Rattle.std.specs.Prelude.{◌≡◌, map};
-ghost use Rattle.flagops.specs.First.{family_named, family_of, family_with, has_option, has_word};
+ghost use Rattle.flagops.specs.First.{family_named, family_of, has_option, has_word};
 
 use std::convert::AsStr;
 
@@ -47,15 +47,10 @@ pub enum Family {
 pub fn family_of<S: AsStr>(words: &[S]) -> Family
     ensures { result ≡ family_of (map S.text words.now) }
 {
-    match words.first() {
-        Some(first) => family_with(first.as_str(), words),
-        None => Family::Files,
-    }
-}
-
-fn family_with<S: AsStr>(first: &str, words: &[S]) -> Family
-    ensures { result ≡ family_with first.now (map S.text words.now) }
-{
+    let Some(first) = words.first() else {
+        return Family::Files;
+    };
+    let first = first.as_str();
     if first == "plan" && has_option(words, b"--picture") {
         return Family::PlanPicture;
     }

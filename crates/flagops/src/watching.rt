@@ -1,7 +1,7 @@
 //! Which commands someone at a terminal watches, and what is told of them.
 ghost use Rattle.std.specs.Prelude.{◌≡◌, false, IfErr, IfOk, None, map, option_map, string_bytes};
 ghost use Rattle.flagops.specs.First.{family_of};
-ghost use Rattle.flagops.specs.Watched.{is_filter, read_work, work_in, work_named, work_of};
+ghost use Rattle.flagops.specs.Watched.{is_filter, work_in, work_of};
 
 use crate::family::{Family, family_of, has_word};
 use progress::{Progress, TerminalLine};
@@ -44,54 +44,27 @@ pub fn work_of(words: &io::Result<Vec<String>>, is_typed: bool) -> Option<&'stat
     ensures told { IfOk words.now (λ w. option_map (λ s. s.now) result ≡ work_of is_typed (map string_bytes w.items)) }
     ensures unread { IfErr words.now (λ _. option_map (λ s. s.now) result ≡ None) }
 {
-    match words {
-        Ok(words) => work_for(words.as_slice(), is_typed),
-        Err(_) => None,
-    }
-}
-
-/// The same of words that were read.
-fn work_for(words: &[String], is_typed: bool) -> Option<&'static str>
-    ensures { option_map (λ s. s.now) result ≡ work_of is_typed (map string_bytes words.now) }
-{
+    let Ok(words) = words else {
+        return None;
+    };
     let first = words.first()?;
-    if is_typed && has_word(words, "-") {
+    if is_typed && has_word(words.as_slice(), "-") {
         return None;
     }
-    work_in(is_typed, first.as_str(), family_of(words))
+    work_in(is_typed, first.as_str(), family_of(words.as_slice()))
 }
 
-/// What a command does, by its name and its family.
+/// What a command does, by its name and its family. Nothing is told of a filter that reads what is typed.
 fn work_in(is_typed: bool, name: &str, family: Family) -> Option<&'static str>
     ensures { option_map (λ s. s.now) result ≡ work_in is_typed name.now family }
 {
     match family {
         Family::Serve | Family::Follow | Family::Ofrep => None,
-        Family::Record | Family::Tally => read_work(is_typed),
+        Family::Record | Family::Tally if is_typed => None,
+        Family::Record | Family::Tally => Some("reading the standard input"),
         Family::Ramp | Family::PlanPicture => Some("planning"),
-        _ => Some(work_named(name)),
-    }
-}
-
-/// What a filter does, which reads the standard input.
-fn read_work(is_typed: bool) -> Option<&'static str>
-    ensures { option_map (λ s. s.now) result ≡ read_work is_typed }
-{
-    if is_typed {
-        None
-    } else {
-        Some("reading the standard input")
-    }
-}
-
-/// What a command over files does, by its name.
-fn work_named(name: &str) -> &'static str
-    ensures { result.now ≡ work_named name.now }
-{
-    if name == "plan" {
-        "planning"
-    } else {
-        "working"
+        _ if name == "plan" => Some("planning"),
+        _ => Some("working"),
     }
 }
 
