@@ -8,7 +8,7 @@ ghost use Rattle.flag_defs.specs.Flag.{flag_view, is_broken};
 ghost use Rattle.flag_defs.specs.Flags.{flags_view};
 ghost use Rattle.price_core.specs.Request.{max_request};
 ghost use Rattle.price_core.specs.declared.fault.PriceFault.TheVariants.{BadRequest};
-ghost use Rattle.rollout_checks.specs.Lawful.{IsRefining, PosesUnless, max_planned, problem_of, problem_asked, problem_at, sized, place_view};
+ghost use Rattle.rollout_checks.specs.Lawful.{IsRefining, PosesUnless, max_planned, problem_of, problem_asked, sized, place_view};
 ghost use Rattle.rollout_checks.specs.Tallied.{tally_problem_of, tally_problem_asked, tally_problem_at, tally_view};
 ghost use Rattle.tally_core.specs.Tally.{IsPageTally};
 ghost use Rattle.transport_instance.specs.Tally.{IsTally};
@@ -78,21 +78,6 @@ pub fn problem_asked<'a, R: Threads + Sync, B: Recorded>(
     ensures { PosesUnless RolloutFault.WantOfMemory result (problem_asked refining (flags_view flags.now) request.now (B.contents book.now)) }
 {
     let place = place_of(alloc, flags, request.flag(), request.site())?;
-    problem_at(rt, alloc, refining, book, request, place)
-}
-
-fn problem_at<'a, R: Threads + Sync, B: Recorded>(
-    rt: &R,
-    alloc: Global,
-    refining: Refining,
-    book: &B,
-    request: &'a Request,
-    place: Place<'_>,
-) -> Result<Problem<'a>, RolloutFault>
-    requires lawful { IsRefining refining }
-    requires good { is_broken (flag_view place.flag.now) ≡ false }
-    ensures { PosesUnless RolloutFault.WantOfMemory result (problem_at refining (B.contents book.now) request.now (place_view place.entry)) }
-{
     let total = total_weight(place.entries.as_slice());
     if total == 0 {
         return Err(RolloutFault::NoWeight);

@@ -1,11 +1,10 @@
 //! The file of a rollout request, read once.
-ghost use Rattle.std.specs.Prelude.{◌≡◌, ◌<◌, ◌≤◌, false, length, true, IfOk, IsErrOf, IsOk};
+ghost use Rattle.std.specs.Prelude.{◌≡◌, ◌<◌, ◌≤◌, false, length, IfOk, IsErrOf, IsOk};
 ghost use Rattle.std.specs.Str.{is_utf8};
 ghost use Rattle.flag_text.specs.Outcome.{seen_as};
 ghost use Rattle.flag_text.specs.Reading.{tree_of};
-ghost use Rattle.flag_text.specs.Shape.{is_whole};
 ghost use Rattle.flag_text.specs.View.{view};
-ghost use Rattle.price_core.specs.Request.{asked_of, max_request, request_of};
+ghost use Rattle.price_core.specs.Request.{asked_of, max_request};
 ghost use Rattle.price_core.specs.declared.fault.PriceFault.TheVariants.{BadRequest};
 
 use flag_text::{TextFault, Tree, read_tree};
@@ -43,14 +42,14 @@ impl RequestFile {
         ensures no_text { length bytes.items ≤ max_request → is_utf8 bytes.items ≡ false → IsOk result }
     {
         match read_tree(alloc, bytes.as_slice(), TEXT_BYTES) {
-            Ok(tree) => {
-                let asked = asked_in(alloc, &tree)?;
-                Ok(RequestFile {
+            Ok(tree) => match Request::of_tree(alloc, &tree) {
+                Err(PriceFault::WantOfMemory) => Err(AllocError),
+                asked => Ok(RequestFile {
                     bytes,
                     tree: Ok(tree),
                     asked,
-                })
-            }
+                }),
+            },
             Err(TextFault::WantOfMemory) => Err(AllocError),
             Err(fault) => Ok(RequestFile {
                 bytes,
@@ -88,17 +87,5 @@ impl RequestFile {
             Ok(request) => Ok(request),
             Err(fault) => Err(*fault),
         }
-    }
-}
-
-/// What is asked by the tree of a text, or the first refusal of a request.
-fn asked_in(alloc: Global, tree: &Tree) -> Result<Result<Request, PriceFault>, AllocError>
-    requires { is_whole (view tree.now) ≡ true }
-    ensures { IfOk result (λ asked. asked ≡ request_of (view tree.now)) }
-{
-    match Request::of_tree(alloc, tree) {
-        Ok(request) => Ok(Ok(request)),
-        Err(PriceFault::WantOfMemory) => Err(AllocError),
-        Err(fault) => Ok(Err(fault)),
     }
 }
