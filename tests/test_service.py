@@ -203,6 +203,14 @@ class Answers(ServiceTest):
                 for status, told in (self.flag("color", body), self.every(body)):
                     self.assertEqual((status, told["errorCode"]), (400, "INVALID_CONTEXT"))
                     self.assertEqual(told["errorDetails"], f"`{way}` nests deeper than 120 levels")
+        for levels in (128, 5_000, 200_000):
+            for body in (b'{"context":' + b"[" * levels + b"]" * levels + b"}", b"[" * levels):
+                with self.subTest(levels=levels):
+                    for status, told in (self.flag("color", body), self.every(body)):
+                        self.assertEqual((status, told["errorCode"]), (400, "INVALID_CONTEXT"))
+        texts = b'{"context":{"a":"' + b"[" * 200 + b'\\"' + b"{" * 200 + b'"}}'
+        self.assertEqual(self.flag("color", texts)[0], 200)
+        self.assertEqual(self.flag("color", b"[" * 127)[1]["errorCode"], "PARSE_ERROR")
         fits = b'{"context":' + b'{"":' * 119 + b"{}" + b"}" * 120
         self.assertEqual(self.flag("color", fits)[0], 200)
 
@@ -229,11 +237,28 @@ class Answers(ServiceTest):
             self.assertEqual((status, body), (200, b"ok"))
         status, headers, _ = self.ask("GET", f"{FLAGS}/color")
         self.assertEqual((status, headers.get("Allow", headers.get("allow"))), (405, "POST"))
-        for path in ("/", "/ofrep/v1/evaluate/flag", f"{FLAGS}/", f"{FLAGS}/%FF", f"{FLAGS}/%zz"):
+        for path in ("/", "/ofrep/v1/evaluate/flag"):
             with self.subTest(path):
                 status, _, body = self.ask("POST", path)
                 self.assertEqual(status, 404)
                 self.assertIn("errorDetails", json.loads(body))
+        for segment in ("", "%FF", "%zz", "a/b", "%FF/"):
+            with self.subTest(segment):
+                status, told = self.flag(segment)
+                self.assertEqual((status, told["errorCode"], told["key"]), (404, "FLAG_NOT_FOUND", segment))
+                self.assertTrue(told["errorDetails"])
+
+    def test_head_is_get_without_its_body(self):
+        for path in ("/healthz", "/readyz", "/metrics"):
+            with self.subTest(path):
+                status, _, body = self.ask("GET", path)
+                told, headers, rest = self.ask("HEAD", path)
+                self.assertEqual((status, told, rest), (200, 200, b""))
+                self.assertGreater(int({name.lower(): value for name, value in headers.items()}["content-length"]), 0)
+        for method, path, methods in (("POST", "/healthz", "GET, HEAD"), ("PUT", "/metrics", "GET, HEAD"), ("HEAD", f"{FLAGS}/color", "POST")):
+            with self.subTest(method, path=path):
+                status, headers, _ = self.ask(method, path)
+                self.assertEqual((status, {name.lower(): value for name, value in headers.items()}["allow"]), (405, methods))
 
     def metrics(self):
         """What the service counts, by name."""
@@ -259,6 +284,22 @@ class Answers(ServiceTest):
         self.assertEqual(lines['ofrep_requests_total{status="404"}'], "1")
         self.assertEqual((lines["ofrep_notes_total"], lines["ofrep_snapshot"]), ("1", "1"))
         self.assertEqual(lines["ofrep_flags"], str(len(DOCUMENT["flags"])))
+        version = subprocess.run([PROGRAM, "--version"], capture_output=True, text=True, check=True).stdout.split()[1]
+        self.assertEqual(lines[f'flagops_build_info{{version="{version}"}}'], "1")
+
+    def test_each_family_has_its_kind_and_its_help(self):
+        _, _, body = self.ask("GET", "/metrics")
+        lines = body.decode().splitlines()
+        kinds = {line.split(" ")[2]: line.split(" ")[3] for line in lines if line.startswith("# TYPE ")}
+        helps = [line.split(" ")[2] for line in lines if line.startswith("# HELP ") and len(line.split(" ")) > 3]
+        self.assertEqual(sorted(kinds), sorted(helps))
+        for line in lines:
+            if not line.startswith("#"):
+                name, value = line.split("{")[0].split(" ")[0], line.rsplit(" ", 1)[1]
+                family = name if name in kinds else name.rsplit("_", 1)[0]
+                self.assertIn(family, kinds)
+                self.assertEqual(kinds[family] == "counter", family.endswith("_total"), family)
+                self.assertGreaterEqual(float(value), 0)
 
     def test_pieces_and_pipelines(self):
         body = context("mallory")
@@ -303,6 +344,14 @@ class Answers(ServiceTest):
             stream.sendall(b"POST / HTTP/1.1\r\nHost: h\r\nContent-Length: 4194305\r\n\r\n")
             self.assertTrue(stream.recv(4096).startswith(b"HTTP/1.1 413 "))
 
+    def test_who_is_still_sending_sees_the_refusal(self):
+        with self.connect() as stream:
+            stream.sendall(b"POST / HTTP/1.1\r\nHost: h\r\nContent-Length: 4194305\r\n\r\n" + b"x" * 60_000)
+            told = b""
+            while part := stream.recv(4096):
+                told += part
+        self.assertTrue(told.startswith(b"HTTP/1.1 413 "), told)
+
     def test_expect_continue(self):
         body = context("mallory")
         with self.connect() as stream:
@@ -318,7 +367,7 @@ class Browsers(ServiceTest):
 
     APP = "https://app.example.com"
     SHARED = {"access-control-allow-origin": APP, "access-control-expose-headers": "ETag", "vary": "Origin"}
-    ALLOWED = {"access-control-allow-methods": "POST", "access-control-allow-headers": "content-type, if-none-match, authorization", "access-control-max-age": "600"}
+    ALLOWED = {"access-control-allow-methods": "POST", "access-control-allow-headers": "content-type, if-none-match, authorization, x-api-key", "access-control-max-age": "600"}
 
     def of(self, method, path, body=b"", **headers):
         """The status, the headers by their names in lower case, and the body of an answer."""
@@ -374,6 +423,26 @@ class Browsers(ServiceTest):
                     self.assertEqual(headers.get(name), value, name)
         self.assertEqual(self.of("OPTIONS", "/metrics", Origin=self.APP)[0], 405)
         self.assertEqual(self.notes(), [])
+
+    def test_origins_that_no_browser_names(self):
+        rows = [
+            ("1 NoOrigin", ["", "app.example.com", "https:app.example.com", "https://", "//app.example.com", "localhost:3000"]),
+            ("2 UpperCase", ["HTTPS://app.example.com", "https://App.example.com"]),
+            ("3 Path", ["https://app.example.com/", "https://app.example.com/shop", "https://app.example.com?a", "https://app.example.com#a"]),
+            ("4 OwnPort", ["https://app.example.com:443", "http://app.example.com:80", "http://[::1]:80"]),
+            ("5 BadByte", ["https://*.example.com", "https://me@app.example.com", "https://app.example.com,https://b.example.com", "https://münchen.example"]),
+        ]
+        for name, origins in rows:
+            for origin in origins:
+                with self.subTest(origin):
+                    told = run(["ofrep", "--cors", self.APP, "--cors", origin, "--keys", "none", "d"], {"d": compact(DOCUMENT)})
+                    self.assertEqual((told.out, told.status), (f"refused cors {name}\n", 1))
+                    self.assertIn(f'the origin "{origin}" of --cors', told.err)
+        origins = ["null", "http://localhost:3000", "https://app.example.com:8443", "http://[::1]:8080", "http://10.0.0.1", "app-1+x.y://local_host"]
+        self.begin(*(word for origin in origins for word in ("--cors", origin)))
+        for origin in origins:
+            with self.subTest(origin):
+                self.assertEqual(self.of("POST", f"{FLAGS}/size", Origin=origin)[0], 200)
 
     def test_any_origin(self):
         self.begin("--cors", "*")
@@ -464,10 +533,20 @@ class Keys(ServiceTest):
         self.put("k", self.OTHER)
         wait_until(lambda: self.asked(X_API_Key=self.OTHER)[0] == 200, "the new key is not taken")
         wait_until(lambda: self.asked(X_API_Key=self.ONE)[0] == 401, "the old key is taken still")
-        self.put("k", "short")
-        self.told(child, 'ofrep: "k" is refused')
+        for text, part in ((f"{self.ONE}\nshort\n", 'ofrep: line 2 of "k" is no key'), ("", 'ofrep: "k" has no keys')):
+            self.put("k", text)
+            self.told(child, part)
+            self.told(child, "the keys that were read of it last stay")
         self.assertEqual(self.asked(X_API_Key=self.OTHER)[0], 200)
-        self.assertEqual(self.asked(X_API_Key="short")[0], 401)
+        self.assertEqual([self.asked(X_API_Key=key)[0] for key in (self.ONE, "short")], [401, 401])
+
+    def test_lines_may_end_as_on_other_systems(self):
+        """A carriage return before the end of a line is no part of the key."""
+        with open(os.path.join(self.folder, "k"), "w", encoding="utf-8", newline="") as file:
+            file.write(f"{self.ONE}\r\n{self.OTHER}\r\n")
+        self.start("--keys", "k")
+        for key in (self.ONE, self.OTHER):
+            self.assertEqual(self.asked(X_API_Key=key)[0], 200)
 
     def test_files_without_keys(self):
         rows = [(None, "1 Unreadable"), ("", "2 NoKey"), ("0" * 65537, "3 TooLarge"), ("0" * 15, "4 BadKey"), (f"{self.ONE}\n\n{self.OTHER}\n", "4 BadKey"), (f"{self.ONE} \n", "4 BadKey"), ("0123456789abcdeß", "4 BadKey")]
@@ -476,6 +555,171 @@ class Keys(ServiceTest):
                 files = {"d": compact(DOCUMENT)} if text is None else {"d": compact(DOCUMENT), "k": text}
                 told = run(["ofrep", "--keys", "k", "d"], files)
                 self.assertEqual((told.out, told.status), (f"refused keys {name}\n", 1))
+                self.assertIn('"k"', told.err)
+
+    def test_the_line_that_is_no_key(self):
+        for text, line in ((f"{self.ONE}\n\n{self.OTHER}\n", 2), ("short\n", 1), (f"{self.ONE}\r\n{self.OTHER}\r\n{self.ONE}\r", 3)):
+            with self.subTest(text):
+                told = run(["ofrep", "--keys", "k", "d"], {"d": compact(DOCUMENT), "k": text.encode()})
+                self.assertEqual((told.out, told.status), ("refused keys 4 BadKey\n", 1))
+                self.assertIn(f'line {line} of "k" is no key', told.err)
+        told = run(["ofrep", "--keys", "k", "d"], {"d": compact(DOCUMENT), "k": b"0123456789abcde\xff\n"})
+        self.assertEqual((told.out, told.status), ("refused keys 4 BadKey\n", 1))
+        self.assertIn('"k" is no text in UTF-8', told.err)
+
+
+class Operations(ServiceTest):
+    """A listener of its own for operations."""
+
+    PATHS = ("/healthz", "/readyz", "/metrics")
+
+    def operated(self, *words):
+        """A service with such a listener."""
+        self.admin = free_port(self)
+        return self.start("--admin", f"127.0.0.1:{self.admin}", "--workers", "1", "--poll", "0", *words)
+
+    def asked(self, method, path, body=b"", **headers):
+        """The status, the headers by their names in lower case, and the body of an answer of the listener for operations."""
+        port, self.port = self.port, self.admin
+        try:
+            status, told, text = self.ask(method, path, body, headers)
+        finally:
+            self.port = port
+        return status, {name.lower(): value for name, value in told.items()}, text
+
+    def test_operations_are_served_there_alone(self):
+        child = self.operated("--log", "log")
+        unknown = self.ask("GET", "/nowhere")
+        self.assertEqual(unknown[0], 404)
+        for path in self.PATHS:
+            with self.subTest(path):
+                self.assertEqual(self.asked("GET", path)[0], 200)
+                status, _, text = self.ask("GET", path)
+                self.assertEqual((status, text), (404, unknown[2]))
+        for path in (FLAGS, f"{FLAGS}/color", "/nowhere"):
+            with self.subTest(path):
+                self.assertEqual(self.asked("POST", path, context("mallory"))[0], 404)
+        self.assertEqual(self.notes(), [])
+        self.assertEqual(self.flag("color", context("mallory")), (200, color_of("mallory")))
+        self.assertEqual(len(self.notes()), 1)
+        lines = self.asked("GET", "/metrics")[2].decode().splitlines()
+        self.assertIn("ofrep_notes_total 1", lines)
+        self.told(child, f"serves /healthz, /readyz and /metrics on 127.0.0.1:{self.admin}")
+
+    def test_without_it_they_stay_where_they_are(self):
+        self.start()
+        for path in self.PATHS:
+            self.assertEqual(self.ask("GET", path)[0], 200)
+
+    def test_who_is_answered_there(self):
+        """Whoever names the listener itself; so no page of another host, whatever name its host is given."""
+        self.operated("--allow-stop")
+        port = self.admin
+        for host in (f"127.0.0.1:{port}", f"localhost:{port}", f"LocalHost:{port}"):
+            with self.subTest(host):
+                self.assertEqual(self.asked("GET", "/healthz", Host=host)[0], 200)
+                self.assertEqual(self.asked("GET", "/healthz", Host=host, Origin=f"http://127.0.0.1:{port}")[0], 200)
+        for host in ("127.0.0.1", "localhost", f"example.com:{port}", f"127.0.0.2:{port}", f"localhost:{port}0", f"localhost.:{port}", f"127.0.0.1:{self.port}"):
+            for path in self.PATHS + ("/stop", FLAGS):
+                with self.subTest(host, path=path):
+                    status, headers, text = self.asked("POST", path, Host=host)
+                    self.assertEqual((status, headers["content-type"], list(json.loads(text))), (403, JSON, ["errorDetails"]))
+        for origin in ("http://example.com", "null", "", f"https://127.0.0.1:{port}", "http://127.0.0.1", f"http://127.0.0.1:{self.port}", f"http://localhost:{port}/"):
+            for path in self.PATHS + ("/stop",):
+                with self.subTest(origin, path=path):
+                    self.assertEqual(self.asked("POST", path, Origin=origin)[0], 403)
+        self.assertEqual(self.asked("GET", "/readyz")[0], 200)
+
+    def test_on_every_address(self):
+        """Where it listens on every address, any of them may be named, and still no other name."""
+        self.admin = free_port(self)
+        self.start("--admin", f"0.0.0.0:{self.admin}")
+        for host, status in ((f"10.1.2.3:{self.admin}", 200), (f"[::1]:{self.admin}", 200), (f"example.com:{self.admin}", 403), (f"10.1.2.example:{self.admin}", 403), ("10.1.2.3", 403)):
+            with self.subTest(host):
+                self.assertEqual(self.asked("GET", "/healthz", Host=host)[0], status)
+
+    def test_a_log_that_fails_is_told_there(self):
+        if not os.path.exists("/dev/full"):
+            self.skipTest("no /dev/full")
+        os.mkdir(os.path.join(self.folder, "log"))
+        os.symlink("/dev/full", os.path.join(self.folder, "log", "worker-1.log"))
+        self.operated("--log", "log")
+        self.assertEqual(self.flag("color", context("mallory"))[0], 500)
+        self.assertEqual(self.asked("GET", "/readyz")[0], 503)
+
+    def test_it_stops_when_it_is_asked_to(self):
+        child = self.operated("--log", "log", "--allow-stop")
+        self.assertEqual(self.flag("color", context("mallory"))[0], 200)
+        status, headers, _ = self.asked("GET", "/stop")
+        self.assertEqual((status, headers["allow"]), (405, "POST"))
+        self.assertEqual(self.ask("POST", "/stop")[0], 404)
+        status, _, text = self.asked("POST", "/stop")
+        self.assertEqual((status, text), (200, b'{"stops":true}'))
+        self.assertEqual(child.wait(SECONDS), 0)
+        self.assertIn("ofrep: stopped", child.stderr.read())
+        self.assertEqual(len(self.notes()), 1)
+
+    def test_answers_under_way_are_sent(self):
+        child = self.operated("--allow-stop")
+        body = context("mallory")
+        head = f"POST {FLAGS}/color HTTP/1.1\r\nHost: h\r\nContent-Length: {len(body)}\r\n\r\n".encode()
+        with self.connect() as stream:
+            stream.sendall(head + body[:5])
+            self.flag("size")
+            self.assertEqual(self.asked("POST", "/stop")[0], 200)
+            self.assertEqual(self.asked("GET", "/readyz")[::2], (503, b"the service is stopping"))
+            self.assertEqual(self.asked("GET", "/healthz")[0], 200)
+            wait_until(self.refuses, "new connections are refused")
+            stream.sendall(body[5:])
+            answer = http.client.HTTPResponse(stream)
+            answer.begin()
+            self.assertEqual(json.loads(answer.read()), color_of("mallory"))
+        self.assertEqual(child.wait(SECONDS), 0)
+
+    def refuses(self):
+        """Whether no connection to the address of the flags is answered any more."""
+        try:
+            with self.connect():
+                return False
+        except ConnectionRefusedError:
+            return True
+
+    def test_nobody_may_stop_it(self):
+        self.operated()
+        for method in ("POST", "GET"):
+            self.assertEqual(self.asked(method, "/stop")[0], 404)
+        self.assertEqual(self.asked("GET", "/readyz")[0], 200)
+
+    def test_addresses_that_it_cannot_have(self):
+        with socket.socket() as taken:
+            taken.bind(("127.0.0.1", 0))
+            taken.listen()
+            for address in ("nowhere", "localhost", "127.0.0.1", f"127.0.0.1:{taken.getsockname()[1]}"):
+                with self.subTest(address):
+                    told = run(["ofrep", "--listen", "127.0.0.1:0", "--admin", address, "d"], {"d": compact(DOCUMENT)})
+                    self.assertEqual((told.out, told.status), ("refused bind 1 Unbound\n", 1))
+                    self.assertNotEqual(told.err, "")
+
+    def test_a_line_for_each_request(self):
+        child = self.operated("--access-log")
+        trace = "4bf92f3577b34da6a3ce929d0e0e4736"
+        self.ask("POST", f"{FLAGS}/two%20words%2F%C3%9F?x=1", context("anna"), {"traceparent": f"00-{trace}-00f067aa0ba902b7-01"})
+        for wrong in (f"00-{'0' * 32}-00f067aa0ba902b7-01", f"00-{trace.upper()}-00f067aa0ba902b7-01", f"00-{trace}", "", f"00:{trace}-00f067aa0ba902b7-01"):
+            self.ask("POST", f"{FLAGS}/nobody", b"", {"traceparent": wrong})
+        self.asked("GET", "/healthz")
+        lines = [json.loads(line) for line in self.told(child, '"method"', 7).splitlines() if line.startswith("{")]
+        for line in lines:
+            self.assertRegex(line.pop("time"), r"\A\d{4}-[01]\d-[0-3]\dT[0-2]\d:[0-5]\d:[0-5]\d\.\d{3}Z\Z")
+            self.assertGreaterEqual(line.pop("microseconds"), 0)
+        self.assertIn({"method": "POST", "path": f"{FLAGS}/two%20words%2F%C3%9F", "status": 200, "trace": trace}, lines)
+        self.assertEqual(lines.count({"method": "POST", "path": f"{FLAGS}/nobody", "status": 404}), 5)
+        self.assertIn({"method": "GET", "path": "/healthz", "status": 200}, lines)
+
+    def test_no_line_without_it(self):
+        child = self.operated()
+        self.flag("size")
+        child.kill()
+        self.assertNotIn('"method"', child.stderr.read())
 
 
 class Unbuffered:

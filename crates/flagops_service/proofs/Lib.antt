@@ -7,4 +7,5 @@ pub mod Reread
 pub mod Seats
 pub mod Shared
 pub mod Started
+pub mod Stopped
 pub mod Told

@@ -1,5 +1,5 @@
 -- What the words of `ofrep` ask for, by what `clap` reads of them.
-use Rattle.std.specs.Prelude.{ℕ, zero, suc, ◌+◌, ◌/◌, max, List, [], codes, map, Option, Some, None, option_copied, option_map, unwrap_or, if◌then◌else◌}
+use Rattle.std.specs.Prelude.{ℕ, zero, suc, ◌+◌, ◌-◌, ◌/◌, Bool, max, List, [], codes, map, Option, Some, None, option_copied, option_map, unwrap_or, if◌then◌else◌}
 use Rattle.std.specs.Str.{bytes_eq}
 use Rattle.clap.specs.Kinds.{Kinds}
 use Rattle.clap.specs.Simple.{App, new_app, new_rule, with_rule}
@@ -7,18 +7,23 @@ use Rattle.clap.specs.Walk.{Row, Rule, Text, all_of, first_of}
 use Rattle.clap.specs.declared.builder.action.ArgAction.TheVariants.{Append}
 use Rattle.flagops_words.specs.Alone.{asked_in, faults_in}
 use Rattle.flagops_words.specs.Numbers.{max_port, number_in}
-use Rattle.flagops_words.specs.Words.{◌>>=◌, number_or, option_number, some_words, texts_at}
+use Rattle.flagops_words.specs.Words.{◌>>=◌, flag, flag_in, number_or, option_number, some_words, texts_at}
 use Rattle.flagops_service.specs.declared.asked.Answering as code
 use Rattle.flagops_service.specs.declared.asked.OnBroken.{OnBroken}
 use Rattle.flagops_service.specs.declared.asked.OnBroken.TheVariants.{Keep, Refuse, Serve}
+use Rattle.ofrep_guards.specs.declared.rules.Paths.{Paths}
+use Rattle.ofrep_guards.specs.declared.rules.Paths.TheVariants.{All, Evaluations}
 use Rattle.ofrep_worker.specs.declared.unrecorded.WithoutRecord.{WithoutRecord}
 use Rattle.ofrep_worker.specs.declared.unrecorded.WithoutRecord.TheVariants as unrecorded
 
--- Documents, by their paths, answered at an address, also to the web pages of these origins, to whoever shows a key of a file where one is named, by so many workers that keep notes in a folder and remember so many of them together, and streamed on a port; read again after so many seconds, 0 for never. And what becomes of answers that can't be recorded, and of flags that are broken.
+-- Documents, by their paths, answered at an address, also to the web pages of these origins, to whoever shows a key of a file where one is named, operations at another address where one is given, which may be asked to stop it, with a line told of each request or none, by so many workers that keep notes in a folder and remember so many of them together, and streamed on a port; read again after so many seconds, 0 for never. And what becomes of answers that can't be recorded, and of flags that are broken.
 pub record Answering : Type 0 where
   pub listen : Option Text
   pub cors : List Text
   pub keys : Option Text
+  pub admin : Option Text
+  pub allow_stop : Bool
+  pub access_log : Bool
   pub log : Option Text
   pub remember : ℕ
   pub without_record : WithoutRecord
@@ -33,6 +38,9 @@ answering_view a = record {
   listen = option_copied a.listen;
   cors = map (λ o. o.now) a.cors.items;
   keys = option_copied a.keys;
+  admin = option_copied a.admin;
+  allow_stop = a.allow_stop;
+  access_log = a.access_log;
   log = option_copied a.log;
   remember = a.remember;
   without_record = a.without_record;
@@ -47,14 +55,24 @@ answering_view a = record {
 abbrev pub max_subscribers : ℕ
 max_subscribers = 32
 
--- their seats, where there is a stream
-abbrev pub subscribers_of : Option ℕ → ℕ
-subscribers_of None = 0
-subscribers_of (Some port) = max_subscribers
+-- the seat of operations, where they have an address of their own
+abbrev pub operators_of : Option Text → ℕ
+operators_of None = 0
+operators_of (Some address) = 1
 
--- the seats of the workers and of the subscribers
+-- the seats of subscribers, where there is a stream: one fewer where operations have one
+abbrev pub subscribers_of : Option ℕ → ℕ → ℕ
+subscribers_of None operators = 0
+subscribers_of (Some port) operators = max_subscribers - operators
+
+-- the seats of the workers, of operations and of the subscribers
 abbrev pub seats_of : Answering → ℕ
-seats_of a = a.workers + subscribers_of a.stream
+seats_of a = a.workers + (operators_of a.admin + subscribers_of a.stream (operators_of a.admin))
+
+-- what the workers serve: the evaluations alone, where operations have an address of their own
+abbrev pub paths_served : Option Text → Paths
+paths_served None = All
+paths_served (Some address) = Evaluations
 
 -- a number, where it is one at least
 abbrev pub some_of : ℕ → Option ℕ
@@ -95,10 +113,14 @@ ofrep_begun =
 unfoldable pub ofrep_guarded : App
 ofrep_guarded = with_rule (with_rule ofrep_begun (option_texts (codes "ORIGIN") (codes "cors"))) (option_text (codes "FILE") (codes "keys"))
 
+-- the same with `--admin ADDRESS:PORT`, `--allow-stop` and `--access-log`
+unfoldable pub ofrep_operated : App
+ofrep_operated = with_rule (with_rule (with_rule ofrep_guarded (option_text (codes "HOST:PORT") (codes "admin"))) (flag (codes "allow-stop"))) (flag (codes "access-log"))
+
 -- the same with `--remember N`, `--without-record answer|refuse` and `--broken refuse|serve`
 unfoldable pub ofrep_chosen : App
 ofrep_chosen =
-    with_rule (with_rule (with_rule ofrep_guarded (option_number (codes "NOTES") (codes "remember") 0 max_remembered)) (option_text (codes "answer|refuse") (codes "without-record")))
+    with_rule (with_rule (with_rule ofrep_operated (option_number (codes "NOTES") (codes "remember") 0 max_remembered)) (option_text (codes "answer|refuse") (codes "without-record")))
     (option_text (codes "refuse|serve") (codes "broken"))
 
 -- the same with `--stream PORT`, `--workers N` and `--poll SECONDS`
@@ -157,6 +179,9 @@ answering_in rows = do
     listen = first_of (codes "ADDRESS:PORT") rows;
     cors = origins_in rows;
     keys = first_of (codes "FILE") rows;
+    admin = first_of (codes "HOST:PORT") rows;
+    allow_stop = flag_in (codes "allow-stop") rows;
+    access_log = flag_in (codes "access-log") rows;
     log = first_of (codes "FOLDER") rows;
     remember = remember;
     without_record = without;

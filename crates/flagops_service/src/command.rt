@@ -1,5 +1,5 @@
 //! The command `ofrep`.
-ghost use Rattle.std.specs.Prelude.{◌≡◌, ◌≤◌, ◌<◌, ◌++◌, false, length, map, option_map, string_bytes, vec_len, IfOk, IfSome};
+ghost use Rattle.std.specs.Prelude.{◌≡◌, ◌≤◌, ◌<◌, ◌++◌, ◌&&◌, None, false, if◌then◌else◌, is_some, length, map, option_copied, option_map, string_bytes, vec_len, IfOk, IfSome};
 ghost use Rattle.std.specs.List.{list_any};
 ghost use Rattle.std.specs.NonZero.{non_zero_usize_get};
 ghost use Rattle.flag_defs.specs.Flag.{is_broken};
@@ -7,25 +7,28 @@ ghost use Rattle.flag_defs.specs.Flags.{flags_view};
 ghost use Rattle.flagops_streams.specs.Loading.{documents_view};
 ghost use Rattle.flagops_streams.specs.Documents.{Answer, count_of, documents_in};
 ghost use Rattle.source_merge.specs.View.{sources_view};
-ghost use Rattle.flagops_service.specs.Ended.{AnswersOfrep, Begins, Reports, Serves, ServesOfrep, TellsOfrep};
+ghost use Rattle.flagops_service.specs.Ended.{AnswersOfrep, Begins, Reports, Serves, ServesOfrep, TellsOfrep, cors_fault};
 ghost use Rattle.flagops_service.specs.Merging.{AreMerged, ArePublished};
 ghost use Rattle.flagops_service.specs.Starting.{StartsOn, StartsTo, stops_in, stops_on};
 ghost use Rattle.flagops_shell.specs.Console.{IsOpen};
 ghost use Rattle.flagops_service.specs.Unready.{HasKeys};
-ghost use Rattle.flagops_service.specs.Words.{answering_view, seats_of, share_of, subscribers_of};
+ghost use Rattle.flagops_service.specs.Words.{answering_view, operators_of, paths_served, seats_of, share_of, subscribers_of};
 ghost use Rattle.ofrep_service.specs.Logs.{path_in, paths_of};
 
 use crate::asked::{Answering, OnBroken};
+use crate::boards::{board_of, show_published};
 use crate::host::Host;
 use crate::keys::WatchedKeys;
+use crate::log_news::tell_lines;
 use crate::merging::merge_all;
 use crate::preparing::{Prepared, Unready, prepare};
-use crate::remembering::share_of;
 use crate::reporting::{
     refuse_and_tell, refuse_document, refuse_start, refuse_unloaded, serving_line,
 };
 use crate::stop::Stop;
-use crate::telling::{broken_in, say_broken, say_ended, say_listening, say_published};
+use crate::telling::{
+    broken_in, say_broken, say_ended, say_listening, say_operations, say_published,
+};
 use crate::watched::Watched;
 use crate::watching::watch;
 use crate::words::read_ofrep;
@@ -33,8 +36,7 @@ use flag_defs::Flags;
 use flag_text::Outlet;
 use flagops_shell::{Console, FileSet, report_usage};
 use flagops_streams::{Documents, Refusal, loaded, write_line};
-use ofrep_guards::Keys;
-use ofrep_service::{Board, Post, work_beside};
+use ofrep_service::{AdminPost, Board, Post, work_beside};
 use snap_share::{History, Publisher, ReadSeat, ShareName, share};
 use source_merge::Sources;
 use std::alloc::{AllocError, Global};
@@ -138,7 +140,7 @@ fn answer_merged<R: Host, F: FileSet, O: Outlet, E: Outlet>(
 {
     let alloc = rt.alloc();
     if stops_broken(answering.broken, &flags) {
-        return refuse_start(out, err, Stop::BrokenFlags);
+        return refuse_start(alloc, out, err, answering, None, Stop::BrokenFlags);
     }
     let refused = match none_refused(alloc, texts.len()) {
         Ok(refused) => refused,
@@ -213,7 +215,9 @@ fn answer_flags<R: Host, F: FileSet, O: Outlet, E: Outlet>(
                 rt, answering, history, flags, prepared, watched, files, out, err,
             )
         }
-        Err(Unready::Stopped(stop)) => refuse_start(out, err, stop),
+        Err(Unready::Stopped(stop)) => {
+            refuse_start(alloc, out, err, answering, files.trouble(), stop)
+        }
         Err(Unready::Unbound) => refuse_and_tell(alloc, out, err, Refusal::Unbound),
         Err(Unready::WantOfMemory) => refuse_and_tell(alloc, out, err, Refusal::WantOfMemory),
     }
@@ -238,7 +242,10 @@ where
     O: Outlet,
     E: Outlet,
     requires name { history.seen.book ≡ J.book }
-    requires streams { vec_len prepared.streams ≡ subscribers_of answering.now.stream }
+    requires cors { cors_fault (answering_view answering.now).cors ≡ None }
+    requires admin { is_some prepared.admin ≡ is_some (answering_view answering.now).admin }
+    requires may_stop { IfSome prepared.admin (λ post. post.may_stop ≡ answering.now.allow_stop) }
+    requires streams { vec_len prepared.streams ≡ subscribers_of answering.now.stream (operators_of (answering_view answering.now).admin) }
     requires posts { vec_len prepared.posts ≡ answering.now.workers }
     requires clients { HasKeys (F.holding files.old) (answering_view answering.now).keys prepared.clients }
     requires logs { map (λ post. path_in post.journal) prepared.posts.items ≡ paths_of (answering_view answering.now).log answering.now.workers }
@@ -249,7 +256,8 @@ where
 {
     let alloc = rt.alloc();
     let workers = answering.workers as usize;
-    let wanted = workers.saturating_add(prepared.streams.len());
+    let operators = operation_seats(&prepared.admin);
+    let wanted = workers.saturating_add(operators.saturating_add(prepared.streams.len()));
     let (count, broken) = (flags.len(), broken_in(&flags));
     let (mut publisher, seats) = match share::<J, R>(rt, alloc, history, flags, wanted) {
         Ok(shared) => shared,
@@ -294,6 +302,8 @@ where
     E: Outlet,
     requires published { ArePublished (sources_view watched.sources) publisher.old }
     requires seats { vec_len prepared.posts ≤ vec_len seats }
+    requires cors { cors_fault (answering_view answering.now).cors ≡ None }
+    requires may_stop { IfSome prepared.admin (λ post. post.may_stop ≡ answering.now.allow_stop) }
     requires clients { HasKeys (F.holding files.old) (answering_view answering.now).keys prepared.clients }
     requires logs { map (λ post. path_in post.journal) prepared.posts.items ≡ paths_of (answering_view answering.now).log answering.now.workers }
     requires out_whole { O.is_broken out.old ≡ false }
@@ -312,6 +322,7 @@ where
     let Prepared {
         posts,
         streams,
+        admin,
         keys,
         clients,
     } = prepared;
@@ -320,18 +331,39 @@ where
         Err(AllocError) => return refuse_and_tell(alloc, out, err, Refusal::WantOfMemory),
     };
     say_listening(alloc, err, answering);
+    say_operations(alloc, err, &admin, answering.allow_stop);
     say_all_broken(&watched, err);
     say_published(alloc, err, 1, count, broken);
-    let status = write_line(out, line.as_str(), 1);
-    board.publish(1);
-    let has_begun = attend(
-        rt, answering, keys, &board, seats, posts, others, streams, publisher, watched, files, err,
+    let status = write_line(out, line.as_str(), 0);
+    show_published(rt, &board, 1);
+    let was_stopped = attend(
+        rt, answering, keys, &board, seats, posts, others, streams, admin, publisher, watched,
+        files, err,
     );
-    say_ended(err, has_begun);
-    status
+    tell_lines(rt, alloc, &board, err);
+    say_ended(err, was_stopped);
+    status_of(answering.allow_stop, was_stopped, status)
 }
 
-/// Has the workers answer and the subscribers served, and reads the documents and the keys again meanwhile. Says whether it began.
+/// How many seats operations take.
+fn operation_seats(admin: &Option<AdminPost>) -> usize
+    ensures { result ≡ (if is_some admin.now then 1 else 0) }
+{
+    match admin {
+        Some(_) => 1,
+        None => 0,
+    }
+}
+
+/// The status of a service that has ended, where that of its line is given: 1 unless it was stopped as it may be.
+fn status_of(allow_stop: bool, was_stopped: bool, status: u8) -> u8
+    ensures { result ≡ (if allow_stop && was_stopped then status else 1) }
+{
+    if allow_stop && was_stopped { status } else { 1 }
+}
+
+/// Has the workers answer and the subscribers served, and reads the documents and the keys again meanwhile. Says whether it began, and
+/// was stopped then.
 fn attend<J, R, F, E>(
     rt: &R,
     answering: &Answering<'_>,
@@ -341,6 +373,7 @@ fn attend<J, R, F, E>(
     posts: Vec<Post>,
     others: Vec<ReadSeat<J>>,
     streams: Vec<TcpListener>,
+    admin: Option<AdminPost>,
     publisher: &mut Publisher<J>,
     watched: Watched<'_>,
     files: &mut F,
@@ -356,6 +389,8 @@ where
     requires logs { map (λ post. path_in post.journal) posts.items ≡ paths_of (answering_view answering.now).log answering.now.workers }
     requires without { board.now.without_record ≡ answering.now.without_record }
     requires remember { option_map non_zero_usize_get board.now.remember ≡ share_of answering.now.remember answering.now.workers }
+    requires paths { board.now.paths ≡ paths_served (answering_view answering.now).admin }
+    requires may_stop { IfSome admin (λ post. post.may_stop ≡ answering.now.allow_stop) }
     requires origins { map string_bytes board.now.origins.items ≡ (answering_view answering.now).cors }
     requires clients { HasKeys (F.holding files.old) (answering_view answering.now).keys (option_map (λ ring. ring.first) board.now.keys) }
 {
@@ -363,19 +398,46 @@ where
     let poll = answering.poll;
     let mut watched = watched;
     let mut clients = WatchedKeys::new(alloc, answering.keys);
-    let ended = work_beside(rt, alloc, keys, board, seats, posts, others, streams, || {
-        watch(
-            rt,
-            &mut watched,
-            &mut clients,
-            publisher,
-            board,
-            poll,
-            files,
-            err,
-        )
-    });
+    let mut others = others;
+    let admin = match admin {
+        Some(post) => seated(others.pop(), post),
+        None => None,
+    };
+    let ended = work_beside(
+        rt,
+        alloc,
+        keys,
+        board,
+        seats,
+        posts,
+        others,
+        streams,
+        admin,
+        || {
+            watch(
+                rt,
+                &mut watched,
+                &mut clients,
+                publisher,
+                board,
+                poll,
+                files,
+                err,
+            )
+        },
+    );
     ended.is_some()
+}
+
+/// The post of operations with its seat.
+fn seated<J: ShareName>(
+    seat: Option<ReadSeat<J>>,
+    post: AdminPost,
+) -> Option<(ReadSeat<J>, AdminPost)> {
+    match seat {
+        Some(seat) => Some((seat, post)),
+        None => None,
+    }
 }
 
 /// Tells of each flag that is broken, by its document.
@@ -383,36 +445,6 @@ fn say_all_broken<E: Outlet>(watched: &Watched<'_>, err: &mut E) {
     for (path, text) in watched.paths.iter().zip(watched.accepted.iter()) {
         say_broken(watched.alloc, err, path, text.as_slice());
     }
-}
-
-/// A board for what is asked for: the workers share the notes that are remembered, and want a key of these where a file is named.
-fn board_of(
-    alloc: Global,
-    answering: &Answering<'_>,
-    clients: Option<Keys>,
-) -> Result<Board, AllocError>
-    ensures without { IfOk result (λ board. board.without_record ≡ answering.now.without_record) }
-    ensures remember { IfOk result (λ board. option_map non_zero_usize_get board.remember ≡ share_of answering.now.remember answering.now.workers) }
-    ensures origins { IfOk result (λ board. map string_bytes board.origins.items ≡ (answering_view answering.now).cors) }
-    ensures keys { IfOk result (λ board. option_map (λ ring. ring.first) board.keys ≡ clients) }
-{
-    let origins = copied(alloc, answering.cors.as_slice())?;
-    let share = share_of(answering.remember, answering.workers);
-    let board = Board::new(answering.without_record, share, origins, clients);
-    board.watch_documents(answering.documents.len());
-    Ok(board)
-}
-
-/// Copies of texts.
-#[tactic(auto, using(crate::proofs::Copied::one_more))]
-fn copied(alloc: Global, texts: &[&str]) -> Result<Vec<String>, AllocError>
-    ensures { IfOk result (λ copies. map string_bytes copies.items ≡ map (λ t. t.now) texts.now) }
-{
-    let mut copies = Vec::new(alloc);
-    for text in texts {
-        copies.push(String::from_str(alloc, text)?)?;
-    }
-    Ok(copies)
 }
 
 /// The seats of so many workers, and those of the subscribers.

@@ -21,6 +21,7 @@
 #![tactic(auto)]
 
 mod asked;
+mod boards;
 mod command;
 mod host;
 mod keys;

@@ -1,10 +1,12 @@
-//! What a person is told of logs whose files are lost while documents are answered from. It changes no answer.
-use flag_text::Outlet;
+//! What a person is told of logs whose files are lost while documents are answered from, and of requests. It changes no answer.
+use flag_text::{Outlet, write_whole};
 use flagops_streams::say;
 use log_file::Loss;
 use note_log::Trouble;
 use ofrep_service::Board;
 use ofrep_worker::WithoutRecord;
+use std::alloc::Global;
+use std::sync::Wait;
 
 /// How often logs were opened anew after each kind of loss, and whether one can't be written, as far as it was told.
 #[derive(Clone, Copy)]
@@ -16,6 +18,8 @@ pub(crate) struct LogNews {
     /// How often a log that could be written began to fail, and why one fails now.
     failures: u64,
     trouble: Option<Trouble>,
+    /// How many lines of requests were left out.
+    left_out: u64,
 }
 
 impl LogNews {
@@ -28,6 +32,7 @@ impl LogNews {
             unseen: 0,
             failures: 0,
             trouble: None,
+            left_out: 0,
         }
     }
 
@@ -40,6 +45,7 @@ impl LogNews {
             unseen: board.logs_reopened(Loss::Unseen),
             failures: board.log_failures(),
             trouble: board.log_trouble(),
+            left_out: board.lines_left_out(),
         }
     }
 }
@@ -71,8 +77,22 @@ pub(crate) fn tell_news<E: Outlet>(board: &Board, told: LogNews, err: &mut E) ->
             "ofrep: the system did not say what is in the place of a log; its path is opened anew\n",
         );
     }
+    if news.left_out != told.left_out {
+        say(
+            err,
+            "ofrep: lines of requests were left out, since they are not taken as fast as they come\n",
+        );
+    }
     tell_trouble(board.without_record(), told, news, err);
     news
+}
+
+/// Tells the lines of requests that wait.
+pub(crate) fn tell_lines<R: Wait, E: Outlet>(rt: &R, alloc: Global, board: &Board, err: &mut E) {
+    let lines = board.take_lines(rt, alloc);
+    if !lines.is_empty() {
+        write_whole(err, lines.as_slice());
+    }
 }
 
 /// Tells where logs begin to fail, and where none fails any more.

@@ -1,16 +1,17 @@
 //! What is opened before anybody is answered.
-ghost use Rattle.std.specs.Prelude.{◌≡◌, IfErr, IfOk, map, vec_len};
+ghost use Rattle.std.specs.Prelude.{◌≡◌, ◌-◌, IfErr, IfOk, IfSome, None, is_some, map, vec_len};
 ghost use Rattle.ofrep_service.specs.Logs.{path_in, paths_of};
+ghost use Rattle.flagops_service.specs.Ended.{cors_fault};
 ghost use Rattle.flagops_service.specs.Unready.{HasKeys, MayBeUnready};
-ghost use Rattle.flagops_service.specs.Words.{Answering as Asked, answering_view, subscribers_of};
+ghost use Rattle.flagops_service.specs.Words.{Answering as Asked, answering_view, max_subscribers, operators_of, subscribers_of};
 
 use crate::asked::Answering;
 use crate::keys::read_keys;
 use crate::stop::Stop;
 use flagops_shell::FileSet;
 use log_file::{LogFault, LogPaths};
-use ofrep_guards::Keys;
-use ofrep_service::{Post, bind, bind_stream, open_logs};
+use ofrep_guards::{Keys, OriginFault, origin_fault};
+use ofrep_service::{AdminPost, Post, bind, bind_admin, bind_stream, open_logs};
 use std::alloc::Global;
 use std::hash::RandomState;
 use std::io::{self, ErrorKind};
@@ -20,15 +21,17 @@ use std::random::RandomSource;
 /// Where HTTP is served where no address is given.
 pub(crate) const LISTEN: &str = "127.0.0.1:8016";
 
-/// The most subscribers of the stream at once. As many seats are left where there are 32 workers.
-pub(crate) const MOST_SUBSCRIBERS: usize = 32;
+/// The most subscribers of the stream at once. As many seats are left where there are 32 workers; one fewer where operations have
+/// one.
+const MOST_SUBSCRIBERS: usize = 32;
 
-/// Where the workers stand, where the subscribers of the stream come, the keys of the workers' tables, and those of clients, where one
-/// is wanted.
+/// Where the workers stand, where the subscribers of the stream come, where operations are asked for, if at an address of their own,
+/// the keys of the workers' tables, and those of clients, where one is wanted.
 #[derive(Drop)]
 pub(crate) struct Prepared {
     pub(crate) posts: Vec<Post>,
     pub(crate) streams: Vec<TcpListener>,
+    pub(crate) admin: Option<AdminPost>,
     pub(crate) keys: RandomState,
     pub(crate) clients: Option<Keys>,
 }
@@ -37,13 +40,13 @@ pub(crate) struct Prepared {
 #[derive(Clone, Copy, Debug, PartialEq, Eq)]
 pub(crate) enum Unready {
     WantOfMemory,
-    /// The keys can't be used, the logs can't be opened, or the system gives no random bytes.
+    /// An origin is none, the keys can't be used, the logs can't be opened, or the system gives no random bytes.
     Stopped(Stop),
-    /// The address, or the port of the stream, can't be listened on.
+    /// An address, or the port of the stream, can't be listened on.
     Unbound,
 }
 
-/// Reads the keys of clients, opens the logs, and then listens.
+/// Judges the origins, reads the keys of clients, opens the logs, and then listens.
 pub(crate) fn prepare<R, F>(
     rt: &R,
     alloc: Global,
@@ -55,19 +58,24 @@ where
     F: FileSet,
     ensures keys { IfOk result (λ p. HasKeys (F.holding files.old) (answering_view answering.now).keys p.clients) }
     ensures kept { F.holding files.new ≡ F.holding files.old }
-    ensures streams { IfOk result (λ p. vec_len p.streams ≡ subscribers_of answering.now.stream) }
+    ensures cors { IfOk result (λ p. cors_fault (answering_view answering.now).cors ≡ None) }
+    ensures admin { IfOk result (λ p. is_some p.admin ≡ is_some (answering_view answering.now).admin) }
+    ensures may_stop { IfOk result (λ p. IfSome p.admin (λ post. post.may_stop ≡ answering.now.allow_stop)) }
+    ensures streams { IfOk result (λ p. vec_len p.streams ≡ subscribers_of answering.now.stream (operators_of (answering_view answering.now).admin)) }
     ensures posts { IfOk result (λ p. vec_len p.posts ≡ answering.now.workers) }
     ensures logs { IfOk result (λ p. map (λ post. path_in post.journal) p.posts.items ≡ paths_of (answering_view answering.now).log answering.now.workers) }
     ensures unready { IfErr result (MayBeUnready (answering_view answering.now)) }
 {
+    if let Some(fault) = fault_in(answering.cors.as_slice()) {
+        return Err(Unready::Stopped(Stop::BadOrigin(fault)));
+    }
     let clients = read_keys(alloc, files, answering)?;
     let logs = match open_logs(rt, alloc, answering.log, answering.workers as usize) {
         Ok(logs) => logs,
         Err(LogFault::WantOfMemory) => return Err(Unready::WantOfMemory),
         Err(fault) => return Err(Unready::Stopped(Stop::NoLog(fault))),
     };
-    let word = answering.listen.unwrap_or(LISTEN);
-    let Ok(address) = word.parse::<SocketAddr>() else {
+    let Ok(address) = answering.listen.unwrap_or(LISTEN).parse::<SocketAddr>() else {
         return Err(Unready::Unbound);
     };
     let Ok(keys) = RandomState::new(rt) else {
@@ -77,10 +85,12 @@ where
         Ok(posts) => posts,
         Err(fault) => return Err(why_unready(fault.kind())),
     };
-    match streams(rt, alloc, answering.stream) {
+    let admin = admin_post(rt, alloc, answering)?;
+    match streams(rt, alloc, answering) {
         Ok(streams) => Ok(Prepared {
             posts,
             streams,
+            admin,
             keys,
             clients,
         }),
@@ -88,16 +98,60 @@ where
     }
 }
 
+/// Why the first of these origins that no browser names is none.
+fn fault_in(origins: &[&str]) -> Option<OriginFault>
+    ensures { result ≡ cors_fault (map (λ o. o.now) origins.now) }
+{
+    for origin in origins {
+        if let Some(fault) = origin_fault(origin) {
+            return Some(fault);
+        }
+    }
+    None
+}
+
+/// Listens for those who ask for operations, where they have an address of their own.
+fn admin_post<R: Net<Listener = TcpListener, Stream = TcpStream>>(
+    rt: &R,
+    alloc: Global,
+    answering: &Answering<'_>,
+) -> Result<Option<AdminPost>, Unready>
+    ensures admin { IfOk result (λ admin. is_some admin ≡ is_some (answering_view answering.now).admin) }
+    ensures may_stop { IfOk result (λ admin. IfSome admin (λ post. post.may_stop ≡ answering.now.allow_stop)) }
+    ensures unready { IfErr result (MayBeUnready (answering_view answering.now)) }
+{
+    let Some(word) = answering.admin else {
+        return Ok(None);
+    };
+    let Ok(address) = word.parse::<SocketAddr>() else {
+        return Err(Unready::Unbound);
+    };
+    match bind_admin(rt, alloc, address, answering.allow_stop) {
+        Ok(post) => Ok(Some(post)),
+        Err(fault) => Err(why_unready(fault.kind())),
+    }
+}
+
+/// The most subscribers of the stream at once.
+pub(crate) fn most_subscribers(answering: &Answering<'_>) -> usize
+    ensures { result ≡ max_subscribers - operators_of (answering_view answering.now).admin }
+{
+    match answering.admin {
+        Some(_) => MOST_SUBSCRIBERS - 1,
+        None => MOST_SUBSCRIBERS,
+    }
+}
+
 /// Listens for the subscribers of the stream, where there is one.
 fn streams<R: Net<Listener = TcpListener, Stream = TcpStream>>(
     rt: &R,
     alloc: Global,
-    port: Option<u16>,
+    answering: &Answering<'_>,
 ) -> io::Result<Vec<TcpListener>>
-    ensures { IfOk result (λ streams. vec_len streams ≡ subscribers_of port) }
+    ensures { IfOk result (λ streams. vec_len streams ≡ subscribers_of answering.now.stream (operators_of (answering_view answering.now).admin)) }
 {
-    match port {
-        Some(port) => bind_stream(rt, alloc, port, MOST_SUBSCRIBERS),
+    match answering.stream {
+        Some(port) => bind_stream(rt, alloc, port, most_subscribers(answering)),
         None => Ok(Vec::new(alloc)),
     }
 }

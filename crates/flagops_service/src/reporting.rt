@@ -3,11 +3,14 @@ ghost use Rattle.std.specs.Prelude.{◌≡◌, IfOk, false, string_bytes};
 ghost use Rattle.flagops_service.specs.Ended.{Fails, Refuses, serving_line, stop_line};
 ghost use Rattle.flagops_streams.specs.Told.{TellsText};
 
-use crate::stop::Stop;
-use file_diagnostics::{of_document, of_unreadable};
+use crate::asked::Answering;
+use crate::stop::{NoKeys, Stop, why_no_origin};
+use crate::telling::of_bad_keys;
+use file_diagnostics::{of_document, of_unreadable, quoted_name};
 use flag_text::Outlet;
 use flagops_shell::tell;
 use flagops_streams::{Refusal, refuse, say_refused, write_line};
+use ofrep_guards::origin_fault;
 use source_merge::SourceFault;
 use std::alloc::{AllocError, Global};
 use std::io;
@@ -34,14 +37,62 @@ pub(crate) fn refuse_and_tell<O: Outlet, E: Outlet>(
     refuse(alloc, out, refusal)
 }
 
-/// The service does not start.
-pub(crate) fn refuse_start<O: Outlet, E: Outlet>(out: &mut O, err: &mut E, stop: Stop) -> u8
+/// The service does not start. Where a file can't be read, why is told in the system's words, as far as these are known.
+pub(crate) fn refuse_start<O: Outlet, E: Outlet>(
+    alloc: Global,
+    out: &mut O,
+    err: &mut E,
+    answering: &Answering<'_>,
+    trouble: Option<io::Error>,
+    stop: Stop,
+) -> u8
     requires out_whole { O.is_broken out.old ≡ false }
     requires err_whole { E.is_broken err.old ≡ false }
     ensures { Fails (O.bytes out.old) (O.bytes out.new) (O.is_broken out.new) (E.bytes err.old) (E.bytes err.new) (E.is_broken err.new) result (stop_line stop) }
 {
-    tell(err, stop.why());
+    tell_stop(err, why_stopped(alloc, answering, trouble, stop), stop);
     write_line(out, stop.line(), 1)
+}
+
+/// Why the service does not start, with the word or the file that is the reason, where there is one.
+fn why_stopped(
+    alloc: Global,
+    answering: &Answering<'_>,
+    trouble: Option<io::Error>,
+    stop: Stop,
+) -> Result<String, AllocError> {
+    match (stop, answering.keys) {
+        (Stop::BadOrigin(_), _) => of_bad_origin(alloc, answering.cors.as_slice()),
+        (Stop::NoKeys(NoKeys::Unreadable), Some(path)) => of_unreadable(alloc, path, trouble),
+        (Stop::NoKeys(NoKeys::Unusable(fault)), Some(path)) => {
+            let why = of_bad_keys(alloc, path, fault)?;
+            format!(in alloc; "error: {why}\n  each line of the file of --keys is a key\n")
+        }
+        (_, _) => String::from_str(alloc, stop.why()),
+    }
+}
+
+/// The first of these origins that no browser names so, and why.
+fn of_bad_origin(alloc: Global, origins: &[&str]) -> Result<String, AllocError> {
+    for origin in origins {
+        if let Some(fault) = origin_fault(origin) {
+            let name = quoted_name(alloc, origin)?;
+            let why = why_no_origin(fault);
+            return format!(in alloc; "error: no page is of the origin {name} of --cors\n  {why}\n");
+        }
+    }
+    Ok(String::new(alloc))
+}
+
+/// Tells why the service does not start, or the reason alone where there is no memory for more.
+fn tell_stop<E: Outlet>(err: &mut E, text: Result<String, AllocError>, stop: Stop)
+    requires { E.is_broken err.old ≡ false }
+    ensures { TellsText (E.bytes err.old) (E.bytes err.new) (E.is_broken err.new) }
+{
+    match text {
+        Ok(text) => tell(err, text.as_str()),
+        Err(AllocError) => tell(err, stop.why()),
+    }
 }
 
 /// The document at a path was not loaded; where it can't be read, why is told in the system's words, as far as these are known.

@@ -1,9 +1,9 @@
 //! Why the service does not start, apart from its documents, its address, its seats and memory.
 ghost use Rattle.std.specs.Prelude.{◌≡◌};
-ghost use Rattle.flagops_service.specs.Ended.{keys_line, log_line, stop_line};
+ghost use Rattle.flagops_service.specs.Ended.{cors_line, keys_line, log_line, stop_line};
 
 use log_file::LogFault;
-use ofrep_guards::KeyFault;
+use ofrep_guards::{KeyFault, OriginFault};
 
 /// Why the service does not start.
 #[derive(Clone, Copy, Debug, PartialEq, Eq)]
@@ -14,6 +14,8 @@ pub(crate) enum Stop {
     Unseeded,
     /// A flag is broken, and none is to be.
     BrokenFlags,
+    /// No browser names one of the origins so.
+    BadOrigin(OriginFault),
     /// The file of keys has none to ask for.
     NoKeys(NoKeys),
 }
@@ -36,6 +38,7 @@ impl Stop {
             Stop::NoLog(fault) => log_line(fault),
             Stop::Unseeded => "refused random 1 Unseeded\n",
             Stop::BrokenFlags => "refused flags 1 Broken\n",
+            Stop::BadOrigin(fault) => cors_line(fault),
             Stop::NoKeys(why) => keys_line(why),
         }
     }
@@ -50,8 +53,35 @@ impl Stop {
             Stop::BrokenFlags => {
                 "error: flags are broken\n  with --broken refuse none may be; \"flagops check DOC..\" names each\n"
             }
+            Stop::BadOrigin(fault) => why_no_origin(fault),
             Stop::NoKeys(why) => why_no_keys(why),
         }
+    }
+}
+
+/// The line of a refusal of an origin.
+fn cors_line(fault: OriginFault) -> &'static str
+    ensures { result.now ≡ cors_line fault }
+{
+    match fault {
+        OriginFault::NoOrigin => "refused cors 1 NoOrigin\n",
+        OriginFault::UpperCase => "refused cors 2 UpperCase\n",
+        OriginFault::Path => "refused cors 3 Path\n",
+        OriginFault::OwnPort => "refused cors 4 OwnPort\n",
+        OriginFault::BadByte => "refused cors 5 BadByte\n",
+    }
+}
+
+/// Why no browser names an origin so, for a person.
+pub(crate) fn why_no_origin(fault: OriginFault) -> &'static str {
+    match fault {
+        OriginFault::NoOrigin =>
+            "an origin is a scheme, \"://\" and a host, as https://app.example.com, or with a port behind it",
+        OriginFault::UpperCase => "browsers write origins in lower case",
+        OriginFault::Path => "nothing stands behind the host and its port, not even a slash",
+        OriginFault::OwnPort => "browsers leave out the port 80 of http and 443 of https",
+        OriginFault::BadByte =>
+            "no host has such a character; browsers write names beyond ASCII as xn--..",
     }
 }
 
@@ -88,12 +118,12 @@ fn keys_line(why: NoKeys) -> &'static str
         NoKeys::Unusable(KeyFault::WantOfMemory) => "refused keys 0 WantOfMemory\n",
         NoKeys::Unusable(KeyFault::NoKey) => "refused keys 2 NoKey\n",
         NoKeys::Unusable(KeyFault::TooLarge) => "refused keys 3 TooLarge\n",
-        NoKeys::Unusable(KeyFault::BadKey) => "refused keys 4 BadKey\n",
+        NoKeys::Unusable(KeyFault::BadKey(_)) => "refused keys 4 BadKey\n",
     }
 }
 
-/// Why there are no keys, for a person.
-pub(crate) fn why_no_keys(why: NoKeys) -> &'static str {
+/// Why there are no keys, for a person, where the file is not named.
+fn why_no_keys(why: NoKeys) -> &'static str {
     match why {
         NoKeys::Unreadable => {
             "error: the file of --keys cannot be read\n  it is a file with a key on each line\n"
@@ -107,7 +137,7 @@ pub(crate) fn why_no_keys(why: NoKeys) -> &'static str {
         NoKeys::Unusable(KeyFault::TooLarge) => {
             "error: the file of --keys has more than 65536 bytes\n"
         }
-        NoKeys::Unusable(KeyFault::BadKey) => {
+        NoKeys::Unusable(KeyFault::BadKey(_)) => {
             "error: a line of the file of --keys is no key\n  a key has 16 bytes at least, all of them visible ASCII; there are no blank lines\n"
         }
     }

@@ -1,6 +1,6 @@
 //! What a person is told while documents are answered from. It changes no answer.
 use crate::asked::Answering;
-use crate::preparing::{LISTEN, MOST_SUBSCRIBERS};
+use crate::preparing::{LISTEN, most_subscribers};
 use crate::taking::Unfit;
 use file_diagnostics::{of_definition_errors, of_document, quoted_name};
 use flag_defs::Flags;
@@ -8,6 +8,7 @@ use flag_regressions::Regression;
 use flag_text::Outlet;
 use flagops_streams::say;
 use ofrep_guards::KeyFault;
+use ofrep_service::AdminPost;
 use ofrep_worker::WithoutRecord;
 use source_merge::SourceFault;
 use std::alloc::{AllocError, Global};
@@ -35,13 +36,38 @@ pub(crate) fn say_listening<E: Outlet>(alloc: Global, err: &mut E, answering: &A
         );
     }
     if let Some(port) = answering.stream {
+        let most = most_subscribers(answering);
         say_made(
             err,
             format!(in alloc;
-                "ofrep: streams snapshots on 127.0.0.1:{port}, to at most {MOST_SUBSCRIBERS} subscribers at once\n"
+                "ofrep: streams snapshots on 127.0.0.1:{port}, to at most {most} subscribers at once\n"
             ),
         );
     }
+}
+
+/// Where operations are asked for, where they have an address of their own.
+pub(crate) fn say_operations<E: Outlet>(
+    alloc: Global,
+    err: &mut E,
+    admin: &Option<AdminPost>,
+    allow_stop: bool,
+) {
+    let Some(post) = admin else {
+        return;
+    };
+    let Ok(address) = post.address() else {
+        return;
+    };
+    let ends = if allow_stop {
+        "; POST /stop there ends it"
+    } else {
+        ""
+    };
+    say_made(
+        err,
+        format!(in alloc; "ofrep: serves /healthz, /readyz and /metrics on {address}{ends}\n"),
+    );
 }
 
 /// Whether anything is recorded, and where, and what becomes of an answer that can't be.
@@ -66,12 +92,12 @@ fn say_recording<E: Outlet>(alloc: Global, err: &mut E, answering: &Answering<'_
     }
 }
 
-/// Why the service has ended: its workers have, where they had begun, or no thread could be made for one of them.
-pub(crate) fn say_ended<E: Outlet>(err: &mut E, had_begun: bool) {
-    if had_begun {
+/// Why the service has ended: it was asked to stop, and its workers have ended; or no thread could be made for one of them.
+pub(crate) fn say_ended<E: Outlet>(err: &mut E, was_stopped: bool) {
+    if was_stopped {
         say(
             err,
-            "ofrep: the workers have ended, for want of memory or by the system\n",
+            "ofrep: stopped, as was asked for; no answer is under way\n",
         );
     } else {
         say(
@@ -151,10 +177,32 @@ pub(crate) fn say_keys_kept<E: Outlet>(err: &mut E, why: Result<String, AllocErr
 
 /// Why what a file has are no keys.
 pub(crate) fn say_keys_refused<E: Outlet>(alloc: Global, err: &mut E, path: &str, fault: KeyFault) {
-    say_keys_kept(
-        err,
-        format!(in alloc; "ofrep: \"{path}\" is refused: {fault}\n"),
-    );
+    let why = match of_bad_keys(alloc, path, fault) {
+        Ok(why) => format!(in alloc; "ofrep: {why}\n"),
+        Err(AllocError) => Err(AllocError),
+    };
+    say_keys_kept(err, why);
+}
+
+/// Why what the file at a path has are no keys, and in which of its lines.
+pub(crate) fn of_bad_keys(
+    alloc: Global,
+    path: &str,
+    fault: KeyFault,
+) -> Result<String, AllocError> {
+    let path = quoted_name(alloc, path)?;
+    match fault {
+        KeyFault::BadKey(Some(at)) => {
+            let line = at.saturating_add(1);
+            format!(in alloc;
+                "line {line} of {path} is no key, which has 16 bytes at least, all of them visible ASCII"
+            )
+        }
+        KeyFault::BadKey(None) => format!(in alloc; "{path} is no text in UTF-8"),
+        KeyFault::NoKey | KeyFault::TooLarge | KeyFault::WantOfMemory => {
+            format!(in alloc; "{path} has no keys: {fault}")
+        }
+    }
 }
 
 /// Why the text of a document is not set.

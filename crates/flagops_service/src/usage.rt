@@ -1,10 +1,10 @@
 //! What `ofrep` takes, in the terms of `clap`.
 ghost use Rattle.std.specs.Prelude.{◌≡◌, IfOk, false};
 ghost use Rattle.clap.specs.Words.{app_of, rule_of};
-ghost use Rattle.flagops_service.specs.Words.{ofrep_app, ofrep_begun, ofrep_chosen, ofrep_guarded, option_text, option_texts};
+ghost use Rattle.flagops_service.specs.Words.{ofrep_app, ofrep_begun, ofrep_chosen, ofrep_guarded, ofrep_operated, option_text, option_texts};
 
 use clap::{Arg, ArgAction, Command};
-use flagops_words::arguments::{option_number, some_words};
+use flagops_words::arguments::{flag, option_number, some_words};
 use flagops_words::{LARGEST_PORT, about};
 use std::alloc::{AllocError, Global};
 
@@ -74,10 +74,34 @@ fn chosen<'a>(alloc: Global) -> Result<Command<'a>, AllocError>
         "broken",
         "Refuse to start with a broken flag; or take each change of a document, though it breaks flags. Without it neither",
     );
-    guarded(alloc)?
+    operated(alloc)?
         .arg(remember)?
         .arg(without_record)?
         .arg(broken)
+}
+
+/// The command `ofrep` with the words that are texts, those that say who may ask, and those of operations.
+#[tactic(auto, unfolding(crate::specs::Words::ofrep_operated))]
+fn operated<'a>(alloc: Global) -> Result<Command<'a>, AllocError>
+    ensures { IfOk result (λ c. app_of c ≡ ofrep_operated) }
+{
+    let admin = text(
+        alloc,
+        "HOST:PORT",
+        "admin",
+        "Where /healthz, /readyz and /metrics are served, and not beside the flags",
+    );
+    let stop = flag(
+        alloc,
+        "allow-stop",
+        "POST /stop where --admin is served ends the service, with each answer under way sent",
+    );
+    let lines = flag(
+        alloc,
+        "access-log",
+        "A line of JSON for each request on the error output",
+    );
+    guarded(alloc)?.arg(admin)?.arg(stop)?.arg(lines)
 }
 
 /// The command `ofrep` with the words that are texts, and those that say who may ask.

@@ -4,8 +4,9 @@ ghost use Rattle.source_merge.specs.View.{sources_view};
 ghost use Rattle.flagops_service.specs.Merging.{Publishes};
 ghost use Rattle.flagops_service.specs.Rereading.{State, Watches, state_of};
 
+use crate::boards::show_published;
 use crate::keys::WatchedKeys;
-use crate::log_news::{LogNews, tell_news};
+use crate::log_news::{LogNews, tell_lines, tell_news};
 use crate::telling::{broken_in, say_made, say_published};
 use crate::watched::Watched;
 use flag_text::Outlet;
@@ -15,12 +16,18 @@ use log_file::LogPaths;
 use ofrep_service::Board;
 use snap_share::{Publisher, ShareFault, ShareName};
 use source_merge::SourceFault;
+use std::alloc::Global;
 use std::sync::Wait;
 use std::thread;
 use std::time::{Clock, Duration};
 
+/// How often in a second it looks whether the service is to stop, and the milliseconds between.
+const PARTS: u32 = 20;
+
+const PART_MILLIS: u64 = 50;
+
 /// Reads documents again after each pause of so many seconds, 0 for never, and publishes what they have become; and the file of keys.
-/// Each second it tells what has happened to logs.
+/// Each second it tells what has happened to logs. It ends once the service is to stop.
 pub(crate) fn watch<J: ShareName, R: Clock + LogPaths + Wait, F: FileSet, E: Outlet>(
     rt: &R,
     watched: &mut Watched<'_>,
@@ -37,7 +44,9 @@ pub(crate) fn watch<J: ShareName, R: Clock + LogPaths + Wait, F: FileSet, E: Out
     let mut waits = false;
     let mut told = LogNews::none();
     for turn in 0..u64::MAX {
-        thread::sleep(rt, Duration::from_secs(1));
+        if !rest(rt, watched.alloc, board, err) {
+            break;
+        }
         told = tell_news(board, told, err);
         if !is_turn(turn, poll) {
             continue;
@@ -51,6 +60,18 @@ pub(crate) fn watch<J: ShareName, R: Clock + LogPaths + Wait, F: FileSet, E: Out
     }
 }
 
+/// Waits for a second, or until the service is to stop; says whether it goes on. Meanwhile the lines of requests are told.
+fn rest<R: Clock + Wait, E: Outlet>(rt: &R, alloc: Global, board: &Board, err: &mut E) -> bool {
+    for _part in 0..PARTS {
+        if board.is_stopping() {
+            return false;
+        }
+        thread::sleep(rt, Duration::from_millis(PART_MILLIS));
+        tell_lines(rt, alloc, board, err);
+    }
+    true
+}
+
 /// Whether the documents are read again in the second of this number, where they are after so many seconds, 0 for never.
 fn is_turn(second: u64, poll: u64) -> bool
     requires { second < 2 ^ 64 - 1 }
@@ -61,7 +82,7 @@ fn is_turn(second: u64, poll: u64) -> bool
 
 /// Publishes what the documents make now, unless they are too large together or memory runs out. Says whether that was want of
 /// memory, so that it is to be tried again at the next reading.
-fn publish<J: ShareName, R: Wait, E: Outlet>(
+fn publish<J: ShareName, R: Clock + Wait, E: Outlet>(
     rt: &R,
     watched: &Watched<'_>,
     publisher: &mut Publisher<J>,
@@ -86,7 +107,7 @@ fn publish<J: ShareName, R: Wait, E: Outlet>(
     let (count, broken) = (flags.len(), broken_in(&flags));
     match publisher.publish(rt, watched.alloc, flags) {
         Ok(number) => {
-            board.publish(number);
+            show_published(rt, board, number);
             say_published(watched.alloc, err, number, count, broken);
             false
         }

@@ -10,7 +10,7 @@ use crate::asked::{Answering, OnBroken};
 use crate::usage::{LONGEST_POLL, MOST_REMEMBERED, MOST_WORKERS, command};
 use clap::{ArgMatches, Error};
 use flagops_words::arguments::missing_value;
-use flagops_words::matches::{number_or, texts_at};
+use flagops_words::matches::{flag_in, number_or, texts_at};
 use flagops_words::{LARGEST_PORT, spelled};
 use ofrep_worker::WithoutRecord;
 use std::alloc::{AllocError, Global};
@@ -71,6 +71,9 @@ fn answering_in<'a>(
         listen: text_at(matches, "ADDRESS:PORT"),
         cors: origins_in(alloc, matches)?,
         keys: text_at(matches, "FILE"),
+        admin: text_at(matches, "HOST:PORT"),
+        allow_stop: flag_in(matches, "allow-stop"),
+        access_log: flag_in(matches, "access-log"),
         log: text_at(matches, "FOLDER"),
         remember,
         without_record,

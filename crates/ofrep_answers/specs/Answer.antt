@@ -1,12 +1,12 @@
--- The answer to a request (OpenFeature Remote Evaluation Protocol: paths, status codes, bodies; RFC 9110: 304, 404, 405, 413, Allow, ETag, If-None-Match).
-use Rattle.std.specs.Prelude.{ℕ, Bool, List, [], codes, map, Option, Some, None, option_map, option_copied, Result, Ok, Err, if◌then◌else◌, string_bytes}
+-- The answer to a request (OpenFeature Remote Evaluation Protocol: paths, status codes, bodies; RFC 9110: 304, 404, 405, 413, Allow, ETag, HEAD, If-None-Match).
+use Rattle.std.specs.Prelude.{ℕ, Bool, ◌&&◌, ◌||◌, List, [], codes, drop, length, map, Option, Some, None, option_map, option_copied, unwrap_or, Result, Ok, Err, if◌then◌else◌, string_bytes}
 use Rattle.std.specs.List.{list_any}
 use Rattle.std.specs.Str.{bytes_eq}
 use Rattle.entity_tags.specs.Tag.{entity_tag, is_listed, opaque_tag}
 use Rattle.flag_defs.specs.Document.{Definitions}
 use Rattle.flag_resolve.specs.Resolved.{Resolved}
 use Rattle.flag_resolve.specs.declared.code.Code.{Code}
-use Rattle.flag_resolve.specs.declared.code.Code.TheVariants.{ParseError, InvalidContext}
+use Rattle.flag_resolve.specs.declared.code.Code.TheVariants.{ParseError, InvalidContext, FlagNotFound}
 use Rattle.flag_text.specs.Printing.{text_of}
 use Rattle.flag_text.specs.Shape.{Shape}
 use Rattle.logic_eval.specs.Run.{Reach}
@@ -23,8 +23,8 @@ use Rattle.ofrep_bodies.specs.Failure.{code_status}
 use Rattle.ofrep_contexts.specs.Context.{context_of}
 use Rattle.ofrep_contexts.specs.Way.{details_in}
 use Rattle.ofrep_contexts.specs.declared.fault.ContextFault.{ContextFault}
-use Rattle.ofrep_contexts.specs.declared.fault.ContextFault.TheVariants.{WantOfMemory, TooLarge, NotJson, BodyNotObject, NotObject, TooDeep}
-use Rattle.ofrep_requests.specs.Request.{key_in, method_at, place_of}
+use Rattle.ofrep_contexts.specs.declared.fault.ContextFault.TheVariants.{WantOfMemory, TooLarge, BodyTooDeep, NotJson, BodyNotObject, NotObject, TooDeep}
+use Rattle.ofrep_requests.specs.Request.{is_of_one_flag, key_in, method_at, one_flag_route, place_of, text_if}
 use Rattle.ofrep_requests.specs.declared.place.Place.{Place}
 use Rattle.ofrep_requests.specs.declared.place.Place.TheVariants.{OneFlag, EveryFlag, Health, Metrics, Nowhere}
 
@@ -66,7 +66,7 @@ abbrev pub nothing_here : Answered
 nothing_here = bare 404 (json (codes "{\"errorDetails\":\"nothing is served at this path\"}"))
 
 abbrev pub not_allowed : List ℕ → Answered
-not_allowed method = record { status = 405; allow = Some method; tag = None; body = json (codes "{\"errorDetails\":\"this path takes another method\"}"); reached = [] }
+not_allowed methods = record { status = 405; allow = Some methods; tag = None; body = json (codes "{\"errorDetails\":\"this path takes another method\"}"); reached = [] }
 
 abbrev pub too_large : Answered
 too_large = bare 413 (json (codes "{\"errorDetails\":\"the body is too large\"}"))
@@ -78,6 +78,7 @@ healthy = bare 200 (plain (codes "ok"))
 abbrev pub fault_code : ContextFault → Option Code
 fault_code WantOfMemory = None
 fault_code TooLarge = None
+fault_code BodyTooDeep = Some InvalidContext
 fault_code NotJson = Some ParseError
 fault_code BodyNotObject = Some InvalidContext
 fault_code NotObject = Some InvalidContext
@@ -100,9 +101,17 @@ abbrev pub one_in : Definitions → ℕ → List ℕ → List ℕ → Result Sha
 one_in flags moment key body (Ok context) = one_told key (evaluation flags key context moment)
 one_in flags moment key body (Err fault) = without_context (Some key) body fault
 
-abbrev pub one_flag : Definitions → ℕ → Option (List ℕ) → List ℕ → Answered
-one_flag flags moment None body = nothing_here
-one_flag flags moment (Some key) body = one_in flags moment key body (context_of body)
+-- what stands in a path in the place of the key, as it was sent
+abbrev pub segment_of : List ℕ → List ℕ
+segment_of path = if is_of_one_flag path then unwrap_or (text_if (drop (length one_flag_route) path)) path else path
+
+-- the path has no key: no flag is found
+abbrev pub no_key : List ℕ → Answered
+no_key path = failed (Some (segment_of path)) (Some FlagNotFound) (codes "the path has no key that can be decoded")
+
+abbrev pub one_flag : Definitions → ℕ → List ℕ → Option (List ℕ) → List ℕ → Answered
+one_flag flags moment path None body = no_key path
+one_flag flags moment path (Some key) body = one_in flags moment key body (context_of body)
 
 -- ---- every flag
 
@@ -127,16 +136,24 @@ every_in flags moment fields body (Err fault) = without_context None body fault
 -- ---- every request
 
 abbrev pub answer_at : Definitions → ℕ → Asked → Place → Answered
-answer_at flags moment r OneFlag = one_flag flags moment (key_in r.path) r.body
+answer_at flags moment r OneFlag = one_flag flags moment r.path (key_in r.path) r.body
 answer_at flags moment r EveryFlag = every_in flags moment r.if_none_match r.body (context_of r.body)
 answer_at flags moment r Health = healthy
 answer_at flags moment r Metrics = bare 200 counts
 answer_at flags moment r Nowhere = nothing_here
 
--- a place takes one method
+-- a place that takes a method takes a request of this one: HEAD where GET is taken (RFC 9110, 9.3.2)
+abbrev pub takes : List ℕ → List ℕ → Bool
+takes method requested = bytes_eq requested method || (bytes_eq method (codes "GET") && bytes_eq requested (codes "HEAD"))
+
+-- the methods that it takes, as the field Allow names them
+abbrev pub allow_of : List ℕ → List ℕ
+allow_of method = if bytes_eq method (codes "GET") then codes "GET, HEAD" else method
+
+-- a place takes one method, and no place takes another
 abbrev pub answer_by : Definitions → ℕ → Asked → Place → Option (List ℕ) → Answered
 answer_by flags moment r place None = nothing_here
-answer_by flags moment r place (Some method) = if bytes_eq r.method method then answer_at flags moment r place else not_allowed method
+answer_by flags moment r place (Some method) = if takes method r.method then answer_at flags moment r place else not_allowed (allow_of method)
 
 -- the answer to a request, of the flags at the moment in seconds
 abbrev pub answer_of : Definitions → ℕ → Asked → Answered

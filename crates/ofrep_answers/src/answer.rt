@@ -39,7 +39,7 @@ pub struct FlagReached {
 pub struct Answer {
     /// The status.
     pub status: StatusCode,
-    /// The method that the path takes, for the field `Allow`.
+    /// The methods that the path takes, for the field `Allow`.
     pub allow: Option<&'static str>,
     /// The entity tag of the body, for the field `ETag`.
     pub tag: Option<String>,
@@ -109,13 +109,13 @@ impl Answer {
         Answer::bare(alloc, StatusCode::PAYLOAD_TOO_LARGE, Content::Fixed(text))
     }
 
-    /// The answer at a path that takes this method and no other.
-    pub(crate) fn not_allowed(alloc: Global, method: &'static str) -> Answer
-        ensures { answer_view result ≡ spec.not_allowed method.now }
+    /// The answer at a path that takes these methods and no other.
+    pub(crate) fn not_allowed(alloc: Global, methods: &'static str) -> Answer
+        ensures { answer_view result ≡ spec.not_allowed methods.now }
     {
         Answer {
             status: StatusCode::METHOD_NOT_ALLOWED,
-            allow: Some(method),
+            allow: Some(methods),
             tag: None,
             content: Content::Fixed(r#"{"errorDetails":"this path takes another method"}"#),
             reached: Vec::new(alloc),

@@ -20,8 +20,9 @@ use flag_defs::Flags;
 use flag_resolve::{Reason, Resolution};
 use flag_text::{Tree, print_tree};
 use http::StatusCode;
+use json::Scratch;
 use ofrep_bodies::{evaluation_of, flags_body, status_of};
-use ofrep_contexts::{ContextFault, read_context};
+use ofrep_contexts::{ContextFault, read_context_with};
 use std::alloc::{AllocError, Global};
 
 /// The bodies of the flags that there are for the caller, and what the evaluations of all flags reached and how they ended.
@@ -40,12 +41,13 @@ pub(crate) fn every_flag(
     moment: u64,
     if_none_match: &[&[u8]],
     body: &[u8],
+    scratch: &mut Scratch,
 ) -> Result<Answer, AllocError>
     requires moment { moment < 2 ^ 53 }
     ensures exact { IfOk result (λ a. answer_view a ≡ spec.every_in (flags_view flags.now) moment (map (λ field. field.now) if_none_match.now) body.now (context_of body.now)) }
     ensures large { max_body < length body.now → IsOk result }
 {
-    match read_context(alloc, body) {
+    match read_context_with(alloc, body, scratch) {
         Ok(context) => {
             let told = told_flags(alloc, flags, moment, &context)?;
             tagged(alloc, if_none_match, told)

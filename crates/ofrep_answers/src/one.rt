@@ -1,13 +1,14 @@
 //! The answer to a request for one flag.
-ghost use Rattle.std.specs.Prelude.{◌≡◌, ◌<◌, ◌≢◌, ◌^◌, true, Some, IfOk, IsOk, option_copied, option_map};
+ghost use Rattle.std.specs.Prelude.{◌≡◌, ◌<◌, ◌≢◌, ◌^◌, true, Some, IfOk, IsOk, option_copied, option_map, unwrap_or};
 ghost use Rattle.flag_defs.specs.Flags.{flags_view};
 ghost use Rattle.flag_text.specs.Shape.{is_tidy};
 ghost use Rattle.flag_text.specs.View.{view};
-ghost use Rattle.ofrep_answers.specs.Answer.{answer_view, failed, fault_code, one_told};
+ghost use Rattle.ofrep_answers.specs.Answer.{answer_view, failed, fault_code, one_told, segment_of};
 ghost use Rattle.ofrep_answers.specs.Answer as spec;
 ghost use Rattle.ofrep_answers.specs.Evaluation.{evaluation};
 ghost use Rattle.ofrep_contexts.specs.Context.{context_of};
 ghost use Rattle.ofrep_requests.specs.Request as request;
+ghost use Rattle.ofrep_requests.specs.Request.{text_if};
 
 use crate::answer::{Answer, Content, push_reached};
 use crate::evaluation::evaluate;
@@ -15,10 +16,18 @@ use crate::reasons::Reasons;
 use flag_defs::Flags;
 use flag_resolve::Code;
 use flag_text::{Tree, print_tree};
+use json::Scratch;
 use ofrep_bodies::{code_status, evaluation_text, failure_body, status_of};
-use ofrep_contexts::{ContextFault, details_in, read_context};
+use ofrep_contexts::{ContextFault, details_in, read_context_with};
 use ofrep_requests::key_in;
 use std::alloc::{AllocError, Global};
+use std::str;
+
+/// What stands before the key in the path of one flag's evaluation.
+const ONE_FLAG_ROUTE: &[u8] = b"/ofrep/v1/evaluate/flags/";
+
+/// What is wrong with a path in which no key can be read.
+const NO_KEY: &str = "the path has no key that can be decoded";
 
 /// The answer to the request for one flag that this path and this body make.
 pub(crate) fn one_flag(
@@ -27,13 +36,35 @@ pub(crate) fn one_flag(
     moment: u64,
     path: &str,
     body: &[u8],
+    scratch: &mut Scratch,
 ) -> Result<Answer, AllocError>
     requires moment { moment < 2 ^ 53 }
-    ensures { IfOk result (λ a. answer_view a ≡ spec.one_flag (flags_view flags.now) moment (request.key_in path.now) body.now) }
+    ensures { IfOk result (λ a. answer_view a ≡ spec.one_flag (flags_view flags.now) moment path.now (request.key_in path.now) body.now) }
 {
     match key_in(alloc, path)? {
-        Some(key) => one_in(alloc, flags, moment, key.as_str(), body),
-        None => Ok(Answer::nothing_here(alloc)),
+        Some(key) => one_in(alloc, flags, moment, key.as_str(), body, scratch),
+        None => failed(alloc, Some(segment_in(path)), Code::FlagNotFound, NO_KEY),
+    }
+}
+
+/// What stands in a path in the place of the key, as it was sent; the path, where it is of no flag.
+fn segment_in(path: &str) -> &str
+    ensures { result.now ≡ segment_of path.now }
+{
+    match path.as_bytes().strip_prefix(ONE_FLAG_ROUTE) {
+        Some(segment) => text_or(segment, path),
+        None => path,
+    }
+}
+
+/// The bytes as a text, or another text where they are none.
+#[tactic(auto, using(ofrep_requests::proofs::Texts::text_if_utf8, ofrep_requests::proofs::Texts::text_if_not))]
+fn text_or<'a>(bytes: &'a [u8], other: &'a str) -> &'a str
+    ensures { result.now ≡ unwrap_or (text_if bytes.now) other.now }
+{
+    match str::from_utf8(bytes) {
+        Ok(text) => text,
+        Err(_) => other,
     }
 }
 
@@ -44,11 +75,12 @@ fn one_in(
     moment: u64,
     key: &str,
     body: &[u8],
+    scratch: &mut Scratch,
 ) -> Result<Answer, AllocError>
     requires moment { moment < 2 ^ 53 }
     ensures { IfOk result (λ a. answer_view a ≡ spec.one_in (flags_view flags.now) moment key.now body.now (context_of body.now)) }
 {
-    match read_context(alloc, body) {
+    match read_context_with(alloc, body, scratch) {
         Ok(context) => one_told(alloc, flags, moment, key, &context),
         Err(ContextFault::WantOfMemory) => Err(AllocError),
         Err(fault) => without_context(alloc, Some(key), body, fault),
@@ -115,6 +147,7 @@ fn fault_code(fault: ContextFault) -> Option<Code>
     match fault {
         ContextFault::WantOfMemory | ContextFault::TooLarge => None,
         ContextFault::NotJson => Some(Code::ParseError),
+        ContextFault::BodyTooDeep => Some(Code::InvalidContext),
         ContextFault::BodyNotObject => Some(Code::InvalidContext),
         ContextFault::NotObject => Some(Code::InvalidContext),
         ContextFault::TooDeep => Some(Code::InvalidContext),

@@ -1,2 +1,3 @@
 mod Peers
 mod Sockets
+mod Turns

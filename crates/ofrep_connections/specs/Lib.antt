@@ -1,2 +1,3 @@
 pub mod Socket
 pub mod Stand
+pub mod Refused

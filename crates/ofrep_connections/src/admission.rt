@@ -1,10 +1,11 @@
 //! Which connections a worker takes, and when.
 ghost use Rattle.ofrep_connections.specs.Stand.{PeerStands, PeersStand};
 
+use crate::closing::leave;
 use crate::load::LoadShare;
 use crate::peer::Peer;
 use crate::socket::Socket;
-use crate::work::{Making, leave};
+use crate::work::Making;
 use http_server::Connection;
 use mio::Registry;
 use mio::net::{TcpListener, TcpStream};
@@ -12,6 +13,7 @@ use recorded_answers::Recording;
 use slab::Slab;
 use std::io::{Error, ErrorKind};
 use std::time::Instant;
+use traffic::Closing;
 
 /// The most connections of a worker. For a further one the one is closed that has had nothing to do for the longest time.
 pub(crate) const MAX_PEERS: usize = 1024;
@@ -85,7 +87,7 @@ impl Queue {
 /// Accepts this worker's share of the waiting connections, and more where the other workers have left them waiting for long.
 /// Returns the state of the queue afterwards.
 pub(crate) fn admit<S: Recording>(
-    making: Making,
+    making: Making<'_>,
     now: Instant,
     registry: &Registry,
     listener: &TcpListener,
@@ -121,7 +123,7 @@ pub(crate) fn admit<S: Recording>(
 
 /// Makes a peer of a socket. Where the worker has as many as it may, another is closed for it.
 fn take<S: Recording, T: Socket + Drop>(
-    making: Making,
+    making: Making<'_>,
     now: Instant,
     registry: &Registry,
     socket: T,
@@ -131,7 +133,7 @@ fn take<S: Recording, T: Socket + Drop>(
     requires { PeersStand S.stands T.contents service.now peers.old }
     ensures { PeersStand S.stands T.contents service.now peers.new }
 {
-    make_room(registry, service, peers);
+    make_room(making, registry, service, peers);
     let key = peers.vacant_key();
     if key >= MAX_PEERS {
         return;
@@ -141,13 +143,17 @@ fn take<S: Recording, T: Socket + Drop>(
         socket,
         connection,
         active: now,
+        begun: None,
+        dropping: None,
     };
     let is_registered = peer.socket.register(registry, key).is_ok();
+    making.traffic.count_taken();
     welcome(service, peers, peer, is_registered);
 }
 
 /// Closes the connection that has had nothing to do for the longest time, where the worker has as many as it may.
 fn make_room<S: Recording, T: Socket + Drop>(
+    making: Making<'_>,
     registry: &Registry,
     service: &S,
     peers: &mut Slab<Peer<T>>,
@@ -159,6 +165,7 @@ fn make_room<S: Recording, T: Socket + Drop>(
         return;
     }
     if let Some(key) = longest_idle(peers) {
+        making.traffic.count_closing(Closing::Displaced);
         leave(registry, service, peers, key);
     }
 }

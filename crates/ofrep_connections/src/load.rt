@@ -1,5 +1,6 @@
 //! How the workers of a listener share the connections that come.
 use std::sync::atomic::{AtomicUsize, Ordering};
+use traffic::Traffic;
 
 /// How many workers take the connections of a listener, and how many connections they hold together.
 #[derive(Drop)]
@@ -22,14 +23,19 @@ impl Load {
 #[derive(Drop)]
 pub(crate) struct LoadShare<'a> {
     load: &'a Load,
+    traffic: &'a Traffic,
     held: usize,
 }
 
 impl<'a> LoadShare<'a> {
     /// The share of a worker that begins.
-    pub(crate) fn begin(load: &'a Load) -> LoadShare<'a> {
+    pub(crate) fn begin(load: &'a Load, traffic: &'a Traffic) -> LoadShare<'a> {
         load.workers.fetch_add(1, Ordering::SeqCst);
-        LoadShare { load, held: 0 }
+        LoadShare {
+            load,
+            traffic,
+            held: 0,
+        }
     }
 
     /// The worker holds so many connections now.
@@ -39,6 +45,7 @@ impl<'a> LoadShare<'a> {
         } else if held < self.held {
             self.load.held.fetch_sub(self.held - held, Ordering::SeqCst);
         }
+        self.traffic.move_open(self.held, held);
         self.held = held;
     }
 

@@ -1,10 +1,11 @@
 //! One connection over a socket that does not block.
-ghost use Rattle.std.specs.Prelude.{◌≡◌, List, take, IfOk, OnErr};
+ghost use Rattle.std.specs.Prelude.{◌≡◌, ◌<◌, List, length, take, IfOk, OnErr};
 ghost use Rattle.std.specs.Io.KnownBytes.{append_known};
 ghost use Rattle.http_server.specs.Connection.{config_of, history};
 ghost use Rattle.http_server.specs.Exchange.{Call, Chain};
 ghost use Rattle.http_server.specs.History.{IsServed, after_sent};
 ghost use Rattle.recorded_answers.specs.Stand.{AllStand};
+ghost use Rattle.ofrep_connections.specs.Refused.{late_text};
 ghost use Rattle.ofrep_connections.specs.Socket.{Exchanges};
 
 use crate::socket::Socket;
@@ -18,12 +19,25 @@ use std::time::Instant;
 /// How often a connection is read or written before others have their turn.
 const MOST_TURNS: u32 = 4;
 
-/// A connection, its socket, and when it last had something to do.
+/// The answer to a request that did not come whole in time.
+const LATE: &[u8] =
+    b"HTTP/1.1 408 Request Timeout\r\nconnection: close\r\ncontent-length: 0\r\n\r\n";
+
+/// Once a request was refused, so many bytes are still read and dropped: a socket that is closed before they are may take the refusal
+/// from its client.
+const MOST_DROPPED: usize = 65_536;
+
+/// A connection and its socket.
 #[derive(Drop)]
 pub(crate) struct Peer<T> {
     pub(crate) socket: T,
     pub(crate) connection: Connection,
+    /// When it last had something to do.
     pub(crate) active: Instant,
+    /// When the first byte of the request came that is not whole yet, where there is one.
+    pub(crate) begun: Option<Instant>,
+    /// How many bytes are still dropped, once a request was refused.
+    pub(crate) dropping: Option<usize>,
 }
 
 /// Whether a peer stays.
@@ -40,7 +54,7 @@ impl<T: Socket> Peer<T> {
     /// Reads, answers and writes until the socket has nothing for now, or others have to have their turn. A read of fewer bytes
     /// than `room` took all that had come, so that the socket tells of what comes later; where no answer came of it the socket is
     /// asked all the same.
-    pub(crate) fn go_on<S: Recording>(&mut self, service: &mut S, room: usize) -> Stay
+    pub(crate) fn go_on<S: Recording>(&mut self, now: Instant, service: &mut S, room: usize) -> Stay
         requires { AllStand S.stands service.old (history self.old.connection).calls }
         ensures stand { AllStand S.stands service.new (history self.new.connection).calls }
         ensures chain { (calls : List Call) × Chain S.answers service.old calls service.new }
@@ -51,20 +65,73 @@ impl<T: Socket> Peer<T> {
             if is_read && !self.connection.wants_write() {
                 return Stay::Waits;
             }
+            let reads = !self.connection.wants_write();
             let mut all = false;
+            let mut comes = false;
             match self.move_bytes(service, room) {
-                Ok(is_all) => all = is_all,
+                Ok(is_all) => {
+                    all = is_all;
+                    comes = reads;
+                }
                 Err(e) if e.kind() == ErrorKind::Interrupted => {}
                 Err(e) if e.kind() == ErrorKind::WouldBlock => return Stay::Waits,
                 Err(_) => return Stay::Leaves,
             }
             self.connection.advance(service);
+            self.begun = begun_after(self.begun, comes, self.connection.wants_write(), now);
             if self.connection.is_done() {
                 return Stay::Leaves;
             }
             is_read = is_read || all && self.connection.wants_write();
         }
         Stay::Yields
+    }
+
+    /// Whether a request is under way, an answer is being sent, or what still comes is dropped.
+    pub(crate) fn is_occupied(&self) -> bool {
+        self.begun.is_some() || self.dropping.is_some() || self.connection.wants_write()
+    }
+
+    /// Sends nothing more, and begins to drop what still comes.
+    pub(crate) fn begin_dropping(&mut self)
+        ensures connection { self.new.connection ≡ self.old.connection }
+        ensures contents { T.contents self.new.socket ≡ T.contents self.old.socket }
+    {
+        self.dropping = Some(MOST_DROPPED);
+        let _ = self.socket.end_output();
+    }
+
+    /// Drops what has come, as far as that is still done.
+    pub(crate) fn drop_input(&mut self) -> Stay
+        ensures connection { self.new.connection ≡ self.old.connection }
+        ensures contents { T.contents self.new.socket ≡ T.contents self.old.socket }
+    {
+        let left = self.dropping.unwrap_or(0);
+        if left == 0 {
+            return Stay::Waits;
+        }
+        match self.socket.drop_input() {
+            Ok(0) => Stay::Leaves,
+            Ok(count) => {
+                self.dropping = Some(left.saturating_sub(count));
+                Stay::Yields
+            }
+            Err(e) if e.kind() == ErrorKind::Interrupted => Stay::Yields,
+            Err(e) if e.kind() == ErrorKind::WouldBlock => Stay::Waits,
+            Err(_) => Stay::Leaves,
+        }
+    }
+
+    /// Tells that a request did not come whole in time, where nothing else is being sent.
+    pub(crate) fn give_late(&mut self) -> io::Result<usize>
+        ensures given { IfOk result (λ n. T.contents self.new.socket ≡ append_known (T.contents self.old.socket) (take n late_text)) }
+        ensures ungiven { OnErr result (T.contents self.new.socket ≡ T.contents self.old.socket) }
+        ensures pending { 0 < length (history self.old.connection).pending → T.contents self.new.socket ≡ T.contents self.old.socket }
+    {
+        if self.connection.wants_write() {
+            return Err(ErrorKind::WouldBlock.into());
+        }
+        self.socket.give(LATE)
     }
 
     /// Has the system tell once more what the socket is ready for, where the peer yields to others.
@@ -94,6 +161,24 @@ impl<T: Socket> Peer<T> {
             return Err(ErrorKind::WriteZero.into());
         }
         Ok(false)
+    }
+}
+
+/// When the first byte of the request came that is not whole yet, once bytes have been moved or not: a connection that has something
+/// to send has taken the request that it had begun.
+fn begun_after(
+    begun: Option<Instant>,
+    comes: bool,
+    wants_write: bool,
+    now: Instant,
+) -> Option<Instant> {
+    if wants_write {
+        return None;
+    }
+    match begun {
+        Some(since) => Some(since),
+        None if comes => Some(now),
+        None => None,
     }
 }
 

@@ -8,8 +8,14 @@ use http_server::Connection;
 use mio::net::TcpStream;
 use mio::{Interest, Registry, Token};
 use std::io;
+use std::io::{Read, Write};
+use std::net::Shutdown;
 
-/// A socket that does not block. All that a connection reads comes from it, and all that it is given is what a connection sends.
+/// The most bytes that are dropped at once.
+const DROPPED_AT_ONCE: usize = 8_192;
+
+/// A socket that does not block. All that a connection reads comes from it, and all that it is given is what a connection sends and,
+/// where a request did not come whole in time, a last text that says so.
 pub(crate) trait Socket {
     // The bytes that are still to come from it, where they are known.
     ghost remaining: { Self → Option (List ℕ) };
@@ -30,6 +36,19 @@ pub(crate) trait Socket {
             × (contents self.new ≡ append_known (contents self.old) (take n (history connection.old).pending))) }
         ensures unsent { OnErr result ((connection.new ≡ connection.old) × (contents self.new ≡ contents self.old)) }
         ensures remaining { remaining self.new ≡ remaining self.old };
+
+    /// Is given a text once.
+    fn give(&mut self, text: &[u8]) -> io::Result<usize>
+        ensures given { IfOk result (λ n. contents self.new ≡ append_known (contents self.old) (take n text.now)) }
+        ensures ungiven { OnErr result (contents self.new ≡ contents self.old) };
+
+    /// Reads once, and drops what was read.
+    fn drop_input(&mut self) -> io::Result<usize>
+        ensures contents { contents self.new ≡ contents self.old };
+
+    /// Tells the other side that nothing more is sent.
+    fn end_output(&mut self) -> io::Result<()>
+        ensures contents { contents self.new ≡ contents self.old };
 
     /// Has the system tell what it is ready for.
     fn register(&mut self, registry: &Registry, key: usize) -> io::Result<()>
@@ -57,6 +76,19 @@ impl Socket for TcpStream {
 
     fn send(&mut self, connection: &mut Connection) -> io::Result<usize> {
         connection.write_to(self)
+    }
+
+    fn give(&mut self, text: &[u8]) -> io::Result<usize> {
+        self.write(text)
+    }
+
+    fn drop_input(&mut self) -> io::Result<usize> {
+        let mut room = [0u8; DROPPED_AT_ONCE];
+        self.read(&mut room)
+    }
+
+    fn end_output(&mut self) -> io::Result<()> {
+        self.shutdown(Shutdown::Write)
     }
 
     fn register(&mut self, registry: &Registry, key: usize) -> io::Result<()> {

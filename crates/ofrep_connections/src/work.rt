@@ -1,12 +1,13 @@
 //! The loop of a worker.
 ghost use Rattle.std.specs.Prelude.{List};
-ghost use Rattle.http_server.specs.Connection.{history};
 ghost use Rattle.http_server.specs.Exchange.{Call, Chain};
-ghost use Rattle.recorded_answers.specs.Stand.{AllStand, Works};
+ghost use Rattle.recorded_answers.specs.Stand.{Works};
 ghost use Rattle.ofrep_connections.specs.Stand.{PeersStand};
 
 use crate::admission::{MAX_PEERS, Queue, admit};
+use crate::closing::{drop_input, is_dropping, leave_due, leave_free, part};
 use crate::load::{Load, LoadShare};
+use crate::patience::Patience;
 use crate::peer::{Peer, Stay};
 use crate::socket::Socket;
 use http_server::Config;
@@ -21,22 +22,28 @@ use std::net::Net;
 use std::sync::atomic::{AtomicBool, Ordering};
 use std::time::{Clock, Duration, Instant};
 use std::{io, net};
+use traffic::Traffic;
 
 /// The token of the listener; those of the peers are below.
 const LISTENER: usize = MAX_PEERS;
 
-/// A connection that has nothing to do for so long is closed: longer than proxies mostly keep one, so that it is they who close it.
-const IDLE_SECONDS: u64 = 75;
+/// A worker that is to end answers what is under way for so many seconds.
+const END_SECONDS: u64 = 10;
 
-/// What the connections of a worker are made with.
+/// How long a wait lasts meanwhile.
+const END_MILLIS: u64 = 50;
+
+/// What the connections of a worker are made with, how long they are kept, and where they are counted.
 #[derive(Clone, Copy)]
-pub(crate) struct Making {
+pub(crate) struct Making<'a> {
     pub(crate) alloc: Global,
     pub(crate) keys: RandomState,
     pub(crate) config: Config,
+    pub(crate) patience: Patience,
+    pub(crate) traffic: &'a Traffic,
 }
 
-impl Making {
+impl Making<'_> {
     /// The size of a read of this event's socket: one of fewer bytes has emptied the socket. 0 where that does not hold: after the
     /// end of input, which the system reports only once, after an error, and with urgent data, before which a read stops.
     fn room(&self, event: &Event) -> usize {
@@ -47,9 +54,7 @@ impl Making {
     }
 }
 
-/// Answers connections of a listener, which must not block, until the flag is set or the system fails. After each wait, which lasts
-/// less than a second, the service looks whether what its answers rest on is still there. Workers that share a listener share its
-/// load: one that holds more connections than others leaves those that wait to them for a moment.
+/// As [`answer_connections_with`], with the usual patience, and counting nothing.
 pub fn answer_connections<S: Recording, R: Net + Clock>(
     rt: &R,
     alloc: Global,
@@ -62,24 +67,71 @@ pub fn answer_connections<S: Recording, R: Net + Clock>(
 ) -> io::Result<()>
     ensures { (turns : List (List Call)) × Works S.answers S.looked service.old turns service.new }
 {
-    let mut poll = Poll::new(rt)?;
-    let mut listener = TcpListener::from_std(listener);
-    poll.registry()
-        .register(&mut listener, Token(LISTENER), Interest::READABLE)?;
-    let mut peers = Slab::new(alloc);
-    let mut events = Events::with_capacity(alloc, 256)?;
+    let traffic = Traffic::new();
     let making = Making {
         alloc,
         keys,
         config,
+        patience: Patience::default(),
+        traffic: &traffic,
     };
-    let mut share = LoadShare::begin(load);
-    let ended = turn(
+    answer_made(rt, making, listener, load, stop, service)
+}
+
+/// Answers connections of a listener, which must not block, until the flag is set or the system fails. After each wait, which lasts
+/// less than a second, the service looks whether what its answers rest on is still there. Workers that share a listener share its
+/// load: one that holds more connections than others leaves those that wait to them for a moment. How long connections are kept
+/// `patience` says; they, and the requests that reach no service, are counted in `traffic`.
+///
+/// Once the flag is set no further connection is taken, each is closed that has nothing under way, and the call ends when none is
+/// left, or after ten seconds.
+pub fn answer_connections_with<S: Recording, R: Net + Clock>(
+    rt: &R,
+    alloc: Global,
+    keys: RandomState,
+    config: Config,
+    patience: Patience,
+    traffic: &Traffic,
+    listener: net::TcpListener,
+    load: &Load,
+    stop: &AtomicBool,
+    service: &mut S,
+) -> io::Result<()>
+    ensures { (turns : List (List Call)) × Works S.answers S.looked service.old turns service.new }
+{
+    let making = Making {
+        alloc,
+        keys,
+        config,
+        patience,
+        traffic,
+    };
+    answer_made(rt, making, listener, load, stop, service)
+}
+
+fn answer_made<S: Recording, R: Net + Clock>(
+    rt: &R,
+    making: Making<'_>,
+    listener: net::TcpListener,
+    load: &Load,
+    stop: &AtomicBool,
+    service: &mut S,
+) -> io::Result<()>
+    ensures { (turns : List (List Call)) × Works S.answers S.looked service.old turns service.new }
+{
+    let mut poll = Poll::new(rt)?;
+    let mut listener = TcpListener::from_std(listener);
+    poll.registry()
+        .register(&mut listener, Token(LISTENER), Interest::READABLE)?;
+    let mut events = Events::with_capacity(making.alloc, 256)?;
+    let mut peers = Slab::new(making.alloc);
+    let mut share = LoadShare::begin(load, making.traffic);
+    let ended = answer_all(
         rt,
         making,
         &mut poll,
         &mut events,
-        &listener,
+        listener,
         &mut share,
         &mut peers,
         stop,
@@ -89,9 +141,34 @@ pub fn answer_connections<S: Recording, R: Net + Clock>(
     ended
 }
 
+/// Answers until the flag is set, and then what is under way.
+fn answer_all<S: Recording, R: Clock>(
+    rt: &R,
+    making: Making<'_>,
+    poll: &mut Poll,
+    events: &mut Events,
+    listener: TcpListener,
+    share: &mut LoadShare<'_>,
+    peers: &mut Slab<Peer<TcpStream>>,
+    stop: &AtomicBool,
+    service: &mut S,
+) -> io::Result<()>
+    requires { PeersStand S.stands ⟦<TcpStream as Socket>⟧.contents service.old peers.old }
+    ensures { (turns : List (List Call)) × Works S.answers S.looked service.old turns service.new }
+{
+    turn(
+        rt, making, poll, events, &listener, share, peers, stop, service,
+    )?;
+    let mut listener = listener;
+    let _ = poll.registry().deregister(&mut listener);
+    drop(listener);
+    end(rt, making, poll, events, share, peers, service)
+}
+
+/// Answers until the flag is set.
 fn turn<S: Recording, R: Clock>(
     rt: &R,
-    making: Making,
+    making: Making<'_>,
     poll: &mut Poll,
     events: &mut Events,
     listener: &TcpListener,
@@ -101,7 +178,8 @@ fn turn<S: Recording, R: Clock>(
     service: &mut S,
 ) -> io::Result<()>
     requires { PeersStand S.stands ⟦<TcpStream as Socket>⟧.contents service.old peers.old }
-    ensures { (turns : List (List Call)) × Works S.answers S.looked service.old turns service.new }
+    ensures turns { (turns : List (List Call)) × Works S.answers S.looked service.old turns service.new }
+    ensures stand { PeersStand S.stands ⟦<TcpStream as Socket>⟧.contents service.new peers.new }
 {
     let mut swept = Instant::now(rt)?;
     let mut queue = Queue::Empty;
@@ -109,42 +187,79 @@ fn turn<S: Recording, R: Clock>(
         if stop.load(Ordering::SeqCst) {
             return Ok(());
         }
-        poll.poll(events, Some(Duration::from_millis(queue.pause_millis())))?;
-        let now = Instant::now(rt)?;
-        service.look();
-        for event in events.iter() {
-            answer_event(
-                making,
-                now,
-                poll.registry(),
-                &mut queue,
-                peers,
-                event,
-                service,
-            );
-        }
+        let pause = queue.pause_millis();
+        let now = answer_ready(rt, making, poll, events, pause, &mut queue, peers, service)?;
         share.tell(peers.len());
+        let registry = poll.registry();
         queue = admit(
-            making,
-            now,
-            poll.registry(),
-            listener,
-            share,
-            queue,
-            service,
-            peers,
+            making, now, registry, listener, share, queue, service, peers,
         );
         if now.duration_since(swept).as_secs() > 0 {
-            leave_idle(now, poll.registry(), service, peers);
+            leave_due(making, now, registry, service, peers);
             swept = now;
         }
     }
     Ok(())
 }
 
+/// Answers what is under way, and closes each connection that has nothing under way, until none is left, or for some seconds.
+fn end<S: Recording, R: Clock>(
+    rt: &R,
+    making: Making<'_>,
+    poll: &mut Poll,
+    events: &mut Events,
+    share: &mut LoadShare<'_>,
+    peers: &mut Slab<Peer<TcpStream>>,
+    service: &mut S,
+) -> io::Result<()>
+    requires { PeersStand S.stands ⟦<TcpStream as Socket>⟧.contents service.old peers.old }
+    ensures { (turns : List (List Call)) × Works S.answers S.looked service.old turns service.new }
+{
+    let begun = Instant::now(rt)?;
+    let mut queue = Queue::Empty;
+    for _ in 0..u64::MAX {
+        leave_free(poll.registry(), service, peers);
+        share.tell(peers.len());
+        if peers.is_empty() {
+            return Ok(());
+        }
+        let now = answer_ready(
+            rt, making, poll, events, END_MILLIS, &mut queue, peers, service,
+        )?;
+        if now.duration_since(begun).as_secs() >= END_SECONDS {
+            return Ok(());
+        }
+    }
+    Ok(())
+}
+
+/// Waits for sockets, has the service look, and does what the sockets are ready for. Says when that was.
+fn answer_ready<S: Recording, R: Clock>(
+    rt: &R,
+    making: Making<'_>,
+    poll: &mut Poll,
+    events: &mut Events,
+    pause_millis: u64,
+    queue: &mut Queue,
+    peers: &mut Slab<Peer<TcpStream>>,
+    service: &mut S,
+) -> io::Result<Instant>
+    requires { PeersStand S.stands ⟦<TcpStream as Socket>⟧.contents service.old peers.old }
+    ensures turns { (turns : List (List Call)) × Works S.answers S.looked service.old turns service.new }
+    ensures stand { PeersStand S.stands ⟦<TcpStream as Socket>⟧.contents service.new peers.new }
+{
+    poll.poll(events, Some(Duration::from_millis(pause_millis)))?;
+    let now = Instant::now(rt)?;
+    service.look();
+    for event in events.iter() {
+        answer_event(making, now, poll.registry(), queue, peers, event, service);
+    }
+    Ok(now)
+}
+
 /// Does what a socket is ready for.
 fn answer_event<S: Recording, T: Socket + Drop>(
-    making: Making,
+    making: Making<'_>,
     now: Instant,
     registry: &Registry,
     queue: &mut Queue,
@@ -161,12 +276,13 @@ fn answer_event<S: Recording, T: Socket + Drop>(
         *queue = queue.called(now);
     } else {
         let room = making.room(event);
-        attend(now, registry, peers, key, room, service);
+        attend(making, now, registry, peers, key, room, service);
     }
 }
 
 /// Goes on with one peer, and closes its connection where it leaves.
 fn attend<S: Recording, T: Socket + Drop>(
+    making: Making<'_>,
     now: Instant,
     registry: &Registry,
     peers: &mut Slab<Peer<T>>,
@@ -178,8 +294,10 @@ fn attend<S: Recording, T: Socket + Drop>(
     ensures stand { PeersStand S.stands T.contents service.new peers.new }
     ensures chain { (calls : List Call) × Chain S.answers service.old calls service.new }
 {
-    if visit(now, registry, peers, key, room, service) == Stay::Leaves {
-        leave(registry, service, peers, key);
+    if is_dropping(peers.get(key)) {
+        drop_input(registry, service, peers, key);
+    } else if visit(now, registry, peers, key, room, service) == Stay::Leaves {
+        part(making, registry, service, peers, key);
     }
 }
 
@@ -200,63 +318,7 @@ fn visit<S: Recording, T: Socket>(
         return Stay::Waits;
     };
     peer.active = now;
-    let stay = peer.go_on(service, room);
+    let stay = peer.go_on(now, service, room);
     peer.come_again(registry, key, stay);
     stay
-}
-
-/// Closes the connections that have had nothing to do for long.
-fn leave_idle<S: Recording, T: Socket + Drop>(
-    now: Instant,
-    registry: &Registry,
-    service: &S,
-    peers: &mut Slab<Peer<T>>,
-)
-    requires { PeersStand S.stands T.contents service.now peers.old }
-    ensures { PeersStand S.stands T.contents service.now peers.new }
-{
-    for key in 0..MAX_PEERS {
-        leave_if_idle(now, registry, service, peers, key);
-    }
-}
-
-/// Closes the connection of a peer that has had nothing to do for long.
-fn leave_if_idle<S: Recording, T: Socket + Drop>(
-    now: Instant,
-    registry: &Registry,
-    service: &S,
-    peers: &mut Slab<Peer<T>>,
-    key: usize,
-)
-    requires { PeersStand S.stands T.contents service.now peers.old }
-    ensures { PeersStand S.stands T.contents service.now peers.new }
-{
-    if is_idle(peers.get(key), now) {
-        leave(registry, service, peers, key);
-    }
-}
-
-/// Closes the connection of a peer.
-pub(crate) fn leave<S: Recording, T: Socket + Drop>(
-    registry: &Registry,
-    service: &S,
-    peers: &mut Slab<Peer<T>>,
-    key: usize,
-)
-    requires { PeersStand S.stands T.contents service.now peers.old }
-    ensures { PeersStand S.stands T.contents service.now peers.new }
-{
-    // The contract alone names the service.
-    let _ = service;
-    if let Some(mut peer) = peers.try_remove(key) {
-        let _ = peer.socket.deregister(registry);
-    }
-}
-
-/// Whether a peer has had nothing to do for long.
-fn is_idle<T>(peer: Option<&Peer<T>>, now: Instant) -> bool {
-    match peer {
-        Some(peer) => now.duration_since(peer.active).as_secs() >= IDLE_SECONDS,
-        None => false,
-    }
 }

@@ -6,7 +6,8 @@ use Rattle.flag_text.specs.Reading.{if_json, json_of, max_levels, shape_of}
 use Rattle.flag_text.specs.Readers.{find_member}
 use Rattle.flag_text.specs.Shape.{Shape, null, boolean, whole, other, text, list, object, Items, no_items, item, Members, no_members, member, levels, items_levels, members_levels}
 use Rattle.flag_text.specs.declared.fault.TextFault.TheVariants as text_fault
-use Rattle.ofrep_contexts.specs.Context.{body_context, context_in, max_body, read_as}
+use Rattle.ofrep_contexts.specs.Context.{body_context, context_in, max_body, read_as, whole_context}
+use Rattle.ofrep_contexts.specs.Deep.{is_too_deep}
 use Rattle.ofrep_contexts.specs.Law.{HasWays}
 use Rattle.ofrep_contexts.specs.Way.{first, way_to, way_in_items, way_in_members, way_in, way_of}
 use Rattle.ofrep_contexts.specs.declared.fault.ContextFault.{ContextFault}
@@ -83,13 +84,20 @@ of_tree other e = cc
 of_tree (text x) e = cc
 of_tree (list ts) e = cc
 
-of_doc : (b u : Bool) (j : _) → body_context (if b then Err text_fault.TooLarge else (if u then if_json j else Err text_fault.NotJson)) ≡ Err fault.TooDeep
+abbrev unread : Bool → Result Shape ContextFault
+unread b = Err (if b then fault.BodyTooDeep else fault.NotJson)
+
+not_deep : (b : Bool) → unread b ≡ Err fault.TooDeep → ⊥
+not_deep true e = cc
+not_deep false e = cc
+
+of_doc : (body : List ℕ) (b u : Bool) (j : _) → whole_context body (if b then Err text_fault.TooLarge else (if u then if_json j else Err text_fault.NotJson)) ≡ Err fault.TooDeep
     → is_some (way_of (if b then Err text_fault.TooLarge else (if u then if_json j else Err text_fault.NotJson))) ≡ true
-of_doc true u j e = cc
-of_doc false false j e = cc
-of_doc false true None e = cc
-of_doc false true (Some d) e = of_tree (shape_of d) e
+of_doc body true u j e = cc
+of_doc body false false j e = absurd (not_deep (is_too_deep body) e)
+of_doc body false true None e = absurd (not_deep (is_too_deep body) e)
+of_doc body false true (Some d) e = of_tree (shape_of d) e
 
 pub ways : HasWays
 ways [] e = cc
-ways (b ∷ bytes) e = of_doc (nat_lt max_body (length (b ∷ bytes))) (is_utf8 (b ∷ bytes)) (json_of (respelled (b ∷ bytes))) e
+ways (b ∷ bytes) e = of_doc (b ∷ bytes) (nat_lt max_body (length (b ∷ bytes))) (is_utf8 (b ∷ bytes)) (json_of (respelled (b ∷ bytes))) e

@@ -1,13 +1,15 @@
 -- The evaluation context that a request's body carries (OpenFeature Remote Evaluation Protocol: evaluationRequest; OpenFeature: evaluation context).
-use Rattle.std.specs.Prelude.{ℕ, List, [], ◌∷◌, codes, Option, Some, None, Result, Ok, Err}
+use Rattle.std.specs.Prelude.{ℕ, List, [], ◌∷◌, codes, if◌then◌else◌, Option, Some, None, Result, Ok, Err}
 use Rattle.limits.specs.Limits.{text_bytes}
 use Rattle.flag_text.specs.Readers.{find_member}
 use Rattle.flag_text.specs.Shape.{Shape, null, object, no_members}
 use Rattle.flag_text.specs.declared.fault.TextFault.{TextFault}
+use Rattle.flag_text.specs.declared.fault.TextFault.TheVariants as text_fault
+use Rattle.ofrep_contexts.specs.Deep.{is_too_deep}
 use Rattle.sent_numbers.specs.Sent.{if_shallow, sent_of}
 use Rattle.ofrep_contexts.specs.Fault.{of_text}
 use Rattle.ofrep_contexts.specs.declared.fault.ContextFault.{ContextFault}
-use Rattle.ofrep_contexts.specs.declared.fault.ContextFault.TheVariants.{BodyNotObject, NotObject}
+use Rattle.ofrep_contexts.specs.declared.fault.ContextFault.TheVariants.{BodyNotObject, BodyTooDeep, NotJson, NotObject}
 
 -- the most bytes of a body
 abbrev pub max_body : ℕ
@@ -35,7 +37,20 @@ body_context (Ok (object ms)) = context_in (find_member (codes "context") ms)
 body_context (Ok t) = Err BodyNotObject
 body_context (Err e) = Err (of_text e)
 
+-- why a body is not read as JSON: it nests too deep, or is no JSON text
+abbrev pub no_json : List ℕ → ContextFault
+no_json body = if is_too_deep body then BodyTooDeep else NotJson
+
+-- the context of a body with some bytes, as it was read
+abbrev pub whole_context : List ℕ → Result Shape TextFault → Result Shape ContextFault
+whole_context body (Ok t) = body_context (Ok t)
+whole_context body (Err text_fault.NotJson) = Err (no_json body)
+whole_context body (Err text_fault.WantOfMemory) = Err (of_text text_fault.WantOfMemory)
+whole_context body (Err text_fault.TooLarge) = Err (of_text text_fault.TooLarge)
+whole_context body (Err text_fault.TooDeep) = Err (of_text text_fault.TooDeep)
+whole_context body (Err text_fault.NotWhole) = Err (of_text text_fault.NotWhole)
+
 -- the context of a body: an empty one has the empty context
 abbrev pub context_of : List ℕ → Result Shape ContextFault
 context_of [] = Ok empty_context
-context_of (b ∷ bytes) = body_context (sent_of (b ∷ bytes) max_body)
+context_of (b ∷ bytes) = whole_context (b ∷ bytes) (sent_of (b ∷ bytes) max_body)

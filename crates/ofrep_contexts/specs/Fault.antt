@@ -3,12 +3,13 @@ use Rattle.std.specs.Prelude.{ℕ, List, codes}
 use Rattle.flag_text.specs.declared.fault.TextFault.{TextFault}
 use Rattle.flag_text.specs.declared.fault.TextFault.TheVariants as text_fault
 use Rattle.ofrep_contexts.specs.declared.fault.ContextFault.{ContextFault}
-use Rattle.ofrep_contexts.specs.declared.fault.ContextFault.TheVariants.{WantOfMemory, TooLarge, NotJson, BodyNotObject, NotObject, TooDeep}
+use Rattle.ofrep_contexts.specs.declared.fault.ContextFault.TheVariants.{WantOfMemory, TooLarge, BodyTooDeep, NotJson, BodyNotObject, NotObject, TooDeep}
 
 -- what is wrong, for people
 abbrev pub details_of : ContextFault → List ℕ
 details_of WantOfMemory = codes "out of memory"
 details_of TooLarge = codes "the body is too large"
+details_of BodyTooDeep = codes "the body nests deeper than 127 levels"
 details_of NotJson = codes "the body is no JSON text"
 details_of BodyNotObject = codes "the body is no object"
 details_of NotObject = codes "`context` is no object"

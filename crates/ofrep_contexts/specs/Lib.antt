@@ -1,4 +1,5 @@
 pub mod Context
+pub mod Deep
 pub mod Fault
 pub mod Law
 pub mod Way

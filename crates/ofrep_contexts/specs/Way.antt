@@ -7,7 +7,7 @@ use Rattle.flag_text.specs.declared.fault.TextFault.{TextFault}
 use Rattle.ofrep_contexts.specs.Context.{max_body}
 use Rattle.ofrep_contexts.specs.Fault.{details_of}
 use Rattle.ofrep_contexts.specs.declared.fault.ContextFault.{ContextFault}
-use Rattle.ofrep_contexts.specs.declared.fault.ContextFault.TheVariants.{WantOfMemory, TooLarge, NotJson, BodyNotObject, NotObject, TooDeep}
+use Rattle.ofrep_contexts.specs.declared.fault.ContextFault.TheVariants.{WantOfMemory, TooLarge, BodyTooDeep, NotJson, BodyNotObject, NotObject, TooDeep}
 use Rattle.sent_numbers.specs.Sent.{sent_of}
 
 -- the most bytes of a way
@@ -71,6 +71,7 @@ abbrev pub details_in : List ℕ → ContextFault → List ℕ
 details_in body TooDeep = details_at (way_of (sent_of body max_body))
 details_in body WantOfMemory = details_of WantOfMemory
 details_in body TooLarge = details_of TooLarge
+details_in body BodyTooDeep = details_of BodyTooDeep
 details_in body NotJson = details_of NotJson
 details_in body BodyNotObject = details_of BodyNotObject
 details_in body NotObject = details_of NotObject

@@ -5,12 +5,14 @@ ghost use Rattle.flag_text.specs.Outcome.{GivesUnless, seen_as};
 ghost use Rattle.flag_text.specs.Readers.{find_member};
 ghost use Rattle.flag_text.specs.Shape.{is_tidy, members_are_tidy};
 ghost use Rattle.flag_text.specs.View.{view, members_view};
-ghost use Rattle.ofrep_contexts.specs.Context.{body_context, context_of, max_body};
+ghost use Rattle.ofrep_contexts.specs.Context.{body_context, context_of, max_body, no_json};
 ghost use Rattle.ofrep_contexts.specs.Context as spec;
 
+use crate::deep::is_too_deep;
 use crate::fault::ContextFault;
-use flag_text::{Tree, position_of};
-use sent_numbers::{read_sent, shallow};
+use flag_text::{TextFault, Tree, position_of};
+use json::Scratch;
+use sent_numbers::{read_sent_with, shallow};
 use std::alloc::Global;
 
 /// The most bytes of a request's body.
@@ -20,8 +22,24 @@ pub const MAX_BODY: usize = limits::TEXT_BYTES;
 /// null, or the body is empty, it is the empty object. The body's other members are passed over. A number whose value is whole and in
 /// range is that whole number however it is spelled; any other is `Tree::Other`, which is in nobody's way until it is read.
 ///
-/// Refusals, in this order: `TooLarge`, before anything is read; `NotJson`; `BodyNotObject`; `NotObject`; `TooDeep`. The first, the second of bytes that are not UTF-8, and the context of an empty body take no memory.
+/// Refusals, in this order: `TooLarge`, before anything is read; `BodyTooDeep`; `NotJson`; `BodyNotObject`; `NotObject`; `TooDeep`. The
+/// first, the third of bytes that are not UTF-8, and the context of an empty body take no memory.
 pub fn read_context(alloc: Global, body: &[u8]) -> Result<Tree, ContextFault>
+    ensures exact { GivesUnless ContextFault.WantOfMemory view result (context_of body.now) }
+    ensures tidy { IfOk result (λ t. is_tidy (view t) ≡ true) }
+    ensures empty { length body.now ≡ 0 → IsOk result }
+    ensures large { IsErrOf result ContextFault.TooLarge ↔ (max_body < length body.now) }
+    ensures no_text { length body.now ≤ max_body → is_utf8 body.now ≡ false → IsErrOf result ContextFault.NotJson }
+{
+    read_context_with(alloc, body, &mut Scratch::new(alloc))
+}
+
+/// As [`read_context`], with room that the caller keeps from body to body. What the room holds makes no difference.
+pub fn read_context_with(
+    alloc: Global,
+    body: &[u8],
+    scratch: &mut Scratch,
+) -> Result<Tree, ContextFault>
     ensures exact { GivesUnless ContextFault.WantOfMemory view result (context_of body.now) }
     ensures tidy { IfOk result (λ t. is_tidy (view t) ≡ true) }
     ensures empty { length body.now ≡ 0 → IsOk result }
@@ -31,8 +49,22 @@ pub fn read_context(alloc: Global, body: &[u8]) -> Result<Tree, ContextFault>
     if body.is_empty() {
         return Ok(Tree::Object(Vec::new(alloc)));
     }
-    let tree = read_sent(alloc, body, MAX_BODY)?;
-    body_context(alloc, tree)
+    match read_sent_with(alloc, body, MAX_BODY, scratch) {
+        Ok(tree) => body_context(alloc, tree),
+        Err(TextFault::NotJson) => Err(no_json(body)),
+        Err(fault) => Err(ContextFault::from(fault)),
+    }
+}
+
+/// Why a body is not read as JSON: it nests too deep, or is no JSON text.
+fn no_json(body: &[u8]) -> ContextFault
+    ensures { result ≡ no_json body.now }
+{
+    if is_too_deep(body) {
+        ContextFault::BodyTooDeep
+    } else {
+        ContextFault::NotJson
+    }
 }
 
 /// The context of a body that was read.

@@ -16,6 +16,9 @@ pub enum ContextFault {
     /// There are more than 4,194,304 bytes.
     #[error("the body is too large")]
     TooLarge,
+    /// The body nests deeper than 127 levels, whatever else it is.
+    #[error("the body nests deeper than 127 levels")]
+    BodyTooDeep,
     /// The body is no JSON text in UTF-8.
     #[error("the body is no JSON text")]
     NotJson,
@@ -40,6 +43,7 @@ impl ContextFault {
         match self {
             ContextFault::WantOfMemory => "out of memory",
             ContextFault::TooLarge => "the body is too large",
+            ContextFault::BodyTooDeep => "the body nests deeper than 127 levels",
             ContextFault::NotJson => "the body is no JSON text",
             ContextFault::BodyNotObject => "the body is no object",
             ContextFault::NotObject => "`context` is no object",

@@ -7,12 +7,13 @@
 #![tactic(auto)]
 
 mod context;
+mod deep;
 mod details;
 mod fault;
 mod laws;
 mod way;
 
-pub use context::{MAX_BODY, read_context};
+pub use context::{MAX_BODY, read_context, read_context_with};
 pub use details::details_in;
 pub use fault::ContextFault;
 pub use laws::refused_contexts_have_ways;

@@ -22,3 +22,7 @@ three a b c d l m n x y z s t u is_s is_t is_u first second third =
     ∙ ap (λ (v : FieldValue). a ++ ((l, v.bytes) ∷ (m, y.bytes) ∷ (n, z.bytes) ∷ [])) is_s
     ∙ ap (λ (v : FieldValue). a ++ ((l, s) ∷ (m, v.bytes) ∷ (n, z.bytes) ∷ [])) is_t
     ∙ ap (λ (v : FieldValue). a ++ ((l, s) ∷ (m, t) ∷ (n, v.bytes) ∷ [])) is_u
+
+-- one is that one
+pub one : (a b : List Header) (l : List ℕ) (x : FieldValue) (s : List ℕ) → x ≡ plain_value s → b ≡ a ++ (l, x.bytes) ∷ [] → b ≡ a ++ ((l, s) ∷ [])
+one a b l x s is first = first ∙ ap (λ (v : FieldValue). a ++ (l, v.bytes) ∷ []) is

@@ -17,7 +17,7 @@ use Rattle.ofrep_guards.specs.declared.held.KeyRing.{KeyRing}
 use Rattle.ofrep_guards.specs.declared.reply.Reply.{Reply}
 use Rattle.ofrep_guards.specs.declared.reply.Reply.TheVariants.{Forbidden, Elsewhere, Preflight, Unauthorized, Unsupported}
 use Rattle.ofrep_guards.specs.declared.rules.Paths.{Paths}
-use Rattle.ofrep_guards.specs.declared.rules.Paths.TheVariants.{All, Evaluations, Operations}
+use Rattle.ofrep_guards.specs.declared.rules.Paths.TheVariants.{All, Evaluations}
 use Rattle.ofrep_guards.specs.declared.rules.Rules as code
 
 -- ---- media types
@@ -112,7 +112,6 @@ is_foreign listed (Some origin) = not (list_any (is_named origin) listed)
 abbrev pub serves : Paths → Place → Bool
 serves All place = true
 serves Evaluations place = evaluates place
-serves Operations place = not (evaluates place)
 
 -- none is needed, or the request shows one of the keys
 abbrev pub is_admitted : Option (List (List ℕ)) → Asked → Bool

@@ -1,6 +1,6 @@
 -- Keys of clients: a file of them, a line for each; and how a request shows one (RFC 6750, 2.1: Bearer; RFC 9110, 11.1 and 11.6.2: schemes of authentication, Authorization).
-use Rattle.std.specs.Prelude.{ℕ, ◌==◌, Bool, false, ◌&&◌, List, codes, length, map, take, drop, nat_lt, string_bytes, Option, Some, None, Result, Ok, Err, if◌then◌else◌}
-use Rattle.std.specs.List.{list_all, list_any}
+use Rattle.std.specs.Prelude.{ℕ, ◌==◌, Bool, false, not, ◌&&◌, List, codes, length, map, take, drop, nat_lt, string_bytes, Option, Some, None, Result, Ok, Err, if◌then◌else◌}
+use Rattle.std.specs.List.{list_any, position_from}
 use Rattle.std.specs.Str.{bytes_eq, is_utf8}
 use Rattle.std.specs.Str.Lines.{lines}
 use Rattle.std.specs.Char.{to_ascii_lowercase}
@@ -13,9 +13,18 @@ use Rattle.ofrep_guards.specs.declared.keys.Keys.{Keys}
 abbrev pub max_key_bytes : ℕ
 max_key_bytes = 65536
 
--- lines of which each is a key
+-- the place, from 0, of the first line that is no key
+abbrev pub bad_line : List (List ℕ) → Option ℕ
+bad_line keys = position_from (λ line. not (is_key line)) 0 keys
+
+-- these lines are the keys, unless one is none
+abbrev pub keys_unless : List (List ℕ) → Option ℕ → Result (List (List ℕ)) KeyFault
+keys_unless keys None = Ok keys
+keys_unless keys (Some at) = Err (BadKey (Some at))
+
+-- the lines of a text, of which each is a key
 abbrev pub keys_in : List ℕ → Result (List (List ℕ)) KeyFault
-keys_in bytes = if is_utf8 bytes && list_all is_key (lines bytes) then Ok (lines bytes) else Err BadKey
+keys_in bytes = if is_utf8 bytes then keys_unless (lines bytes) (bad_line (lines bytes)) else Err (BadKey None)
 
 -- the keys of a file
 abbrev pub keys_of : List ℕ → Result (List (List ℕ)) KeyFault

@@ -2,5 +2,9 @@ pub mod KeyLine
 pub mod Key
 pub mod Asked
 pub mod Reply
+pub mod Held
+pub mod Hosts
+pub mod Origin
+pub mod Admin
 pub mod Guard
 pub mod Laws

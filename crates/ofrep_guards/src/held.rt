@@ -1,6 +1,7 @@
 //! Keys that many guards share, and that change while they are in use.
-ghost use Rattle.std.specs.Prelude.{◌≡◌, IfOk};
+ghost use Rattle.std.specs.Prelude.{◌≡◌, IfOk, Some};
 ghost use Rattle.ofrep_guards.specs.Key.{keys_view};
+ghost use Rattle.ofrep_guards.specs.Held.{TakesOver};
 
 use crate::keys::Keys;
 use std::alloc::{AllocError, Global};
@@ -13,7 +14,7 @@ pub struct KeyRing {
     pub(crate) first: Keys,
     /// How often others were set.
     version: AtomicU64,
-    later: Mutex<Option<Keys>>,
+    later: Mutex<Later>,
 }
 
 impl KeyRing {
@@ -24,14 +25,29 @@ impl KeyRing {
         KeyRing {
             first: keys,
             version: AtomicU64::new(0),
-            later: Mutex::new(None),
+            later: Mutex::new(Later { keys: None }),
         }
     }
 
     /// Sets other keys. Each guard holds them in the place of the last ones from one of its next looks on.
     pub fn replace<R: Wait>(&self, rt: &R, keys: Keys) {
-        *self.later.lock(rt) = Some(keys);
+        self.later.lock(rt).set(keys);
         self.version.fetch_add(1, Ordering::SeqCst);
+    }
+}
+
+/// The keys that were set last, where others were set.
+#[derive(Drop)]
+pub(crate) struct Later {
+    pub(crate) keys: Option<Keys>,
+}
+
+impl Later {
+    /// Sets other keys.
+    pub(crate) fn set(&mut self, keys: Keys)
+        ensures { self.new.keys ≡ Some keys }
+    {
+        self.keys = Some(keys);
     }
 }
 
@@ -61,18 +77,32 @@ impl<'a> HeldKeys<'a> {
     /// Takes over the keys of the ring where others were set. Where memory runs out, or they are being set or taken over just now,
     /// they are taken over the next time.
     pub(crate) fn renew(&mut self) {
-        let version = self.ring.version.load(Ordering::SeqCst);
+        let ring = self.ring;
+        let version = ring.version.load(Ordering::SeqCst);
         if version == self.version {
             return;
         }
-        let Some(later) = self.ring.later.try_lock() else {
+        let Some(later) = ring.later.try_lock() else {
             return;
         };
-        if let Some(keys) = &*later {
-            if let Ok(keys) = keys.copied(self.alloc) {
+        if self.take_over(&later) {
+            self.version = version;
+        }
+    }
+
+    /// Takes over the keys that were set last, and says whether it did. Where memory runs out, or none were set, it holds what it held.
+    fn take_over(&mut self, later: &Later) -> bool
+        ensures { TakesOver later.now.keys self.old.keys self.new.keys result }
+    {
+        let Some(later) = &later.keys else {
+            return false;
+        };
+        match later.copied(self.alloc) {
+            Ok(keys) => {
                 self.keys = keys;
-                self.version = version;
+                true
             }
+            Err(AllocError) => false,
         }
     }
 }

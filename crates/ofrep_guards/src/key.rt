@@ -1,9 +1,9 @@
 //! The keys of clients.
-ghost use Rattle.std.specs.Prelude.{◌≡◌, ◌≢◌, IfErr, IfOk, MatchResult, Err, Ok, true};
+ghost use Rattle.std.specs.Prelude.{◌≡◌, ◌≢◌, IfErr, IfOk, MatchResult, Err, Ok, not, true};
 ghost use Rattle.std.specs.List.{list_all};
 ghost use Rattle.std.specs.Str.{bytes_eq};
 ghost use Rattle.std.specs.Str.Lines.{lines};
-ghost use Rattle.ofrep_guards.specs.Key.{bears, is_among, is_bearer, keys_in, keys_of, keys_view};
+ghost use Rattle.ofrep_guards.specs.Key.{bad_line, bears, is_among, is_bearer, keys_in, keys_of, keys_view};
 ghost use Rattle.ofrep_guards.specs.KeyLine.{is_key, is_visible};
 ghost use Rattle.ofrep_guards.specs.declared.key.KeyFault.TheVariants.{WantOfMemory};
 
@@ -32,9 +32,10 @@ pub enum KeyFault {
     /// It has more than 65,536 bytes.
     #[error("the file is too large")]
     TooLarge,
-    /// A line is no key: it has fewer than 16 bytes, or one that is no visible ASCII.
+    /// A line is no key: it has fewer than 16 bytes, or one that is no visible ASCII. Its place, from 0, where the bytes of the file
+    /// are a text.
     #[error("a line is no key")]
-    BadKey,
+    BadKey(Option<usize>),
 }
 
 impl From<AllocError> for KeyFault {
@@ -111,26 +112,25 @@ fn key_text(bytes: &[u8]) -> Result<&str, KeyFault>
 }
 
 /// The text of lines of which each is a key.
-#[tactic(auto, using(crate::proofs::KeyFiles::good, crate::proofs::KeyFiles::bad, crate::proofs::KeyFiles::no_text))]
+#[tactic(auto, using(crate::proofs::KeyFiles::good, crate::proofs::KeyFiles::bad, crate::proofs::KeyFiles::no_text, crate::proofs::KeyFiles::all_keys))]
 fn lines_text(bytes: &[u8]) -> Result<&str, KeyFault>
     ensures cases { MatchResult result (λ text. keys_in bytes.now ≡ Ok (lines text.now)) (λ fault. keys_in bytes.now ≡ Err fault) }
     ensures keys { IfOk result (λ text. list_all is_key (lines text.now) ≡ true) }
 {
     let Ok(text) = str::from_utf8(bytes) else {
-        return Err(KeyFault::BadKey);
+        return Err(KeyFault::BadKey(None));
     };
-    if are_keys(text) {
-        Ok(text)
-    } else {
-        Err(KeyFault::BadKey)
+    match bad_line(text) {
+        Some(at) => Err(KeyFault::BadKey(Some(at))),
+        None => Ok(text),
     }
 }
 
-/// Whether each line is a key.
-fn are_keys(text: &str) -> bool
-    ensures { result ≡ list_all is_key (lines text.now) }
+/// The place, from 0, of the first line that is no key.
+fn bad_line(text: &str) -> Option<usize>
+    ensures { result ≡ bad_line (lines text.now) }
 {
-    text.lines().all(|line| is_key(line.as_bytes()))
+    text.lines().position(|line| !is_key(line.as_bytes()))
 }
 
 fn is_key(line: &[u8]) -> bool

@@ -14,18 +14,28 @@
 //! fields, and without an origin just that answer (`Guards`). What the service's answers rest on stands as before (`Stands`).
 #![tactic(auto)]
 
+mod admin;
+mod admin_rules;
 mod asked;
 mod guard;
 mod held;
+mod hosts;
 mod key;
 mod keys;
+mod laws;
 mod media_type;
+mod origins;
 mod reply;
 mod replying;
 mod rules;
 
+pub use admin::AdminGuard;
+pub use admin_rules::AdminRules;
 pub use guard::{CountsStatus, Guard};
 pub use held::KeyRing;
+pub use hosts::OwnHosts;
 pub use key::{KeyFault, MOST_KEY_BYTES};
 pub use keys::Keys;
+pub use laws::operations_are_elsewhere;
+pub use origins::{OriginFault, origin_fault};
 pub use rules::{Paths, Rules};

@@ -17,6 +17,14 @@ pub(crate) enum Reply {
     Unauthorized,
     /// The body says to be encoded, or to be no JSON.
     Unsupported,
+    /// The request names another host than the listener's own, or a page of another origin.
+    Foreign,
+    /// The service stops from now on.
+    Stops,
+    /// The service is stopping, and so it is not ready.
+    Leaves,
+    /// The path takes another method, which is POST.
+    OnlyPost,
 }
 
 impl Reply {
@@ -30,6 +38,10 @@ impl Reply {
             Reply::Preflight => StatusCode::NO_CONTENT,
             Reply::Unauthorized => StatusCode::UNAUTHORIZED,
             Reply::Unsupported => StatusCode::UNSUPPORTED_MEDIA_TYPE,
+            Reply::Foreign => StatusCode::FORBIDDEN,
+            Reply::Stops => StatusCode::OK,
+            Reply::Leaves => StatusCode::SERVICE_UNAVAILABLE,
+            Reply::OnlyPost => StatusCode::METHOD_NOT_ALLOWED,
         }
     }
 
@@ -45,6 +57,12 @@ impl Reply {
             Reply::Unsupported => {
                 r#"{"errorDetails":"the body is encoded, or its type is not application/json"}"#
             }
+            Reply::Foreign => {
+                r#"{"errorDetails":"the request names another host than this listener's, or a page of another origin"}"#
+            }
+            Reply::Stops => r#"{"stops":true}"#,
+            Reply::Leaves => "the service is stopping",
+            Reply::OnlyPost => r#"{"errorDetails":"this path takes another method"}"#,
         }
     }
 }

@@ -2,13 +2,14 @@
 ghost use Rattle.std.specs.Prelude.{◌≡◌, ◌++◌, OnOk, option_copied};
 ghost use Rattle.http_server.specs.Response.{IsBlank, IsResponse, fields_of};
 ghost use Rattle.ofrep_guards.specs.Asked.{value_of};
-ghost use Rattle.ofrep_guards.specs.Reply.{Replies, Shares, challenge_fields, json_fields, origin_fields, page_fields, preflight_fields, reply_fields, reply_text, status_of};
+ghost use Rattle.ofrep_guards.specs.Reply.{Replies, Shares, challenge_fields, json_fields, origin_fields, page_fields, plain_fields, post_fields, preflight_fields, reply_fields, reply_text, status_of};
 
 use crate::reply::Reply;
 use bytes::BufMut;
 use http::header::{
     ACCESS_CONTROL_ALLOW_HEADERS, ACCESS_CONTROL_ALLOW_METHODS, ACCESS_CONTROL_ALLOW_ORIGIN,
-    ACCESS_CONTROL_EXPOSE_HEADERS, ACCESS_CONTROL_MAX_AGE, CONTENT_TYPE, VARY, WWW_AUTHENTICATE,
+    ACCESS_CONTROL_EXPOSE_HEADERS, ACCESS_CONTROL_MAX_AGE, ALLOW, CONTENT_TYPE, VARY,
+    WWW_AUTHENTICATE,
 };
 use http::{HeaderValue, StatusCode};
 use http_server::Response;
@@ -58,7 +59,9 @@ fn add_fields(
     ensures body { response.new.body ≡ response.old.body }
 {
     match reply {
-        Reply::Forbidden | Reply::Elsewhere => add_json(response),
+        Reply::Forbidden | Reply::Elsewhere | Reply::Foreign | Reply::Stops => add_json(response),
+        Reply::Leaves => add_plain(response),
+        Reply::OnlyPost => add_method(response),
         Reply::Preflight => {
             add_page(page, response)?;
             add_preflight(response)
@@ -106,7 +109,7 @@ fn add_preflight(response: &mut Response) -> Result<(), AllocError>
 {
     let post = HeaderValue::from_static("POST");
     response.add_header(ACCESS_CONTROL_ALLOW_METHODS, post)?;
-    let fields = HeaderValue::from_static("content-type, if-none-match, authorization");
+    let fields = HeaderValue::from_static("content-type, if-none-match, authorization, x-api-key");
     response.add_header(ACCESS_CONTROL_ALLOW_HEADERS, fields)?;
     response.add_header(ACCESS_CONTROL_MAX_AGE, HeaderValue::from_static("600"))
 }
@@ -128,5 +131,26 @@ fn add_json(response: &mut Response) -> Result<(), AllocError>
     ensures status { response.new.status ≡ response.old.status }
     ensures body { response.new.body ≡ response.old.body }
 {
+    response.add_header(CONTENT_TYPE, HeaderValue::from_static("application/json"))
+}
+
+/// Adds the media type of plain text.
+fn add_plain(response: &mut Response) -> Result<(), AllocError>
+    ensures fields { OnOk result (fields_of response.new ≡ fields_of response.old ++ plain_fields) }
+    ensures status { response.new.status ≡ response.old.status }
+    ensures body { response.new.body ≡ response.old.body }
+{
+    let plain = HeaderValue::from_static("text/plain; charset=utf-8");
+    response.add_header(CONTENT_TYPE, plain)
+}
+
+/// Adds the one method that is taken, and the media type of JSON.
+fn add_method(response: &mut Response) -> Result<(), AllocError>
+    ensures fields { OnOk result (fields_of response.new ≡ fields_of response.old ++ post_fields) }
+    ensures status { response.new.status ≡ response.old.status }
+    ensures body { response.new.body ≡ response.old.body }
+{
+    let post = HeaderValue::from_static("POST");
+    response.add_header(ALLOW, post)?;
     response.add_header(CONTENT_TYPE, HeaderValue::from_static("application/json"))
 }

@@ -24,8 +24,6 @@ pub enum Paths {
     All,
     /// The evaluations alone.
     Evaluations,
-    /// All but the evaluations: whether the service is ready, and what it counts.
-    Operations,
 }
 
 /// What a guard goes by: the origins whose pages may ask, or `*` for any; the keys of which a request for an evaluation has to
@@ -129,7 +127,6 @@ impl Paths {
         match self {
             Paths::All => true,
             Paths::Evaluations => evaluates(place),
-            Paths::Operations => !evaluates(place),
         }
     }
 }

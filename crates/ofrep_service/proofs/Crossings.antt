@@ -17,8 +17,10 @@ use Rattle.snap_share.specs.declared.history.ShareName as ShareName
 use Rattle.snap_share.specs.contracts.seat.ReadSeat as ReadSeat
 use Rattle.snap_share.proofs.Crossings.{ReadSeat-send}
 use Rattle.ofrep_connections.specs.contracts.load.Load as Load
+use Rattle.access_lines.proofs.Crossings.{AccessLines-sync}
 use Rattle.ofrep_guards.proofs.Crossings.{KeyRing-sync}
-use Rattle.ofrep_worker.specs.contracts.counts.Counts as Counts
+use Rattle.ofrep_worker.proofs.Crossings.{Counts-sync}
+use Rattle.ofrep_service.specs.contracts.admin.AdminPost as AdminPost
 use Rattle.ofrep_service.specs.contracts.board.Board as Board
 use Rattle.ofrep_service.specs.contracts.posts.Post as Post
 
@@ -41,33 +43,12 @@ Global-send = search (sendable, crosses) depth 20
 RandomState-send : IsSend RandomState.the_row
 RandomState-send = search (sendable, crosses) depth 40
 
-Counts-sync : IsSync Counts.the_row
-Counts-sync = search (sendable, crosses) depth 120
-
 Load-sync : IsSync Load.the_row
 Load-sync = search (sendable, crosses) depth 40
 
 Board-sync : IsSync Board.the_row
 Board-sync =
-    declared_sync Board.the_type (
-      Counts-sync,
-      (
-        Load-sync,
-        (
-          search (sendable, crosses) depth 40,
-          (
-            search (sendable, crosses) depth 40,
-            (
-              search (sendable, crosses) depth 40,
-              (
-                search (sendable, crosses) depth 40,
-                (search (sendable, crosses) depth 40, (search (sendable, crosses, KeyRing-sync) depth 40, tt)),
-              ),
-            ),
-          ),
-        ),
-      ),
-    )
+    declared_sync Board.the_type (Counts-sync, (Load-sync, (search (sendable, crosses) depth 40, (search (sendable, crosses) depth 40, (search (sendable, crosses) depth 40, (search (sendable, crosses) depth 40, (search (sendable, crosses) depth 40, (search (sendable, crosses) depth 40, (search (sendable, crosses, KeyRing-sync) depth 40, (search (sendable, crosses) depth 40, (search (sendable, crosses, AccessLines-sync) depth 40, tt)))))))))))
 
 TcpListener-send : IsSend TcpListener.the_row
 TcpListener-send = search (sendable, crosses) depth 40
@@ -78,10 +59,18 @@ SystemLog-send = search (sendable, crosses, log.the_send) depth 80
 Post-send : IsSend Post.the_row
 Post-send = search (sendable, crosses, SystemLog-send) depth 120
 
+AdminPost-send : IsSend AdminPost.the_row
+AdminPost-send = search (sendable, crosses) depth 120
+
 -- the captures of a worker's thread: the handle, the allocator, the keys, the board, its seat and its post
 abbrev pub Working : (T : RattleType) → ShareName.Ghosts T.Denot → Sym → NamedLft → NamedLft → RattleType → RattleType
 Working T g ν r b R =
     TupleAt ν (ShrRef r.mir r.lft R ∷ Global.the_row ∷ RandomState.the_row ∷ ShrRef b.mir b.lft Board.the_row ∷ ReadSeat.the_row T g ∷ Post.the_row ∷ [])
+
+-- the captures of the thread for operations: the same, and another post
+abbrev pub Operating : (T : RattleType) → ShareName.Ghosts T.Denot → Sym → NamedLft → NamedLft → RattleType → RattleType
+Operating T g ν r b R =
+    TupleAt ν (ShrRef r.mir r.lft R ∷ Global.the_row ∷ RandomState.the_row ∷ ShrRef b.mir b.lft Board.the_row ∷ ReadSeat.the_row T g ∷ AdminPost.the_row ∷ [])
 
 -- the captures of a thread of the stream: the handle, the board, its seat and its listener
 abbrev pub Streaming : (T : RattleType) → ShareName.Ghosts T.Denot → Sym → NamedLft → NamedLft → RattleType → RattleType
@@ -92,6 +81,11 @@ module _ (T : RattleType) (g : ShareName.Ghosts T.Denot) (send : IsSend T) (sync
   work_send ν r b R is =
       captured_six ν (ShrRef r.mir r.lft R) Global.the_row RandomState.the_row (ShrRef b.mir b.lft Board.the_row) (ReadSeat.the_row T g) Post.the_row
       (shr_send r.mir r.lft R is) Global-send RandomState-send (shr_send b.mir b.lft Board.the_row Board-sync) (ReadSeat-send T g send sync) Post-send
+
+  pub operate_send : (ν : Sym) (r b : NamedLft) (R : RattleType) → IsSync R → IsSend (Operating T g ν r b R)
+  operate_send ν r b R is =
+      captured_six ν (ShrRef r.mir r.lft R) Global.the_row RandomState.the_row (ShrRef b.mir b.lft Board.the_row) (ReadSeat.the_row T g) AdminPost.the_row
+      (shr_send r.mir r.lft R is) Global-send RandomState-send (shr_send b.mir b.lft Board.the_row Board-sync) (ReadSeat-send T g send sync) AdminPost-send
 
   pub stream_send : (ν : Sym) (r b : NamedLft) (R : RattleType) → IsSync R → IsSend (Streaming T g ν r b R)
   stream_send ν r b R is =

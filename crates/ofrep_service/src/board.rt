@@ -1,44 +1,56 @@
 //! What the threads of a service tell each other.
 ghost use Rattle.std.specs.Prelude.{◌≡◌, option_map};
 
+use access_lines::AccessLines;
 use log_file::Loss;
 use note_log::Trouble;
 use ofrep_connections::Load;
-use ofrep_guards::{KeyRing, Keys};
+use ofrep_guards::{KeyRing, Keys, Paths};
 use ofrep_worker::{Counts, WithoutRecord};
+use std::alloc::Global;
 use std::num::NonZeroUsize;
 use std::sync::Wait;
 use std::sync::atomic::{AtomicBool, AtomicU64, Ordering};
 
 /// What the threads of a service tell each other: what the workers count, how many connections they hold, which snapshot was
-/// published last, whether all of them are to end; and what becomes of answers that can't be recorded, how many notes each worker
-/// remembers, the pages of which origins may ask, and the keys of which a request shows one, where one is wanted.
+/// published last, whether they are to end; and what becomes of answers that can't be recorded, how many notes each worker
+/// remembers, the pages of which origins may ask, the keys of which a request shows one, where one is wanted, and what the workers
+/// serve.
 #[derive(Drop)]
 pub struct Board {
     pub(crate) counts: Counts,
     pub(crate) load: Load,
+    /// The workers are to end.
+    pub(crate) is_stopping: AtomicBool,
+    /// All other threads are.
     pub(crate) is_over: AtomicBool,
     published: AtomicU64,
     pub(crate) without_record: WithoutRecord,
     pub(crate) remember: Option<NonZeroUsize>,
     pub(crate) origins: Vec<String>,
     pub(crate) keys: Option<KeyRing>,
+    pub(crate) paths: Paths,
+    /// The lines of requests, where they are wanted.
+    pub(crate) lines: Option<AccessLines>,
 }
 
 impl Board {
     /// A board where nothing was counted or published yet. This becomes of answers that can't be recorded, each worker remembers so
-    /// many notes, or none, the pages of these origins may ask, or with `*` any, and a request shows one of the keys, where there are
-    /// some.
+    /// many notes, or none, the pages of these origins may ask, or with `*` any, a request shows one of the keys, where there are
+    /// some, the workers serve these paths, and the lines of requests go there, where they are wanted.
     pub fn new(
         without_record: WithoutRecord,
         remember: Option<NonZeroUsize>,
         origins: Vec<String>,
         keys: Option<Keys>,
+        paths: Paths,
+        lines: Option<AccessLines>,
     ) -> Board
         ensures without { result.without_record ≡ without_record }
         ensures remember { result.remember ≡ remember }
         ensures origins { result.origins ≡ origins }
         ensures keys { option_map (λ ring. ring.first) result.keys ≡ keys }
+        ensures paths { result.paths ≡ paths }
     {
         let keys = match keys {
             Some(keys) => Some(KeyRing::new(keys)),
@@ -47,12 +59,15 @@ impl Board {
         Board {
             counts: Counts::new(),
             load: Load::new(),
+            is_stopping: AtomicBool::new(false),
             is_over: AtomicBool::new(false),
             published: AtomicU64::new(0),
             without_record,
             remember,
             origins,
             keys,
+            paths,
+            lines,
         }
     }
 
@@ -86,10 +101,31 @@ impl Board {
         self.counts.refuse_document(place, is_refused);
     }
 
+    /// A document was accepted in this second since 1970.
+    pub fn accept_document(&self, second: u64) {
+        self.counts.accept_document(second);
+    }
+
     /// From now on a request shows one of these keys, where one is wanted.
     pub fn replace_keys<R: Wait>(&self, rt: &R, keys: Keys) {
         if let Some(ring) = &self.keys {
             ring.replace(rt, keys);
+        }
+    }
+
+    /// Takes the lines of requests that wait to be written; none where they are not wanted.
+    pub fn take_lines<R: Wait>(&self, rt: &R, alloc: Global) -> Vec<u8> {
+        match &self.lines {
+            Some(lines) => lines.take(rt, alloc),
+            None => Vec::new(alloc),
+        }
+    }
+
+    /// How many lines of requests were left out.
+    pub fn lines_left_out(&self) -> u64 {
+        match &self.lines {
+            Some(lines) => lines.left_out(),
+            None => 0,
         }
     }
 
@@ -110,12 +146,18 @@ impl Board {
         self.counts.failures()
     }
 
+    /// Whether the workers are to end, as where the listener for operations was asked to stop the service.
+    pub fn is_stopping(&self) -> bool {
+        self.is_stopping.load(Ordering::SeqCst)
+    }
+
     /// All threads are to end.
     pub(crate) fn end(&self) {
+        self.is_stopping.store(true, Ordering::SeqCst);
         self.is_over.store(true, Ordering::SeqCst);
     }
 
-    /// Whether all threads are to end.
+    /// Whether the threads beside the workers are to end.
     pub(crate) fn is_over(&self) -> bool {
         self.is_over.load(Ordering::SeqCst)
     }

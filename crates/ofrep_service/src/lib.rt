@@ -4,7 +4,8 @@
 //! [`open_logs`] opens the logs of the workers. [`bind`] listens on an address for the workers, and [`bind_stream`] on a port of
 //! this host for the subscribers of the stream. [`work_beside`] runs a worker of `ofrep_worker` on a thread for each [`Post`],
 //! over `ofrep_connections`, and serves the stream by `sync_server` on a thread for each of its seats, while its caller goes on
-//! with what it has to do beside them; it tells the threads of each snapshot on their [`Board`].
+//! with what it has to do beside them; it tells the threads of each snapshot on their [`Board`]. [`bind_admin`] listens for those who
+//! ask for operations, whom a worker without a log answers on a thread of its own, behind an `AdminGuard`.
 //!
 //! What answers rest on is proved there: no byte of an answer is written to a socket before its notes stand in the log of the
 //! worker, where it keeps one, and a subscriber is sent whole frames whose numbers rise. Here: where a folder is named each worker
@@ -12,6 +13,7 @@
 //! files and sockets do with bytes, and that threads run, is not proved.
 #![tactic(auto)]
 
+mod admin;
 mod board;
 mod logs;
 mod posts;
@@ -19,6 +21,7 @@ mod streams;
 mod subscriber;
 mod workers;
 
+pub use admin::{AdminPost, bind_admin};
 pub use board::Board;
 pub use logs::{Journal, open_logs};
 pub use posts::{Post, bind};

@@ -5,19 +5,21 @@ ghost use Rattle.std.specs.Prelude.{◌≡◌, List, IfOk, IfSome, is_none, opti
 ghost use Rattle.http_server.specs.Exchange.{Call};
 ghost use Rattle.std.specs.List.{flat_map};
 ghost use Rattle.ofrep_guards.specs.Asked.{first_keys, rules_view};
-ghost use Rattle.ofrep_guards.specs.declared.rules.Paths.TheVariants.{All};
 ghost use Rattle.recorded_answers.specs.Stand.{AllStand, Works};
 
+use crate::admin::{AdminPost, operate_beside};
 use crate::board::Board;
 use crate::logs::Journal;
 use crate::posts::Post;
 use crate::streams::stream_beside;
+use access_lines::LoggedService;
+use dated_answers::Dated;
 use http_server::{Config, Service};
 use limits::{STACK_BYTES, TEXT_BYTES};
 use log_file::{LogPaths, SystemLog};
 use note_log::NoteLog;
-use ofrep_connections::answer_connections;
-use ofrep_guards::{CountsStatus, Guard, Paths, Rules};
+use ofrep_connections::{Patience, answer_connections_with};
+use ofrep_guards::{CountsStatus, Guard, Rules};
 use ofrep_worker::OfrepWorker;
 use recorded_answers::Recording;
 use snap_share::{ReadSeat, ShareName};
@@ -33,9 +35,54 @@ use std::time::Clock;
 const MOST_PENDING: usize = 16_777_216;
 
 /// Runs a worker on a thread for each post, and serves the stream on a thread for each listener, each with the seat of the same
-/// place, and does `beside` meanwhile on its own. There is a seat for each post. It ends when all workers have ended, and they end where the system fails them.
+/// place, and operations on a thread of their own, where there is a post for them, and does `beside` meanwhile on its own. There is a
+/// seat for each post. It ends when that and all workers have ended, and they end where they are asked to or the system fails them.
 /// Where a thread can't be made it answers None, and `beside` is not done.
 pub fn work_beside<J, R, B, T>(
+    rt: &R,
+    alloc: Global,
+    keys: RandomState,
+    board: &Board,
+    seats: Vec<ReadSeat<J>>,
+    posts: Vec<Post>,
+    stream_seats: Vec<ReadSeat<J>>,
+    listeners: Vec<TcpListener>,
+    admin: Option<(ReadSeat<J>, AdminPost)>,
+    beside: B,
+) -> Option<T>
+where
+    J: ShareName + Send + Sync,
+    R: Net<Listener = TcpListener, Stream = TcpStream> + LogPaths + Clock + Threads + Wait + Sync,
+    B: FnOnce() -> T + Drop,
+    requires called { B.pre beside }
+    requires seated { vec_len seats ≡ vec_len posts }
+{
+    operate_beside(
+        rt,
+        alloc,
+        keys,
+        board,
+        admin,
+        move || -> Option<T>
+            requires { IsSend J.row × IsSync J.row × IsSync R.row × B.pre beside }
+        {
+            work_and_stream(
+                rt,
+                alloc,
+                keys,
+                board,
+                seats,
+                posts,
+                stream_seats,
+                listeners,
+                beside,
+            )
+        },
+    )
+}
+
+/// Runs the workers and serves the stream, and does `beside` meanwhile.
+fn work_and_stream<J, R, B, T>(
     rt: &R,
     alloc: Global,
     keys: RandomState,
@@ -50,8 +97,7 @@ where
     J: ShareName + Send + Sync,
     R: Net<Listener = TcpListener, Stream = TcpStream> + LogPaths + Clock + Threads + Wait + Sync,
     B: FnOnce() -> T + Drop,
-    requires called { B.pre beside }
-    requires seated { vec_len seats ≡ vec_len posts }
+    requires { B.pre beside }
 {
     stream_beside(
         rt,
@@ -125,47 +171,52 @@ fn answer<J: ShareName, R: Net + LogPaths + Clock>(
         alloc,
         board.origins.as_slice(),
         board.keys.as_ref(),
-        Paths::All,
+        board.paths,
     )?;
-    let mut guard = Guard::new(rules, worker);
-    serve(rt, alloc, keys, board, listener, &mut guard)
+    let guard = Guard::new(rules, worker);
+    let logged = LoggedService::new(rt, alloc, board.lines.as_ref(), guard);
+    let mut dated = Dated::new(rt, alloc, board.counts.traffic(), logged)?;
+    serve(rt, alloc, keys, board, listener, &mut dated)
 }
 
-/// Has a worker behind a guard, which lists the board's origins and begins with its keys, answer the connections of a listener until all threads are to end or
-/// the system fails: turn by turn it looks for its log, and then answers. What its answers rest on stands in the end.
+/// Has a worker behind a guard, which lists the board's origins, begins with its keys and serves its paths, answer the connections of
+/// a listener, each answer with its date and each request logged where that is wanted, until the workers are to end or the system
+/// fails: turn by turn it looks for its log, and then answers. What its answers rest on stands in the end.
 fn serve<'a, S: Recording + CountsStatus, R: Net + Clock>(
     rt: &R,
     alloc: Global,
     keys: RandomState,
     board: &Board,
     listener: TcpListener,
-    guard: &mut Guard<'a, S>,
+    dated: &mut Dated<'a, R, LoggedService<'a, R, Guard<'a, S>>>,
 ) -> io::Result<()>
-    requires origins { guard.old.rules.origins.now ≡ board.now.origins.items }
-    requires keys { (rules_view guard.old.rules).keys ≡ first_keys board.now.keys }
-    requires paths { guard.old.rules.paths ≡ All }
-    ensures { (turns : List (List Call)) × Works ⟦<Guard<'a, S> as Service>⟧.answers ⟦<Guard<'a, S> as Recording>⟧.looked guard.old turns guard.new
-        × AllStand ⟦<Guard<'a, S> as Recording>⟧.stands guard.new (flat_map (λ calls. calls) turns) }
+    requires origins { dated.old.service.service.rules.origins.now ≡ board.now.origins.items }
+    requires keys { (rules_view dated.old.service.service.rules).keys ≡ first_keys board.now.keys }
+    requires paths { dated.old.service.service.rules.paths ≡ board.now.paths }
+    ensures { (turns : List (List Call)) × Works ⟦<Dated<'a, R, LoggedService<'a, R, Guard<'a, S>>> as Service>⟧.answers ⟦<Dated<'a, R, LoggedService<'a, R, Guard<'a, S>>> as Recording>⟧.looked dated.old turns dated.new
+        × AllStand ⟦<Dated<'a, R, LoggedService<'a, R, Guard<'a, S>>> as Recording>⟧.stands dated.new (flat_map (λ calls. calls) turns) }
 {
     let config = Config {
         max_body_len: TEXT_BYTES,
         max_pending: MOST_PENDING,
         ..Config::default()
     };
-    answer_connections(
+    answer_connections_with(
         rt,
         alloc,
         keys,
         config,
+        Patience::default(),
+        board.counts.traffic(),
         listener,
         &board.load,
-        &board.is_over,
-        guard,
+        &board.is_stopping,
+        dated,
     )
 }
 
 /// The worker of a post: it answers from the snapshots of a seat, and records in the post's log, where it has one.
-fn worker_of<'a, J: ShareName, R: Clock>(
+pub(crate) fn worker_of<'a, J: ShareName, R: Clock>(
     rt: &'a R,
     alloc: Global,
     keys: RandomState,

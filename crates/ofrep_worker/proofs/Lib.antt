@@ -1,3 +1,4 @@
+pub mod Crossings
 mod Steps
 mod Sending
 mod Recorded

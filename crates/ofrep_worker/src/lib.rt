@@ -16,11 +16,11 @@ mod asked;
 mod counts;
 mod failing;
 mod filling;
+mod metrics;
 mod moment;
 mod notes;
 mod recording;
 mod standing;
-mod statuses;
 mod unrecorded;
 mod worker;
 

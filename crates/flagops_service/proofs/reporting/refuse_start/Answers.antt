@@ -1,5 +1,4 @@
 use Rattle.std.proofs.Common.{ℕ, List, subst}
-use Rattle.flagops_service.proofs.Told.{as_told}
 use Rattle.flagops_streams.specs.Report.{Writes}
 use Rattle.flagops_service.proofs.reporting.refuse_start.Goals as goal
 
@@ -7,5 +6,5 @@ use Rattle.flagops_service.proofs.reporting.refuse_start.Goals as goal
 pub returns : goal.returns
 returns g c = (
   subst (λ (line : List ℕ). Writes (g.O.Outlet.bytes c.args.out.now) (g.O.Outlet.bytes c.write_line.new.out) (g.O.Outlet.is_broken c.write_line.new.out) c.write_line.result line 1) c.line.ensures c.write_line.ensures,
-  as_told (g.E.Outlet.bytes c.args.err.now) (g.E.Outlet.bytes c.tell.new.err) (g.E.Outlet.is_broken c.tell.new.err) c.tell.ensures.told,
+  c.tell_stop.ensures,
 )

@@ -1,0 +1,4 @@
+pub mod Trace
+pub mod Line
+pub mod View
+pub mod Asked

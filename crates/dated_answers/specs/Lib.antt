@@ -1,0 +1,2 @@
+pub mod Date
+pub mod Dated

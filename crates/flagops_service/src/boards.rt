@@ -1,0 +1,89 @@
+//! The board of a service, for what is asked for.
+ghost use Rattle.std.specs.Prelude.{◌≡◌, IfOk, map, option_copied, option_map, string_bytes};
+ghost use Rattle.std.specs.NonZero.{non_zero_usize_get};
+ghost use Rattle.flagops_service.specs.Words.{answering_view, paths_served, share_of};
+
+use crate::asked::Answering;
+use crate::remembering::share_of;
+use access_lines::AccessLines;
+use ofrep_guards::{Keys, Paths};
+use ofrep_service::Board;
+use std::alloc::{AllocError, Global};
+use std::time::{Clock, SystemTime, UNIX_EPOCH};
+
+/// A board for what is asked for: the workers share the notes that are remembered, want a key of these where a file is named, and serve
+/// the evaluations alone where operations have an address of their own.
+pub(crate) fn board_of(
+    alloc: Global,
+    answering: &Answering<'_>,
+    clients: Option<Keys>,
+) -> Result<Board, AllocError>
+    ensures without { IfOk result (λ board. board.without_record ≡ answering.now.without_record) }
+    ensures remember { IfOk result (λ board. option_map non_zero_usize_get board.remember ≡ share_of answering.now.remember answering.now.workers) }
+    ensures origins { IfOk result (λ board. map string_bytes board.origins.items ≡ (answering_view answering.now).cors) }
+    ensures keys { IfOk result (λ board. option_map (λ ring. ring.first) board.keys ≡ clients) }
+    ensures paths { IfOk result (λ board. board.paths ≡ paths_served (answering_view answering.now).admin) }
+{
+    let origins = copied(alloc, answering.cors.as_slice())?;
+    let share = share_of(answering.remember, answering.workers);
+    let paths = paths_served(answering.admin);
+    let lines = lines_of(alloc, answering.access_log);
+    let board = Board::new(
+        answering.without_record,
+        share,
+        origins,
+        clients,
+        paths,
+        lines,
+    );
+    board.watch_documents(answering.documents.len());
+    Ok(board)
+}
+
+/// Shows that the snapshot of this number was published, from documents that are accepted now.
+pub(crate) fn show_published<R: Clock>(rt: &R, board: &Board, number: u64) {
+    board.publish(number);
+    board.accept_document(second_of(rt));
+}
+
+/// The second since 1970: 0 where the clock can't be read or is set before.
+fn second_of<R: Clock>(rt: &R) -> u64 {
+    let Ok(now) = SystemTime::now(rt) else {
+        return 0;
+    };
+    match now.duration_since(UNIX_EPOCH) {
+        Ok(since) => since.as_secs(),
+        Err(_) => 0,
+    }
+}
+
+/// Where the lines of requests wait, where they are wanted.
+fn lines_of(alloc: Global, access_log: bool) -> Option<AccessLines> {
+    if access_log {
+        Some(AccessLines::new(alloc))
+    } else {
+        None
+    }
+}
+
+/// What the workers serve: the evaluations alone, where operations have an address of their own.
+fn paths_served(admin: Option<&str>) -> Paths
+    ensures { result ≡ paths_served (option_copied admin.entry) }
+{
+    match admin {
+        Some(_) => Paths::Evaluations,
+        None => Paths::All,
+    }
+}
+
+/// Copies of texts.
+#[tactic(auto, using(crate::proofs::Copied::one_more))]
+fn copied(alloc: Global, texts: &[&str]) -> Result<Vec<String>, AllocError>
+    ensures { IfOk result (λ copies. map string_bytes copies.items ≡ map (λ t. t.now) texts.now) }
+{
+    let mut copies = Vec::new(alloc);
+    for text in texts {
+        copies.push(String::from_str(alloc, text)?)?;
+    }
+    Ok(copies)
+}

@@ -1,5 +1,0 @@
-use Rattle.ofrep_connections.specs.Stand.{PeersStand}
-use Rattle.ofrep_connections.proofs.work.leave_idle.Given as goal
-
-abbrev pub invariant-loop-key : goal.invariant-loop-key
-invariant-loop-key g l = PeersStand g.S.Recording.stands g.T.Socket.contents l.service l.peers
