@@ -127,6 +127,28 @@ class Apply(ProgramTest):
                     step = run(["apply", "--step", "1", *options, *words[1:]], {"d": text, "p": ramp})
                     self.assertEqual(step[:3], (strict if options else plain)[:3])
 
+    def test_finer_points(self):
+        """Where the rule has a multiple of the site's points that is told, behind what is left out, and `--strict` refuses only the latter."""
+        words = ["apply", "d", "p", "color", "0"]
+        told = 'note: "d": with --refine 10 the rule has 100 points where it had 10:\n  later requests ask totals that sum to 100\n'
+        other = document()[:-1] + ',"metadata":{}}'
+        for text, rule, finer in [
+            (document(), '[["red",45],["blue",55]]', told),
+            (other, '[["red",45],["blue",55]]', told),
+            (document(), '[["red",4],["blue",6]]', ""),
+            (document(), '[["red",7],["blue",8]]', ""),
+            (document(), '[["red",2],["blue",3]]', ""),
+        ]:
+            with self.subTest(text=text, rule=rule):
+                files = {"d": text, "p": plan_of(rule=rule)}
+                left = 'note: "d" has more than what is printed of it:\n  the member "metadata" is left out\n' if text == other else ""
+                plain = run(words, files)
+                self.assertEqual((plain.status, plain.err), (0, left + finer))
+                strict = run([*words, "--strict"], files)
+                self.assertEqual(strict[:3], ("refused apply 19 Omitted\n", left, 1) if left else plain[:3])
+                step = run(["apply", "--step", "1", *words[1:]], {"d": text, "p": f'{{"plan":{files["p"]},"step":1}}\n'})
+                self.assertEqual(step[:3], plain[:3])
+
     def test_a_refusal_goes_before_what_is_left_out(self):
         text = document()[:-1] + ',"metadata":{}}'
         self.assert_ends(["apply", "--strict", "d", "p", "color", "1"], {"d": text, "p": FREE}, 1, "refused apply 3 NoSite\n")

@@ -90,8 +90,11 @@ class Keep(ProgramTest):
         rule = '["red",21],\n        ["blue",1],\n        ["red",1],\n        ["blue",1],\n        ["red",1],\n        ["blue",25]'
         kept = TEXT.replace(OLD, rule)
         files = self.files(plan=FINER_PLAN, asked=FINER)
-        self.assert_ends(words(), files, 0, kept)
-        self.assert_ends(words("--refine", "5"), files, 0, kept)
+        told = 'note: "r": with --refine 5 the rule has 50 points where it had 10:\n  later requests ask totals that sum to 50\n'
+        self.assertEqual(self.assert_ends(words(), files, 0, kept).err, told)
+        self.assertEqual(self.assert_ends(words("--refine", "5"), files, 0, kept).err, told)
+        ran = self.assert_ends(words("--write"), files, 0, f"written {len(kept)}\n")
+        self.assertEqual((ran.err, ran.files), (told, {**files, "d": kept}))
         self.assert_ends(words("--refine", "2"), files, 1, "refused apply 6 TotalsSum\n")
 
     def test_the_evaluator_is_told(self):

@@ -299,7 +299,8 @@ class RampTest(ProgramTest):
     def test_finer_points(self):
         asked = steps('"red":45,"blue":55', '"red":42,"blue":58')
         ran = run(["ramp", "--refine", "10", "doc", "steps", "book"], self.files(asked))
-        self.assertEqual(ran.status, 0, ran.out)
+        told = 'note: "steps": with --refine 10 the rule has 100 points where it had 10:\n  later requests ask totals that sum to 100\n'
+        self.assertEqual((ran.status, ran.err), (0, told), ran.out)
         for line in ran.out.splitlines():
             self.assertEqual(sum(weight for _, weight in json.loads(line)["plan"]["rule"]), 100)
         for words in (["verify-ramp"], ["verify-ramp", "--refine", "10"]):

@@ -61,6 +61,9 @@ class KeepSteps(ProgramTest):
                         self.assertEqual((ran.status, ran.files), (0, {**given, "doc": docs[step]}))
                     else:
                         self.assertEqual((ran.status, ran.out[:8], ran.files), (1, "refused ", there))
+                        if before != step and not ran.out.startswith("refused apply"):
+                            stands = f"has the rule that step {before} left, and not that of step {step - 1}" if before else f"has not the rule that step {step - 1} left, nor that of another step"
+                            self.assertIn(stands, ran.err)
 
     def test_another_rule_of_the_same_users(self):
         """Points that no recorded input lies on make no difference to the answer, and still the step is refused."""
@@ -120,10 +123,11 @@ class KeepSteps(ProgramTest):
         given = {"doc": document(), "steps": asked, "book": BOOK}
         given["ramp"] = run(["ramp", "--refine", "10", "doc", "steps", "book"], given).out
         first, second = (document(buckets_of(rule)) for rule in rules_of(given["ramp"]))
-        self.assert_ends(words(1), given, 0, first)
-        self.assert_ends(words(1, "--refine", "10"), given, 0, first)
+        told = 'note: "steps": with --refine 10 the rule has 100 points where it had 10:\n  later requests ask totals that sum to 100\n'
+        self.assertEqual(self.assert_ends(words(1), given, 0, first).err, told)
+        self.assertEqual(self.assert_ends(words(1, "--refine", "10"), given, 0, first).err, told)
         self.assert_ends(words(1, "--refine", "5"), given, 1, "refused verify-ramp 6 TotalsSum\n")
-        self.assert_ends(words(2), {**given, "doc": first}, 0, second)
+        self.assertEqual(self.assert_ends(words(2), {**given, "doc": first}, 0, second).err, "")
 
     def test_doubts(self):
         """They are told; where the document is written over, or with `--strict`, they are refused, unless `--doubted` is given."""

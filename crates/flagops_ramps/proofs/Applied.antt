@@ -1,27 +1,23 @@
 -- What comes of a step that is applied.
 use Rattle.std.proofs.Common.{◌≡◌, ◌≤◌, ◌-◌, false, ℕ, zero, suc, List, Bor, Option, None, Some, Result, Ok, Err, length, map, option_map, slice_get, refl, ap, ◌∙◌, subst, sym, arith}
-use Rattle.std.specs.Prelude.{IfOk, IfSome}
+use Rattle.std.specs.Prelude.{IfSome}
 use Rattle.std.specs.Slice.{IsItemAt}
 use Rattle.std.proofs.lemmas.Option.{slice_get-map, slice_get_past, slice_get_read}
 use Rattle.flag_defs.specs.Flags.{flags_view}
 use Rattle.flag_defs.specs.Document.{Definitions}
 use Rattle.flagops_rollouts.specs.Apply.{IsLocalReport, told_report}
-use Rattle.flagops_rollouts.specs.Omitted.{TellsOmitted}
 use Rattle.flagops_rollouts.specs.Refusal as rolling
 use Rattle.flagops_files.specs.Documents.{IsDocumentAt}
 use Rattle.flagops_files.specs.Loading.{max_text}
-use Rattle.flagops_shell.specs.Diagnostic.{Says}
 use Rattle.flagops_shell.specs.Files.{Holding, load_of}
 use Rattle.flagops_files.specs.Refusal as files
 use Rattle.flagops_shell.proofs.Lifted as lifted
 use Rattle.flagops_shell.specs.Report.{outcome_view}
 use Rattle.flagops_shell.specs.declared.outcome.Outcome.{Outcome}
-use Rattle.flagops_shell.specs.declared.refused.Remark.{Remark}
-use Rattle.flagops_shell.specs.declared.refused.Remark.TheVariants.{Short, Lines}
 use Rattle.flagops_files.specs.Refusal.{Refused}
 use Rattle.plan_text.specs.Answer.{Answer, planned_view}
 use Rattle.plan_text.specs.declared.planned.Planned.{Planned}
-use Rattle.flagops_ramps.specs.Apply.{IsStepOver, IsStepPut, IsStepReport, TellsOmittedAt, answer_to}
+use Rattle.flagops_ramps.specs.Apply.{IsStepOver, IsStepPut, IsStepReport, answer_to}
 use Rattle.flagops_ramps.specs.Refusal.{is_want}
 use Rattle.flagops_ramps.specs.Report.{GivesOne, Told}
 use Rattle.flagops_ramps.specs.Judging.{answers_at}
@@ -76,19 +72,6 @@ module _ (a : Applying) where
     -- there is none
     pub no_step : (answers : List Answer) → None ≡ answer_to answers a.step → IsStepOver a document flags (Ok answers) (Err NoStep)
     no_step answers is = subst (λ (o : Option Answer). IsStepPut a document flags o (Err NoStep)) is refl
-
--- what is told of flags is told of the document that they are of
-told_at : (at : Holding) (path : List ℕ) (flags : Definitions) (o : Option Remark) → IsDocumentAt at path (Ok flags) → IfSome o (Says (TellsOmitted path flags)) → IfSome o (Says (TellsOmittedAt at path))
-unfolding TellsOmittedAt
-told_at at path flags None there told = tt
-told_at at path flags (Some Short) there told = tt
-told_at at path flags (Some (Lines lines)) there told = (flags, there, told)
-
-pub told_of : (old : Option Holding) (path : List ℕ) (flags : Definitions) (r : Result Outcome Told) → IfSome old (λ at. IsDocumentAt at path (Ok flags)) → IfOk r (λ o. IfSome o.remark (Says (TellsOmitted path flags)))
-    → IfSome old (λ at. IfOk r (λ o. IfSome o.remark (Says (TellsOmittedAt at path))))
-told_of None path flags r there told = tt
-told_of (Some at) path flags (Ok o) there told = told_at at path flags o.remark there told
-told_of (Some at) path flags (Err t) there told = tt
 
 -- ---- the answer to a step, by its number
 

@@ -1,5 +1,5 @@
 -- What a person is told of what a command on steps comes to.
-use Rattle.std.proofs.Common.{◌≡◌, ◌++◌, ◌||◌, ◌∙◌, ℕ, Bool, List, [], ◌∷◌, Option, Some, None, Result, Ok, Err, IfErr, IfOk, IfSome, inl, inr, refl, sym, ap, subst, append_assoc}
+use Rattle.std.proofs.Common.{◌≡◌, ◌++◌, ◌||◌, ◌∙◌, ℕ, Bool, List, [], ◌∷◌, Option, Some, None, Result, Ok, Err, IfErr, IfOk, IfSome, inl, inr, refl, sym, ap, subst}
 use Rattle.std.specs.Prelude.{true, false, codes, decimal}
 use Rattle.flagops_rollouts.specs.Doubts.{NamesDoubt, NamesDoubted}
 use Rattle.flagops_files.specs.Lines.{NamesFile}
@@ -9,17 +9,18 @@ use Rattle.flagops_files.specs.Told.{NamesOne, file}
 use Rattle.flagops_rollouts.specs.Refusal as rolling
 use Rattle.flagops_rollouts.specs.Subjects.{applied_subjects, is_of_kept_document}
 use Rattle.flagops_rollouts.specs.declared.refusal.Doubt.{Doubt}
-use Rattle.file_diagnostics.specs.Named.{Names, opening_words, quoted}
+use Rattle.file_diagnostics.specs.Named.{Names}
 use Rattle.flagops_shell.specs.Diagnostic.{Says}
 use Rattle.flagops_shell.specs.Ending.{KeepsUnlessDone, Remarks}
 use Rattle.flagops_shell.specs.Files.{Holding}
+use Rattle.flagops_shell.specs.Report.{Report, outcome_view}
 use Rattle.flagops_shell.specs.declared.outcome.Outcome.{Outcome}
 use Rattle.flagops_shell.specs.declared.refused.Remark.{Remark}
 use Rattle.flagops_shell.specs.declared.refused.Remark.TheVariants.{Short, Lines}
-use Rattle.flagops_ramps.specs.Apply.{TellsOmittedAt}
+use Rattle.flagops_ramps.specs.Remarks.{TellsKeepAt, TellsRampAt, TellsStepAt, TellsVerdictAt}
 use Rattle.flagops_ramps.specs.Attempts.{IsOfFirst, ramp_files, step_files, verify_files, verify_files_on_book}
 use Rattle.flagops_ramps.specs.Commands.{keep_told, ramp_told, step_told, verify_told, verify_told_on_book}
-use Rattle.flagops_ramps.specs.Diagnostics.{Diagnoses, Diagnosis, IsOfAnswers, IsOfDoubted, IsOfKeep, IsOfRamp, IsOfSize, IsOfStep, IsOfVerify, NamesPath, NamesStep, put_subjects, told_by}
+use Rattle.flagops_ramps.specs.Diagnostics.{Diagnoses, Diagnosis, IsOfAnswers, IsOfDoubted, IsOfKeep, IsOfRamp, IsOfSize, IsOfStep, IsOfVerify, NamesPath, NamesStep, put_subjects, told_by, told_with}
 use Rattle.flagops_ramps.specs.Refusal.{is_unread, is_want}
 use Rattle.flagops_shell.proofs.Lifted as lifted
 use Rattle.rollout_checks.specs.declared.fault.RolloutFault.{RolloutFault}
@@ -40,19 +41,6 @@ file_path path lines named = inr named
 -- a line that names a step of a file names the file
 pub step_path : (path : List ℕ) (step : ℕ) (lines : List ℕ) → NamesStep path step lines → NamesPath path lines
 step_path path step lines (rest, is) = inr (codes ", step " ++ (decimal step ++ rest), is)
-
--- lines that begin with a name do so with more behind them
-named_behind : (name lines more whole : List ℕ) → Names name lines → whole ≡ lines ++ more → Names name whole
-unfolding Names
-named_behind name lines more whole (opening, rest, is) behind = (
-  opening,
-  rest ++ more,
-  behind ∙ ap (λ (l : List ℕ). l ++ more) is ∙ append_assoc (opening_words opening) (quoted name ++ rest) more
-      ∙ ap (λ (l : List ℕ). opening_words opening ++ l) (append_assoc (quoted name) rest more),
-)
-
-pub named_still : (name lines more whole : List ℕ) → Names name lines → whole ≡ lines ++ more → Names name whole
-named_still = named_behind
 
 -- ---- doubts
 
@@ -218,25 +206,34 @@ whatever : {P : Type 0} (files : Option Holding) → P → IfSome files (λ at. 
 whatever None p = tt
 whatever (Some at) p = p
 
+-- and in which parts
+module _ (Notes : List ℕ → Type 0) (Beside : Holding → Report → Option Remark → Type 0) (Is : Holding → Diagnosis) where
+  remarks_with : (files : Option Holding) (r : Result Outcome Told) → IfSome files (λ at. Diagnoses (Is at) r) → IfOk r (λ o. IfSome o.remark (Says Notes)) → IfSome files (λ at. IfOk r (λ o. Beside at (outcome_view o) o.remark))
+      → IfSome files (λ at. Remarks is_want (told_with Notes (λ report remark. Beside at report (Some remark)) (Is at)) r)
+  remarks_with None r names notes beside = tt
+  remarks_with (Some at) (Ok o) names notes beside = λ remark is. (subst (λ (m : Option Remark). IfSome m (Says Notes)) is notes, subst (Beside at (outcome_view o)) is beside)
+  remarks_with (Some at) (Err t) names notes beside = names
+
 pub ramp_remarks : (a : Ramping) (files : Option Holding) (r : Result Outcome Told) → IfSome files (λ at. Diagnoses (IsOfFirst (ramp_files at a) (IsOfRamp a)) r) → IfOk r (λ o. IfSome o.remark (Says (NamesDoubted a.steps a.book)))
-    → IfSome files (λ at. Remarks is_want (ramp_told a at) r)
-ramp_remarks a files r names notes = remarks (λ at. NamesDoubted a.steps a.book) (λ at. IsOfFirst (ramp_files at a) (IsOfRamp a)) files r names (whatever files notes)
+    → IfSome files (λ at. IfOk r (λ o. TellsRampAt at a o.text.items o.remark)) → IfSome files (λ at. Remarks is_want (ramp_told a at) r)
+ramp_remarks a files r names notes parts = remarks_with (NamesDoubted a.steps a.book) (λ at report told. TellsRampAt at a report.text told) (λ at. IsOfFirst (ramp_files at a) (IsOfRamp a)) files r names notes parts
 
 pub verify_remarks : (v : Verifying) (files : Option Holding) (r : Result Outcome Told) → IfSome files (λ at. Diagnoses (IsOfFirst (verify_files at v) (IsOfVerify v)) r) → IfOk r (λ o. IfSome o.remark (Says (NamesDoubted v.rollout.steps v.rollout.book)))
-    → IfSome files (λ at. Remarks is_want (verify_told v at) r)
-verify_remarks v files r names notes = remarks (λ at. NamesDoubted v.rollout.steps v.rollout.book) (λ at. IsOfFirst (verify_files at v) (IsOfVerify v)) files r names (whatever files notes)
+    → IfSome files (λ at. IfOk r (λ o. TellsVerdictAt at v o.remark)) → IfSome files (λ at. Remarks is_want (verify_told v at) r)
+verify_remarks v files r names notes parts = remarks_with (NamesDoubted v.rollout.steps v.rollout.book) (λ at report told. TellsVerdictAt at v told) (λ at. IsOfFirst (verify_files at v) (IsOfVerify v)) files r names notes parts
 
 pub verify_remarks_on_book : (v : Verifying) (files : Option Holding) (r : Result Outcome Told) → IfSome files (λ at. Diagnoses (IsOfFirst (verify_files_on_book at v) (IsOfVerify v)) r) → IfOk r (λ o. IfSome o.remark (Says (NamesDoubted v.rollout.steps v.rollout.book)))
     → IfSome files (λ at. Remarks is_want (verify_told_on_book v at) r)
 verify_remarks_on_book v files r names notes = remarks (λ at. NamesDoubted v.rollout.steps v.rollout.book) (λ at. IsOfFirst (verify_files_on_book at v) (IsOfVerify v)) files r names (whatever files notes)
 
 pub keep_remarks : (k : Keeping) (files : Option Holding) (r : Result Outcome Told) → IfSome files (λ at. Diagnoses (IsOfFirst (verify_files at k.answered) (IsOfKeep k)) r)
-    → IfOk r (λ o. IfSome o.remark (Says (NamesDoubted k.answered.rollout.steps k.answered.rollout.book))) → IfSome files (λ at. Remarks is_want (keep_told k at) r)
-keep_remarks k files r names notes = remarks (λ at. NamesDoubted k.answered.rollout.steps k.answered.rollout.book) (λ at. IsOfFirst (verify_files at k.answered) (IsOfKeep k)) files r names (whatever files notes)
+    → IfOk r (λ o. IfSome o.remark (Says (NamesDoubted k.answered.rollout.steps k.answered.rollout.book))) → IfSome files (λ at. IfOk r (λ o. TellsKeepAt at k o.remark)) → IfSome files (λ at. Remarks is_want (keep_told k at) r)
+keep_remarks k files r names notes parts =
+    remarks_with (NamesDoubted k.answered.rollout.steps k.answered.rollout.book) (λ at report told. TellsKeepAt at k told) (λ at. IsOfFirst (verify_files at k.answered) (IsOfKeep k)) files r names notes parts
 
-pub step_remarks : (a : Applying) (files : Option Holding) (r : Result Outcome Told) → IfSome files (λ at. Diagnoses (IsOfFirst (step_files at a) (IsOfStep a)) r) → IfSome files (λ at. IfOk r (λ o. IfSome o.remark (Says (TellsOmittedAt at a.document))))
-    → IfSome files (λ at. Remarks is_want (step_told a at) r)
-step_remarks a files r names notes = remarks (λ at. TellsOmittedAt at a.document) (λ at. IsOfFirst (step_files at a) (IsOfStep a)) files r names notes
+pub step_remarks : (a : Applying) (files : Option Holding) (r : Result Outcome Told) → IfSome files (λ at. Diagnoses (IsOfFirst (step_files at a) (IsOfStep a)) r) → IfOk r (λ o. IfSome o.remark (Says (Names a.document)))
+    → IfSome files (λ at. IfOk r (λ o. TellsStepAt at a o.remark)) → IfSome files (λ at. Remarks is_want (step_told a at) r)
+step_remarks a files r names notes parts = remarks_with (Names a.document) (λ at report told. TellsStepAt at a told) (λ at. IsOfFirst (step_files at a) (IsOfStep a)) files r names notes parts
 
 -- each want of memory is reported by the command's name
 pub wants : {X E : Type 0} (name : List ℕ) (r : Result X E) → IfErr r (λ e. name ≡ name)

@@ -30,9 +30,10 @@ use Rattle.ramp_steps.specs.Steps.{requests_view, steps_of}
 use Rattle.ramp_steps.specs.declared.fault.StepsFault.{StepsFault}
 use Rattle.ramp_steps.specs.declared.fault.StepsFault.TheVariants as steps
 use Rattle.rollout_checks.specs.declared.verify_fault.VerifyFault.TheVariants.{Request}
-use Rattle.flagops_ramps.specs.Doubts.{doubt_of_steps, first_question, first_request, settle}
+use Rattle.flagops_ramps.specs.Doubts.{first_question, first_request}
 use Rattle.flagops_ramps.specs.Judging.{answers_at, refused_as}
 use Rattle.flagops_ramps.specs.Apply.{answer_to}
+use Rattle.flagops_ramps.specs.Keep as keeping
 use Rattle.flagops_ramps.specs.Keep.{IsKeepOf, IsKeepOver, IsKeepReport, IsKeptFrom, IsKeptOnto, IsKeptWith, IsPut, from_step, is_left}
 use Rattle.flagops_ramps.specs.Ramp.{of_steps, recorded}
 use Rattle.flagops_ramps.specs.Refusal.{is_want}
@@ -40,7 +41,6 @@ use Rattle.flagops_ramps.specs.Report.{GivesOne, Told}
 use Rattle.flagops_ramps.specs.Words.{Keeping}
 use Rattle.flagops_ramps.specs.declared.refusal.RampRefusal.{RampRefusal}
 use Rattle.flagops_ramps.specs.declared.refusal.RampRefusal.TheVariants.{Load, NoStep, OtherRule, Rollout, Verify}
-use Rattle.flagops_ramps.specs.declared.refusal.StepCall.TheVariants as call
 use Rattle.flagops_ramps.proofs.Loaded.{not_want}
 use Rattle.flagops_ramps.proofs.Stepped.{other_steps, other_verify}
 
@@ -130,7 +130,7 @@ module _ (document : List ℕ) (flags : Definitions) (asked : Asked) (rule : Ent
 module _ (k : Keeping) (document : List ℕ) (q : Question) where
   module _ (answers : List Answer) (requests : List (List ℕ)) where
     abbrev settled : Result Bool RampRefusal
-    settled = settle call.Apply k.answered.rollout.strict (doubt_of_steps q requests)
+    settled = keeping.settled k q requests answers
 
     abbrev IsKept : Result Kept RampRefusal → Type 0
     IsKept kept = IsKeptFrom k.answered.rollout.refine document q (from_step k.step requests) (answer_to answers (k.step - 1)) (from_step k.step answers) kept
@@ -267,12 +267,18 @@ mapped f zero xs = refl
 mapped f (suc n) [] = refl
 mapped f (suc n) (x ∷ xs) = mapped f n xs
 
+pub requests_from : (step : ℕ) (steps rest : List (Vec ℕ Global)) → rest ≡ drop (step - 1) steps → requests_view rest ≡ from_step step (requests_view steps)
+requests_from step steps rest is = ap requests_view is ∙ mapped (λ (v : Vec ℕ Global). v.items) (step - 1) steps
+
+pub answers_from : (step : ℕ) (answers others : List Planned) → others ≡ drop (step - 1) answers → map planned_view others ≡ from_step step (map planned_view answers)
+answers_from step answers others is = ap (map planned_view) is ∙ mapped planned_view (step - 1) answers
+
 pub from_steps : (refine : Option ℕ) (document : List ℕ) (q : Question) (step : ℕ) (before : Option Answer) (steps rest : List (Vec ℕ Global)) (answers others : List Planned) (r : Result (Option (Vec ℕ Global)) Told) → before ≡ answer_to (map planned_view answers) (step - 1)
     → rest ≡ drop (step - 1) steps → others ≡ drop (step - 1) answers → GivesOne kept_view r (IsKeptFrom refine document q (requests_view rest) before (map planned_view others))
     → GivesOne kept_view r (IsKeptFrom refine document q (from_step step (requests_view steps)) (answer_to (map planned_view answers) (step - 1)) (from_step step (map planned_view answers)))
 from_steps refine document q step before steps rest answers others r prior first second gives =
-    let requests : requests_view rest ≡ from_step step (requests_view steps) = ap requests_view first ∙ mapped (λ (v : Vec ℕ Global). v.items) (step - 1) steps in
-    let planned : map planned_view others ≡ from_step step (map planned_view answers) = ap (map planned_view) second ∙ mapped planned_view (step - 1) answers in
+    let requests : requests_view rest ≡ from_step step (requests_view steps) = requests_from step steps rest first in
+    let planned : map planned_view others ≡ from_step step (map planned_view answers) = answers_from step answers others second in
     subst (λ (b : Option Answer). GivesOne kept_view r (IsKeptFrom refine document q (from_step step (requests_view steps)) b (from_step step (map planned_view answers)))) prior
     (subst (λ (a : List Answer). GivesOne kept_view r (IsKeptFrom refine document q (from_step step (requests_view steps)) before a)) planned
     (subst (λ (s : List (List ℕ)). GivesOne kept_view r (IsKeptFrom refine document q s before (map planned_view others))) requests gives))

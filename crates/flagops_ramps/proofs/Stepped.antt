@@ -17,9 +17,10 @@ use Rattle.ramp_steps.specs.declared.fault.StepsFault.TheVariants as steps
 use Rattle.rollout_checks.specs.declared.fault.RolloutFault.{RolloutFault}
 use Rattle.rollout_checks.specs.declared.fault.RolloutFault.TheVariants.{WantOfMemory}
 use Rattle.rollout_checks.specs.declared.verify_fault.VerifyFault.TheVariants.{Request}
+use Rattle.flagops_rollouts.specs.Beside.{noted_with}
 use Rattle.flagops_ramps.specs.Doubts.{beside, doubt_of_steps, settle}
 use Rattle.flagops_ramps.specs.Judging.{Found, IsFoundOf, IsFoundOver, answered_view, refused_as}
-use Rattle.flagops_ramps.specs.Ramp.{Holds, IsRampOf, IsRampOver, of_steps, recorded, report_ramp}
+use Rattle.flagops_ramps.specs.Ramp.{Holds, IsRampOf, IsRampOver, is_finer_ramp, of_steps, recorded, report_ramp}
 use Rattle.flagops_ramps.specs.Refusal.{is_want}
 use Rattle.flagops_ramps.specs.Report.{GivesOne, GivesUnlessWant, Told}
 use Rattle.flagops_ramps.specs.declared.judging.RightAnswers.{RightAnswers}
@@ -38,7 +39,7 @@ pub other_steps : (e : StepsFault) → of_steps e ≢ WantOfMemory → e ≢ ste
 other_steps e other = λ want. other (ap of_steps want)
 
 module _ (strict : Bool) (refine : Option ℕ) (q : Question) where
-  pub planned_report : (requests : List (List ℕ)) (answers : List Answer) (r : Result Outcome Told) → ArePlans (Ok q.flags) (unwrap_or refine 1) requests (recorded q.evidence) answers → GivesUnlessWant outcome_view r (beside (settle call.Ramp strict (doubt_of_steps q requests)) (report_ramp answers))
+  pub planned_report : (requests : List (List ℕ)) (answers : List Answer) (r : Result Outcome Told) → ArePlans (Ok q.flags) (unwrap_or refine 1) requests (recorded q.evidence) answers → GivesUnlessWant outcome_view r (beside (noted_with (is_finer_ramp (unwrap_or refine 1) answers) (settle call.Ramp strict (doubt_of_steps q requests))) (report_ramp answers))
       → IfOk r (λ o. Holds answers o.text.items) → GivesOne outcome_view r (IsRampOver strict refine q (Ok requests))
   planned_report requests answers (Ok o) plans gives back = inl (answers, plans, sym gives, back)
   planned_report requests answers (Err t) plans gives back = λ no_want. inl (answers, plans, sym (gives no_want), tt)

@@ -3,7 +3,6 @@ use Rattle.std.specs.Prelude.{◌≡◌, ℕ, zero, suc, List, slice_get, Option
 use Rattle.flag_defs.specs.Document.{Definitions}
 use Rattle.plan_text.specs.Answer.{Answer}
 use Rattle.flagops_rollouts.specs.Apply.{IsToldReport}
-use Rattle.flagops_rollouts.specs.Omitted.{TellsOmitted}
 use Rattle.flagops_files.specs.Documents.{IsDocumentAt}
 use Rattle.flagops_files.specs.Loading.{max_text}
 use Rattle.flagops_shell.specs.Files.{Holding, load_of}
@@ -38,7 +37,3 @@ IsStepApplied at a (Ok flags) r = (document : List ℕ) × (load_of at a.documen
 -- what the files at the paths make
 unfoldable pub IsStepReport : Holding → Applying → Came → Type 0
 IsStepReport at a r = (flags : Result Definitions Refusal) × IsDocumentAt at a.document flags × IsStepApplied at a flags r
-
--- lines are about what is left out of the document at a path, and have one for each broken flag
-unfoldable pub TellsOmittedAt : Holding → List ℕ → List ℕ → Type 0
-TellsOmittedAt at path lines = (flags : Definitions) × IsDocumentAt at path (Ok flags) × TellsOmitted path flags lines

@@ -1,5 +1,5 @@
 -- What is known of each command on steps.
-use Rattle.std.specs.Prelude.{◌≡◌, List, ℕ, Option, codes}
+use Rattle.std.specs.Prelude.{◌≡◌, List, ℕ, Option, Some, codes}
 use Rattle.clap.specs.Kinds.{Kinds}
 use Rattle.clap.specs.Walk.{Text}
 use Rattle.flagops_rollouts.specs.Doubts.{NamesDoubted}
@@ -7,11 +7,13 @@ use Rattle.flagops_rollouts.specs.Keep.{LeavesDocument}
 use Rattle.flagops_shell.specs.Diagnostic.{RemarksOf}
 use Rattle.flagops_shell.specs.Files.{Holding}
 use Rattle.flagops_shell.specs.Running.{Description}
-use Rattle.flagops_ramps.specs.Apply.{IsStepReport, TellsOmittedAt}
+use Rattle.file_diagnostics.specs.Named.{Names}
+use Rattle.flagops_ramps.specs.Apply.{IsStepReport}
 use Rattle.flagops_ramps.specs.Attempts.{IsOfFirst, ramp_files, step_files, verify_files, verify_files_on_book}
-use Rattle.flagops_ramps.specs.Diagnostics.{IsOfKeep, IsOfRamp, IsOfStep, IsOfVerify, told_by}
+use Rattle.flagops_ramps.specs.Diagnostics.{IsOfKeep, IsOfRamp, IsOfStep, IsOfVerify, told_by, told_with}
 use Rattle.flagops_ramps.specs.Keep.{IsKeepReport}
 use Rattle.flagops_ramps.specs.Ramp.{IsRampReport}
+use Rattle.flagops_ramps.specs.Remarks.{TellsKeepAt, TellsRampAt, TellsStepAt, TellsVerdictAt}
 use Rattle.flagops_ramps.specs.Report.{Came}
 use Rattle.flagops_ramps.specs.Verify.{IsVerdictReport}
 use Rattle.flagops_ramps.specs.Words.{Applying, Keeping, Ramping, Verifying, keep_by, keep_faults, ramp_by, ramp_faults, step_by, step_faults, verify_by, verify_faults}
@@ -30,22 +32,23 @@ reading name asked_by faults_of MayCome MayTell = record {
   IsDone = λ status. status ≡ 0;
 }
 
--- what a person is told of each command: of a refusal the first of its files that is refused, or why what is made of them is
+-- what a person is told of each command: of a refusal the first of its files that is refused, or why what is made of them is; and beside a report what is doubted, and more
 abbrev pub ramp_told : Ramping → Holding → RemarksOf RampRefusal
-ramp_told a at = told_by (NamesDoubted a.steps a.book) (IsOfFirst (ramp_files at a) (IsOfRamp a))
+ramp_told a at = told_with (NamesDoubted a.steps a.book) (λ report remark. TellsRampAt at a report.text (Some remark)) (IsOfFirst (ramp_files at a) (IsOfRamp a))
 
 abbrev pub verify_told : Verifying → Holding → RemarksOf RampRefusal
-verify_told v at = told_by (NamesDoubted v.rollout.steps v.rollout.book) (IsOfFirst (verify_files at v) (IsOfVerify v))
+verify_told v at = told_with (NamesDoubted v.rollout.steps v.rollout.book) (λ report remark. TellsVerdictAt at v (Some remark)) (IsOfFirst (verify_files at v) (IsOfVerify v))
 
 -- the same where what was recorded has to be a book
 abbrev pub verify_told_on_book : Verifying → Holding → RemarksOf RampRefusal
 verify_told_on_book v at = told_by (NamesDoubted v.rollout.steps v.rollout.book) (IsOfFirst (verify_files_on_book at v) (IsOfVerify v))
 
 abbrev pub step_told : Applying → Holding → RemarksOf RampRefusal
-step_told a at = told_by (TellsOmittedAt at a.document) (IsOfFirst (step_files at a) (IsOfStep a))
+step_told a at = told_with (Names a.document) (λ report remark. TellsStepAt at a (Some remark)) (IsOfFirst (step_files at a) (IsOfStep a))
 
 abbrev pub keep_told : Keeping → Holding → RemarksOf RampRefusal
-keep_told k at = told_by (NamesDoubted k.answered.rollout.steps k.answered.rollout.book) (IsOfFirst (verify_files at k.answered) (IsOfKeep k))
+keep_told k at =
+    told_with (NamesDoubted k.answered.rollout.steps k.answered.rollout.book) (λ report remark. TellsKeepAt at k (Some remark)) (IsOfFirst (verify_files at k.answered) (IsOfKeep k))
 
 abbrev pub ramp_description : Description Ramping RampRefusal
 ramp_description = reading (codes "ramp") ramp_by ramp_faults (λ a at. IsRampReport at a) ramp_told

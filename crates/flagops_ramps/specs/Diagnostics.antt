@@ -9,6 +9,7 @@ use Rattle.flagops_rollouts.specs.Refusal as rolling
 use Rattle.flagops_files.specs.Told.{NamesOne, file}
 use Rattle.file_diagnostics.specs.Named.{Names, NamesWord}
 use Rattle.flagops_shell.specs.Diagnostic.{RemarksOf, Says}
+use Rattle.flagops_shell.specs.Report.{Report}
 use Rattle.flagops_shell.specs.declared.refused.Remark.{Remark}
 use Rattle.rollout_checks.specs.declared.verify_fault.VerifyFault.{VerifyFault}
 use Rattle.rollout_checks.specs.declared.verify_fault.VerifyFault.TheVariants.{Check, Request}
@@ -94,3 +95,8 @@ IsOfKeep k e remark = IsOfVerify k.answered e remark
 abbrev pub told_by : (List ℕ → Type 0) → Diagnosis → RemarksOf RampRefusal
 told_by Notes Is (Ok report) remark = Says Notes remark
 told_by Notes Is (Err e) remark = Is e remark
+
+-- the same, and a remark beside a report is such a one of it
+abbrev pub told_with : (List ℕ → Type 0) → (Report → Remark → Type 0) → Diagnosis → RemarksOf RampRefusal
+told_with Notes Beside Is (Ok report) remark = Says Notes remark × Beside report remark
+told_with Notes Beside Is (Err e) remark = Is e remark

@@ -1,5 +1,5 @@
 -- What is doubted of the answers to the steps of a rollout, and what becomes of it.
-use Rattle.std.specs.Prelude.{◌||◌, ℕ, Bool, true, false, List, [], ◌∷◌, codes, Option, Some, None, is_some, if◌then◌else◌, Result, Ok, Err}
+use Rattle.std.specs.Prelude.{◌||◌, ◌++◌, ℕ, Bool, true, false, List, [], ◌∷◌, codes, Option, Some, None, is_some, if◌then◌else◌, Result, Ok, Err}
 use Rattle.std.specs.Str.{bytes_eq}
 use Rattle.flag_text.specs.Reading.{tree_of}
 use Rattle.flag_text.specs.Shape.{Shape, object, Members, no_members, member}
@@ -7,7 +7,9 @@ use Rattle.flag_text.specs.declared.fault.TextFault.{TextFault}
 use Rattle.repeated_names.specs.Repeated.{is_repeating}
 use Rattle.unread_members.specs.Unread.{reads}
 use Rattle.unread_members.specs.declared.reader.Reader.TheVariants as reader
-use Rattle.flagops_rollouts.specs.Doubts.{first_doubt, recorded_doubt}
+use Rattle.file_diagnostics.specs.Named.{Names}
+use Rattle.flagops_rollouts.specs.Beside.{Part, part_if}
+use Rattle.flagops_rollouts.specs.Doubts.{first_doubt, recorded_doubt, recorded_parts}
 use Rattle.flagops_rollouts.specs.Foreign.{is_foreign}
 use Rattle.flagops_rollouts.specs.Unrecorded.{is_unrecorded}
 use Rattle.flagops_files.specs.Loading.{max_text}
@@ -50,6 +52,14 @@ first_question q requests = record { flags = q.flags; request = first_request re
 -- the first that is doubted of steps with these requests: a member of their file is not read, no recorded input counts, or one that does is none of the flag
 abbrev pub doubt_of_steps : Question → List (List ℕ) → Option Doubt
 doubt_of_steps q requests = first_doubt (is_unread q.request) (recorded_doubt (is_unrecorded (first_question q requests)) (is_foreign (first_question q requests)))
+
+-- what is told of the bytes of a file of steps: a part on members that are not read, and one on names that stand more than once, where there are any
+abbrev pub steps_parts : List ℕ → List ℕ → List Part
+steps_parts steps bytes = part_if (if_read (tree_of bytes max_text)) (Names steps) ++ part_if (is_repeating bytes) (Names steps)
+
+-- each doubt of steps is told in a part of its own, in the order in which `doubt_of_steps` has them, and begins with the path that it is of
+abbrev pub doubt_parts_of_steps : List ℕ → List ℕ → Question → List (List ℕ) → List Part
+doubt_parts_of_steps steps book q requests = steps_parts steps q.request ++ recorded_parts book (recorded_doubt (is_unrecorded (first_question q requests)) (is_foreign (first_question q requests)))
 
 -- whether a person is told of a doubt; with `--strict` the call refuses it
 abbrev pub settle : StepCall → Bool → Option Doubt → Result Bool RampRefusal

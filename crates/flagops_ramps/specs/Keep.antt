@@ -5,6 +5,9 @@ use Rattle.flag_defs.specs.Document.{Definitions}
 use Rattle.flagops_files.specs.Loading.{max_text}
 use Rattle.flagops_files.specs.Question.{Question, IsQuestionAt}
 use Rattle.flagops_files.specs.declared.refusal.Refusal.{Refusal}
+use Rattle.std.specs.Result.{result_ok}
+use Rattle.flagops_rollouts.specs.Beside.{noted_with}
+use Rattle.flagops_rollouts.specs.Finer.{is_finer, times_asked}
 use Rattle.flagops_rollouts.specs.Keep.{IsKeptAt, IsKeptPut, Kept}
 use Rattle.flagops_rollouts.specs.Standing.{has_rule}
 use Rattle.flagops_shell.specs.Files.{Holding, load_of}
@@ -67,12 +70,21 @@ IsPut at after k settled (Err e) r = (r ≡ Err e) × (after ≡ Some at)
 IsPut at after k (Err e) (Ok kept) r = (r ≡ Err e) × (after ≡ Some at)
 IsPut at after k (Ok told) (Ok kept) r = Lifts Rollout (IsKeptPut at after k.answered.rollout.document k.write told kept) r
 
+-- the rule of the first of these answers has finer points than the one at the site of its request
+abbrev pub is_finer_put : Definitions → List (List ℕ) → List Answer → Bool
+is_finer_put flags requests [] = false
+is_finer_put flags requests (answer ∷ answers) = is_finer (times_asked flags (result_ok (asked_of (first_request requests))) answer) answer
+
+-- what is told beside the document: that it is doubted, or has finer points
+abbrev pub settled : Keeping → Question → List (List ℕ) → List Answer → Result Bool RampRefusal
+settled k q requests answers = noted_with (is_finer_put q.flags (from_step k.step requests) (from_step k.step answers)) (settle call.Apply k.answered.rollout.strict (doubt_of_steps q requests))
+
 -- from the step that is asked for on
 abbrev pub IsKeepOver : Holding → Option Holding → Keeping → List ℕ → Question → List Answer → Result (List (List ℕ)) StepsFault → Came → Type 0
 IsKeepOver at after k document q answers (Err e) r = (r ≡ Err (Verify (Request (of_steps e)))) × (after ≡ Some at)
 IsKeepOver at after k document q answers (Ok requests) r =
     (kept : Result Kept RampRefusal) × IsKeptFrom k.answered.rollout.refine document q (from_step k.step requests) (answer_to answers (k.step - 1)) (from_step k.step answers) kept
-    × IsPut at after k (settle call.Apply k.answered.rollout.strict (doubt_of_steps q requests)) kept r
+    × IsPut at after k (settled k q requests answers) kept r
 
 -- of answers that were read, and then of the steps
 abbrev pub IsKeepOf : Holding → Option Holding → Keeping → List ℕ → Question → Result (List Answer) RampRefusal → Came → Type 0

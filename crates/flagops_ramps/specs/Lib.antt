@@ -8,6 +8,7 @@ pub mod Judging
 pub mod Keep
 pub mod Ramp
 pub mod Refusal
+pub mod Remarks
 pub mod Report
 pub mod Valid
 pub mod Verify

@@ -17,6 +17,8 @@ use Rattle.ramp_steps.specs.declared.fault.StepsFault.TheVariants as steps
 use Rattle.rollout_checks.specs.Fault.{of_price}
 use Rattle.rollout_checks.specs.declared.fault.RolloutFault.{RolloutFault}
 use Rattle.rollout_checks.specs.declared.fault.RolloutFault.TheVariants.{WantOfMemory, Request}
+use Rattle.flagops_rollouts.specs.Beside.{noted_with}
+use Rattle.flagops_rollouts.specs.Finer.{is_finer}
 use Rattle.flagops_ramps.specs.Doubts.{beside, doubt_of_steps, settle}
 use Rattle.flagops_ramps.specs.Report.{Came}
 use Rattle.flagops_ramps.specs.Words.{Ramping}
@@ -57,11 +59,16 @@ abbrev pub ReadsBack : List Answer → Came → Type 0
 ReadsBack answers (Ok report) = Holds answers report.text
 ReadsBack answers (Err e) = Unit {0}
 
--- The answers to the steps, each planned on the rule that the one before left, beside which a person is told of a doubt; or the first refusal.
+-- the first rule has the finer points of a factor, and each later one as many
+abbrev pub is_finer_ramp : ℕ → List Answer → Bool
+is_finer_ramp m [] = false
+is_finer_ramp m (answer ∷ answers) = is_finer m answer
+
+-- The answers to the steps, each planned on the rule that the one before left, beside which a person is told of a doubt, and once of finer points; or the first refusal.
 abbrev pub IsRampOver : Bool → Option ℕ → Question → Result (List (List ℕ)) StepsFault → Came → Type 0
 IsRampOver strict refine q (Err e) r = r ≡ Err (Ramp (of_steps e))
 IsRampOver strict refine q (Ok requests) r =
-    ((answers : List Answer) × ArePlans (Ok q.flags) (unwrap_or refine 1) requests (recorded q.evidence) answers × (r ≡ beside (settle call.Ramp strict (doubt_of_steps q requests)) (report_ramp answers)) × ReadsBack answers r)
+    ((answers : List Answer) × ArePlans (Ok q.flags) (unwrap_or refine 1) requests (recorded q.evidence) answers × (r ≡ beside (noted_with (is_finer_ramp (unwrap_or refine 1) answers) (settle call.Ramp strict (doubt_of_steps q requests))) (report_ramp answers)) × ReadsBack answers r)
     ⊎ ((e : StepFault) × IsRefused (Ok q.flags) (unwrap_or refine 1) requests (recorded q.evidence) e × (r ≡ Err (Ramp e.fault)))
 
 abbrev pub IsRampOf : Bool → Option ℕ → Result Question Refusal → Came → Type 0

@@ -1,13 +1,14 @@
 //! The command `apply --step`: it prints what `apply` does of the plan that answers the step.
 ghost use Rattle.std.specs.Prelude.{◌≡◌, ◌||◌, false, map, option_map, IfOk, IfSome, Ok, ⊤};
 ghost use Rattle.flag_defs.specs.Flags.{flags_view};
-ghost use Rattle.flagops_rollouts.specs.Omitted.{TellsOmitted};
+ghost use Rattle.file_diagnostics.specs.Named.{Names};
 ghost use Rattle.flagops_shell.specs.Diagnostic.{Says};
 ghost use Rattle.flagops_shell.specs.Report.{outcome_view};
-ghost use Rattle.flagops_ramps.specs.Apply.{IsStepOver, IsStepReport, TellsOmittedAt, answer_to};
+ghost use Rattle.flagops_ramps.specs.Apply.{IsStepOver, IsStepReport, answer_to};
 ghost use Rattle.flagops_ramps.specs.Attempts.{IsOfFirst, answers_file, step_files};
 ghost use Rattle.flagops_ramps.specs.Commands.{step_description};
 ghost use Rattle.flagops_ramps.specs.Diagnostics.{Diagnoses, IsOfStep};
+ghost use Rattle.flagops_ramps.specs.Remarks.{TellsStepAt, TellsStepFrom, TellsStepOf};
 ghost use Rattle.flagops_ramps.specs.Report.{GivesOne, is_file_fault};
 ghost use Rattle.flagops_ramps.specs.Words as words;
 ghost use Rattle.flagops_ramps.specs.Words.{applying_view};
@@ -66,7 +67,8 @@ fn applied<F: FileSet>(
     ensures exact { IfSome (F.holding files.old) (λ at. GivesOne outcome_view result (IsStepReport at (applying_view asked.now))) }
     ensures failed { F.has_failed files.new ≡ (F.has_failed files.old || is_file_fault result) }
     ensures names { IfSome (F.holding files.old) (λ at. Diagnoses (IsOfFirst (step_files at (applying_view asked.now)) (IsOfStep (applying_view asked.now))) result) }
-    ensures notes { IfSome (F.holding files.old) (λ at. IfOk result (λ o. IfSome o.remark (Says (TellsOmittedAt at asked.now.document.now)))) }
+    ensures notes { IfOk result (λ o. IfSome o.remark (Says (Names asked.now.document.now))) }
+    ensures parts { IfSome (F.holding files.old) (λ at. IfOk result (λ o. TellsStepAt at (applying_view asked.now) o.remark)) }
     ensures kept { F.holding files.new ≡ F.holding files.old }
 {
     match load_document(alloc, files, asked.document) {
@@ -85,7 +87,8 @@ fn against<F: FileSet>(
     ensures exact { IfSome (F.holding files.old) (λ at. GivesOne outcome_view result (IsStepOver (applying_view asked.now) document.now.bytes.items (flags_view document.now.flags) (answers_at at asked.now.ramp.now))) }
     ensures failed { F.has_failed files.new ≡ (F.has_failed files.old || is_file_fault result) }
     ensures names { IfSome (F.holding files.old) (λ at. Diagnoses (IsOfFirst (answers_file at asked.now.ramp.now) (IsOfStep (applying_view asked.now))) result) }
-    ensures notes { IfOk result (λ o. IfSome o.remark (Says (TellsOmitted asked.now.document.now (flags_view document.now.flags)))) }
+    ensures notes { IfOk result (λ o. IfSome o.remark (Says (Names asked.now.document.now))) }
+    ensures parts { IfSome (F.holding files.old) (λ at. IfOk result (λ o. TellsStepFrom at (applying_view asked.now) document.now.bytes.items (flags_view document.now.flags) o.remark)) }
     ensures kept { F.holding files.new ≡ F.holding files.old }
 {
     match load_ramp(alloc, files, asked.ramp) {
@@ -105,7 +108,8 @@ fn put(
     ensures exact { GivesOne outcome_view result (IsStepOver (applying_view asked.now) document.now.bytes.items (flags_view document.now.flags) (Ok (map planned_view answers.now))) }
     ensures read { is_file_fault result ≡ false }
     ensures names { Diagnoses (IsOfStep (applying_view asked.now)) result }
-    ensures notes { IfOk result (λ o. IfSome o.remark (Says (TellsOmitted asked.now.document.now (flags_view document.now.flags)))) }
+    ensures notes { IfOk result (λ o. IfSome o.remark (Says (Names asked.now.document.now))) }
+    ensures parts { IfOk result (λ o. TellsStepOf (applying_view asked.now) document.now.bytes.items (flags_view document.now.flags) (map planned_view answers.now) o.remark) }
 {
     let Some(planned) = answer_to(answers, asked.step) else {
         return Err(Refused {

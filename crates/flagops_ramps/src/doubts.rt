@@ -1,9 +1,12 @@
 //! What is doubted of answers to steps: a person is told, and `--strict` refuses it.
 ghost use Rattle.std.specs.Prelude.{◌≡◌, List, ℕ, false, is_some, option_map, IfOk, IfSome};
+ghost use Rattle.flag_text.specs.Reading.{tree_of};
 ghost use Rattle.flag_text.specs.View.{members_view, view};
+ghost use Rattle.flagops_files.specs.Loading.{max_text};
 ghost use Rattle.flagops_rollouts.specs.Doubts.{NamesDoubt, NamesDoubted, first_doubt};
 ghost use Rattle.flagops_files.specs.Question.{question_view};
-ghost use Rattle.flagops_ramps.specs.Doubts.{doubt_of_steps, first_request, has_unread, has_unread_member, is_read, is_unread, settle};
+ghost use Rattle.flagops_rollouts.specs.Beside.{AreBoth, Tells};
+ghost use Rattle.flagops_ramps.specs.Doubts.{doubt_of_steps, doubt_parts_of_steps, first_request, has_unread, has_unread_member, if_read, is_read, is_unread, settle, steps_parts};
 ghost use Rattle.flagops_ramps.specs.Report.{GivesUnlessWant, is_file_fault};
 ghost use Rattle.flagops_ramps.specs.Diagnostics.{Diagnoses, IsOfDoubted};
 ghost use Rattle.file_diagnostics.specs.Named.{Names};
@@ -16,7 +19,9 @@ use crate::refusal::{RampRefusal, StepCall};
 use file_diagnostics::of_unread;
 use flag_text::{TextFault, Tree, read_tree};
 use flagops_files::{Question, TEXT_LIMIT};
-use flagops_rollouts::{Doubt, NotedDoubt, doubt_in_evidence, remark_in, repeated, with_more};
+use flagops_rollouts::{
+    Doubt, NotedDoubt, doubt_in_evidence, joined, remark_in, repeated, with_more,
+};
 use flagops_shell::{Refused, Remark};
 use std::alloc::{AllocError, Global};
 use std::thread::Threads;
@@ -36,6 +41,7 @@ pub(crate) fn settled<R: Threads>(
     ensures read { is_file_fault result ≡ false }
     ensures names { Diagnoses (IsOfDoubted asked.now.steps.now asked.now.book.now) result }
     ensures notes { IfOk result (λ r. IfSome r (Says (NamesDoubted asked.now.steps.now asked.now.book.now))) }
+    ensures parts { IfOk result (Tells (doubt_parts_of_steps asked.now.steps.now asked.now.book.now (question_view question.now) (requests_view steps.now))) }
 {
     match doubted(rt, alloc, asked, question, steps) {
         Ok(doubted) => settle(call, asked, doubted),
@@ -55,6 +61,7 @@ fn settle(
     ensures read { is_file_fault result ≡ false }
     ensures names { Diagnoses (IsOfDoubted asked.now.steps.now asked.now.book.now) result }
     ensures notes { IfOk result (λ r. IfSome r (Says (NamesDoubted asked.now.steps.now asked.now.book.now))) }
+    ensures remark { IfOk result (λ r. r ≡ option_map (λ d. d.remark) doubted) }
 {
     match doubted {
         Some(NotedDoubt { doubt, remark }) => if asked.strict {
@@ -80,6 +87,7 @@ pub fn doubted<R: Threads>(
 ) -> Result<Option<NotedDoubt>, AllocError>
     ensures doubt { IfOk result (λ o. option_map (λ d. d.doubt) o ≡ doubt_of_steps (question_view question.now) (requests_view steps.now)) }
     ensures notes { IfOk result (λ o. IfSome o (λ d. Says (NamesDoubt asked.now.steps.now asked.now.book.now d.doubt) d.remark)) }
+    ensures parts { IfOk result (λ o. Tells (doubt_parts_of_steps asked.now.steps.now asked.now.book.now (question_view question.now) (requests_view steps.now)) (option_map (λ d. d.remark) o)) }
 {
     let unread = unread(alloc, asked.steps, question.request.bytes())?;
     let (flags, evidence) = (&question.flags, &question.evidence);
@@ -92,6 +100,7 @@ pub fn doubted<R: Threads>(
 pub fn first_of(unread: Option<Remark>, recorded: Option<NotedDoubt>) -> Option<NotedDoubt>
     ensures doubt { option_map (λ d. d.doubt) result ≡ first_doubt (is_some unread) (option_map (λ d. d.doubt) recorded) }
     ensures notes { (request book : List ℕ) → IfSome unread (Says (Names request)) → IfSome recorded (λ d. Says (NamesDoubt request book d.doubt) d.remark) → IfSome result (λ d. Says (NamesDoubt request book d.doubt) d.remark) }
+    ensures both { AreBoth unread (option_map (λ d. d.remark) recorded) (option_map (λ d. d.remark) result) }
 {
     match unread {
         Some(remark) => Some(NotedDoubt {
@@ -99,22 +108,6 @@ pub fn first_of(unread: Option<Remark>, recorded: Option<NotedDoubt>) -> Option<
             remark: joined(remark, remark_in(recorded)),
         }),
         None => recorded,
-    }
-}
-
-/// A remark with another behind it.
-#[tactic(auto, using(crate::proofs::Diagnosed::named_still))]
-fn joined(remark: Remark, more: Option<Remark>) -> Remark
-    ensures { (name : List ℕ) → Says (Names name) remark → Says (Names name) result }
-{
-    match (remark, more) {
-        (Remark::Lines(mut lines), Some(Remark::Lines(more))) => {
-            match lines.push_str(more.as_str()) {
-                Ok(()) => Remark::Lines(lines),
-                Err(AllocError) => Remark::Short,
-            }
-        }
-        (remark, _) => remark,
     }
 }
 
@@ -132,14 +125,23 @@ pub(crate) fn first_request(steps: &[Vec<u8>]) -> &[u8]
 fn unread(alloc: Global, path: &str, bytes: &[u8]) -> Result<Option<Remark>, AllocError>
     ensures unread { IfOk result (λ r. is_some r ≡ is_unread bytes.now) }
     ensures notes { IfOk result (λ r. IfSome r (Says (Names path.now))) }
+    ensures parts { IfOk result (Tells (steps_parts path.now bytes.now)) }
 {
-    let unread = match read_tree(alloc, bytes, TEXT_LIMIT as usize) {
-        Ok(tree) => unread_in(alloc, path, tree)?,
-        Err(TextFault::WantOfMemory) => return Err(AllocError),
-        Err(_) => None,
-    };
+    let unread = unread_member(alloc, path, bytes)?;
     let repeated = repeated(alloc, path, bytes)?;
     Ok(with_more(path, unread, repeated))
+}
+
+/// The same of members by their names alone.
+fn unread_member(alloc: Global, path: &str, bytes: &[u8]) -> Result<Option<Remark>, AllocError>
+    ensures unread { IfOk result (λ r. is_some r ≡ if_read (tree_of bytes.now max_text)) }
+    ensures notes { IfOk result (λ r. IfSome r (Says (Names path.now))) }
+{
+    match read_tree(alloc, bytes, TEXT_LIMIT as usize) {
+        Ok(tree) => unread_in(alloc, path, tree),
+        Err(TextFault::WantOfMemory) => Err(AllocError),
+        Err(_) => Ok(None),
+    }
 }
 
 fn unread_in(alloc: Global, path: &str, tree: Tree) -> Result<Option<Remark>, AllocError>

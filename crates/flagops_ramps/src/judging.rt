@@ -21,7 +21,7 @@ ghost use Rattle.ramp_steps.specs.Steps.{most_steps, requests_view};
 use crate::asked::Verifying;
 use crate::ramping::{count, of_steps};
 use crate::refusal::RampRefusal;
-use crate::remarks::{of_steps_in, step_line};
+use crate::remarks::{advice_on, of_steps_in, step_line};
 use file_diagnostics::Ends;
 use flag_defs::Flags;
 use flagops_files::{
@@ -205,7 +205,7 @@ fn over<R: Threads + Sync>(
             steps,
             answers,
         }),
-        Err(fault) => Err(wrong(alloc, asked, fault)),
+        Err(fault) => Err(wrong(alloc, asked, fault, Ok(String::new(alloc)))),
     }
 }
 
@@ -276,16 +276,21 @@ pub fn out_of_memory() -> Refused<RampRefusal>
     }
 }
 
-/// Answers that are not right, which a person is told of.
+/// Answers that are not right, which a person is told of, with more on a step.
 #[tactic(auto, using(flagops_files::proofs::Told::says, crate::proofs::Diagnosed::step_said, crate::proofs::Diagnosed::file_path))]
-pub(crate) fn wrong(alloc: Global, asked: &Verifying<'_>, fault: RampFault) -> Refused<RampRefusal>
+pub(crate) fn wrong(
+    alloc: Global,
+    asked: &Verifying<'_>,
+    fault: RampFault,
+    more: Result<String, AllocError>,
+) -> Refused<RampRefusal>
     ensures refusal { result.refusal ≡ refused_as fault }
     ensures read { is_unread result.refusal ≡ false }
     ensures names { IsOfVerify (verifying_view asked.now) result.refusal result.remark }
 {
     match fault {
         RampFault::Step(step, fault) => Refused {
-            remark: Remark::of(of_verdict(alloc, asked, step, &fault)),
+            remark: Remark::of(of_verdict(alloc, asked, step, &fault, more)),
             refusal: RampRefusal::Verify(fault),
         },
         RampFault::Lines => Refused {
@@ -305,14 +310,16 @@ fn of_verdict(
     asked: &Verifying<'_>,
     step: u32,
     fault: &VerifyFault,
+    more: Result<String, AllocError>,
 ) -> Result<String, AllocError>
     ensures { IfOk result (λ s. NamesStep (judged_path (verifying_view asked.now) fault.now) step (string_bytes s)) }
 {
-    let path = match fault {
-        VerifyFault::Request(_) => asked.rollout.steps,
-        VerifyFault::Check(_) => asked.ramp,
+    let more = more?;
+    let (path, advice) = match fault {
+        VerifyFault::Request(fault) => (asked.rollout.steps, advice_on(*fault)),
+        VerifyFault::Check(_) => (asked.ramp, ""),
     };
-    let reason = format!(in alloc; "{fault}")?;
+    let reason = format!(in alloc; "{fault}{advice}{more}")?;
     step_line(alloc, path, step, reason.as_str())
 }
 

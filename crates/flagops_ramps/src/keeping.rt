@@ -1,8 +1,9 @@
 //! The command `apply --step --keep`: a document with the rule of the answer to a step, and all else as it was.
 ghost use denote.Param.Send.{IsSync};
-ghost use Rattle.std.specs.Prelude.{◌≡◌, ◌≤◌, ◌-◌, ◌||◌, drop, false, is_ok, is_some, length, map, option_map, true, IfOk, IfSome, Ok};
+ghost use Rattle.std.specs.Prelude.{◌≡◌, ◌≤◌, ◌-◌, ◌||◌, List, ℕ, drop, false, is_ok, is_some, length, map, option_map, true, IfOk, IfSome, Ok};
 ghost use Rattle.flag_defs.specs.Flags.{flags_view};
 ghost use Rattle.flagops_files.specs.Question.{question_view};
+ghost use Rattle.flagops_rollouts.specs.Beside.{AreBehind, Tells};
 ghost use Rattle.flagops_rollouts.specs.Doubts.{NamesDoubted};
 ghost use Rattle.flagops_rollouts.specs.Keep.{IsKeptPut, LeavesDocument, kept_view};
 ghost use Rattle.flagops_shell.specs.Diagnostic.{Says};
@@ -12,10 +13,11 @@ ghost use Rattle.flagops_shell.specs.Report.{outcome_view};
 ghost use Rattle.flagops_ramps.specs.Apply.{answer_to};
 ghost use Rattle.flagops_ramps.specs.Attempts.{IsOfFirst, answers_file, verify_files};
 ghost use Rattle.flagops_ramps.specs.Commands.{keep_description};
-ghost use Rattle.flagops_ramps.specs.Diagnostics.{Diagnoses, IsOfKeep};
+ghost use Rattle.flagops_ramps.specs.Diagnostics.{Diagnoses, IsOfDoubted, IsOfKeep};
 ghost use Rattle.flagops_ramps.specs.Judging.{answers_at, refused_as};
-ghost use Rattle.flagops_ramps.specs.Keep.{IsKeepOf, IsKeepOver, IsKeepReport, IsKeptFrom, IsKeptOnto, IsKeptWith, from_step, is_left};
-ghost use Rattle.flagops_ramps.specs.Report.{GivesOne, is_file_fault};
+ghost use Rattle.flagops_ramps.specs.Keep.{IsKeepOf, IsKeepOver, IsKeepReport, IsKeptFrom, IsKeptOnto, IsKeptWith, from_step, is_finer_put, is_left, settled};
+ghost use Rattle.flagops_ramps.specs.Remarks.{TellsKeepAt, TellsKeepFrom, keep_parts, put_finer_parts};
+ghost use Rattle.flagops_ramps.specs.Report.{GivesOne, GivesUnlessWant, is_file_fault};
 ghost use Rattle.flagops_ramps.specs.Words as words;
 ghost use Rattle.flagops_ramps.specs.Words.{keeping_view};
 ghost use Rattle.flagops_ramps.specs.declared.refusal.RampRefusal.TheVariants.{Rollout};
@@ -27,6 +29,7 @@ use crate::applying::answer_to;
 use crate::asked::Keeping;
 use crate::doubts::{first_request, settled};
 use crate::judging::{load_ramp, out_of_memory, steps_refused, verified_on, wrong};
+use crate::misplaced::misplaced;
 use crate::ramping::count;
 use crate::refusal::{RampRefusal, StepCall};
 use crate::remarks::of_no_step;
@@ -35,7 +38,7 @@ use bucket_core::Rule;
 use clap::Error;
 use flag_defs::Flags;
 use flagops_files::{Question, file_line, load_question};
-use flagops_rollouts::{document_with_rule, has_rule, put_document};
+use flagops_rollouts::{document_with_rule, has_rule, put_document, times_asked, with_points};
 use flagops_shell::{Command, FileSet, Outcome, Refused, Remark};
 use flagops_words::{factor_number, factor_of};
 use plan_text::Planned;
@@ -94,6 +97,7 @@ fn keep<R: Threads + Sync, F: FileSet>(
     ensures kept { KeepsUnlessDone (F.holding files.old) (F.holding files.new) result }
     ensures names { IfSome (F.holding files.old) (λ at. Diagnoses (IsOfFirst (verify_files at (keeping_view asked.now).answered) (IsOfKeep (keeping_view asked.now))) result) }
     ensures notes { IfOk result (λ o. IfSome o.remark (Says (NamesDoubted asked.now.answered.rollout.steps.now asked.now.answered.rollout.book.now))) }
+    ensures parts { IfSome (F.holding files.old) (λ at. IfOk result (λ o. TellsKeepAt at (keeping_view asked.now) o.remark)) }
 {
     let rollout = &asked.answered.rollout;
     match load_question(
@@ -124,6 +128,7 @@ fn against<R: Threads + Sync, F: FileSet>(
     ensures kept { KeepsUnlessDone (F.holding files.old) (F.holding files.new) result }
     ensures names { IfSome (F.holding files.old) (λ at. Diagnoses (IsOfFirst (answers_file at asked.now.answered.ramp.now) (IsOfKeep (keeping_view asked.now))) result) }
     ensures notes { IfOk result (λ o. IfSome o.remark (Says (NamesDoubted asked.now.answered.rollout.steps.now asked.now.answered.rollout.book.now))) }
+    ensures parts { IfSome (F.holding files.old) (λ at. IfOk result (λ o. TellsKeepFrom at (keeping_view asked.now) (question_view question) o.remark)) }
 {
     let answers = load_ramp(alloc, files, asked.answered.ramp)?;
     match read_steps(alloc, question.request.bytes()) {
@@ -161,6 +166,7 @@ fn over<R: Threads + Sync, F: FileSet>(
     ensures kept { KeepsUnlessDone (F.holding files.old) (F.holding files.new) result }
     ensures names { Diagnoses (IsOfKeep (keeping_view asked.now)) result }
     ensures notes { IfOk result (λ o. IfSome o.remark (Says (NamesDoubted asked.now.answered.rollout.steps.now asked.now.answered.rollout.book.now))) }
+    ensures parts { IfOk result (λ o. Tells (keep_parts (keeping_view asked.now) (question_view question) (requests_view steps.now) (map planned_view answers.now)) o.remark) }
 {
     let mut question = question;
     let factor = factor_of(asked.answered.rollout.refine);
@@ -188,11 +194,64 @@ fn counted<R: Threads + Sync, F: FileSet>(
     ensures kept { KeepsUnlessDone (F.holding files.old) (F.holding files.new) result }
     ensures names { Diagnoses (IsOfKeep (keeping_view asked.now)) result }
     ensures notes { IfOk result (λ o. IfSome o.remark (Says (NamesDoubted asked.now.answered.rollout.steps.now asked.now.answered.rollout.book.now))) }
+    ensures parts { IfOk result (λ o. Tells (keep_parts (keeping_view asked.now) (question_view question.now) (requests_view steps.now) (map planned_view answers.now)) o.remark) }
+{
+    let text = kept(rt, alloc, asked, question, steps, answers)?;
+    let remark = noted(rt, alloc, asked, question, steps, answers)?;
+    put(alloc, files, asked, text, remark)
+}
+
+/// What a person is told beside a document with the rule of the answer to the step: what is doubted of it, and that the rule has finer
+/// points than the one that stood there; or that the first is refused.
+fn noted<R: Threads + Sync>(
+    rt: &R,
+    alloc: Global,
+    asked: &Keeping<'_>,
+    question: &Question,
+    steps: &[Vec<u8>],
+    answers: &[Planned],
+) -> Result<Option<Remark>, Refused<RampRefusal>>
+    ensures exact { GivesUnlessWant (λ r. is_some r) result (settled (keeping_view asked.now) (question_view question.now) (requests_view steps.now) (map planned_view answers.now)) }
+    ensures read { is_file_fault result ≡ false }
+    ensures names { Diagnoses (IsOfDoubted asked.now.answered.rollout.steps.now asked.now.answered.rollout.book.now) result }
+    ensures notes { IfOk result (λ r. IfSome r (Says (NamesDoubted asked.now.answered.rollout.steps.now asked.now.answered.rollout.book.now))) }
+    ensures parts { IfOk result (Tells (keep_parts (keeping_view asked.now) (question_view question.now) (requests_view steps.now) (map planned_view answers.now))) }
 {
     let rollout = &asked.answered.rollout;
-    let text = kept(rt, alloc, asked, question, steps, answers)?;
-    let remark = settled(rt, alloc, StepCall::Apply, rollout, question, steps)?;
-    put(alloc, files, asked, text, remark)
+    let doubted = settled(rt, alloc, StepCall::Apply, rollout, question, steps)?;
+    let (steps, answers) = (from_step(steps, asked.step), from_step(answers, asked.step));
+    match pointed(
+        alloc,
+        rollout.steps,
+        &question.flags,
+        steps,
+        answers,
+        doubted,
+    ) {
+        Ok(remark) => Ok(remark),
+        Err(AllocError) => Err(out_of_memory()),
+    }
+}
+
+/// What was noted, and behind that, as a note on the file at a path, that the rule of the first of these answers has finer points than
+/// the one at the site of its request.
+fn pointed(
+    alloc: Global,
+    path: &str,
+    flags: &Flags,
+    steps: &[Vec<u8>],
+    answers: &[Planned],
+    noted: Option<Remark>,
+) -> Result<Option<Remark>, AllocError>
+    ensures told { IfOk result (λ r. is_some r ≡ (is_some noted || is_finer_put (flags_view flags.now) (requests_view steps.now) (map planned_view answers.now))) }
+    ensures beside { IfOk result (AreBehind (put_finer_parts path.now (flags_view flags.now) (requests_view steps.now) (map planned_view answers.now)) noted) }
+    ensures notes { IfOk result (λ r. (book : List ℕ) → IfSome noted (Says (NamesDoubted path.now book)) → IfSome r (Says (NamesDoubted path.now book))) }
+{
+    let Some(planned) = answers.first() else {
+        return Ok(noted);
+    };
+    let factor = times_asked(alloc, flags, first_request(steps), planned)?;
+    Ok(with_points(alloc, path, factor, planned, noted))
 }
 
 /// The text of the document with the rule of the answer to the step, where the answers from it on are right and it has a rule.
@@ -210,12 +269,13 @@ fn kept<R: Threads + Sync>(
     ensures names { Diagnoses (IsOfKeep (keeping_view asked.now)) result }
 {
     let before = answer_to(answers, asked.step.saturating_sub(1));
+    let all = answers;
     let (steps, answers) = (from_step(steps, asked.step), from_step(answers, asked.step));
-    kept_from(rt, alloc, asked, question, steps, before, answers)
+    kept_from(rt, alloc, asked, question, steps, before, answers, all)
 }
 
 /// The text by the first of these answers, where all are right for these steps: those from the one that is asked for on. Before
-/// them there is this one.
+/// them there is this one; all answers tell which step's rule the site has, where it has another one.
 #[tactic(auto, using(flagops_files::proofs::Told::says, crate::proofs::Diagnosed::keep_wrong))]
 fn kept_from<R: Threads + Sync>(
     rt: &R,
@@ -225,6 +285,7 @@ fn kept_from<R: Threads + Sync>(
     steps: &[Vec<u8>],
     before: Option<&Planned>,
     answers: &[Planned],
+    all: &[Planned],
 ) -> Result<Option<Vec<u8>>, Refused<RampRefusal>>
     requires { length steps.now ≤ most_steps }
     ensures exact { GivesOne kept_view result (IsKeptFrom (option_map (λ m. m.number) asked.now.answered.rollout.refine) question.now.document.items (question_view question.now) (requests_view steps.now) (option_map (λ p. planned_view p.now) before.entry) (map planned_view answers.now)) }
@@ -249,7 +310,10 @@ fn kept_from<R: Threads + Sync>(
             before,
             planned,
         ),
-        Err(fault) => Err(wrong(alloc, &asked.answered, behind(asked.step, fault))),
+        Err(fault) => {
+            let place = misplaced(alloc, asked.step, flags, steps, before, all);
+            Err(wrong(alloc, &asked.answered, behind(asked.step, fault), place))
+        }
     }
 }
 
@@ -338,7 +402,7 @@ fn kept_onto(
 }
 
 /// Whether the answer before left the rule at the site of a request.
-fn is_left(
+pub(crate) fn is_left(
     alloc: Global,
     flags: &Flags,
     request: &Request,

@@ -32,6 +32,7 @@ mod doubts;
 mod judging;
 mod keeping;
 mod laws;
+mod misplaced;
 mod ramping;
 mod refusal;
 mod remarks;

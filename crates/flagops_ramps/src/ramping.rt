@@ -1,10 +1,11 @@
 //! The command `ramp`: it prints a line for each step that was planned.
 ghost use denote.Param.Send.{IsSync};
-ghost use Rattle.std.specs.Prelude.{◌≡◌, ◌<◌, ◌-◌, ◌^◌, ◌||◌, false, is_some, length, map, option_map, IfErr, IfOk, IfSome, Ok};
+ghost use Rattle.std.specs.Prelude.{◌≡◌, ◌<◌, ◌-◌, ◌^◌, ◌||◌, false, is_some, length, map, option_map, unwrap_or, IfErr, IfOk, IfSome, Ok};
 ghost use Rattle.std.specs.List.{All};
 ghost use Rattle.flag_text.specs.Outcome.{GivesUnless};
 ghost use Rattle.flag_defs.specs.Flags.{flags_view};
 ghost use Rattle.flagops_files.specs.Question.{question_view};
+ghost use Rattle.flagops_rollouts.specs.Beside.{AreBehind, Tells, noted_with};
 ghost use Rattle.flagops_rollouts.specs.Doubts.{NamesDoubted};
 ghost use Rattle.flagops_shell.specs.Diagnostic.{Says};
 ghost use Rattle.flagops_shell.specs.Report.{outcome_view, status_number};
@@ -12,7 +13,8 @@ ghost use Rattle.flagops_ramps.specs.Attempts.{IsOfFirst, ramp_files};
 ghost use Rattle.flagops_ramps.specs.Doubts.{beside, doubt_of_steps, settle};
 ghost use Rattle.flagops_ramps.specs.Commands.{ramp_description};
 ghost use Rattle.flagops_ramps.specs.Diagnostics.{Diagnoses, IsOfRamp, IsOfSize, NamesPath};
-ghost use Rattle.flagops_ramps.specs.Ramp.{Holds, IsRampOf, IsRampReport, of_steps, ramp_status, recorded, report_ramp};
+ghost use Rattle.flagops_ramps.specs.Ramp.{Holds, IsRampOf, IsRampReport, is_finer_ramp, of_steps, ramp_status, recorded, report_ramp};
+ghost use Rattle.flagops_ramps.specs.Remarks.{TellsRampAt, TellsRampOf, ramp_finer_parts, ramp_parts};
 ghost use Rattle.flagops_ramps.specs.Report.{GivesOne, GivesUnlessWant, is_file_fault};
 ghost use Rattle.flagops_ramps.specs.Words as words;
 ghost use Rattle.flagops_ramps.specs.Words.{ramping_view};
@@ -31,6 +33,7 @@ use book_core::BookFileFault;
 use clap::Error;
 use flag_defs::Flags;
 use flagops_files::{Evidence, Question, load_question};
+use flagops_rollouts::with_points;
 use flagops_shell::{Command, FileSet, Outcome, Refused, Remark, Status};
 use flagops_words::factor_of;
 use page_tally::BookFile;
@@ -86,6 +89,7 @@ fn planned<R: Threads + Sync, F: FileSet>(
     ensures failed { F.has_failed files.new ≡ (F.has_failed files.old || is_file_fault result) }
     ensures names { IfSome (F.holding files.old) (λ at. Diagnoses (IsOfFirst (ramp_files at (ramping_view asked.now)) (IsOfRamp (ramping_view asked.now))) result) }
     ensures notes { IfOk result (λ o. IfSome o.remark (Says (NamesDoubted asked.now.steps.now asked.now.book.now))) }
+    ensures parts { IfSome (F.holding files.old) (λ at. IfOk result (λ o. TellsRampAt at (ramping_view asked.now) o.text.items o.remark)) }
     ensures kept { F.holding files.new ≡ F.holding files.old }
 {
     match load_question(
@@ -114,6 +118,7 @@ fn answer<R: Threads + Sync>(
     ensures read { is_file_fault result ≡ false }
     ensures names { Diagnoses (IsOfRamp (ramping_view asked.now)) result }
     ensures notes { IfOk result (λ o. IfSome o.remark (Says (NamesDoubted asked.now.steps.now asked.now.book.now))) }
+    ensures parts { IfOk result (λ o. TellsRampOf (ramping_view asked.now) (question_view question) o.text.items o.remark) }
 {
     let steps = match read_steps(alloc, question.request.bytes()) {
         Ok(steps) => steps,
@@ -153,7 +158,8 @@ fn planned_on<R: Threads + Sync>(
     }
 }
 
-/// The lines of the answers, which read back as these, beside which a person is told what is doubted of them.
+/// The lines of the answers, which read back as these, beside which a person is told what is doubted of them, and once that their
+/// rules have finer points.
 #[tactic(auto, using(crate::proofs::Diagnosed::ramp_doubted, crate::proofs::Diagnosed::ramp_large))]
 fn told<R: Threads>(
     rt: &R,
@@ -166,14 +172,36 @@ fn told<R: Threads>(
     requires whole { All (λ p. IsWhole (planned_view p)) answers.now }
     requires ordered { All (λ p. IsOrdered (planned_view p)) answers.now }
     ensures reads_back { IfOk result (λ o. Holds (map planned_view answers.now) o.text.items) }
-    ensures exact { GivesUnlessWant outcome_view result (beside (settle StepCall.Ramp asked.now.strict (doubt_of_steps (question_view question.now) (requests_view steps.now))) (report_ramp (map planned_view answers.now))) }
+    ensures exact { GivesUnlessWant outcome_view result (beside (noted_with (is_finer_ramp (unwrap_or (option_map (λ m. m.number) asked.now.refine) 1) (map planned_view answers.now)) (settle StepCall.Ramp asked.now.strict (doubt_of_steps (question_view question.now) (requests_view steps.now)))) (report_ramp (map planned_view answers.now))) }
     ensures read { is_file_fault result ≡ false }
     ensures names { Diagnoses (IsOfRamp (ramping_view asked.now)) result }
     ensures notes { IfOk result (λ o. IfSome o.remark (Says (NamesDoubted asked.now.steps.now asked.now.book.now))) }
+    ensures parts { IfOk result (λ o. Tells (ramp_parts (ramping_view asked.now) (question_view question.now) (requests_view steps.now) (map planned_view answers.now)) o.remark) }
 {
     match settled(rt, alloc, StepCall::Ramp, asked, question, steps) {
-        Ok(remark) => printed(alloc, answers, remark),
+        Ok(doubted) => printed(alloc, answers, noted(alloc, asked, answers, doubted)),
         Err(told) => Err(told),
+    }
+}
+
+/// What was noted beside answers to steps, and behind that, once, that their rules have finer points than the site: each has as many
+/// as the first.
+fn noted(
+    alloc: Global,
+    asked: &Ramping<'_>,
+    answers: &[Planned],
+    doubted: Option<Remark>,
+) -> Option<Remark>
+    ensures told { is_some result ≡ (is_some doubted || is_finer_ramp (unwrap_or (option_map (λ m. m.number) asked.now.refine) 1) (map planned_view answers.now)) }
+    ensures beside { AreBehind (ramp_finer_parts asked.now.steps.now (unwrap_or (option_map (λ m. m.number) asked.now.refine) 1) (map planned_view answers.now)) doubted result }
+    ensures notes { IfSome doubted (Says (NamesDoubted asked.now.steps.now asked.now.book.now)) → IfSome result (Says (NamesDoubted asked.now.steps.now asked.now.book.now)) }
+{
+    match answers.first() {
+        Some(first) => {
+            let factor = factor_of(asked.refine);
+            with_points(alloc, asked.steps, factor, first, doubted)
+        }
+        None => doubted,
     }
 }
 

@@ -5,6 +5,7 @@ ghost use Rattle.flagops_ramps.specs.Diagnostics.{NamesPath, NamesStep};
 use file_diagnostics::of_text;
 use flagops_files::{Question, TEXT_LIMIT, file_line, quoted};
 use ramp::StepFault;
+use rollout_checks::RolloutFault;
 use std::alloc::{AllocError, Global};
 
 /// What a file that has no steps lacks.
@@ -35,8 +36,37 @@ fn of_step(alloc: Global, path: &str, fault: StepFault) -> Result<String, AllocE
     ensures { IfOk result (λ s. NamesStep path.now fault.step (string_bytes s)) }
 {
     let what = fault.fault;
-    let reason = format!(in alloc; "{what}")?;
+    let advice = advice_on(what);
+    let reason = format!(in alloc; "{what}{advice}")?;
     step_line(alloc, path, fault.step, reason.as_str())
+}
+
+/// What to do about a step that is refused, as a line below it.
+pub(crate) fn advice_on(fault: RolloutFault) -> &'static str {
+    match fault {
+        RolloutFault::WantOfMemory => "",
+        RolloutFault::Request(_) => "\n  docs/FORMATS.md says what the totals of a step look like",
+        RolloutFault::UnknownFlag => "\n  'check' lists the keys of a document",
+        RolloutFault::NoSite =>
+            "\n  sites count from 0, in the order in which they stand in the targeting",
+        RolloutFault::Computed => "\n  steps are planned on literal buckets alone",
+        RolloutFault::UnknownVariant => {
+            "\n  each name in its totals, and in the prices and changes, has to be a variant of the flag"
+        }
+        RolloutFault::TotalsSum => {
+            "\n  its totals are points: have them sum to the sum of the site's weights (with --refine M, M times that)"
+        }
+        RolloutFault::TotalTooLarge => {
+            "\n  divide the weights by a common factor, or take a smaller M"
+        }
+        RolloutFault::NoWeight => "\n  give one bucket of the site a weight above 0",
+        RolloutFault::TooLarge => {
+            "\n  split the document; a rule of many short runs is long: take a smaller M"
+        }
+        RolloutFault::OtherTally => {
+            "\n  tally the page of the steps, at the weight of the site's rule (with --refine M, M times that)"
+        }
+    }
 }
 
 /// Of a step to which a file has no answer.

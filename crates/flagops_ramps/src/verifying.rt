@@ -1,11 +1,15 @@
 //! The command `verify-ramp`: it prints what each step costs.
 ghost use denote.Param.Send.{IsSync};
 ghost use Rattle.std.specs.Prelude.{◌≡◌, ◌||◌, false, true, is_some, map, string_bytes, IfErr, IfOk, IfSome, Ok};
+ghost use Rattle.flagops_rollouts.specs.Beside.{Tells};
 ghost use Rattle.flagops_rollouts.specs.Doubts.{NamesDoubted};
 ghost use Rattle.flagops_shell.specs.Diagnostic.{Says};
 ghost use Rattle.flagops_shell.specs.Report.{outcome_view};
 ghost use Rattle.flagops_ramps.specs.Attempts.{IsOfFirst, verify_files};
-ghost use Rattle.flagops_ramps.specs.Doubts.{beside};
+ghost use Rattle.flagops_ramps.specs.Doubts.{beside, doubt_parts_of_steps};
+ghost use Rattle.flagops_files.specs.Question.{question_view};
+ghost use Rattle.flagops_ramps.specs.Remarks.{TellsVerdictAt};
+ghost use Rattle.ramp_steps.specs.Steps.{requests_view};
 ghost use Rattle.flagops_ramps.specs.Commands.{verify_description};
 ghost use Rattle.flagops_ramps.specs.Diagnostics.{Diagnoses, IsOfVerify};
 ghost use Rattle.flagops_ramps.specs.Judging.{answered_view};
@@ -69,6 +73,7 @@ fn verdict<R: Threads + Sync, F: FileSet>(
     ensures failed { F.has_failed files.new ≡ (F.has_failed files.old || is_file_fault result) }
     ensures names { IfSome (F.holding files.old) (λ at. Diagnoses (IsOfFirst (verify_files at (verifying_view asked.now)) (IsOfVerify (verifying_view asked.now))) result) }
     ensures notes { IfOk result (λ o. IfSome o.remark (Says (NamesDoubted asked.now.rollout.steps.now asked.now.rollout.book.now))) }
+    ensures parts { IfSome (F.holding files.old) (λ at. IfOk result (λ o. TellsVerdictAt at (verifying_view asked.now) o.remark)) }
     ensures kept { F.holding files.new ≡ F.holding files.old }
 {
     match load_answers(rt, alloc, files, asked) {
@@ -89,6 +94,7 @@ fn reported<R: Threads>(
     ensures read { is_file_fault result ≡ false }
     ensures names { Diagnoses (IsOfVerify (verifying_view asked.now)) result }
     ensures notes { IfOk result (λ o. IfSome o.remark (Says (NamesDoubted asked.now.rollout.steps.now asked.now.rollout.book.now))) }
+    ensures parts { IfOk result (λ o. Tells (doubt_parts_of_steps asked.now.rollout.steps.now asked.now.rollout.book.now (question_view right.now.question) (requests_view right.now.steps.items)) o.remark) }
 {
     let steps = right.steps.as_slice();
     let (rollout, question) = (&asked.rollout, &right.question);

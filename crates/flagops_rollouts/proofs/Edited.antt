@@ -43,7 +43,8 @@ use Rattle.flagops_files.specs.declared.evidence.Evidence.{Evidence}
 use Rattle.flagops_files.specs.declared.evidence.Evidence.TheVariants.{Book, Tally}
 use Rattle.flagops_shell.specs.declared.outcome.Outcome.{Outcome}
 use Rattle.flagops_rollouts.specs.declared.refusal.RolloutRefusal.{RolloutRefusal}
-use Rattle.flagops_rollouts.specs.Keep.{IsEdited, IsEditedTo, IsKeepReport, IsKeepWith, IsKeptAt, IsKeptFor, IsKeptPut, IsKeptWith, IsPut, Kept, LeavesDocument, MayBeKept, some_view}
+use Rattle.flagops_rollouts.specs.Keep.{IsEdited, IsEditedTo, IsKeepReport, IsKeepWith, IsKeptAt, IsKeptFor, IsKeptPut, IsKeptWith, IsPut, Kept, LeavesDocument, MayBeKept, is_finer_there, some_view}
+use Rattle.flagops_rollouts.specs.Beside.{noted_with}
 use Rattle.flagops_rollouts.specs.Doubts.{doubt_of, settle}
 use Rattle.flagops_rollouts.specs.declared.refusal.RolloutCall.TheVariants as call
 use Rattle.flagops_rollouts.specs.Verify.{IsToldOn, MayBeTold}
@@ -117,7 +118,7 @@ module _ (path : List ℕ) (write strict : Bool) (refine : Option ℕ) (document
   not_kept old after e r is same kept = subst (λ (x : Result Outcome Refused). IfSome old (λ at. GivesOne outcome_view x (IsKeepWith at after path write strict refine document q answer))) (sym is) (none_kept old after e same kept)
 
   abbrev settled : Result Bool RolloutRefusal
-  settled = settle call.Apply strict (doubt_of q)
+  settled = noted_with (is_finer_there q answer) (settle call.Apply strict (doubt_of q))
 
   -- a doubt that is refused puts nothing
   pub not_settled : (old after : Option Holding) (kept : Kept) (e : Refused) → after ≡ old → (is_want e.refusal ≡ false → settled ≡ Err e.refusal) → MayBeKept refine document q answer (Ok kept)

@@ -5,8 +5,10 @@ pub mod Edited
 mod Edits
 mod Loaded
 mod Omissions
+pub mod Parts
 mod Passed
 pub mod Points
+mod Said
 mod Tallies
 pub mod Telling
 pub mod Valid

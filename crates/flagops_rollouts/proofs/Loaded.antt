@@ -10,11 +10,11 @@ use Rattle.flagops_files.proofs.Told.{told_of, told_of_one}
 use Rattle.flagops_files.specs.Documents as documents
 use Rattle.flagops_files.specs.PlanFile as plans
 use Rattle.flagops_files.specs.Question as questions
-use Rattle.flagops_files.specs.Question.{BookQuestion, Question}
+use Rattle.flagops_files.specs.Question.{Question}
 use Rattle.flagops_files.specs.Refusal as files
 use Rattle.flagops_files.specs.declared.refusal.Call.{Call}
 use Rattle.flagops_files.specs.Told.{NamesOne, NamesSubject, Subject}
-use Rattle.flagops_rollouts.specs.Loaded.{IsBookQuestionAt, IsDocumentAt, IsQuestionAt, book_question_subjects, plan_at, question_subjects}
+use Rattle.flagops_rollouts.specs.Loaded.{IsDocumentAt, IsQuestionAt, plan_at, question_subjects}
 use Rattle.flagops_rollouts.specs.Refusal.{Refused, call_of, is_unread, is_want, loads, unwritable}
 use Rattle.flagops_rollouts.specs.declared.refusal.RolloutRefusal.TheVariants.{Load}
 
@@ -47,15 +47,6 @@ module _ (old : Option Holding) (document request evidence : List ℕ) where
   unfolding IsQuestionAt
   no_question e t is loaded = refused_one files.is_want is_want Load (λ e. refl) (λ at. questions.IsQuestionAt at document request evidence) old e t is loaded
 
-  pub book_question_there : (q : BookQuestion) → IfSome old (λ at. questions.IsBookQuestionAt at document request evidence (Ok q)) → IfSome old (λ at. IsBookQuestionAt at document request evidence (Ok q))
-  unfolding IsBookQuestionAt
-  book_question_there q loaded = given_one files.is_want is_want Load (λ e. refl) (λ at. questions.IsBookQuestionAt at document request evidence) old q loaded
-
-  pub no_book_question : (e : files.Refused) (t : Refused) → t.refusal ≡ Load e.refusal → IfSome old (λ at. files.is_want e.refusal ≡ false → questions.IsBookQuestionAt at document request evidence (Err e.refusal))
-      → IfSome old (λ at. is_want t.refusal ≡ false → IsBookQuestionAt at document request evidence (Err t.refusal))
-  unfolding IsBookQuestionAt
-  no_book_question e t is loaded = refused_one files.is_want is_want Load (λ e. refl) (λ at. questions.IsBookQuestionAt at document request evidence) old e t is loaded
-
 -- ---- a refusal is told as it was
 
 module _ (e : files.Refused) (t : Refused) where
@@ -66,11 +57,6 @@ module _ (e : files.Refused) (t : Refused) where
       → (files.is_want e.refusal ≡ false → NamesOne (questions.question_subjects document request evidence) e.refusal e.remark) → is_want t.refusal ≡ false → NamesOne (question_subjects document request evidence) t.refusal t.remark
   told_question document request evidence is said named =
       told_of_one files.is_want is_want Load (λ e. refl) e t is said (questions.question_subjects document request evidence) (question_subjects document request evidence) (λ r remark named. named) named
-
-  pub told_book_question : (document request evidence : List ℕ) → t.refusal ≡ Load e.refusal → t.remark ≡ e.remark
-      → (files.is_want e.refusal ≡ false → NamesOne (questions.book_question_subjects document request evidence) e.refusal e.remark) → is_want t.refusal ≡ false → NamesOne (book_question_subjects document request evidence) t.refusal t.remark
-  told_book_question document request evidence is said named =
-      told_of_one files.is_want is_want Load (λ e. refl) e t is said (questions.book_question_subjects document request evidence) (book_question_subjects document request evidence) (λ r remark named. named) named
 
   -- a file that is not written is refused as it was
   pub unwritten : t.refusal ≡ Load e.refusal → (files.is_want e.refusal ≡ false → e.refusal ≡ files.unwritable) → is_want t.refusal ≡ false → t.refusal ≡ unwritable

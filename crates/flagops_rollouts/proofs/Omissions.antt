@@ -1,17 +1,14 @@
 -- What the printed form of a document leaves out.
-use Rattle.std.proofs.Common.{◌≡◌, ◌+◌, add-one, ◌||◌, ◌++◌, ◌∙◌, ℕ, ◌<◌, Bool, false, List, [], ◌∷◌, Option, Some, None, IfSome, Result, Ok, Err, ap, append-nil, drop, drop-cons, get_or, length, slice_get, suc, take}
+use Rattle.std.proofs.Common.{◌≡◌, ◌+◌, add-one, ◌||◌, ◌++◌, ◌∙◌, ℕ, ◌<◌, Bool, false, List, [], ◌∷◌, Option, Some, None, IfSome, ap, append-nil, drop, drop-cons, get_or, length, slice_get, suc, take}
 use Rattle.std.specs.List.{flat_map, list_any}
-use Rattle.std.specs.Prelude.{IfOk}
 use Rattle.std.proofs.lemmas.Grind.{flat_map-append}
 use Rattle.std.proofs.lemmas.List.{take_more}
 use Rattle.std.proofs.lemmas.Option.{get_or_from_slice_get, slice_get_within}
 use Rattle.flag_defs.specs.Document.{Definitions}
 use Rattle.file_diagnostics.specs.Named.{Names}
 use Rattle.flagops_rollouts.specs.Omitted.{TellsOmitted, broken_lines}
-use Rattle.flagops_rollouts.specs.Refusal.{Refused}
 use Rattle.flagops_rollouts.proofs.Doubting.{named_still}
 use Rattle.flagops_shell.specs.Diagnostic.{Says}
-use Rattle.flagops_shell.specs.declared.outcome.Outcome.{Outcome}
 use Rattle.flagops_shell.specs.declared.refused.Remark.{Remark}
 use Rattle.flagops_shell.specs.declared.refused.Remark.TheVariants.{Short, Lines}
 
@@ -29,10 +26,6 @@ of_document path flags (Lines lines) told = tells path flags _ told
 pub told_names : (path : List ℕ) (flags : Definitions) (o : Option Remark) → IfSome o (Says (TellsOmitted path flags)) → IfSome o (Says (Names path))
 told_names path flags None told = tt
 told_names path flags (Some remark) told = of_document path flags remark told
-
-pub told_names_of : (path : List ℕ) (flags : Definitions) (r : Result Outcome Refused) → IfOk r (λ o. IfSome o.remark (Says (TellsOmitted path flags))) → IfOk r (λ o. IfSome o.remark (Says (Names path)))
-told_names_of path flags (Ok o) told = told_names path flags o.remark told
-told_names_of path flags (Err e) told = tt
 
 -- ---- flags that are looked at one by one
 

@@ -1,10 +1,13 @@
 -- What the command `apply` answers.
-use Rattle.std.specs.Prelude.{◌≡◌, ℕ, Bool, false, List, ◌++◌, codes, IfOk, Result, Ok, Err}
+use Rattle.std.specs.Prelude.{◌≡◌, ℕ, nat_lt, Bool, false, List, ◌++◌, codes, IfOk, Result, Ok, Err}
+use Rattle.bucket_core.specs.Rule.{total_weight}
 use Rattle.flag_defs.specs.Document.{Definitions, printed}
 use Rattle.plan_text.specs.Answer.{Answer, emit, none_exists}
 use Rattle.rollout.specs.Applied.{applied}
 use Rattle.rollout.specs.Change.{IsLocal}
 use Rattle.flagops_files.specs.Loading.{max_text}
+use Rattle.flagops_rollouts.specs.Beside.{noted_with}
+use Rattle.flagops_rollouts.specs.Finer.{times_at}
 use Rattle.flagops_rollouts.specs.Loaded.{IsDocumentAt, plan_at}
 use Rattle.flagops_rollouts.specs.Omitted.{is_omitting, settle_omitted}
 use Rattle.flagops_shell.specs.Files.{Holding, load_of}
@@ -27,10 +30,11 @@ unfoldable pub applied_report : Definitions → List ℕ → ℕ → Answer → 
 applied_report flags key site (emit rule c) = refused_by Apply (applied flags key site rule) >>= λ changed. done (document_line changed)
 applied_report flags key site (none_exists kind names) = Ok none_report
 
--- The same of the flags that the bytes of a document mean: a person is told what of the document is left out, or that is refused.
+-- The same of the flags that the bytes of a document mean: a person is told what of the document is left out, or that is refused, and that the rule has finer points.
 unfoldable pub told_report : List ℕ → Definitions → List ℕ → ℕ → Bool → Answer → Result Report RolloutRefusal
 told_report document flags key site strict (emit rule c) =
-    applied_report flags key site (emit rule c) >>= λ report. settle_omitted strict (is_omitting document flags) >>= λ told. beside told (Ok report)
+    applied_report flags key site (emit rule c)
+    >>= λ report. noted_with (nat_lt 1 (times_at flags key site (total_weight rule))) (settle_omitted strict (is_omitting document flags)) >>= λ told. beside told (Ok report)
 told_report document flags key site strict (none_exists kind names) = Ok none_report
 
 -- What is printed is the document of flags of which one is changed, at the site alone: the others, and what chooses alike by both

@@ -7,6 +7,7 @@ use Rattle.flag_text.specs.declared.fault.TextFault.{TextFault}
 use Rattle.repeated_names.specs.Repeated.{is_repeating}
 use Rattle.unread_members.specs.Unread.{unread_of}
 use Rattle.unread_members.specs.declared.reader.Reader.TheVariants as reader
+use Rattle.flagops_rollouts.specs.Beside.{Part, part_if}
 use Rattle.flagops_rollouts.specs.Foreign.{is_foreign, is_mixed}
 use Rattle.flagops_rollouts.specs.Unrecorded.{is_bare, is_unrecorded}
 use Rattle.flagops_files.specs.Loading.{max_text}
@@ -46,6 +47,18 @@ first_doubt unread recorded = if unread then Some doubt.Unread else recorded
 -- the first that is doubted of a question: a member of its request is not read, no recorded input counts, or one that does is none of the flag
 abbrev pub doubt_of : Question → Option Doubt
 doubt_of q = first_doubt (is_unread q.request) (recorded_doubt (is_unrecorded q) (is_foreign q))
+
+-- what is told of the bytes of a request: a part on members that are not read, and one on names that stand more than once, where there are any
+abbrev pub request_parts : List ℕ → List ℕ → List Part
+request_parts request bytes = part_if (has_unread (tree_of bytes max_text)) (Names request) ++ part_if (is_repeating bytes) (Names request)
+
+-- and of what was recorded: a part on what is doubted of it
+abbrev pub recorded_parts : List ℕ → Option Doubt → List Part
+recorded_parts book d = part_if (is_some d) (Names book)
+
+-- each doubt of a question is told in a part of its own, in the order in which `doubt_of` has them, and begins with the path that it is of
+abbrev pub doubt_parts : List ℕ → List ℕ → Question → List Part
+doubt_parts request book q = request_parts request q.request ++ recorded_parts book (recorded_doubt (is_unrecorded q) (is_foreign q))
 
 -- whether a person is told of a doubt; with `--strict` the call refuses it
 abbrev pub settle : RolloutCall → Bool → Option Doubt → Result Bool RolloutRefusal

@@ -11,8 +11,11 @@ use Rattle.rollout.specs.Applied.{applied}
 use Rattle.rollout_checks.specs.declared.fault.RolloutFault.{RolloutFault}
 use Rattle.rollout_checks.specs.declared.verify_fault.VerifyFault.{VerifyFault}
 use Rattle.site_places.specs.Place.{SitePlace}
+use Rattle.std.specs.Result.{result_ok}
 use Rattle.flagops_rollouts.specs.Apply.{none_report}
+use Rattle.flagops_rollouts.specs.Beside.{noted_with}
 use Rattle.flagops_rollouts.specs.Doubts.{doubt_of, settle}
+use Rattle.flagops_rollouts.specs.Finer.{is_finer, times_asked}
 use Rattle.flagops_rollouts.specs.Verify.{MayBeTold}
 use Rattle.flagops_shell.specs.Files.{Holding, KeepsOthers, Stores, load_of}
 use Rattle.flagops_files.specs.Loading.{max_text}
@@ -98,10 +101,14 @@ IsPut at after path write settled (Err e) r = (r ≡ Err e) × (after ≡ Some a
 IsPut at after path write (Err e) (Ok kept) r = (r ≡ Err e) × (after ≡ Some at)
 IsPut at after path write (Ok told) (Ok kept) r = IsKeptPut at after path write told kept r
 
--- The same, of what becomes of the document. A person is told of a doubt.
+-- the rule of the answer has finer points than the one at the site of the question's request
+abbrev pub is_finer_there : Question → Answer → Bool
+is_finer_there q answer = is_finer (times_asked q.flags (result_ok (asked_of q.request)) answer) answer
+
+-- The same, of what becomes of the document. A person is told of a doubt, and of finer points.
 abbrev pub IsKeepWith : Holding → Option Holding → List ℕ → Bool → Bool → Option ℕ → List ℕ → Question → Answer → Outcomes
 IsKeepWith at after path write strict refine document q answer r =
-    (kept : Result Kept RolloutRefusal) × MayBeKept refine document q answer kept × IsPut at after path write (settle call.Apply strict (doubt_of q)) kept r
+    (kept : Result Kept RolloutRefusal) × MayBeKept refine document q answer kept × IsPut at after path write (noted_with (is_finer_there q answer) (settle call.Apply strict (doubt_of q))) kept r
 
 -- The same over what was read.
 abbrev pub IsKeepOf : Holding → Option Holding → List ℕ → Bool → Bool → Option ℕ → Result Question RolloutRefusal → Result Answer RolloutRefusal → Outcomes

@@ -1,5 +1,6 @@
 pub mod Apply
 pub mod Attempts
+pub mod Beside
 pub mod ByHand
 pub mod Calls
 pub mod Doubts
@@ -14,6 +15,7 @@ pub mod Passed
 pub mod Payload
 pub mod Plan
 pub mod Refusal
+pub mod Remarks
 pub mod Standing
 pub mod Subjects
 pub mod Tallies

@@ -33,7 +33,3 @@ IsBookQuestionAt at path request book r = Lifts Load (questions.IsBookQuestionAt
 -- the files of a question, each with the refusals that are of it
 abbrev pub question_subjects : List ℕ → List ℕ → List ℕ → Subjects
 question_subjects document request evidence = (file document, by loads_flags) ∷ (file request, by (loads files.loads_file)) ∷ (file evidence, by (loads files.loads_evidence)) ∷ []
-
--- the same over a book
-abbrev pub book_question_subjects : List ℕ → List ℕ → List ℕ → Subjects
-book_question_subjects document request book = (file document, by loads_flags) ∷ (file request, by (loads files.loads_file)) ∷ (file book, by (loads files.loads_book)) ∷ []

@@ -1,11 +1,13 @@
 //! What is doubted of an answer to a rollout request: a person is told, and `--strict` refuses it.
 ghost use Rattle.std.specs.Prelude.{◌≡◌, false, is_some, IfErr, IfOk, IfSome, option_map};
-ghost use Rattle.flagops_rollouts.specs.Doubts.{IsLonger, NamesDoubt, NamesDoubted, doubt_of, doubt_subjects, first_doubt, settle};
+ghost use Rattle.flagops_rollouts.specs.Beside.{AreBoth, Tells};
+ghost use Rattle.flagops_rollouts.specs.Doubts.{NamesDoubt, NamesDoubted, doubt_of, doubt_parts, doubt_subjects, first_doubt, settle};
 ghost use Rattle.flagops_files.specs.Question.{question_view};
 ghost use Rattle.flagops_rollouts.specs.Refusal.{GivesUnlessWant, call_of, is_file_fault, TellsOfOne};
 ghost use Rattle.flagops_shell.specs.Diagnostic.{Says};
 ghost use Rattle.file_diagnostics.specs.Named.{Names};
 
+use crate::beside::joined;
 use crate::passed_over::unread_in_file;
 use crate::recorded::doubt_of_recorded;
 use crate::refusal::{Doubt, Refused, RolloutCall, RolloutRefusal, out_of_memory};
@@ -37,6 +39,7 @@ pub fn settled<R: Threads>(
     ensures read { is_file_fault result ≡ false }
     ensures names { TellsOfOne (doubt_subjects request.now book.now) result }
     ensures notes { IfOk result (λ r. IfSome r (Says (NamesDoubted request.now book.now))) }
+    ensures parts { IfOk result (Tells (doubt_parts request.now book.now (question_view question.now))) }
 {
     match doubted(rt, alloc, request, book, question) {
         Ok(doubted) => settle(call, request, book, doubted, strict),
@@ -59,6 +62,7 @@ fn settle(
     ensures read { is_file_fault result ≡ false }
     ensures names { TellsOfOne (doubt_subjects request.now book.now) result }
     ensures notes { IfOk result (λ r. IfSome r (Says (NamesDoubted request.now book.now))) }
+    ensures remark { IfOk result (λ r. r ≡ option_map (λ d. d.remark) doubted) }
 {
     match doubted {
         Some(NotedDoubt { doubt, remark }) => if strict {
@@ -83,13 +87,14 @@ fn doubted<R: Threads>(
 ) -> Result<Option<NotedDoubt>, AllocError>
     ensures doubt { IfOk result (λ o. option_map (λ d. d.doubt) o ≡ doubt_of (question_view question.now)) }
     ensures notes { IfOk result (λ o. IfSome o (λ d. Says (NamesDoubt request.now book.now d.doubt) d.remark)) }
+    ensures parts { IfOk result (λ o. Tells (doubt_parts request.now book.now (question_view question.now)) (option_map (λ d. d.remark) o)) }
 {
     let unread = unread_in_file(alloc, request, &question.request)?;
     let recorded = doubt_of_recorded(rt, alloc, book, question)?;
     Ok(first_of(request, book, unread, recorded))
 }
 
-/// The first of two doubts, with what is told of both.
+/// The first of two doubts, with what is told of both. The paths are what the contract names.
 fn first_of(
     request: &str,
     book: &str,
@@ -100,11 +105,12 @@ fn first_of(
     requires recorded { IfSome recorded (λ d. Says (NamesDoubt request.now book.now d.doubt) d.remark) }
     ensures doubt { option_map (λ d. d.doubt) result ≡ first_doubt (is_some unread) (option_map (λ d. d.doubt) recorded) }
     ensures notes { IfSome result (λ d. Says (NamesDoubt request.now book.now d.doubt) d.remark) }
+    ensures both { AreBoth unread (option_map (λ d. d.remark) recorded) (option_map (λ d. d.remark) result) }
 {
     match unread {
         Some(remark) => Some(NotedDoubt {
             doubt: Doubt::Unread,
-            remark: joined(request, remark, remark_in(recorded)),
+            remark: joined(remark, remark_in(recorded)),
         }),
         None => recorded,
     }
@@ -118,23 +124,5 @@ pub fn remark_in(noted: Option<NotedDoubt>) -> Option<Remark>
     match noted {
         Some(NotedDoubt { remark, .. }) => Some(remark),
         None => None,
-    }
-}
-
-/// A remark on a name with another behind it.
-#[tactic(auto, using(crate::proofs::Doubting::named_still))]
-pub fn joined(name: &str, remark: Remark, more: Option<Remark>) -> Remark
-    requires { Says (Names name.now) remark }
-    ensures names { Says (Names name.now) result }
-    ensures longer { IsLonger remark result }
-{
-    match (remark, more) {
-        (Remark::Lines(mut lines), Some(Remark::Lines(more))) => {
-            match lines.push_str(more.as_str()) {
-                Ok(()) => Remark::Lines(lines),
-                Err(AllocError) => Remark::Short,
-            }
-        }
-        (remark, _) => remark,
     }
 }

@@ -2,14 +2,15 @@
 ghost use Rattle.std.specs.Prelude.{◌≡◌, ◌||◌, is_some, option_map, true, unwrap_or, IfOk, IfSome, string_bytes};
 ghost use Rattle.bucket_core.specs.Rule.{IsRuleTotal};
 ghost use Rattle.flagops_files.specs.Question.{question_view};
+ghost use Rattle.flagops_rollouts.specs.Beside.{AreBefore, part_if};
 ghost use Rattle.flagops_rollouts.specs.ByHand.{TellsEdit};
 ghost use Rattle.flagops_rollouts.specs.Doubts.{NamesDoubted};
 ghost use Rattle.flagops_shell.specs.Diagnostic.{Says};
 ghost use Rattle.file_diagnostics.specs.Named.{Names};
 ghost use Rattle.plan_text.specs.Answer.{planned_view};
 
+use crate::beside::behind;
 use crate::by_hand::edit_of;
-use crate::doubts::joined;
 use crate::recorded::page_asked;
 use flagops_files::{Evidence, Question};
 use flagops_shell::Remark;
@@ -22,7 +23,6 @@ use std::thread::Threads;
 
 /// What a person is told beside an answer to the request of a path: what is noted of it, and before that, where it is asked
 /// for, the answer in words.
-#[tactic(auto, using(crate::proofs::Doubting::of_request, crate::proofs::Edits::still))]
 pub fn told(
     rt: &(impl Threads + Sync),
     alloc: Global,
@@ -38,10 +38,11 @@ pub fn told(
     ensures told { is_some result ≡ (explain || is_some noted) }
     ensures notes { IfSome result (Says (NamesDoubted request.now book.now)) }
     ensures edit { explain ≡ true → IfSome result (Says (TellsEdit request.now (question_view question.now) (unwrap_or (option_map (λ m. m.number) refine) 1) (planned_view planned.now))) }
+    ensures beside { AreBefore (part_if explain (TellsEdit request.now (question_view question.now) (unwrap_or (option_map (λ m. m.number) refine) 1) (planned_view planned.now))) noted result }
 {
     if explain {
         let words = explained(rt, alloc, request, question, planned, refine);
-        Some(joined(request, words, noted))
+        behind(Some(words), noted)
     } else {
         noted
     }

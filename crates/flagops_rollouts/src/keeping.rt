@@ -5,12 +5,14 @@ ghost use Rattle.flagops_rollouts.specs.Apply.{none_report};
 ghost use Rattle.flagops_rollouts.specs.Attempts.{TellsOfFirst, keep_attempts};
 ghost use Rattle.flagops_rollouts.specs.Calls.{apply_itself, keep_calls, puts_document};
 ghost use Rattle.flagops_shell.specs.Ending.{KeepsUnlessDone};
-ghost use Rattle.flagops_rollouts.specs.Keep.{IsKeepReport, IsKeepWith, IsKeptPut, IsWritten, LeavesDocument, kept_view, written_text};
+ghost use Rattle.flagops_rollouts.specs.Beside.{Tells, noted_with};
+ghost use Rattle.flagops_rollouts.specs.Keep.{IsKeepReport, IsKeepWith, IsKeptPut, IsWritten, LeavesDocument, is_finer_there, kept_view, written_text};
 ghost use Rattle.flagops_rollouts.specs.Subjects.{is_of_kept_answer, is_of_kept_document, is_of_kept_request, keep_subjects};
-ghost use Rattle.flagops_rollouts.specs.Doubts.{NamesDoubted, doubt_subjects};
+ghost use Rattle.flagops_rollouts.specs.Doubts.{NamesDoubted, doubt_of, doubt_subjects, settle};
+ghost use Rattle.flagops_rollouts.specs.Remarks.{TellsKeptAt, keep_parts};
 ghost use Rattle.flagops_shell.specs.Files.{KeepsOthers};
 ghost use Rattle.flagops_files.specs.Question.{question_view};
-ghost use Rattle.flagops_rollouts.specs.Refusal.{ComesFrom, GivesOne, GivesUnlessWant, is_file_fault, TellsOfOne};
+ghost use Rattle.flagops_rollouts.specs.Refusal.{ComesFrom, GivesOne, GivesUnlessWant, call_of, is_file_fault, TellsOfOne};
 ghost use Rattle.flagops_shell.specs.Outcomes.{beside};
 ghost use Rattle.flagops_shell.specs.Report.{outcome_view};
 ghost use Rattle.flagops_files.specs.Told.{file};
@@ -19,6 +21,7 @@ ghost use Rattle.flagops_rollouts.specs.declared.refusal.RolloutCall.TheVariants
 ghost use Rattle.flagops_rollouts.specs.declared.refusal.RolloutRefusal.TheVariants.{WantOfMemory};
 
 use crate::doubts::settled;
+use crate::finer::{times_asked, with_points};
 use crate::kept::kept;
 use crate::loading::{load_planned, load_question, store};
 use crate::refusal::{Refused, RolloutCall, out_of_memory};
@@ -31,7 +34,8 @@ use std::alloc::{AllocError, Global};
 use std::thread::Threads;
 
 /// The document with the rule of a plan file, where `verify` tells that it is right, at the site of the request; or the
-/// number of its bytes, once they were written over the document. `none` where the plan has no rule.
+/// number of its bytes, once they were written over the document. `none` where the plan has no rule. What is doubted of it is told, or
+/// refused where that is asked for; that the rule has finer points than the one that stood there is told too.
 #[tactic(auto, unfolding(crate::specs::Keep::IsKeepReport))]
 pub fn keep<R: Threads + Sync, F: FileSet>(
     rt: &R,
@@ -53,6 +57,7 @@ pub fn keep<R: Threads + Sync, F: FileSet>(
     ensures names { TellsOfOne (keep_subjects document.now plan.now request.now book.now) result }
     ensures first { IfSome (F.holding files.old) (λ at. TellsOfFirst (keep_attempts at document.now plan.now request.now book.now) result) }
     ensures notes { IfOk result (λ o. IfSome o.remark (Says (NamesDoubted request.now book.now))) }
+    ensures parts { IfSome (F.holding files.old) (λ at. IfOk result (λ o. TellsKeptAt at document.now plan.now request.now book.now o.remark)) }
 {
     let question = load_question(rt, alloc, files, document, request, book, factor_of(refine))?;
     let planned = load_planned(alloc, files, plan)?;
@@ -86,19 +91,38 @@ fn answer<F: FileSet>(
     ensures kept { KeepsUnlessDone (F.holding files.old) (F.holding files.new) result }
     ensures names { TellsOfOne ((file paths.entry.request.now, is_of_kept_request) ∷ (file paths.entry.plan.now, is_of_kept_answer) ∷ (file document.now, is_of_kept_document) ∷ doubt_subjects paths.entry.request.now paths.entry.book.now) result }
     ensures notes { IfOk result (λ o. IfSome o.remark (Says (NamesDoubted paths.entry.request.now paths.entry.book.now))) }
+    ensures parts { IfOk result (λ o. Tells (keep_parts paths.entry.request.now paths.entry.book.now (question_view question.now) (planned_view planned.now)) o.remark) }
 {
     let text = kept(rt, alloc, document, paths, question, planned, refine)?;
     let (request, book) = (paths.request, paths.book);
-    let remark = settled(
-        rt,
-        alloc,
-        RolloutCall::Apply,
-        request,
-        book,
-        question,
-        strict,
-    )?;
+    let remark = noted(rt, alloc, request, book, question, planned, strict)?;
     put(alloc, files, document, write, text, remark)
+}
+
+/// What a person is told beside a document with the rule of an answer: what is doubted of it, and that the rule has finer points than
+/// the one that stood there; or that the first is refused.
+fn noted(
+    rt: &(impl Threads + Sync),
+    alloc: Global,
+    request: &str,
+    book: &str,
+    question: &Question,
+    planned: &Planned,
+    strict: bool,
+) -> Result<Option<Remark>, Refused>
+    ensures exact { GivesUnlessWant (λ r. is_some r) result (noted_with (is_finer_there (question_view question.now) (planned_view planned.now)) (settle Apply strict (doubt_of (question_view question.now)))) }
+    ensures calls { IfErr result (λ r. call_of r.refusal ≡ Apply) }
+    ensures read { is_file_fault result ≡ false }
+    ensures names { TellsOfOne (doubt_subjects request.now book.now) result }
+    ensures notes { IfOk result (λ r. IfSome r (Says (NamesDoubted request.now book.now))) }
+    ensures parts { IfOk result (Tells (keep_parts request.now book.now (question_view question.now) (planned_view planned.now))) }
+{
+    let call = RolloutCall::Apply;
+    let doubted = settled(rt, alloc, call, request, book, question, strict)?;
+    match times_asked(alloc, &question.flags, question.request.bytes(), planned) {
+        Ok(factor) => Ok(with_points(alloc, request, factor, planned, doubted)),
+        Err(AllocError) => Err(out_of_memory(call)),
+    }
 }
 
 /// Puts the text where it goes: to the output, or over the document; `none` where there is no text.

@@ -22,6 +22,7 @@
 #![tactic(auto)]
 
 mod applying;
+mod beside;
 mod by_hand;
 mod doubts;
 mod explained;
@@ -41,13 +42,14 @@ mod standing;
 mod verifying;
 
 pub use applying::{applied, apply};
-pub use doubts::{NotedDoubt, joined, remark_in};
-pub use finer::with_points;
+pub use beside::{behind, joined};
+pub use doubts::{NotedDoubt, remark_in};
+pub use finer::{times_asked, with_points};
 pub use keep_refusal::KeepRefusal;
 pub use keeping::{keep, put as put_document};
 pub use kept::kept_at as document_with_rule;
 pub use laws::{printed_plans_are_valid, tallies_answer_as_books, unread_members_are_passed_over};
-pub use loading::{load_book_question, load_planned, store};
+pub use loading::{load_planned, store};
 pub use passed_over::{repeated, unread, unread_in_file, with_more};
 pub use payload::verify_items;
 pub use planning::{answer as plan_answer, plan};

@@ -3,15 +3,15 @@ ghost use Rattle.std.specs.Prelude.{◌≡◌, ◌<◌, ◌||◌, IfErr, IfOk, I
 ghost use Rattle.flag_defs.specs.Flags.{flags_view};
 ghost use Rattle.plan_text.specs.Answer.{planned_view};
 ghost use Rattle.flagops_files.specs.Loading.{max_text};
-ghost use Rattle.flagops_files.specs.Question.{book_question_view, question_view};
+ghost use Rattle.flagops_files.specs.Question.{question_view};
 ghost use Rattle.flagops_files.specs.Told.{file};
 ghost use Rattle.flagops_shell.specs.Files.{KeepsOthers, Stores, load_of};
 ghost use Rattle.flagops_rollouts.specs.Attempts.{TellsOfFirst, question_attempts};
-ghost use Rattle.flagops_rollouts.specs.Loaded.{IsBookQuestionAt, IsDocumentAt, IsQuestionAt, book_question_subjects, plan_at, question_subjects};
-ghost use Rattle.flagops_rollouts.specs.Refusal.{ComesFrom, GivesOne, GivesUnlessWant, TellsOf, TellsOfOne, is_file_fault, is_want, loads_book_question, loads_flags, loads_plan, loads_question, stores_file, unwritable};
+ghost use Rattle.flagops_rollouts.specs.Loaded.{IsDocumentAt, IsQuestionAt, plan_at, question_subjects};
+ghost use Rattle.flagops_rollouts.specs.Refusal.{ComesFrom, GivesOne, GivesUnlessWant, TellsOf, TellsOfOne, is_file_fault, is_want, loads_flags, loads_plan, loads_question, stores_file, unwritable};
 
 use crate::refusal::Refused;
-use flagops_files::{BookQuestion, Document, Question};
+use flagops_files::{Document, Question};
 use flagops_shell::FileSet;
 use plan_text::Planned;
 use std::alloc::Global;
@@ -77,31 +77,6 @@ pub fn load_question<R: Threads, F: FileSet>(
     ensures first { IfSome (F.holding files.old) (λ at. TellsOfFirst (question_attempts at document.now request.now evidence.now) result) }
 {
     match flagops_files::load_question(rt, alloc, files, document, request, evidence, factor) {
-        Ok(question) => Ok(question),
-        Err(refused) => Err(Refused::of(refused)),
-    }
-}
-
-/// The question over a book of the files at these paths. The condition is a factor from 1.
-#[tactic(auto, using(crate::proofs::Loaded::told_book_question, crate::proofs::Loaded::comes, crate::proofs::Loaded::failed_load))]
-pub fn load_book_question<R: Threads, F: FileSet>(
-    rt: &R,
-    alloc: Global,
-    files: &mut F,
-    document: &str,
-    request: &str,
-    book: &str,
-    factor: u32,
-) -> Result<BookQuestion, Refused>
-    requires { 0 < factor }
-    ensures exact { IfSome (F.holding files.old) (λ at. GivesOne book_question_view result (IsBookQuestionAt at document.now request.now book.now)) }
-    ensures bytes { IfSome (F.holding files.old) (λ at. IfOk result (λ q. load_of at document.now max_text ≡ Ok q.document.items)) }
-    ensures calls { ComesFrom loads_book_question result }
-    ensures failed { F.has_failed files.new ≡ (F.has_failed files.old || is_file_fault result) }
-    ensures kept { F.holding files.new ≡ F.holding files.old }
-    ensures names { TellsOfOne (book_question_subjects document.now request.now book.now) result }
-{
-    match flagops_files::load_book_question(rt, alloc, files, document, request, book, factor) {
         Ok(question) => Ok(question),
         Err(refused) => Err(Refused::of(refused)),
     }

@@ -1,12 +1,15 @@
 //! What is passed over of a request: members of names that are not read, and members that stand again under their name.
 ghost use Rattle.std.specs.Prelude.{◌≡◌, ◌||◌, is_some, string_bytes, IfOk, IfSome, Ok};
+ghost use Rattle.flag_text.specs.Reading.{tree_of};
 ghost use Rattle.flag_text.specs.View.{view};
+ghost use Rattle.flagops_files.specs.Loading.{max_text};
 ghost use Rattle.repeated_names.specs.Repeated.{is_repeating};
-ghost use Rattle.flagops_rollouts.specs.Doubts.{has_unread, is_unread};
+ghost use Rattle.flagops_rollouts.specs.Beside.{AreBoth, Tells};
+ghost use Rattle.flagops_rollouts.specs.Doubts.{has_unread, is_unread, request_parts};
 ghost use Rattle.flagops_shell.specs.Diagnostic.{Says};
 ghost use Rattle.file_diagnostics.specs.Named.{Names};
 
-use crate::doubts::joined;
+use crate::beside::behind;
 use file_diagnostics::{Lines, Opening, of_unread};
 use flag_text::{TextFault, Tree, read_tree};
 use flagops_files::TEXT_LIMIT;
@@ -38,13 +41,22 @@ pub fn unread_in_file(
 ) -> Result<Option<Remark>, AllocError>
     ensures told { IfOk result (λ r. is_some r ≡ is_unread request.now) }
     ensures notes { IfOk result (λ r. IfSome r (Says (Names path.now))) }
+    ensures parts { IfOk result (Tells (request_parts path.now request.now)) }
 {
-    let unread = match request.tree() {
-        Ok(tree) => unread_in(alloc, path, tree),
-        Err(_) => None,
-    };
+    let unread = unread_member(alloc, path, request);
     let repeated = repeated(alloc, path, request.bytes())?;
     Ok(with_more(path, unread, repeated))
+}
+
+/// What is told of members of a request that are not read, by their names alone.
+fn unread_member(alloc: Global, path: &str, request: &RequestFile) -> Option<Remark>
+    ensures told { is_some result ≡ has_unread (tree_of request.now max_text) }
+    ensures notes { IfSome result (Says (Names path.now)) }
+{
+    match request.tree() {
+        Ok(tree) => unread_in(alloc, path, tree),
+        Err(_) => None,
+    }
 }
 
 /// The same of the names in the tree of a request.
@@ -84,15 +96,13 @@ fn of_repeated(alloc: Global, path: &str, place: &str) -> Result<String, AllocEr
     lines.headed(Opening::Note, path)
 }
 
-/// What is told of a file, with more behind it.
+/// What is told of a file, with more behind it. The path is what the contract names.
 pub fn with_more(path: &str, first: Option<Remark>, more: Option<Remark>) -> Option<Remark>
     requires first { IfSome first (Says (Names path.now)) }
     requires more { IfSome more (Says (Names path.now)) }
     ensures told { is_some result ≡ (is_some first || is_some more) }
     ensures notes { IfSome result (Says (Names path.now)) }
+    ensures both { AreBoth first more result }
 {
-    match first {
-        Some(remark) => Some(joined(path, remark, more)),
-        None => more,
-    }
+    behind(first, more)
 }

@@ -4,6 +4,7 @@ ghost use Rattle.plan_text.specs.Answer.{IsOrdered, planned_view};
 ghost use Rattle.plan_text.specs.PlanFile.{IsWhole};
 ghost use Rattle.flagops_rollouts.specs.ByHand.{TellsPlanned, TellsPlannedAt};
 ghost use Rattle.flagops_rollouts.specs.Finer.{TellsFinerOf};
+ghost use Rattle.flagops_rollouts.specs.Remarks.{TellsPlan, TellsPlanAt};
 ghost use Rattle.flagops_rollouts.specs.Plan.{Holds, IsPlanOf, IsPlanReport, IsPlannedOn, MayBePlanned, plan_report, plan_status};
 ghost use Rattle.flag_defs.specs.Flags.{flags_view};
 ghost use Rattle.flagops_files.specs.Question.{question_view};
@@ -59,6 +60,7 @@ pub fn plan<R: Threads + Sync, F: FileSet>(
     ensures notes { IfOk result (λ o. IfSome o.remark (Says (NamesDoubted request.now book.now))) }
     ensures finer { IfOk result (λ o. IfSome o.remark (Says (TellsFinerOf request.now (unwrap_or (option_map (λ m. m.number) refine) 1) o.text.items))) }
     ensures edit { explain ≡ true → IfSome (F.holding files.old) (λ at. IfOk result (λ o. IfSome o.remark (Says (TellsPlannedAt at document.now request.now book.now (unwrap_or (option_map (λ m. m.number) refine) 1) o.text.items)))) }
+    ensures parts { IfSome (F.holding files.old) (λ at. IfOk result (λ o. TellsPlanAt at document.now request.now book.now (unwrap_or (option_map (λ m. m.number) refine) 1) explain o.text.items o.remark)) }
 {
     let question = load_question(rt, alloc, files, document, request, book, factor_of(refine))?;
     let outcome = answer(rt, alloc, request, book, &question, refine, strict, explain);
@@ -86,6 +88,7 @@ pub fn answer(
     ensures notes { IfOk result (λ o. IfSome o.remark (Says (NamesDoubted request.now book.now))) }
     ensures finer { IfOk result (λ o. IfSome o.remark (Says (TellsFinerOf request.now (unwrap_or (option_map (λ m. m.number) refine) 1) o.text.items))) }
     ensures edit { explain ≡ true → IfOk result (λ o. IfSome o.remark (Says (TellsPlanned request.now (question_view question.now) (unwrap_or (option_map (λ m. m.number) refine) 1) o.text.items))) }
+    ensures parts { IfOk result (λ o. TellsPlan request.now book.now (question_view question.now) (unwrap_or (option_map (λ m. m.number) refine) 1) explain o.text.items o.remark) }
 {
     let planned = match planned(rt, alloc, question, refine) {
         Ok(planned) => planned,
@@ -109,7 +112,7 @@ pub fn answer(
     let words = told(
         rt, alloc, request, book, question, &planned, refine, explain, noted,
     );
-    let remark = with_points(alloc, request, book, &planned, refine, words);
+    let remark = with_points(alloc, request, factor_of(refine), &planned, words);
     let outcome = printed(alloc, &planned, remark);
     // The program ends soon, and its memory with it.
     mem::forget(planned);

@@ -12,7 +12,9 @@ ghost use Rattle.flagops_rollouts.specs.Verify.{IsShownOn, IsToldOn, IsVerdict, 
 ghost use Rattle.flagops_files.specs.Told.{file};
 ghost use Rattle.flagops_shell.specs.Diagnostic.{Says};
 ghost use Rattle.flagops_rollouts.specs.Subjects.{NamesVerified, is_of_answer, is_of_request, verify_subjects};
-ghost use Rattle.flagops_rollouts.specs.Doubts.{NamesDoubted, doubt_subjects};
+ghost use Rattle.flagops_rollouts.specs.Beside.{Tells};
+ghost use Rattle.flagops_rollouts.specs.Doubts.{NamesDoubted, doubt_parts, doubt_subjects};
+ghost use Rattle.flagops_rollouts.specs.Remarks.{TellsDoubtsAt};
 ghost use Rattle.file_diagnostics.specs.Named.{Names};
 
 use crate::doubts::settled;
@@ -51,6 +53,7 @@ pub fn verify<R: Threads + Sync, F: FileSet>(
     ensures names { TellsOfOne (verify_subjects document.now request.now book.now plan.now) result }
     ensures first { IfSome (F.holding files.old) (λ at. TellsOfFirst (verify_attempts at document.now request.now book.now plan.now) result) }
     ensures notes { IfOk result (λ o. IfSome o.remark (Says (NamesDoubted request.now book.now))) }
+    ensures parts { IfSome (F.holding files.old) (λ at. IfOk result (λ o. TellsDoubtsAt at document.now request.now book.now o.remark)) }
 {
     let question = load_question(rt, alloc, files, document, request, book, factor_of(refine))?;
     let planned = load_planned(alloc, files, plan)?;
@@ -90,6 +93,7 @@ fn verdict(
     ensures read { is_file_fault result ≡ false }
     ensures names { TellsOfOne ((file paths.entry.request.now, is_of_request) ∷ (file paths.entry.plan.now, is_of_answer) ∷ doubt_subjects paths.entry.request.now paths.entry.book.now) result }
     ensures notes { IfOk result (λ o. IfSome o.remark (Says (NamesDoubted paths.entry.request.now paths.entry.book.now))) }
+    ensures parts { IfOk result (λ o. Tells (doubt_parts paths.entry.request.now paths.entry.book.now (question_view question.now)) o.remark) }
 {
     if let Err(fault) = verified(rt, alloc, question, planned, refine) {
         let lines = lines_on(alloc, paths, question, planned, refine, &fault);

@@ -7,6 +7,9 @@ use Rattle.flagops_ramps.specs.Apply.{IsStepOver}
 use Rattle.flagops_ramps.specs.Report.{GivesOne}
 use Rattle.flagops_ramps.specs.Words.{applying_view}
 use Rattle.flagops_ramps.proofs.Applied.{answered_so, unanswered}
+use Rattle.std.specs.Prelude.{IfOk}
+use Rattle.flagops_ramps.specs.Remarks.{TellsStepOf}
+use Rattle.flagops_ramps.proofs.Noted.{step_said_from}
 use Rattle.flagops_ramps.proofs.applying.against.Goals as goal
 use Rattle.flagops_ramps.proofs.Firsts.{answers_were_read, made, told_as}
 use Rattle.flagops_ramps.specs.Diagnostics.{IsOfAnswers, IsOfStep}
@@ -39,3 +42,10 @@ returns-in-Err-clause-names g c =
     let a = applying_view c.args.asked.now in
     let r : Result Outcome Told = Err c.in-Err.told in
     told_as (IsOfStep a) r (IsOfAnswers a.ramp) (g.F.FileSet.holding c.args.files.now) (λ at. answers_file at a.ramp) c.in-Err.told refl (step_answers a) c.in-Err.ensures.names
+
+pub returns-in-Ok-clause-parts : goal.returns-in-Ok-clause-parts
+returns-in-Ok-clause-parts g c =
+    let a = applying_view c.args.asked.now in
+    let document = c.args.document.now.bytes.items in
+    let flags = flags_view c.args.document.now.flags in
+    step_said_from a document flags (g.F.FileSet.holding c.args.files.now) (map planned_view c.in-Ok.answers.items) c.put.result c.in-Ok.ensures.exact (rw c.as_slice.ensures.value at c.put.ensures.parts)

@@ -4,6 +4,7 @@ use Rattle.plan_text.specs.Answer.{planned_view}
 use Rattle.ramp_steps.specs.Steps.{requests_view, steps_of}
 use Rattle.flagops_ramps.specs.Words.{keeping_view}
 use Rattle.flagops_ramps.proofs.Kept.{failed_once, kept_once, left_once, of_both, of_no_steps, of_none}
+use Rattle.flagops_ramps.proofs.Noted.{keep_said_from}
 use Rattle.flagops_ramps.proofs.keeping.against.Goals as goal
 use Rattle.flagops_ramps.proofs.Firsts.{answers_were_read, made, told_as}
 use Rattle.flagops_ramps.specs.Diagnostics.{IsOfAnswers, IsOfKeep}
@@ -71,3 +72,9 @@ returns-in_err-answers-clause-names g c =
     let path = k.answered.ramp in
     let is : c.from_residual.result ≡ Err c.in_err-answers.field-0.0 = search rules in
     told_as (IsOfKeep k) c.from_residual.result (IsOfAnswers path) (g.F.FileSet.holding c.args.files.now) (λ at. answers_file at path) c.in_err-answers.field-0.0 is (keep_answers k) c.in_err-answers.ensures.names
+
+pub returns-in-Ok-clause-parts : goal.returns-in-Ok-clause-parts
+returns-in-Ok-clause-parts g c =
+    let tells = rw (c.as_slice-in-Ok.ensures.value, c.as_slice.ensures.value) at c.over.ensures.parts in
+    keep_said_from (keeping_view c.args.asked.now) (question_view c.args.question) (g.F.FileSet.holding c.args.files.now) (requests_view c.in-Ok.steps.items) (map planned_view c.in_ok-answers.answers.items) c.over.result
+    c.in_ok-answers.ensures.exact (ap steps_of (sym c.bytes.ensures) ∙ c.in-Ok.ensures.exact) tells

@@ -2,6 +2,7 @@ use Rattle.std.proofs.Common.{inl}
 use Rattle.flagops_files.specs.Question.{question_view}
 use Rattle.flagops_ramps.specs.Words.{keeping_view}
 use Rattle.flagops_ramps.proofs.Kept.{failed_once, kept_once, kept_whole, left_once, no_question}
+use Rattle.flagops_ramps.proofs.Noted.{keep_said_at}
 use Rattle.flagops_ramps.proofs.keeping.keep.Goals as goal
 use Rattle.flagops_ramps.proofs.Firsts.{behind, question_read, unread}
 use Rattle.flagops_ramps.specs.Diagnostics.{IsOfKeep}
@@ -43,3 +44,7 @@ returns-in-Err-clause-names g c =
     let k = keeping_view c.args.asked.now in
     let v = k.answered in
     unread (IsOfKeep k) c.in-Err.refused c.of.result c.of.ensures.refusal c.of.ensures.remark (g.F.FileSet.holding c.args.files.now) (λ at. ramp_files at v.rollout) (λ at. answers_file at v.ramp) c.in-Err.ensures.first
+
+pub returns-in-Ok-clause-parts : goal.returns-in-Ok-clause-parts
+returns-in-Ok-clause-parts g c =
+    keep_said_at (keeping_view c.args.asked.now) (question_view c.in-Ok.question) (g.F.FileSet.holding c.args.files.now) (g.F.FileSet.holding c.load_question.new.files) c.against.result c.in-Ok.ensures.kept c.in-Ok.ensures.exact c.against.ensures.parts

@@ -7,6 +7,8 @@ use Rattle.ramp_steps.specs.Steps.{requests_view, steps_of}
 use Rattle.flagops_ramps.specs.Ramp.{IsRampOver}
 use Rattle.flagops_ramps.specs.Report.{GivesOne, Told}
 use Rattle.flagops_ramps.specs.declared.refusal.RampRefusal.TheVariants.{Ramp}
+use Rattle.flagops_ramps.specs.Words.{ramping_view}
+use Rattle.flagops_ramps.proofs.Noted.{ramp_said}
 use Rattle.flagops_ramps.proofs.Stepped.{planned_report, refused_report, steps_refused, steps_report}
 use Rattle.flagops_ramps.proofs.ramping.answer.Goals as goal
 
@@ -23,6 +25,15 @@ returns-in-Ok-planned_on-clause-exact g c =
     let over = planned_report strict refine made requests answers c.told.result plans gives back in
     steps_report strict refine (question_view c.args.question) requests c.told.result (ap steps_of (sym c.bytes.ensures) ∙ c.in-Ok.ensures.exact)
     (subst (λ (q : Question). GivesOne outcome_view c.told.result (IsRampOver strict refine q (Ok requests))) c.count.ensures.kept over)
+
+pub returns-in-Ok-planned_on-clause-parts : goal.returns-in-Ok-planned_on-clause-parts
+returns-in-Ok-planned_on-clause-parts g c =
+    let requests = requests_view c.in-Ok.steps.items in
+    let made = question_view c.count.new.question in
+    let answers = map planned_view c.in-Ok-planned_on.answers.items in
+    let back = rw c.as_slice.ensures.value at c.told.ensures.reads_back in
+    let tells = rw (c.as_slice-requests.ensures.value, c.as_slice.ensures.value) at c.told.ensures.parts in
+    ramp_said (ramping_view c.args.asked.now) (question_view c.args.question) made requests answers c.told.result c.count.ensures.kept (ap steps_of (sym c.bytes.ensures) ∙ c.in-Ok.ensures.exact) back tells
 
 pub returns-clause-exact : goal.returns-clause-exact
 returns-clause-exact g c =

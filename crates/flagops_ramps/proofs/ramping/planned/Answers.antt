@@ -1,5 +1,6 @@
 use Rattle.flagops_ramps.specs.Words.{ramping_view}
 use Rattle.flagops_ramps.proofs.Loaded.{loaded, unloaded}
+use Rattle.flagops_ramps.proofs.Noted.{ramp_said_at}
 use Rattle.flagops_ramps.proofs.ramping.planned.Goals as goal
 use Rattle.flagops_ramps.proofs.Firsts.{made, question_read, unread}
 use Rattle.flagops_ramps.specs.Diagnostics.{IsOfRamp}
@@ -24,3 +25,7 @@ pub returns-in-Err-clause-names : goal.returns-in-Err-clause-names
 returns-in-Err-clause-names g c =
     let a = ramping_view c.args.asked.now in
     unread (IsOfRamp a) c.in-Err.refused c.of.result c.of.ensures.refusal c.of.ensures.remark (g.F.FileSet.holding c.args.files.now) (λ at. ramp_files at a) (λ at. []) c.in-Err.ensures.first
+
+pub returns-in-Ok-clause-parts : goal.returns-in-Ok-clause-parts
+returns-in-Ok-clause-parts g c =
+    ramp_said_at (ramping_view c.args.asked.now) (question_view c.in-Ok.question) (g.F.FileSet.holding c.args.files.now) c.answer.result c.in-Ok.ensures.exact c.answer.ensures.parts

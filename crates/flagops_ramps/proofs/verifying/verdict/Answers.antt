@@ -1,5 +1,6 @@
 use Rattle.flagops_ramps.specs.Words.{verifying_view}
 use Rattle.flagops_ramps.proofs.Loaded.{refused, reported}
+use Rattle.flagops_ramps.proofs.Noted.{verdict_said_at}
 use Rattle.flagops_ramps.proofs.verifying.verdict.Goals as goal
 use Rattle.flagops_ramps.proofs.Firsts.{found_read, made}
 use Rattle.flagops_ramps.specs.Diagnostics.{IsOfVerify}
@@ -16,3 +17,7 @@ pub returns-in-Ok-clause-names : goal.returns-in-Ok-clause-names
 returns-in-Ok-clause-names g c =
     let v = verifying_view c.args.asked.now in
     made (IsOfVerify v) c.reported.result (g.F.FileSet.holding c.args.files.now) (λ at. verify_files at v) (found_read v (answered_view c.in-Ok.right) (g.F.FileSet.holding c.args.files.now) c.in-Ok.ensures.exact) c.reported.ensures.names
+
+pub returns-in-Ok-clause-parts : goal.returns-in-Ok-clause-parts
+returns-in-Ok-clause-parts g c =
+    verdict_said_at (verifying_view c.args.asked.now) (answered_view c.in-Ok.right) (g.F.FileSet.holding c.args.files.now) c.reported.result c.in-Ok.ensures.exact c.reported.ensures.parts

@@ -1,36 +1,46 @@
-use Rattle.std.proofs.Common.{ℕ, IfSome, option_map, subst, sym, unwrap_or}
-use Rattle.std.proofs.lemmas.Bool.{le-ltb}
-use Rattle.bucket_core.specs.Rule.{total_weight}
-use Rattle.flagops_rollouts.specs.Finer.{TellsFiner}
-use Rattle.flagops_shell.specs.Diagnostic.{Says}
+use Rattle.std.proofs.Common.{ℕ, [], subst, sym}
+use Rattle.flagops_rollouts.specs.Beside.{AreBehind}
+use Rattle.flagops_rollouts.specs.Finer.{finer_part, finer_parts}
 use Rattle.plan_text.specs.Answer.{planned_view}
 use Rattle.plan_text.specs.declared.planned.Planned.{Planned}
-use Rattle.transport_instance.specs.Certificate.{certificate_view}
-use Rattle.flagops_rollouts.proofs.Points.{finer_behind, named, no_rule, not_finer}
+use Rattle.flagops_rollouts.proofs.Parts.{behind_nothing, more_behind}
+use Rattle.flagops_rollouts.proofs.Points.{answer_notes, answer_told}
 use Rattle.flagops_rollouts.proofs.finer.with_points.Goals as goal
 
-pub returns-then-factor-gt1-clause-notes : goal.returns-then-factor-gt1-clause-notes
-returns-then-factor-gt1-clause-notes c =
-    named c.args.request.now c.args.book.now c.factor_of-factor.result (total_weight c.in-Emit.rule) c.args.noted c.of_points.result c.behind.result c.behind.ensures c.of_points.ensures c.requires
+pub returns-in-Emit-clause-beside : goal.returns-in-Emit-clause-beside
+returns-in-Emit-clause-beside c =
+    let path = c.args.path.now in
+    let factor = c.args.factor in
+    subst (λ (p : Planned). AreBehind (finer_parts path factor (planned_view p)) c.args.noted c.with_total.result) (sym c.in-Emit.is)
+    (subst (λ (n : ℕ). AreBehind (finer_part path factor n) c.args.noted c.with_total.result) c.total.ensures.value c.with_total.ensures.beside)
 
-pub returns-then-factor-gt1-clause-finer : goal.returns-then-factor-gt1-clause-finer
-returns-then-factor-gt1-clause-finer c =
-    let request = c.args.request.now in
-    let factor = c.factor_of-factor.result in
-    let told = finer_behind request factor c.in-Emit.rule (certificate_view c.in-Emit.field-1) c.args.noted c.of_points.result c.behind.result c.behind.ensures c.of_points.ensures in
-    subst (λ (m : ℕ). Says (TellsFiner request m (planned_view c.args.planned.now)) c.behind.result) c.factor_of-factor.ensures.value
-    (subst (λ (p : Planned). Says (TellsFiner request factor (planned_view p)) c.behind.result) (sym c.in-Emit.is) told)
+pub returns-in-Emit-clause-notes : goal.returns-in-Emit-clause-notes
+returns-in-Emit-clause-notes c = λ book noted.
+    let path = c.args.path.now in
+    let factor = c.args.factor in
+    answer_notes path factor (planned_view c.args.planned.now) book c.args.noted c.with_total.result
+    (subst (λ (p : Planned). AreBehind (finer_parts path factor (planned_view p)) c.args.noted c.with_total.result) (sym c.in-Emit.is)
+    (subst (λ (n : ℕ). AreBehind (finer_part path factor n) c.args.noted c.with_total.result) c.total.ensures.value c.with_total.ensures.beside)) noted
 
-pub returns-else-factor-gt1-clause-finer : goal.returns-else-factor-gt1-clause-finer
-returns-else-factor-gt1-clause-finer c =
-    let request = c.args.request.now in
-    let factor = c.factor_of-factor.result in
-    subst (λ (m : ℕ). IfSome c.args.noted (Says (TellsFiner request m (planned_view c.args.planned.now)))) c.factor_of-factor.ensures.value
-    (subst (λ (p : Planned). IfSome c.args.noted (Says (TellsFiner request factor (planned_view p)))) (sym c.in-Emit.is)
-    (not_finer request factor c.in-Emit.rule (certificate_view c.in-Emit.field-1) c.args.noted (le-ltb 1 factor c.if-factor-gt1.false)))
+pub returns-in-Emit-clause-more : goal.returns-in-Emit-clause-more
+returns-in-Emit-clause-more c = more_behind (finer_part c.args.path.now c.args.factor c.total.result) c.args.noted c.with_total.result c.with_total.ensures.beside
+
+pub returns-in-Emit-clause-finer : goal.returns-in-Emit-clause-finer
+returns-in-Emit-clause-finer c =
+    let path = c.args.path.now in
+    let factor = c.args.factor in
+    answer_told path factor (planned_view c.args.planned.now) c.args.noted c.with_total.result
+    (subst (λ (p : Planned). AreBehind (finer_parts path factor (planned_view p)) c.args.noted c.with_total.result) (sym c.in-Emit.is)
+    (subst (λ (n : ℕ). AreBehind (finer_part path factor n) c.args.noted c.with_total.result) c.total.ensures.value c.with_total.ensures.beside))
+
+pub returns-in-NoneExists-clause-beside : goal.returns-in-NoneExists-clause-beside
+returns-in-NoneExists-clause-beside c =
+    subst (λ (p : Planned). AreBehind (finer_parts c.args.path.now c.args.factor (planned_view p)) c.args.noted c.args.noted) (sym c.in-NoneExists.is) (behind_nothing c.args.noted)
+
+pub returns-in-NoneExists-clause-more : goal.returns-in-NoneExists-clause-more
+returns-in-NoneExists-clause-more c = more_behind [] c.args.noted c.args.noted (behind_nothing c.args.noted)
 
 pub returns-in-NoneExists-clause-finer : goal.returns-in-NoneExists-clause-finer
 returns-in-NoneExists-clause-finer c =
-    let request = c.args.request.now in
-    let m = unwrap_or (option_map (λ m. m.number) c.args.refine) 1 in
-    subst (λ (p : Planned). IfSome c.args.noted (Says (TellsFiner request m (planned_view p)))) (sym c.in-NoneExists.is) (no_rule request m _ _ c.args.noted)
+    answer_told c.args.path.now c.args.factor (planned_view c.args.planned.now) c.args.noted c.args.noted
+    (subst (λ (p : Planned). AreBehind (finer_parts c.args.path.now c.args.factor (planned_view p)) c.args.noted c.args.noted) (sym c.in-NoneExists.is) (behind_nothing c.args.noted))

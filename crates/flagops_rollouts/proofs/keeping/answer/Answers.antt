@@ -8,6 +8,9 @@ use Rattle.flagops_rollouts.specs.Subjects.{is_of_kept_answer, is_of_kept_docume
 use Rattle.flagops_files.specs.Told.{file}
 use Rattle.flagops_rollouts.proofs.Doubting.{tells_among, tells_left}
 use Rattle.flagops_rollouts.proofs.Edited.{kept_put, not_kept, not_settled}
+use Rattle.flagops_shell.specs.declared.outcome.Outcome.{Outcome}
+use Rattle.flagops_rollouts.specs.Remarks.{keep_parts}
+use Rattle.flagops_rollouts.proofs.Parts.{tells_result}
 use Rattle.flagops_rollouts.proofs.keeping.answer.Goals as goal
 use Rattle.flagops_rollouts.specs.Refusal.{Subjects}
 
@@ -41,3 +44,7 @@ pub returns-clause-names : goal.returns-clause-names
 returns-clause-names g c =
     let first : Subjects = (file c.args.paths.request.now, is_of_kept_request) ∷ (file c.args.paths.plan.now, is_of_kept_answer) ∷ [] in
     tells_among first (file c.args.document.now, is_of_kept_document) (doubt_subjects c.args.paths.request.now c.args.paths.book.now) c.put.result c.put.ensures.names
+
+pub returns-clause-parts : goal.returns-clause-parts
+returns-clause-parts g c =
+    tells_result (λ (o : Outcome). o.remark) (keep_parts c.args.paths.request.now c.args.paths.book.now (question_view c.args.question.now) (planned_view c.args.planned.now)) c.in_ok-remark.remark c.put.result c.in_ok-remark.ensures.parts c.put.ensures.remark

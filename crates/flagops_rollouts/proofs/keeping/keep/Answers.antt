@@ -14,6 +14,8 @@ use Rattle.flagops_shell.proofs.Kept.{kept_after}
 use Rattle.flagops_rollouts.proofs.Edited.{comes_so, failed_after, kept_whole, left_after, no_plan_so, no_question}
 use Rattle.flagops_rollouts.proofs.Attempted.{at_first, behind_plan, plan_refused, question_read}
 use Rattle.flagops_rollouts.specs.Attempts.{plan_read, question_attempts}
+use Rattle.flagops_rollouts.specs.Remarks.{TellsKeptAt}
+use Rattle.flagops_rollouts.proofs.Said.{kept_said_at, nothing_said}
 use Rattle.flagops_rollouts.proofs.keeping.keep.Goals as goal
 
 pub returns-in_err-question-clause-exact : goal.returns-in_err-question-clause-exact
@@ -106,3 +108,14 @@ returns-clause-first g c =
     let made : Subjects = (file request, is_of_kept_request) ∷ (file c.args.plan.now, is_of_kept_answer) ∷ (file document, is_of_kept_document) ∷ doubt_subjects request book in
     behind_plan old (λ at. question_attempts at document request book) _ c.load_question.ensures.kept c.args.plan.now made (planned_view c.in_ok-planned.planned) c.answer.result
     (question_read document request book (question_view c.in_ok-question.question) old c.in_ok-question.ensures.exact) c.in_ok-planned.ensures.exact c.answer.ensures.names
+
+pub returns-clause-parts : goal.returns-clause-parts
+returns-clause-parts g c =
+    kept_said_at c.args.document.now c.args.request.now c.args.book.now (question_view c.in_ok-question.question) c.args.plan.now (planned_view c.in_ok-planned.planned) (g.F.FileSet.holding c.args.files.now) (g.F.FileSet.holding c.load_question.new.files)
+    c.answer.result c.load_question.ensures.kept c.in_ok-question.ensures.exact c.in_ok-planned.ensures.exact c.answer.ensures.parts
+
+pub returns-in_err-planned-clause-parts : goal.returns-in_err-planned-clause-parts
+returns-in_err-planned-clause-parts g c =
+    let p = err_from_is_err_and c.from_residual-in_err-planned.result c.from_residual-in_err-planned.ensures.1 in
+    let is : c.from_residual-in_err-planned.result ≡ Err c.in_err-planned.field-0.0 = p.1 ∙ ap Err p.2 in
+    nothing_said (λ at o. TellsKeptAt at c.args.document.now c.args.plan.now c.args.request.now c.args.book.now o.remark) (g.F.FileSet.holding c.args.files.now) c.in_err-planned.field-0.0 c.from_residual-in_err-planned.result is

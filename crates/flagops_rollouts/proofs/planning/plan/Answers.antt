@@ -9,6 +9,7 @@ use Rattle.flagops_rollouts.specs.Attempts.{question_attempts}
 use Rattle.flagops_rollouts.specs.Doubts.{doubt_subjects}
 use Rattle.flagops_rollouts.specs.Refusal.{Subjects}
 use Rattle.flagops_rollouts.specs.Subjects.{is_of_request, is_of_size, the_plan}
+use Rattle.flagops_rollouts.proofs.Said.{plan_said_at}
 use Rattle.flagops_rollouts.proofs.planning.plan.Goals as goal
 
 pub returns-clause-exact : goal.returns-clause-exact
@@ -38,3 +39,8 @@ returns-clause-first g c =
     let old = g.F.FileSet.holding c.args.files.now in
     let made : Subjects = (file request, is_of_request) ∷ (word the_plan, is_of_size) ∷ doubt_subjects request book in
     behind old (λ at. question_attempts at document request book) made c.answer-outcome.result (question_read document request book (question_view c.in_ok-question.question) old c.in_ok-question.ensures.exact) c.answer-outcome.ensures.names
+
+pub returns-clause-parts : goal.returns-clause-parts
+returns-clause-parts g c =
+    plan_said_at c.args.document.now c.args.request.now c.args.book.now (question_view c.in_ok-question.question) (unwrap_or (option_map (λ m. m.number) c.args.refine) 1) c.args.explain (g.F.FileSet.holding c.args.files.now) c.answer-outcome.result
+    c.in_ok-question.ensures.exact c.answer-outcome.ensures.parts

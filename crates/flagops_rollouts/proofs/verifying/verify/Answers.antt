@@ -10,6 +10,8 @@ use Rattle.flagops_rollouts.specs.Attempts.{plan_read, question_attempts}
 use Rattle.flagops_rollouts.specs.Doubts.{doubt_subjects}
 use Rattle.flagops_rollouts.specs.Refusal.{Subjects}
 use Rattle.flagops_rollouts.specs.Subjects.{is_of_answer, is_of_request}
+use Rattle.flagops_rollouts.proofs.Said.{doubts_said_at, nothing_said}
+use Rattle.flagops_rollouts.specs.Remarks.{TellsDoubtsAt}
 use Rattle.flagops_rollouts.proofs.verifying.verify.Goals as goal
 
 pub returns-clause-exact : goal.returns-clause-exact
@@ -62,3 +64,13 @@ returns-clause-first g c =
     let made : Subjects = (file request, is_of_request) ∷ (file c.args.plan.now, is_of_answer) ∷ doubt_subjects request book in
     behind_plan old (λ at. question_attempts at document request book) _ c.load_question.ensures.kept c.args.plan.now made (planned_view c.in_ok-planned.planned) c.verdict-outcome.result
     (question_read document request book (question_view c.in_ok-question.question) old c.in_ok-question.ensures.exact) c.in_ok-planned.ensures.exact c.verdict-outcome.ensures.names
+
+pub returns-clause-parts : goal.returns-clause-parts
+returns-clause-parts g c =
+    doubts_said_at c.args.document.now c.args.request.now c.args.book.now (question_view c.in_ok-question.question) (g.F.FileSet.holding c.args.files.now) c.verdict-outcome.result c.in_ok-question.ensures.exact c.verdict-outcome.ensures.parts
+
+pub returns-in_err-planned-clause-parts : goal.returns-in_err-planned-clause-parts
+returns-in_err-planned-clause-parts g c =
+    let p = err_from_is_err_and c.from_residual-in_err-planned.result c.from_residual-in_err-planned.ensures.1 in
+    let is : c.from_residual-in_err-planned.result ≡ Err c.in_err-planned.field-0.0 = p.1 ∙ ap Err p.2 in
+    nothing_said (λ at o. TellsDoubtsAt at c.args.document.now c.args.request.now c.args.book.now o.remark) (g.F.FileSet.holding c.args.files.now) c.in_err-planned.field-0.0 c.from_residual-in_err-planned.result is
