@@ -353,13 +353,19 @@ class Compare(ProgramTest):
                 self.assertEqual(strict.status, 1 if wanted.left else 0)
                 self.assertEqual(strict.files["old.svg"], "before" if wanted.left else ran.files["old.svg"])
                 seen["left" if wanted.left else "whole"] += 1
-        self.assertGreater(min(seen[it] for it in ["left", "whole", "page", "row"]), 0, seen)
+        self.assertGreater(min(seen[it] for it in ["left", "whole", "page", "row", "none"]), 0, seen)
 
     def assert_drawn(self, edit, wanted, text, seen):
         """The pictures of the pages that are compared, one below the other."""
         root = tree.fromstring(text)
+        self.assertEqual(root.find(SVG + "title").text, "What an edit changes")
+        self.assertGreater(int(root.get("viewBox").split()[3]), 0)
         pictures = root.findall(SVG + "g")
         pages = [it for it in wanted.texts if "switches" in it]
+        if not pages:
+            self.assertEqual([texts_in(it) for it in pictures], [["No page was compared."]])
+            seen["none"] += 1
+            return
         self.assertEqual(len(pictures), len(pages))
         left = {page for page, _, _ in wanted.left}
         compared = [page for page in edit.pages if edit.flag in (None, page.flag) and page not in left]

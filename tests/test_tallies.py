@@ -1,4 +1,4 @@
-"""`plan`, `verify`, `apply --keep` and the commands on steps on the file of a tally, beside the book whose inputs it counts.
+"""`plan`, `verify`, `apply --keep`, the commands on steps and those that draw on the file of a tally, beside the book whose inputs it counts.
 
 The tally is made by the tests' own program, from the inputs of the book.
 """
@@ -6,9 +6,11 @@ import json
 import os
 import random
 import unittest
+import xml.etree.ElementTree as tree
 
 from given import BOOK, FREE, RED_3, document, request
 from program import ProgramTest, run
+from test_picture import points_of, texts_of
 from test_planner import Problem
 from test_records import compact, note, printed
 
@@ -137,20 +139,31 @@ class Tallies(ProgramTest):
             held = {**files, "p": plan}
             self.both(["verify", *by, "d", "r"], ["p"], held)
             self.both(["apply", "--keep", *by, "d", "p", "r"], [], held)
+            self.both(["picture", *by, "d", "r"], ["p"], held)
+        self.both(["plan", "--picture", "svg", *by, "d", "r"], [], files, "svg")
         # Without the factor the total of a rule tells it; what no factor is told of is another total than the tally's.
         if "rule" in planned:
             self.both(["verify", "d", "r"], ["p"], {**files, "p": report})
+            self.both(["picture", "d", "r"], ["p"], {**files, "p": report})
         return "none" if "none" in planned else "rule"
 
-    def both(self, front, back, files):
-        """What is printed on the book and on the tally."""
+    def both(self, front, back, files, written=None):
+        """What is printed on the book and on the tally, and on both the same in the file that is written."""
         book, tally = (run([*front, name, *back], files) for name in "bt")
         self.assertEqual((book.out, book.status), (tally.out, tally.status), front)
+        if written:
+            self.assertEqual(book.files[written], tally.files[written])
         return book.out
 
     def test_broken(self):
         for tally, refusal in BROKEN:
-            for front, back in [(["plan", "d", "r"], []), (["verify", "d", "r"], ["p"]), (["apply", "--keep", "d", "p", "r"], [])]:
+            for front, back in [
+                (["plan", "d", "r"], []),
+                (["verify", "d", "r"], ["p"]),
+                (["apply", "--keep", "d", "p", "r"], []),
+                (["picture", "d", "r"], ["p"]),
+                (["plan", "--picture", "svg", "d", "r"], []),
+            ]:
                 with self.subTest(tally=tally, words=front):
                     ran = self.assert_ends([*front, "t", *back], self.files(tally), 1, f"refused read_tally {refusal}\n")
                     self.assertTrue(ran.err.startswith('error: "t" is no tally: '), ran.err)
@@ -164,6 +177,10 @@ class Tallies(ProgramTest):
                 self.assertTrue(ran.err.startswith('error: the request "r" is for another page or total than the tally "t"'), ran.err)
                 self.assertIn(f", at {json.loads(tally.splitlines()[1])['total']} points\n", ran.err)
                 self.assert_ends(["verify", "d", "r", "t", "p"], self.files(tally), 1, "refused verify 11 OtherTally\n")
+                drawn = self.assert_ends(["picture", "d", "r", "t", "p"], self.files(tally), 1, "refused verify 11 OtherTally\n")
+                self.assertEqual(drawn.err, ran.err)
+                beside = self.assert_ends(["plan", "--picture", "svg", "d", "r", "t"], self.files(tally), 1, "refused plan 11 OtherTally\n")
+                self.assertEqual((beside.err, "svg" in beside.files), (ran.err, False))
                 # `Shared` has the number 11 there.
                 self.assert_ends(["apply", "--keep", "d", "p", "r", "t"], self.files(tally), 1, "refused apply 14 OtherTally\n")
 
@@ -194,8 +211,11 @@ class Tallies(ProgramTest):
 
     def test_empty(self):
         """A tally without inputs is told, as a book without the page is."""
-        ran = self.assert_ends(["plan", "d", "r", "t"], self.files(tally_of([], 10)), 0, run(["plan", "d", "r", "e"], {**self.files(), "e": '{"book":1}\n'}).out)
+        files = self.files(tally_of([], 10))
+        ran = self.assert_ends(["plan", "d", "r", "t"], files, 0, run(["plan", "d", "r", "e"], {**files, "e": '{"book":1}\n'}).out)
         self.assertTrue(ran.err.startswith('note: "t" counts no input'), ran.err)
+        drawn = run(["picture", "d", "r", "t", "p"], {**files, "p": ran.out})
+        self.assertEqual((drawn.status, drawn.err), (0, ran.err))
 
     def test_more_than_a_book(self):
         """More inputs than a page of a book takes, by their counts alone."""
@@ -206,7 +226,33 @@ class Tallies(ProgramTest):
         planned = json.loads(ran.out)
         self.assertEqual((ran.status, planned["cost"]), (0, 0))
         self.assertEqual(run(["verify", "d", "r", "t", "p"], {**files, "p": ran.out}).out, "valid cost 0\n")
+        self.assert_drawn(files, ran.out, counts)
         self.assertEqual(run(["verify", "d", "r", "b", "p"], {**files, "p": ran.out}).out, "refused verify 8 Groups\n")
+
+    def assert_drawn(self, files, plan, counts):
+        """The picture of a plan, whose users are those of the points that move."""
+        old, new = (points_of(rule) for rule in ([["red", 5], ["blue", 5]], json.loads(plan)["rule"]))
+        drawn = run(["picture", "d", "r", "t", "p"], {**files, "p": plan})
+        self.assertEqual(drawn.status, 0, drawn.out)
+        texts = texts_of(tree.fromstring(drawn.out))
+        place = texts.index("Price") + 1
+        rows = [texts[at : at + 4] for at in range(place, len(texts), 5)]
+        pairs = sorted(set(zip(old, new)))
+        moved = [[point for point in range(10) if (old[point], new[point]) == pair] for pair in pairs]
+        self.assertEqual(rows, [[*pair, str(len(points)), str(sum(counts.get(it, 0) for it in points))] for pair, points in zip(pairs, moved)])
+
+    def test_as_many_as_a_tally_has(self):
+        """128 full points: as many inputs as a tally counts, which are drawn by their numbers."""
+        most = 67_108_864
+        text, asked = document('["red",64],["blue",64]'), request('"red":0,"blue":128')
+        head = compact({**json.loads(HEAD), "inputs": 128 * most, "total": 128})
+        files = self.files(HEADER + head + "\n" + "".join(f"[{point},{most}]\n" for point in range(128)), asked, text)
+        ran = run(["plan", "--picture", "svg", "d", "r", "t"], files)
+        self.assertEqual((ran.status, json.loads(ran.out)["cost"]), (0, 64 * most))
+        texts = texts_of(tree.fromstring(ran.files["svg"]))
+        place = texts.index("Price") + 1
+        self.assertEqual(texts[place:], [*["blue", "blue", "64", str(64 * most), "0"], *["red", "blue", "64", str(64 * most), "1"]])
+        self.assertEqual(run(["picture", "d", "r", "t", "p"], {**files, "p": ran.out}).out, ran.files["svg"])
 
     def test_steps_as_on_books(self):
         """The steps of a rollout are planned, checked and put into a document as on the book."""
@@ -232,12 +278,14 @@ class Tallies(ProgramTest):
     def check_steps(self, by, files, plans):
         """What is told of right answers, and of a wrong one, and what is put into the document."""
         self.assertTrue(self.both(["verify-ramp", *by, "d", "s"], ["ramp"], files).startswith("valid cost "))
+        self.both(["picture", "--ramp", *by, "d", "s"], ["ramp"], files)
         if "rule" not in plans[0]:
             return
         # Without the factor the total of the first rule tells it.
         self.both(["verify-ramp", "d", "s"], ["ramp"], files)
         wrong = [{"plan": {**plan, "cost": plan.get("cost", 0) + 1}, "step": n} for n, plan in enumerate(plans, 1)]
-        self.both(["verify-ramp", *by, "d", "s"], ["ramp"], {**files, "ramp": "".join(compact(it) + "\n" for it in wrong)})
+        for words in (["verify-ramp"], ["picture", "--ramp"]):
+            self.both([*words, *by, "d", "s"], ["ramp"], {**files, "ramp": "".join(compact(it) + "\n" for it in wrong)})
         first = self.both(["apply", "--step", "1", "--keep", *by, "d", "ramp", "s"], [], files)
         if len(plans) > 1:
             self.both(["apply", "--step", "2", "--keep", "d", "ramp", "s"], [], {**files, "d": first})
@@ -254,12 +302,18 @@ class Tallies(ProgramTest):
                 ran = self.assert_ends(["ramp", "d", "s", "t"], there, 1, "refused ramp 11 OtherTally\n")
                 self.assertTrue(ran.err.startswith('error: "s", step 1: '), ran.err)
                 self.assert_ends(["verify-ramp", "d", "s", "t", "p"], there, 1, "refused verify-ramp 11 OtherTally\n")
+                self.assert_ends(["picture", "--ramp", "d", "s", "t", "p"], there, 1, "refused verify-ramp 11 OtherTally\n")
                 self.assert_ends(["apply", "--step", "1", "--keep", "d", "p", "s", "t"], there, 1, "refused verify-ramp 11 OtherTally\n")
 
     def test_steps_on_a_broken_tally(self):
         asked = '{"plan":1,"flag":"color","steps":[{"red":3,"blue":7}]}'
         for tally, refusal in BROKEN:
-            for words in (["ramp", "d", "s", "t"], ["verify-ramp", "d", "s", "t", "p"], ["apply", "--step", "1", "--keep", "d", "p", "s", "t"]):
+            for words in (
+                ["ramp", "d", "s", "t"],
+                ["verify-ramp", "d", "s", "t", "p"],
+                ["picture", "--ramp", "d", "s", "t", "p"],
+                ["apply", "--step", "1", "--keep", "d", "p", "s", "t"],
+            ):
                 with self.subTest(tally=tally, words=words):
                     self.assert_ends(words, {**self.files(tally), "s": asked}, 1, f"refused read_tally {refusal}\n")
 
@@ -271,19 +325,6 @@ class Tallies(ProgramTest):
         self.assertTrue(ran.err.startswith('note: "t" counts no input'), ran.err)
         strict = run(["ramp", "--strict", "d", "s", "t"], files)
         self.assertEqual((strict.status, strict.out, strict.err), (1, "refused ramp 17 Unrecorded\n", ran.err))
-
-    def test_pictures_on_books_alone(self):
-        """Pictures are drawn of books alone."""
-        steps = '{"plan":1,"flag":"color","steps":[{"red":3,"blue":7}]}'
-        for words in (
-            ["picture", "d", "r", "t", "p"],
-            ["picture", "--ramp", "d", "s", "t", "p"],
-            ["plan", "--picture", "svg", "d", "r", "t"],
-        ):
-            with self.subTest(words=words):
-                ran = run(words, {**self.files(), "s": steps})
-                self.assertEqual(ran.out, NO_BOOK)
-                self.assertNotIn("svg", ran.files)
 
 
 if __name__ == "__main__":

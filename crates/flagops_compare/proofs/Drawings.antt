@@ -1,5 +1,5 @@
 -- The pictures of pages, one below the other.
-use Rattle.std.proofs.Common.{◌≡◌, ◌+◌, ◌<◌, ◌≤◌, ℕ, List, [], ◌∷◌, ◌++◌, append_assoc, append-nil, drop, get_or, length, map, sym, ap, ◌∙◌, subst}
+use Rattle.std.proofs.Common.{◌≡◌, ◌≢◌, ◌+◌, ◌<◌, ◌≤◌, ℕ, List, [], ◌∷◌, drop, get_or, length, map, refl, sym, ap, ◌∙◌, subst}
 use Rattle.std.proofs.Common.{Result, Ok, Err, add-one, drop-cons}
 use Rattle.std.specs.Prelude.{IfOk, OnOk}
 use Rattle.std.proofs.lemmas.List.{drop_all}
@@ -8,31 +8,11 @@ use Rattle.bucket_core.specs.Rule.{Entries}
 use Rattle.page_switches.specs.Found.{counted}
 use Rattle.page_switches.specs.Rules.{Rules, both}
 use Rattle.rule_switches.specs.Switches.{Rows}
-use Rattle.picture.specs.Edits.{edit_height, edit_told}
-use Rattle.picture.specs.Spelling.{Adds, IsBody, Pictures, depth}
-use Rattle.picture.specs.Told.{Item, down}
-use Rattle.picture.proofs.Bodies.{depth_more, one_more}
-use Rattle.flagops_compare.specs.Drawn.{Continues, page_drawn}
-
-pub continues_none : (y : ℕ) (bytes : List ℕ) → Continues [] y y bytes bytes
-continues_none y bytes = λ above body top. (subst (λ (ps : Pictures). IsBody ps bytes) (sym (append-nil above)) body, top ∙ ap depth (sym (append-nil above)))
-
--- a picture alone
-pub continues_one : (high : ℕ) (items : List Item) (y end : ℕ) (before after : List ℕ) → Adds y items before after → end ≡ down y high → Continues ((high, items) ∷ []) y end before after
-continues_one high items y end before after adds ends = λ above body top.
-    let p : ℕ × List Item = (high, items) in (
-      one_more above p before after body (subst (λ (z : ℕ). Adds z items before after) top adds),
-      ends ∙ (ap (λ z. down z high) top ∙ sym (depth_more above p)),
-    )
-
--- some, and then others
-pub continues_both : (ps qs : Pictures) (y mid end : ℕ) (a b c : List ℕ) → Continues ps y mid a b → Continues qs mid end b c → Continues (ps ++ qs) y end a c
-continues_both ps qs y mid end a b c first second = λ above body top.
-    let one = first above body top in
-    let all = second (above ++ ps) one.0 one.1 in (
-      subst (λ (rs : Pictures). IsBody rs c) (append_assoc above ps qs) all.0,
-      all.1 ∙ ap depth (append_assoc above ps qs),
-    )
+use Rattle.picture.specs.Edits.{edit_height, edit_told, no_page_height, no_page_told}
+use Rattle.picture.specs.Spelling.{Adds, Continues, IsBody, Pictures, depth}
+use Rattle.picture.specs.Told.{down}
+use Rattle.picture.proofs.Bodies.{alone, continues_one, unwritten, written}
+use Rattle.flagops_compare.specs.Drawn.{or_no_page, page_drawn}
 
 -- that of a page with two rules, where it was drawn
 pub drawn_so : {E : Type 0} (rules : Rules) (page : PageName) (flag : List ℕ) (site : ℕ) (before after : Entries) (inputs users : ℕ) (rows : Rows) (y : ℕ) (a b : List ℕ) (r : Result ℕ E)
@@ -44,6 +24,20 @@ drawn_so rules page flag site before after inputs users rows y a b (Ok end) adds
     (subst (λ (n : ℕ). Continues ((edit_height before after rows, edit_told flag n inputs users before after rows) ∷ []) y end a b) at
     (continues_one (edit_height before after rows) (edit_told flag site inputs users before after rows) y end a b adds below)))
 drawn_so rules page flag site before after inputs users rows y a b (Err e) adds below is same at = tt
+
+-- ---- no page
+
+-- that no page was compared, where nothing was written
+pub none_there : {E : Type 0} (top : ℕ) (before after : List ℕ) (r : Result ℕ E) → before ≡ [] → OnOk r (Adds 0 (no_page_told ∷ []) before after) → IfOk r (λ end. end ≡ down 0 no_page_height)
+    → IfOk r (λ end. (ps : Pictures) → IsBody ps before → top ≡ depth ps → IsBody (or_no_page ps) after × (end ≡ depth (or_no_page ps)))
+none_there top before after (Ok end) none adds below = λ ps body ends.
+    subst (λ (qs : Pictures). IsBody (or_no_page qs) after × (end ≡ depth (or_no_page qs))) (sym (unwritten ps before body none)) (alone (no_page_height, no_page_told ∷ []) before after none adds, below)
+none_there top before after (Err e) none adds below = tt
+
+-- and else the pictures that were written
+pub some_there : (ps : Pictures) (bytes : List ℕ) (end : ℕ) → IsBody ps bytes → bytes ≢ [] → end ≡ depth ps → IsBody (or_no_page ps) bytes × (end ≡ depth (or_no_page ps))
+some_there [] bytes end body some ends = absurd (some (written [] bytes body refl))
+some_there (p ∷ ps) bytes end body some ends = (body, ends)
 
 -- ---- pages in a list
 

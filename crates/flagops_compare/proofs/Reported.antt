@@ -31,6 +31,7 @@ use Rattle.flagops_shell.specs.declared.refused.Remark.TheVariants.{Short, Lines
 use Rattle.page_switches.specs.Found.{PageFound}
 use Rattle.page_switches.specs.declared.fault.TallyFault.TheVariants as tally
 use Rattle.picture.specs.Spelling.{IsPicture, Pictures}
+use Rattle.picture.specs.declared.words.Title.TheVariants as title
 
 -- a refusal that wraps one is want of memory where that is
 not_want : (t : Told) (e : Refused) → t.refusal ≡ Load e.refusal → is_want t.refusal ≡ false → files.is_want e.refusal ≡ false
@@ -85,7 +86,7 @@ pub told_unwritten : (path : List ℕ) (e : Refused) (t : Told) → t.refusal �
 told_unwritten path e t is same says no_want = subst (λ (m : Remark). Says (NamesSubject (file path)) m) (sym same) (says (not_want t e is no_want))
 
 module _ (ps : Pictures) (path : List ℕ) where
-  pub drawn_at : (old new : Option Holding) (bytes : List ℕ) (r : Result (Unit {0}) Told) → IsPicture ps bytes → OnOk r (Stores old new path bytes) → KeepsOthers old new path → OnErr r (new ≡ old)
+  pub drawn_at : (old new : Option Holding) (bytes : List ℕ) (r : Result (Unit {0}) Told) → IsPicture title.Edit ps bytes → OnOk r (Stores old new path bytes) → KeepsOthers old new path → OnErr r (new ≡ old)
       → IfErr r (λ t. is_want t.refusal ≡ false → t.refusal ≡ Load unwritable) → IfErr r (λ t. is_want t.refusal ≡ false → Says (NamesSubject (file path)) t.remark) → IsDrawnAt ps path old new r
   drawn_at old new bytes (Ok x) picture stores others refused fault names = (bytes, picture, stores, others)
   drawn_at old new bytes (Err t) picture stores others refused fault names = ((λ no_want. (fault no_want, names no_want)), refused)

@@ -1,5 +1,5 @@
 -- The picture of an edit.
-use Rattle.std.specs.Prelude.{◌≡◌, ◌⊎◌, ℕ, List, [], ◌∷◌, ◌++◌, flat_map, Option, Some, None}
+use Rattle.std.specs.Prelude.{◌≡◌, ◌⊎◌, ℕ, List, [], ◌∷◌, flat_map, Option, Some, None}
 use Rattle.book_core.specs.Page.{PageName}
 use Rattle.clap.specs.Walk.{Text}
 use Rattle.flag_defs.specs.Document.{Definitions}
@@ -7,8 +7,9 @@ use Rattle.flagops_shell.specs.Files.{Holding, KeepsOthers, Stores}
 use Rattle.page_switches.specs.Found.{Found, PageFound, counted, left}
 use Rattle.page_switches.specs.Rules as rules
 use Rattle.page_switches.specs.Rules.{Rules, rules_on}
-use Rattle.picture.specs.Edits.{edit_height, edit_told}
-use Rattle.picture.specs.Spelling.{IsBody, IsPicture, Pictures, depth}
+use Rattle.picture.specs.Edits.{edit_height, edit_told, no_page_height, no_page_told}
+use Rattle.picture.specs.Spelling.{IsPicture, Pictures}
+use Rattle.picture.specs.declared.words.Title.TheVariants as title
 
 -- of a page that was compared both rules and what goes from each name to each other one, and of another page nothing
 abbrev pub page_drawn : Rules → PageName → Found → Pictures
@@ -20,18 +21,22 @@ abbrev pub drawn_on : Definitions → Definitions → PageFound → Pictures
 drawn_on old new p = page_drawn (rules_on old new p.page) p.page p.found
 
 -- each page's, in their order
-abbrev pub pages_drawn : Definitions → Definitions → List PageFound → Pictures
-pages_drawn old new pages = flat_map (drawn_on old new) pages
+abbrev pub compared_drawn : Definitions → Definitions → List PageFound → Pictures
+compared_drawn old new pages = flat_map (drawn_on old new) pages
 
--- these pictures were added below others, which end so far below the top, and then all end so far below it
-abbrev pub Continues : Pictures → ℕ → ℕ → List ℕ → List ℕ → Type 0
-Continues ps y end before after = (above : Pictures) → IsBody above before → y ≡ depth above → IsBody (above ++ ps) after × (end ≡ depth (above ++ ps))
+-- these pictures, or where there is none, that no page was compared
+abbrev pub or_no_page : Pictures → Pictures
+or_no_page [] = (no_page_height, no_page_told ∷ []) ∷ []
+or_no_page (p ∷ ps) = p ∷ ps
+
+abbrev pub pages_drawn : Definitions → Definitions → List PageFound → Pictures
+pages_drawn old new pages = or_no_page (compared_drawn old new pages)
 
 -- ---- its file
 
 -- the file at the path has these pictures, and every other file is as it was
 abbrev pub Draws : Pictures → List ℕ → Option Holding → Option Holding → Type 0
-Draws ps path old new = (bytes : List ℕ) × IsPicture ps bytes × Stores old new path bytes × KeepsOthers old new path
+Draws ps path old new = (bytes : List ℕ) × IsPicture title.Edit ps bytes × Stores old new path bytes × KeepsOthers old new path
 
 -- the same where there is a path, and else all files are as they were
 abbrev pub DrawsAt : Pictures → Option Text → Option Holding → Option Holding → Type 0

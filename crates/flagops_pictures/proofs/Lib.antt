@@ -8,4 +8,5 @@ mod Posing
 mod Questions
 pub mod Stepped
 pub mod Steps
+mod Tallies
 pub mod Wanted

@@ -3,8 +3,8 @@ use Rattle.std.proofs.Common.{◌≡◌, ◌||◌, ℕ, List, Bool, is_some, tru
 use Rattle.std.specs.Prelude.{Result, Ok, Err}
 use Rattle.flagops_rollouts.specs.Doubts.{doubt_of}
 use Rattle.flagops_shell.specs.Files.{Holding}
-use Rattle.flagops_rollouts.specs.Loaded.{plan_at, IsBookQuestionAt}
-use Rattle.flagops_files.specs.Question.{BookQuestion}
+use Rattle.flagops_rollouts.specs.Loaded.{plan_at, IsQuestionAt}
+use Rattle.flagops_files.specs.Question.{Question}
 use Rattle.flagops_files.specs.declared.refusal.Call.TheVariants as file
 use Rattle.flagops_rollouts.specs.Refusal.{GivesOne, GivesUnlessWant, is_want, loads_plan, Refused}
 use Rattle.flagops_rollouts.specs.declared.refusal.RolloutCall.TheVariants as call
@@ -13,7 +13,7 @@ use Rattle.flagops_shell.specs.Outcomes.{beside}
 use Rattle.flagops_shell.specs.Report.{outcome_view}
 use Rattle.flagops_shell.specs.declared.outcome.Outcome.{Outcome}
 use Rattle.flagops_rollouts.specs.declared.refusal.RolloutCall.{RolloutCall}
-use Rattle.flagops_pictures.specs.Pictured.{IsDrawnOrDenied, IsPictureReport, IsPictured, as_question, asked_over, drawn_report, picture_calls}
+use Rattle.flagops_pictures.specs.Pictured.{IsDrawnOrDenied, IsPictureReport, IsPictured, drawn_report, picture_calls}
 use Rattle.flagops_pictures.specs.Words.{Picturing}
 use Rattle.plan_text.specs.Answer.{Answer}
 
@@ -25,24 +25,24 @@ joined {P} {Q} {R} old kept same p q both = go old p (subst (λ (h : Option Hold
     go None a b = tt
     go (Some at) a b = both at a b
 
-module _ (a : Picturing) (q : BookQuestion) (answer : Answer) where
-  pictured_over : (at : Holding) (r : Result Outcome Refused) → IsBookQuestionAt at a.document a.request a.book (Ok q) → plan_at at a.plan ≡ Ok answer
+module _ (a : Picturing) (q : Question) (answer : Answer) where
+  pictured_over : (at : Holding) (r : Result Outcome Refused) → IsQuestionAt at a.document a.request a.book (Ok q) → plan_at at a.plan ≡ Ok answer
       → GivesOne outcome_view r (IsPictured a.refine (Ok q) (Ok answer)) → GivesOne outcome_view r (IsPictureReport at a)
   unfolding IsPictureReport
   pictured_over at (Ok o) asked answered drawn = (Ok q, asked, rw answered drawn)
   pictured_over at (Err e) asked answered drawn = λ no. (Ok q, asked, rw answered (drawn no))
 
-  pub pictured : (old kept : Option Holding) (r : Result Outcome Refused) → kept ≡ old → IfSome old (λ at. IsBookQuestionAt at a.document a.request a.book (Ok q))
+  pub pictured : (old kept : Option Holding) (r : Result Outcome Refused) → kept ≡ old → IfSome old (λ at. IsQuestionAt at a.document a.request a.book (Ok q))
       → IfSome kept (λ at. plan_at at a.plan ≡ Ok answer) → GivesOne outcome_view r (IsPictured a.refine (Ok q) (Ok answer)) → IfSome old (λ at. GivesOne outcome_view r (IsPictureReport at a))
   pictured old kept r same asked answered drawn = joined old kept same asked answered (λ at x y. pictured_over at r x y drawn)
 
 -- a plan file that is refused
-module _ (a : Picturing) (q : BookQuestion) (e : Refused) where
-  unanswered_over : (at : Holding) → IsBookQuestionAt at a.document a.request a.book (Ok q) → (is_want e.refusal ≡ false → plan_at at a.plan ≡ Err e.refusal) → is_want e.refusal ≡ false → IsPictureReport at a (Err e.refusal)
+module _ (a : Picturing) (q : Question) (e : Refused) where
+  unanswered_over : (at : Holding) → IsQuestionAt at a.document a.request a.book (Ok q) → (is_want e.refusal ≡ false → plan_at at a.plan ≡ Err e.refusal) → is_want e.refusal ≡ false → IsPictureReport at a (Err e.refusal)
   unfolding IsPictureReport
   unanswered_over at asked refused no_want = (Ok q, asked, rw (refused no_want) refl)
 
-  pub unanswered : (old kept : Option Holding) (r : Result Outcome Refused) → r ≡ Err e → kept ≡ old → IfSome old (λ at. IsBookQuestionAt at a.document a.request a.book (Ok q))
+  pub unanswered : (old kept : Option Holding) (r : Result Outcome Refused) → r ≡ Err e → kept ≡ old → IfSome old (λ at. IsQuestionAt at a.document a.request a.book (Ok q))
       → IfSome kept (λ at. is_want e.refusal ≡ false → plan_at at a.plan ≡ Err e.refusal) → IfSome old (λ at. GivesOne outcome_view r (IsPictureReport at a))
   unanswered old kept r is same asked refused =
       subst (λ (s : Result Outcome Refused). IfSome old (λ at. GivesOne outcome_view s (IsPictureReport at a))) (sym is) (joined old kept same asked refused unanswered_over)
@@ -71,7 +71,7 @@ pub no_failure : (start first last failed : Bool) → first ≡ (start || false)
 no_failure start first last failed a b read = b ∙ (or_false first ∙ (a ∙ ap (λ (x : Bool). start || x) (sym read)))
 
 -- the picture of an answer that is right, and whether a person is told something beside it
-pub drawn_so : (refine : Option ℕ) (q : BookQuestion) (answer : Answer) (bytes : List ℕ) (r : Result Outcome Refused) → IsDrawnOrDenied (asked_over refine answer q) answer (Ok bytes)
-    → GivesUnlessWant outcome_view r (beside (is_some (doubt_of (as_question q))) (drawn_report (Ok bytes))) → GivesOne outcome_view r (IsPictured refine (Ok q) (Ok answer))
+pub drawn_so : (refine : Option ℕ) (q : Question) (answer : Answer) (bytes : List ℕ) (r : Result Outcome Refused) → IsDrawnOrDenied refine q answer (Ok bytes)
+    → GivesUnlessWant outcome_view r (beside (is_some (doubt_of q)) (drawn_report (Ok bytes))) → GivesOne outcome_view r (IsPictured refine (Ok q) (Ok answer))
 drawn_so refine q answer bytes (Ok o) drawn given = (Ok bytes, drawn, sym given)
 drawn_so refine q answer bytes (Err e) drawn given = λ no_want. (Ok bytes, drawn, sym (given no_want))

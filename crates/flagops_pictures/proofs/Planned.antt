@@ -1,16 +1,16 @@
 -- A plan that is printed and drawn.
 use Rattle.std.proofs.Common.{◌≡◌, ◌⊎◌, ◌||◌, Bool, false, true, ℕ, List, Option, None, Some, Result, Ok, Err, unwrap_or, refl, ap, ◌∙◌, subst, sym, inl, inr}
 use Rattle.std.specs.Prelude.{IfErr, IfOk, IfSome}
-use Rattle.book_core.specs.Book.{Contents}
+use Rattle.flag_defs.specs.Document.{Definitions}
 use Rattle.flagops_rollouts.specs.Doubts.{doubt_of, settle}
 use Rattle.flagops_rollouts.specs.Finer.{is_finer}
 use Rattle.flagops_rollouts.specs.Plan.{IsPlanOf, IsPlannedOn, plan_report, plan_status, report_planned}
 use Rattle.flagops_shell.specs.Files.{Holding, KeepsOthers, Stores}
-use Rattle.flagops_files.specs.Question.{BookQuestion, Question, book_question_view}
-use Rattle.flagops_rollouts.specs.Loaded.{IsBookQuestionAt}
+use Rattle.flagops_files.specs.Question.{Question, question_view}
+use Rattle.flagops_rollouts.specs.Loaded.{IsQuestionAt}
 use Rattle.flagops_shell.specs.Report.{Report, outcome_view}
 use Rattle.flagops_files.specs.declared.evidence.Evidence.{Evidence}
-use Rattle.flagops_files.specs.declared.evidence.Evidence.TheVariants.{Book}
+use Rattle.flagops_files.specs.declared.evidence.Evidence.TheVariants.{Book, Tally}
 use Rattle.flagops_shell.specs.declared.outcome.Outcome.{Outcome}
 use Rattle.flagops_rollouts.specs.Refusal.{GivesOne, is_want, unwritable, Refused}
 use Rattle.flagops_rollouts.specs.declared.refusal.RolloutCall.{RolloutCall}
@@ -23,42 +23,52 @@ use Rattle.plan_text.specs.PlanFile.{answer_of}
 use Rattle.plan_text.specs.PlanFile.{plan_line}
 use Rattle.plan_text.specs.declared.fault.PlanFileFault.{PlanFileFault}
 use Rattle.plan_text.specs.declared.planned.Planned.{Planned}
+use Rattle.ramp.specs.Right.{IsStepShown}
 use Rattle.rollout.specs.Planned.{IsPlanned}
+use Rattle.rollout.specs.Tallied.{IsTallyPlanned}
 use Rattle.rollout_checks.specs.Lawful.{Problem}
 use Rattle.rollout_checks.specs.Refined.{problem_refined}
+use Rattle.rollout_checks.specs.Tallied.{IsTallyShown, TallyProblem, tally_problem_of}
 use Rattle.rollout_checks.specs.Verified.{IsShown}
 use Rattle.rollout_checks.specs.declared.fault.RolloutFault.{RolloutFault}
-use Rattle.flagops_pictures.specs.Pictured.{IsDrawn, as_question}
-use Rattle.flagops_pictures.specs.Planning.{IsDrawnOn, IsPictureOf, IsPlanPicture, IsPlanWith, KeepsUnlessPlanned}
+use Rattle.rollout_checks.specs.declared.refining.Refining.TheVariants.{Times}
+use Rattle.flagops_ramps.specs.Ramp.{recorded}
+use Rattle.flagops_pictures.specs.Planning.{IsPictureOf, IsPlanPicture, IsPlanWith, KeepsUnlessPlanned}
 use Rattle.flagops_pictures.specs.Words.{Planning}
 
--- what is planned is shown to be right
-shown : (asked : Result Problem RolloutFault) (p : Planned) → IsPlanned asked (Ok p) → IsShown asked (planned_view p)
-shown (Ok problem) p plan = (plan.lawful, plan.shows)
-shown (Err f) p plan = plan
+-- ---- what is planned is shown to be right
 
-module _ (strict explain : Bool) (refine : Option ℕ) (q : Question) (book : Contents) (on : q.evidence ≡ Book book) where
-  abbrev posed : Result Problem RolloutFault
-  posed = problem_refined (unwrap_or refine 1) q.flags q.request book
+of_book : (asked : Result Problem RolloutFault) (p : Planned) → IsPlanned asked (Ok p) → IsShown asked (planned_view p)
+of_book (Ok problem) p plan = (plan.lawful, plan.shows)
+of_book (Err f) p plan = plan
+
+of_tally : (asked : Result TallyProblem RolloutFault) (p : Planned) → IsTallyPlanned asked (Ok p) → IsTallyShown asked (planned_view p)
+of_tally (Ok problem) p plan = λ inputs tallied. ((plan inputs tallied).lawful, (plan inputs tallied).shows)
+of_tally (Err f) p plan = plan
+
+shown : (m : ℕ) (flags : Definitions) (request : List ℕ) (evidence : Evidence) (p : Planned) → IsPlannedOn m flags request evidence (Ok p) → IsStepShown (Ok flags) (Some m) request (recorded evidence) (planned_view p)
+shown m flags request (Book book) p plan = of_book (problem_refined m flags request book) p plan
+shown m flags request (Tally t) p plan = of_tally (tally_problem_of (Times m) flags request t) p plan
+
+module _ (strict explain : Bool) (refine : Option ℕ) (q : Question) where
+  -- an answer is shown to be right that was planned so
+  abbrev IsRight : Answer → Type 0
+  IsRight answer = IsStepShown (Ok q.flags) (Some (unwrap_or refine 1)) q.request (recorded q.evidence) answer
 
   -- a plan that is reported reads as an answer that is right
-  planned_there : (report : Report) → IsPlanOf strict explain refine (Ok q) (Ok report) → (answer : Answer) × (answer_of report.text ≡ Ok answer) × IsShown posed answer
-  planned_there report (Ok p, may, is, reads) = (planned_view p, reads, shown posed p (subst (λ (e : Evidence). IsPlannedOn (unwrap_or refine 1) q.flags q.request e (Ok p)) on may.answers))
+  planned_there : (report : Report) → IsPlanOf strict explain refine (Ok q) (Ok report) → (answer : Answer) × (answer_of report.text ≡ Ok answer) × IsRight answer
+  planned_there report (Ok p, may, is, reads) = (planned_view p, reads, shown (unwrap_or refine 1) q.flags q.request q.evidence p may.answers)
   planned_there report (Err f, may, is, reads) = absurd cc
 
-  pub read_right : (report : Report) (answer : Answer) → IsPlanOf strict explain refine (Ok q) (Ok report) → answer_of report.text ≡ Ok answer → IsShown posed answer
+  pub read_right : (report : Report) (answer : Answer) → IsPlanOf strict explain refine (Ok q) (Ok report) → answer_of report.text ≡ Ok answer → IsRight answer
   read_right report answer plan read =
       let there = planned_there report plan in
-      subst (λ (r : Result Answer PlanFileFault). IfOk r (λ a. IsShown posed a)) (sym there.1 ∙ read) there.2
+      subst (λ (r : Result Answer PlanFileFault). IfOk r IsRight) (sym there.1 ∙ read) there.2
 
   pub reads : (report : Report) (e : PlanFileFault) → IsPlanOf strict explain refine (Ok q) (Ok report) → answer_of report.text ≡ Err e → ⊥
   reads report e plan unread =
       let there = planned_there report plan in
       subst (λ (r : Result Answer PlanFileFault). IfErr r (λ f. ⊥)) (sym there.1 ∙ unread) tt
-
-  -- and so is its picture the one that is asked for
-  pub drawn_on : (text bytes : List ℕ) (answer : Answer) → answer_of text ≡ Ok answer → IsDrawn posed answer bytes → IsPictureOf refine q text bytes
-  drawn_on text bytes answer read drawn = (answer, read, subst (λ (e : Evidence). IsDrawnOn (unwrap_or refine 1) q.flags q.request e answer bytes) (sym on) drawn)
 
 -- a want of memory is told by no file
 pub want_alone : (refusal : RolloutRefusal) (c : RolloutCall) → refusal ≡ WantOfMemory c → is_want refusal ≡ false → refusal ≡ unwritable
@@ -82,23 +92,23 @@ module _ (p : Planning) (q : Question) where
   unplanned (Some at) new e r is gives same = rw is (λ no_want. (inl (gives no_want), same))
 
 module _ (p : Planning) where
-  asked_at : (at : Holding) (new : Option Holding) (q : BookQuestion) (r : Result Outcome Refused) → IsBookQuestionAt at p.document p.request p.book (Ok q) → GivesOne outcome_view r (IsPlanWith at new p (as_question q))
+  asked_at : (at : Holding) (new : Option Holding) (q : Question) (r : Result Outcome Refused) → IsQuestionAt at p.document p.request p.book (Ok q) → GivesOne outcome_view r (IsPlanWith at new p q)
       → GivesOne outcome_view r (IsPlanPicture at new p)
   unfolding IsPlanPicture
   asked_at at new q (Ok o) asked gives = (Ok q, asked, gives)
   asked_at at new q (Err e) asked gives = λ no_want. (Ok q, asked, gives no_want)
 
-  pub asked_of : (old kept new : Option Holding) (q : BookQuestion) (r : Result Outcome Refused) → kept ≡ old → IfSome old (λ at. IsBookQuestionAt at p.document p.request p.book (Ok q))
-      → IfSome kept (λ at. GivesOne outcome_view r (IsPlanWith at new p (as_question q))) → IfSome old (λ at. GivesOne outcome_view r (IsPlanPicture at new p))
+  pub asked_of : (old kept new : Option Holding) (q : Question) (r : Result Outcome Refused) → kept ≡ old → IfSome old (λ at. IsQuestionAt at p.document p.request p.book (Ok q))
+      → IfSome kept (λ at. GivesOne outcome_view r (IsPlanWith at new p q)) → IfSome old (λ at. GivesOne outcome_view r (IsPlanPicture at new p))
   asked_of None kept new q r same asked gives = tt
   asked_of (Some at) kept new q r same asked gives =
-      asked_at at new q r asked (subst (λ (h : Option Holding). IfSome h (λ it. GivesOne outcome_view r (IsPlanWith it new p (as_question q)))) same gives)
+      asked_at at new q r asked (subst (λ (h : Option Holding). IfSome h (λ it. GivesOne outcome_view r (IsPlanWith it new p q))) same gives)
 
-  unasked_at : (at : Holding) (new : Option Holding) (e : Refused) → GivesOne book_question_view (Err e) (IsBookQuestionAt at p.document p.request p.book) → new ≡ Some at → GivesOne outcome_view (Err e) (IsPlanPicture at new p)
+  unasked_at : (at : Holding) (new : Option Holding) (e : Refused) → GivesOne question_view (Err e) (IsQuestionAt at p.document p.request p.book) → new ≡ Some at → GivesOne outcome_view (Err e) (IsPlanPicture at new p)
   unfolding IsPlanPicture
   unasked_at at new e asked same = λ no_want. (Err e.refusal, asked no_want, (refl, same))
 
-  pub unasked : (old new : Option Holding) (e : Refused) (r : Result Outcome Refused) → r ≡ Err e → IfSome old (λ at. GivesOne book_question_view (Err e) (IsBookQuestionAt at p.document p.request p.book)) → new ≡ old → IfSome old (λ at. GivesOne outcome_view r (IsPlanPicture at new p))
+  pub unasked : (old new : Option Holding) (e : Refused) (r : Result Outcome Refused) → r ≡ Err e → IfSome old (λ at. GivesOne question_view (Err e) (IsQuestionAt at p.document p.request p.book)) → new ≡ old → IfSome old (λ at. GivesOne outcome_view r (IsPlanPicture at new p))
   unasked None new e r is asked same = tt
   unasked (Some at) new e r is asked same = rw is (unasked_at at new e asked same)
 

@@ -4,7 +4,7 @@ use Rattle.std.specs.Prelude.{IfSome}
 use Rattle.flagops_shell.specs.Files.{Holding}
 use Rattle.flagops_shell.specs.Report.{outcome_view}
 use Rattle.flagops_shell.specs.declared.outcome.Outcome.{Outcome}
-use Rattle.flagops_ramps.specs.Judging.{IsFoundOnBook, answered_view}
+use Rattle.flagops_ramps.specs.Judging.{IsFoundAt, answered_view}
 use Rattle.flagops_ramps.specs.Refusal.{is_want}
 use Rattle.flagops_ramps.specs.Report.{GivesOne, Told}
 use Rattle.flagops_ramps.specs.Words.{Verifying}
@@ -12,21 +12,21 @@ use Rattle.flagops_ramps.specs.declared.judging.RightAnswers.{RightAnswers}
 use Rattle.flagops_pictures.specs.Ramps.{IsRampPicture, IsRampPictureOf}
 
 module _ (v : Verifying) where
-  pictured_at : (at : Holding) (a : RightAnswers) (o : Outcome) → IsFoundOnBook at v (Ok (answered_view a)) → IsRampPictureOf v.rollout.refine (Ok (answered_view a)) (Ok (outcome_view o)) → IsRampPicture at v (Ok (outcome_view o))
+  pictured_at : (at : Holding) (a : RightAnswers) (o : Outcome) → IsFoundAt at v (Ok (answered_view a)) → IsRampPictureOf v.rollout.refine (Ok (answered_view a)) (Ok (outcome_view o)) → IsRampPicture at v (Ok (outcome_view o))
   unfolding IsRampPicture
   pictured_at at a o found drawn = (Ok (answered_view a), found, drawn)
 
   -- right answers are drawn
-  pub pictured : (holding : Option Holding) (a : RightAnswers) (o : Outcome) → IfSome holding (λ at. IsFoundOnBook at v (Ok (answered_view a))) → IsRampPictureOf v.rollout.refine (Ok (answered_view a)) (Ok (outcome_view o)) → IfSome holding (λ at. IsRampPicture at v (Ok (outcome_view o)))
+  pub pictured : (holding : Option Holding) (a : RightAnswers) (o : Outcome) → IfSome holding (λ at. IsFoundAt at v (Ok (answered_view a))) → IsRampPictureOf v.rollout.refine (Ok (answered_view a)) (Ok (outcome_view o)) → IfSome holding (λ at. IsRampPicture at v (Ok (outcome_view o)))
   pictured None a o found drawn = tt
   pictured (Some at) a o found drawn = pictured_at at a o found drawn
 
-  refused_at : (at : Holding) (t : Told) → GivesOne answered_view (Err t) (IsFoundOnBook at v) → GivesOne outcome_view (Err t) (IsRampPicture at v)
+  refused_at : (at : Holding) (t : Told) → GivesOne answered_view (Err t) (IsFoundAt at v) → GivesOne outcome_view (Err t) (IsRampPicture at v)
   unfolding IsRampPicture
   refused_at at t found = λ no_want. (Err t.refusal, found no_want, refl)
 
   -- others are refused
-  pub refused : (holding : Option Holding) (t : Told) → IfSome holding (λ at. GivesOne answered_view (Err t) (IsFoundOnBook at v)) → IfSome holding (λ at. GivesOne outcome_view (Err t) (IsRampPicture at v))
+  pub refused : (holding : Option Holding) (t : Told) → IfSome holding (λ at. GivesOne answered_view (Err t) (IsFoundAt at v)) → IfSome holding (λ at. GivesOne outcome_view (Err t) (IsRampPicture at v))
   refused None t found = tt
   refused (Some at) t found = refused_at at t found
 

@@ -3,7 +3,7 @@ use Rattle.std.specs.Prelude.{◌≡◌, ◌⊎◌, codes}
 use Rattle.flagops_shell.specs.Described.{described}
 use Rattle.flagops_rollouts.specs.declared.refusal.RolloutRefusal.{RolloutRefusal}
 use Rattle.flagops_rollouts.specs.Refusal.{call_name, call_of}
-use Rattle.flagops_ramps.specs.Commands.{reading, verify_told_on_book}
+use Rattle.flagops_ramps.specs.Commands.{reading, verify_told}
 use Rattle.flagops_ramps.specs.Words.{Verifying}
 use Rattle.flagops_ramps.specs.declared.refusal.RampRefusal.{RampRefusal}
 use Rattle.flagops_shell.specs.Files.{KeepsOthers}
@@ -17,9 +17,9 @@ use Rattle.flagops_pictures.specs.Words.{Picturing, Planning, picture_by, pictur
 abbrev pub picture_description : Description Picturing RolloutRefusal
 picture_description = described call_name call_of picture_by picture_faults (λ a at after. IsPictureReport at a) (λ a at. picture_told at a) (λ a. picture_calls) (λ a old new. new ≡ old)
 
--- `picture --ramp` is refused as `verify-ramp` is where what was recorded has to be a book, and reports a want of memory by its name
+-- `picture --ramp` is refused as `verify-ramp` is, and reports a want of memory by its name
 abbrev pub ramp_description : Description Verifying RampRefusal
-ramp_description = reading (codes "verify-ramp") ramp_by ramp_faults (λ v at. IsRampPicture at v) verify_told_on_book
+ramp_description = reading (codes "verify-ramp") ramp_by ramp_faults (λ v at. IsRampPicture at v) verify_told
 
 -- `plan --picture` changes one file, that of the picture, also where no rule fits
 abbrev pub plan_description : Description Planning RolloutRefusal

@@ -1,22 +1,17 @@
 -- What a person is told of what a command that draws comes to: of a refusal the first file or word that was refused, and beside a report
 -- what is doubted.
-use Rattle.std.specs.Prelude.{[], ◌∷◌, ◌++◌, Bool, true, false, List, map, ℕ, Ok, Err}
-use Rattle.flagops_rollouts.specs.Attempts.{Attempts, plan_read}
+use Rattle.std.specs.Prelude.{[], ◌∷◌, ◌++◌, Bool, true, false, List, ℕ, Ok, Err}
+use Rattle.flagops_rollouts.specs.Attempts.{Attempts, plan_read, question_attempts}
 use Rattle.flagops_rollouts.specs.Doubts.{NamesDoubted, doubt_subjects}
 use Rattle.flagops_rollouts.specs.Subjects.{is_of_request, is_of_size, the_plan}
 use Rattle.flagops_rollouts.specs.Refusal.{Remarks, Subjects, by, stores_file}
 use Rattle.flagops_rollouts.specs.declared.refusal.RolloutRefusal.{RolloutRefusal}
-use Rattle.flagops_rollouts.specs.declared.refusal.RolloutRefusal.TheVariants.{Load, Verify}
-use Rattle.flagops_files.specs.Question.{book_question_attempts}
-use Rattle.flagops_files.specs.Told.{NamesFirst, by_kind, file, within, word}
+use Rattle.flagops_rollouts.specs.declared.refusal.RolloutRefusal.TheVariants.{Verify}
+use Rattle.flagops_files.specs.Told.{NamesFirst, by_kind, file, word}
 use Rattle.flagops_shell.specs.Diagnostic.{Says}
 use Rattle.flagops_shell.specs.Files.{Holding}
 use Rattle.flagops_pictures.specs.Words.{Picturing, Planning}
 use Rattle.rollout_checks.specs.declared.verify_fault.VerifyFault.TheVariants as verdict
-
--- the files of a question over a book, in the order in which they are read
-abbrev pub question_attempts : Holding → List ℕ → List ℕ → List ℕ → Attempts
-question_attempts at document request book = map (within Load) (book_question_attempts at document request book)
 
 -- a plan is no answer to its request
 abbrev pub is_of_check : RolloutRefusal → Bool

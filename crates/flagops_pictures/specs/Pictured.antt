@@ -1,17 +1,16 @@
 -- What `picture` answers, and what a picture has to tell.
-use Rattle.std.specs.Prelude.{◌≡◌, ℕ, List, [], ◌∷◌, Bool, true, is_some, OnOk, Option, Result, Ok, Err, String, string_bytes}
+use Rattle.std.specs.Prelude.{◌≡◌, ℕ, List, [], ◌∷◌, Bool, true, is_some, Option, Result, Ok, Err, String, string_bytes}
 use Rattle.std.specs.Map.{keys_of}
 use Rattle.std.specs.declared.alloc.Global.{Global}
-use Rattle.book_core.specs.Counts.{counts_of}
 use Rattle.bucket_core.specs.Rule.{Entries, total_weight}
 use Rattle.flagops_rollouts.specs.Doubts.{doubt_of}
 use Rattle.flagops_shell.specs.Files.{Holding}
-use Rattle.flagops_rollouts.specs.Loaded.{plan_at, IsBookQuestionAt}
-use Rattle.flagops_files.specs.Question.{BookQuestion, Question}
+use Rattle.flagops_rollouts.specs.Loaded.{plan_at, IsQuestionAt}
+use Rattle.flagops_files.specs.Question.{Question}
 use Rattle.flagops_rollouts.specs.Refusal.{loads, Outcomes}
+use Rattle.flagops_rollouts.specs.Verify.{IsShownOn, IsToldOn}
 use Rattle.flagops_shell.specs.Outcomes.{beside, done}
 use Rattle.flagops_shell.specs.Report.{Report}
-use Rattle.flagops_files.specs.declared.evidence.Evidence.TheVariants.{Book}
 use Rattle.flagops_rollouts.specs.declared.refusal.RolloutCall.{RolloutCall}
 use Rattle.flagops_files.specs.Refusal as files
 use Rattle.flagops_files.specs.declared.refusal.Call.{Call}
@@ -23,68 +22,54 @@ use Rattle.picture.specs.Changes.{change_height, change_told}
 use Rattle.picture.specs.Deficits.{none_height, none_told}
 use Rattle.picture.specs.Spelling.{Adds, IsPicture}
 use Rattle.picture.specs.Told.{Item, down}
+use Rattle.picture.specs.declared.words.Title.TheVariants as title
 use Rattle.plan_text.specs.Answer.{Answer, emit, none_exists}
-use Rattle.rollout_checks.specs.Lawful.{Problem}
-use Rattle.rollout_checks.specs.Refined.{problem_checked}
-use Rattle.rollout_checks.specs.Verified.{IsOutcome, IsShown}
+use Rattle.rollout_checks.specs.Tallied.{TallyProblem}
 use Rattle.rollout_checks.specs.declared.fault.RolloutFault.{RolloutFault}
 use Rattle.rollout_checks.specs.declared.verify_fault.VerifyFault.{VerifyFault}
 use Rattle.switch_table.specs.Runs.{Run, AreRuns}
 use Rattle.switch_table.specs.Switches.{IsSwitchTable}
 use Rattle.switch_table.specs.declared.table.Switch.{Switch}
 use Rattle.transport_instance.specs.Certificate.{DualPrices}
+use Rattle.flagops_pictures.specs.Asked.{asked_over}
 use Rattle.flagops_pictures.specs.Words.{Picturing}
 
--- what is told of a rule that a problem is answered with: its runs and its switches are those of the recorded inputs
-pub record IsChangeTold (p : Problem) (rule : Entries) (duals : DualPrices) (high : ℕ) (items : List Item) : Type 0 where
+-- what is told of a rule that a problem is answered with: its runs and its switches are those of the inputs on each point
+pub record IsChangeTold (p : TallyProblem) (rule : Entries) (duals : DualPrices) (high : ℕ) (items : List Item) : Type 0 where
   pub runs : List Run
   pub table : ℕ × List Switch
-  pub in_runs : AreRuns p.old rule (counts_of p.inputs (total_weight p.old)) 0 runs (total_weight p.old)
-  pub switched : IsSwitchTable p.old rule (keys_of p.limits) (counts_of p.inputs (total_weight p.old)) table
+  pub in_runs : AreRuns p.old rule p.counts 0 runs (total_weight p.old)
+  pub switched : IsSwitchTable p.old rule (keys_of p.limits) p.counts table
   pub told : items ≡ change_told p.old rule p.limits p.pricing runs table duals
   pub as_high : high ≡ change_height p.limits p.pricing table
 
 -- what is told of what a problem is answered with, and how high its picture is
-abbrev pub IsAnswerTold : Result Problem RolloutFault → Answer → ℕ × List Item → Type 0
+abbrev pub IsAnswerTold : Result TallyProblem RolloutFault → Answer → ℕ × List Item → Type 0
 IsAnswerTold (Ok p) (emit rule duals) drawn = IsChangeTold p rule duals drawn.0 drawn.1
 IsAnswerTold (Ok p) (none_exists kind names) drawn = (drawn.0 ≡ none_height p.limits names) × (drawn.1 ≡ none_told p.old p.limits kind names)
 IsAnswerTold (Err f) answer drawn = ⊥
 
 -- its picture
-abbrev pub IsDrawn : Result Problem RolloutFault → Answer → List ℕ → Type 0
-IsDrawn asked answer bytes = (drawn : ℕ × List Item) × IsAnswerTold asked answer drawn × IsPicture (drawn ∷ []) bytes
+abbrev pub IsDrawn : Result TallyProblem RolloutFault → Answer → List ℕ → Type 0
+IsDrawn asked answer bytes = (drawn : ℕ × List Item) × IsAnswerTold asked answer drawn × IsPicture title.Rollout (drawn ∷ []) bytes
 
 -- its picture was added to others, so far below the top of the page, and ends so far below it
-abbrev pub AddsTold : Result Problem RolloutFault → Answer → ℕ → ℕ → List ℕ → List ℕ → Type 0
+abbrev pub AddsTold : Result TallyProblem RolloutFault → Answer → ℕ → ℕ → List ℕ → List ℕ → Type 0
 AddsTold asked answer y end before after = (drawn : ℕ × List Item) × IsAnswerTold asked answer drawn × Adds y drawn.1 before after × (end ≡ down y drawn.0)
 
-abbrev pub AddsChange : Problem → Entries → DualPrices → ℕ → ℕ → List ℕ → List ℕ → Type 0
+abbrev pub AddsChange : TallyProblem → Entries → DualPrices → ℕ → ℕ → List ℕ → List ℕ → Type 0
 AddsChange p rule duals y end before after = (drawn : ℕ × List Item) × IsChangeTold p rule duals drawn.0 drawn.1 × Adds y drawn.1 before after × (end ≡ down y drawn.0)
 
--- a rule is of this total
-abbrev pub HasWeight : Answer → ℕ → Type 0
-HasWeight (emit rule duals) n = total_weight rule ≡ n
-HasWeight (none_exists kind names) n = Unit {0}
+-- an answer to a question that is right, with what that shows of it, and its picture
+pub record IsDrawnRight (refine : Option ℕ) (q : Question) (answer : Answer) (bytes : List ℕ) : Type 0 where
+  pub right : IsToldOn refine answer q.flags q.request q.evidence (Ok tt)
+  pub shown : IsShownOn refine answer q.flags q.request q.evidence
+  pub drawn : IsDrawn (asked_over refine answer q) answer bytes
 
--- what is asked that an answer is checked against
-abbrev pub asked_over : Option ℕ → Answer → BookQuestion → Result Problem RolloutFault
-asked_over refine answer q = problem_checked refine answer q.flags q.request q.book
-
--- what may be told of an answer to a question: that it is right, or the first refusal; and where it is right, what it shows
-pub record MayBeTold (refine : Option ℕ) (q : BookQuestion) (answer : Answer) (verdict : Result (Unit {0}) VerifyFault) : Type 0 where
-  pub told : IsOutcome (asked_over refine answer q) answer verdict
-  pub shown : OnOk verdict (IsShown (asked_over refine answer q) answer)
-
--- an answer that is right, with what that shows of it, and its picture
-pub record IsDrawnRight (asked : Result Problem RolloutFault) (answer : Answer) (bytes : List ℕ) : Type 0 where
-  pub right : IsOutcome asked answer (Ok tt)
-  pub shown : IsShown asked answer
-  pub drawn : IsDrawn asked answer bytes
-
--- the picture of an answer that is right, or the refusal of the check
-abbrev pub IsDrawnOrDenied : Result Problem RolloutFault → Answer → Result (List ℕ) VerifyFault → Type 0
-IsDrawnOrDenied asked answer (Ok bytes) = IsDrawnRight asked answer bytes
-IsDrawnOrDenied asked answer (Err e) = IsOutcome asked answer (Err e)
+-- the picture of an answer that is right, or the refusal of the request or of the check
+abbrev pub IsDrawnOrDenied : Option ℕ → Question → Answer → Result (List ℕ) VerifyFault → Type 0
+IsDrawnOrDenied refine q answer (Ok bytes) = IsDrawnRight refine q answer bytes
+IsDrawnOrDenied refine q answer (Err e) = IsToldOn refine answer q.flags q.request q.evidence (Err e)
 
 -- a picture without where its text lies in memory
 abbrev pub text_view : Result (String Global) VerifyFault → Result (List ℕ) VerifyFault
@@ -96,25 +81,19 @@ abbrev pub drawn_report : Result (List ℕ) VerifyFault → Result Report Rollou
 drawn_report (Ok bytes) = done bytes
 drawn_report (Err e) = Err (Verify e)
 
--- a question over a book, as `plan` asks it
-abbrev pub as_question : BookQuestion → Question
-as_question q = record { flags = q.flags; request = q.request; evidence = Book q.book }
-
 -- the report of an answer to a question: its picture, where it is right, beside which a person is told of a doubt
-abbrev pub IsPictured : Option ℕ → Result BookQuestion RolloutRefusal → Result Answer RolloutRefusal → Outcomes
+abbrev pub IsPictured : Option ℕ → Result Question RolloutRefusal → Result Answer RolloutRefusal → Outcomes
 IsPictured refine (Err e) answer r = r ≡ Err e
 IsPictured refine (Ok q) (Err e) r = r ≡ Err e
-IsPictured refine (Ok q) (Ok answer) r =
-    (bytes : Result (List ℕ) VerifyFault) × IsDrawnOrDenied (asked_over refine answer q) answer bytes × (r ≡ beside (is_some (doubt_of (as_question q))) (drawn_report bytes))
+IsPictured refine (Ok q) (Ok answer) r = (bytes : Result (List ℕ) VerifyFault) × IsDrawnOrDenied refine q answer bytes × (r ≡ beside (is_some (doubt_of q)) (drawn_report bytes))
 
 unfoldable pub IsPictureReport : Holding → Picturing → Outcomes
-IsPictureReport at a r =
-    (question : Result BookQuestion RolloutRefusal) × IsBookQuestionAt at a.document a.request a.book question × IsPictured a.refine question (plan_at at a.plan) r
+IsPictureReport at a r = (question : Result Question RolloutRefusal) × IsQuestionAt at a.document a.request a.book question × IsPictured a.refine question (plan_at at a.plan) r
 
--- the calls that loading a question over a book and a plan file makes
+-- the calls that loading a question and a plan file makes
 abbrev pub loads_pictured : Call → Bool
 loads_pictured file.ReadPlanned = true
-loads_pictured c = files.loads_book_question c
+loads_pictured c = files.loads_question c
 
 -- the calls that the command makes
 abbrev pub picture_calls : RolloutCall → Bool

@@ -1,39 +1,27 @@
 -- What `plan --picture` answers, and the file that it writes.
 use Rattle.std.specs.Prelude.{◌≡◌, ◌⊎◌, ℕ, Bool, true, IsOkAnd, List, unwrap_or, Option, Some, Result, Ok, Err}
-use Rattle.flag_defs.specs.Document.{Definitions}
 use Rattle.plan_text.specs.Answer.{Answer}
 use Rattle.plan_text.specs.PlanFile.{answer_of}
-use Rattle.rollout_checks.specs.Refined.{problem_refined}
 use Rattle.flagops_rollouts.specs.Plan.{IsPlanOf}
 use Rattle.flagops_shell.specs.Files.{Holding, KeepsOthers, Stores}
-use Rattle.flagops_files.specs.Question.{BookQuestion, Question}
-use Rattle.flagops_rollouts.specs.Loaded.{IsBookQuestionAt}
+use Rattle.flagops_files.specs.Question.{Question}
+use Rattle.flagops_rollouts.specs.Loaded.{IsQuestionAt}
 use Rattle.flagops_rollouts.specs.Refusal.{loads, unwritable, Outcomes}
 use Rattle.flagops_shell.specs.Report.{Report, status_number}
 use Rattle.flagops_shell.specs.declared.outcome.Outcome.{Outcome}
-use Rattle.flagops_files.specs.declared.evidence.Evidence.{Evidence}
-use Rattle.flagops_files.specs.declared.evidence.Evidence.TheVariants.{Book, Tally}
 use Rattle.flagops_rollouts.specs.declared.refusal.RolloutCall.{RolloutCall}
 use Rattle.flagops_files.specs.Refusal as files
 use Rattle.flagops_files.specs.declared.refusal.Call.{Call}
 use Rattle.flagops_files.specs.declared.refusal.Call.TheVariants as file
 use Rattle.flagops_rollouts.specs.declared.refusal.RolloutCall.TheVariants as call
 use Rattle.flagops_rollouts.specs.declared.refusal.RolloutRefusal.{RolloutRefusal}
-use Rattle.flagops_pictures.specs.Pictured.{IsDrawn, as_question}
+use Rattle.flagops_pictures.specs.Asked.{asked_over}
+use Rattle.flagops_pictures.specs.Pictured.{IsDrawn}
 use Rattle.flagops_pictures.specs.Words.{Planning}
-
-abbrev pub IsOfBook : Evidence → Type 0
-IsOfBook (Book book) = Unit {0}
-IsOfBook (Tally tally) = ⊥
-
--- the picture of an answer over what was recorded in a book
-abbrev pub IsDrawnOn : ℕ → Definitions → List ℕ → Evidence → Answer → List ℕ → Type 0
-IsDrawnOn m flags request (Book book) answer bytes = IsDrawn (problem_refined m flags request book) answer bytes
-IsDrawnOn m flags request (Tally tally) answer bytes = ⊥
 
 -- the text is a plan whose picture this is
 abbrev pub IsPictureOf : Option ℕ → Question → List ℕ → List ℕ → Type 0
-IsPictureOf refine q text bytes = (answer : Answer) × (answer_of text ≡ Ok answer) × IsDrawnOn (unwrap_or refine 1) q.flags q.request q.evidence answer bytes
+IsPictureOf refine q text bytes = (answer : Answer) × (answer_of text ≡ Ok answer) × IsDrawn (asked_over (Some (unwrap_or refine 1)) answer q) answer bytes
 
 -- the file at the path has the picture of the plan that is reported, and every other file is as it was
 abbrev pub HasPicture : Holding → Option Holding → List ℕ → Option ℕ → Question → Report → Type 0
@@ -44,21 +32,21 @@ abbrev pub IsPlanWith : Holding → Option Holding → Planning → Question →
 IsPlanWith at after p q (Ok report) = IsPlanOf p.strict p.explain p.refine (Ok q) (Ok report) × HasPicture at after p.picture p.refine q report
 IsPlanWith at after p q (Err e) = (IsPlanOf p.strict p.explain p.refine (Ok q) (Err e) ⊎ (e ≡ unwritable)) × (after ≡ Some at)
 
-abbrev pub IsPlanPictured : Holding → Option Holding → Planning → Result BookQuestion RolloutRefusal → Outcomes
+abbrev pub IsPlanPictured : Holding → Option Holding → Planning → Result Question RolloutRefusal → Outcomes
 IsPlanPictured at after p (Err e) r = (r ≡ Err e) × (after ≡ Some at)
-IsPlanPictured at after p (Ok q) r = IsPlanWith at after p (as_question q) r
+IsPlanPictured at after p (Ok q) r = IsPlanWith at after p q r
 
 unfoldable pub IsPlanPicture : Holding → Option Holding → Planning → Outcomes
-IsPlanPicture at after p r = (question : Result BookQuestion RolloutRefusal) × IsBookQuestionAt at p.document p.request p.book question × IsPlanPictured at after p question r
+IsPlanPicture at after p r = (question : Result Question RolloutRefusal) × IsQuestionAt at p.document p.request p.book question × IsPlanPictured at after p question r
 
 -- the files stay as they are, or a plan was printed, which has a rule or shows that none fits
 abbrev pub KeepsUnlessPlanned : {E : Type 0} → Option Holding → Option Holding → Result Outcome E → Type 0
 KeepsUnlessPlanned old new r = (new ≡ old) ⊎ IsOkAnd r (λ o. (status_number o.status ≡ 0) ⊎ (status_number o.status ≡ 3))
 
--- the calls that loading a question over a book and writing a file makes
+-- the calls that loading a question and writing a file makes
 abbrev pub loads_and_stores : Call → Bool
 loads_and_stores file.Store = true
-loads_and_stores c = files.loads_book_question c
+loads_and_stores c = files.loads_question c
 
 -- the calls that the command makes
 abbrev pub plan_calls : RolloutCall → Bool

@@ -7,11 +7,11 @@ ghost use Rattle.flagops_rollouts.specs.Subjects.{NamesVerified};
 ghost use Rattle.flagops_rollouts.specs.Refusal.{ComesFrom, GivesOne, GivesUnlessWant, is_file_fault, is_want, TellsOfOne};
 ghost use Rattle.flagops_shell.specs.Outcomes.{beside};
 ghost use Rattle.flagops_shell.specs.Diagnostic.{Says};
-ghost use Rattle.flagops_files.specs.Question.{book_question_view};
+ghost use Rattle.flagops_files.specs.Question.{question_view};
 ghost use Rattle.flagops_shell.specs.Report.{outcome_view};
 ghost use Rattle.flagops_pictures.specs.Commands.{picture_description};
 ghost use Rattle.flagops_pictures.specs.Diagnostics.{checked_subjects, picture_attempts};
-ghost use Rattle.flagops_pictures.specs.Pictured.{IsPictureReport, IsPictured, as_question, drawn_report, picture_calls};
+ghost use Rattle.flagops_pictures.specs.Pictured.{IsPictureReport, IsPictured, drawn_report, picture_calls};
 ghost use Rattle.flagops_pictures.specs.Words as words;
 ghost use Rattle.flagops_pictures.specs.Words.{picturing_view};
 ghost use Rattle.plan_text.specs.Answer.{planned_view};
@@ -22,13 +22,13 @@ use crate::doubts::noted;
 use crate::loading::load_question;
 use crate::words::read_picture;
 use clap::Error;
-use flagops_files::BookQuestion;
+use flagops_files::{Evidence, Question};
 use flagops_rollouts::{Refused, RolloutCall, RolloutRefusal, load_planned, out_of_memory};
 use flagops_shell::{Command, FileSet, Outcome, Remark, Status};
 use flagops_words::factor_of;
 use plan_text::Planned;
-use rollout_checks::VerifyFault;
-use rollout_diagnostics::{of_check, of_rollout};
+use rollout_checks::{RolloutFault, VerifyFault};
+use rollout_diagnostics::{of_check, of_other_tally, of_rollout};
 use std::alloc::{AllocError, Global};
 use std::convert::AsStr;
 use std::thread::Threads;
@@ -93,10 +93,10 @@ fn pictured(
     rt: &(impl Threads + Sync),
     alloc: Global,
     asked: &Picturing<'_>,
-    question: &BookQuestion,
+    question: &Question,
     planned: &Planned,
 ) -> Result<Outcome, Refused>
-    ensures exact { GivesOne outcome_view result (IsPictured (option_map (λ m. m.number) asked.now.refine) (Ok (book_question_view question.now)) (Ok (planned_view planned.now))) }
+    ensures exact { GivesOne outcome_view result (IsPictured (option_map (λ m. m.number) asked.now.refine) (Ok (question_view question.now)) (Ok (planned_view planned.now))) }
     ensures calls { ComesFrom picture_calls result }
     ensures read { is_file_fault result ≡ false }
     ensures names { TellsOfOne (checked_subjects asked.now.request.now asked.now.plan.now) result }
@@ -119,10 +119,10 @@ fn told(
     rt: &(impl Threads + Sync),
     alloc: Global,
     asked: &Picturing<'_>,
-    question: &BookQuestion,
+    question: &Question,
     text: String,
 ) -> Result<Outcome, Refused>
-    ensures exact { GivesUnlessWant outcome_view result (beside (is_some (doubt_of (as_question (book_question_view question.now)))) (drawn_report (Ok (string_bytes text)))) }
+    ensures exact { GivesUnlessWant outcome_view result (beside (is_some (doubt_of (question_view question.now))) (drawn_report (Ok (string_bytes text)))) }
     ensures calls { ComesFrom picture_calls result }
     ensures read { is_file_fault result ≡ false }
     ensures wants { IfErr result (λ t. is_want t.refusal ≡ true) }
@@ -142,22 +142,42 @@ fn told(
 fn lines_on(
     alloc: Global,
     asked: &Picturing<'_>,
-    question: &BookQuestion,
+    question: &Question,
     planned: &Planned,
     fault: &VerifyFault,
 ) -> Result<String, AllocError>
     ensures { IfOk result (λ s. NamesVerified asked.now.request.now asked.now.plan.now fault.now (string_bytes s)) }
 {
-    let (flags, request) = (&question.flags, &question.request);
     match fault {
-        VerifyFault::Request(fault) => of_rollout(
+        VerifyFault::Request(fault) => lines_on_request(alloc, asked, question, *fault),
+        VerifyFault::Check(fault) => {
+            let (flags, request) = (&question.flags, &question.request);
+            of_check(alloc, asked.plan, flags, request, planned, fault)
+        }
+    }
+}
+
+/// What a person is told of a request that is refused.
+fn lines_on_request(
+    alloc: Global,
+    asked: &Picturing<'_>,
+    question: &Question,
+    fault: RolloutFault,
+) -> Result<String, AllocError>
+    ensures { IfOk result (λ s. NamesVerified asked.now.request.now asked.now.plan.now (VerifyFault.Request fault) (string_bytes s)) }
+{
+    let (flags, request) = (&question.flags, &question.request);
+    match &question.evidence {
+        Evidence::Tally(tally) if fault == RolloutFault::OtherTally => {
+            of_other_tally(alloc, asked.request, flags, request, asked.book, tally)
+        }
+        _ => of_rollout(
             alloc,
             asked.request,
             flags,
             request,
             factor_of(asked.refine),
-            *fault,
+            fault,
         ),
-        VerifyFault::Check(fault) => of_check(alloc, asked.plan, flags, request, planned, fault),
     }
 }

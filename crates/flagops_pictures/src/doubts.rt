@@ -2,13 +2,12 @@
 ghost use Rattle.std.specs.Prelude.{◌≡◌, is_some, IfOk, IfSome};
 ghost use Rattle.flagops_rollouts.specs.Doubts.{NamesDoubted, doubt_of};
 ghost use Rattle.flagops_shell.specs.Diagnostic.{Says};
-ghost use Rattle.flagops_files.specs.Question.{book_question_view};
-ghost use Rattle.flagops_pictures.specs.Pictured.{as_question};
+ghost use Rattle.flagops_files.specs.Question.{question_view};
 
 use crate::asked::Picturing;
-use flagops_files::BookQuestion;
+use flagops_files::Question;
 use flagops_ramps::first_of;
-use flagops_rollouts::{doubt_in_book, remark_in, unread_in_file};
+use flagops_rollouts::{doubt_in_evidence, remark_in, unread_in_file};
 use flagops_shell::Remark;
 use std::alloc::{AllocError, Global};
 use std::thread::Threads;
@@ -19,14 +18,14 @@ pub(crate) fn noted<R: Threads>(
     rt: &R,
     alloc: Global,
     asked: &Picturing<'_>,
-    question: &BookQuestion,
+    question: &Question,
 ) -> Result<Option<Remark>, AllocError>
-    ensures told { IfOk result (λ r. is_some r ≡ is_some (doubt_of (as_question (book_question_view question.now)))) }
+    ensures told { IfOk result (λ r. is_some r ≡ is_some (doubt_of (question_view question.now))) }
     ensures notes { IfOk result (λ r. IfSome r (Says (NamesDoubted asked.now.request.now asked.now.book.now))) }
 {
     let unread = unread_in_file(alloc, asked.request, &question.request)?;
-    let (flags, book) = (&question.flags, &question.book);
+    let (flags, evidence) = (&question.flags, &question.evidence);
     let request = question.request.bytes();
-    let recorded = doubt_in_book(rt, alloc, asked.book, flags, request, book)?;
+    let recorded = doubt_in_evidence(rt, alloc, asked.book, flags, request, evidence)?;
     Ok(remark_in(first_of(unread, recorded)))
 }

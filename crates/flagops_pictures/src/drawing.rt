@@ -1,34 +1,38 @@
 //! The pictures of answers that are right.
-ghost use Rattle.std.specs.Prelude.{◌≡◌, ◌<◌, ◌≤◌, length, sum, Ok, IfOk, IfSome, string_bytes};
-ghost use Rattle.book_core.specs.Book.{Inputs, most_inputs};
+ghost use Rattle.std.specs.Prelude.{◌≡◌, ◌<◌, Ok, IfOk, IfSome, string_bytes};
 ghost use Rattle.bucket_core.specs.Rule.{total_weight};
 ghost use Rattle.flag_defs.specs.Flags.{flags_view};
-ghost use Rattle.flagops_pictures.specs.Pictured.{AddsChange, AddsTold, HasWeight, IsDrawn};
+ghost use Rattle.flag_text.specs.Outcome.{GivesUnless};
+ghost use Rattle.flagops_pictures.specs.Asked.{asked_by, asked_on};
+ghost use Rattle.flagops_pictures.specs.Pictured.{AddsChange, AddsTold, IsDrawn};
+ghost use Rattle.flagops_ramps.specs.Ramp.{recorded};
 ghost use Rattle.plan_text.specs.Answer.{planned_view};
 ghost use Rattle.price_core.specs.Request.{asked_of};
-ghost use Rattle.rollout_checks.specs.Lawful.{IsCounted, IsPosed, IsRefining, problem_of, problem_view};
-ghost use Rattle.rollout_checks.specs.Refined.{problem_checked};
-ghost use Rattle.rollout_checks.specs.Verified.{IsShown};
+ghost use Rattle.ramp.specs.Right.{IsStepShown};
+ghost use Rattle.rollout_checks.specs.Lawful.{IsRefining};
+ghost use Rattle.rollout_checks.specs.Refined.{refining_checked};
+ghost use Rattle.rollout_checks.specs.Tallied.{tally_view};
 ghost use Rattle.transport_instance.specs.Certificate.{certificate_view};
+ghost use Rattle.transport_instance.specs.Tally.{IsTally};
 
 use bucket_core::Rule;
 use flag_defs::Flags;
-use page_tally::BookFile;
-use picture::{Change, Deficit, draw_change, draw_none, page};
+use flagops_files::Evidence;
+use picture::{Change, Deficit, Title, draw_change, draw_none, page};
 use plan_text::Planned;
 use price_core::{PriceFault, Request};
-use rollout_checks::{Problem, Refining, RolloutFault, problem_asked};
+use rollout_checks::{Problem, Refining, RolloutFault, problem_asked, tally_problem_asked};
 use std::alloc::{AllocError, Global};
 use std::thread::Threads;
 use switch_table::{runs, switch_table};
 use transport_instance::Certificate;
 
-/// What an answer is to: a request over flags and recorded inputs, on the site's rule refined by the factor where one is given.
+/// What an answer is to: a request over flags and what was recorded, on the site's rule refined by the factor where one is given.
 #[derive(Clone, Copy)]
 pub(crate) struct Asked<'a> {
     pub flags: &'a Flags,
     pub request: &'a [u8],
-    pub book: &'a BookFile,
+    pub evidence: &'a Evidence,
     pub refine: Option<u32>,
 }
 
@@ -40,12 +44,12 @@ pub(crate) fn drawn(
     planned: &Planned,
 ) -> Result<String, AllocError>
     requires factor { IfSome asked.refine (λ m. 0 < m) }
-    requires shown { IsShown (problem_checked asked.refine (planned_view planned.now) (flags_view asked.flags.now) asked.request.now asked.book.now) (planned_view planned.now) }
-    ensures { IfOk result (λ s. IsDrawn (problem_checked asked.entry.refine (planned_view planned.now) (flags_view asked.entry.flags.now) asked.entry.request.now asked.entry.book.now) (planned_view planned.now) (string_bytes s)) }
+    requires shown { IsStepShown (Ok (flags_view asked.flags.now)) asked.refine asked.request.now (recorded asked.evidence.now) (planned_view planned.now) }
+    ensures { IfOk result (λ s. IsDrawn (asked_on (refining_checked asked.entry.refine (planned_view planned.now)) (flags_view asked.entry.flags.now) asked.entry.request.now (recorded asked.entry.evidence.now)) (planned_view planned.now) (string_bytes s)) }
 {
     let mut pictures = String::new(alloc);
     let height = add_picture(rt, alloc, &mut pictures, 0, asked, planned)?;
-    let text = page(alloc, height, pictures.as_str())?;
+    let text = page(alloc, Title::Rollout, height, pictures.as_str())?;
     Ok(text)
 }
 
@@ -60,8 +64,8 @@ pub(crate) fn add_picture(
     planned: &Planned,
 ) -> Result<u64, AllocError>
     requires factor { IfSome asked.refine (λ m. 0 < m) }
-    requires shown { IsShown (problem_checked asked.refine (planned_view planned.now) (flags_view asked.flags.now) asked.request.now asked.book.now) (planned_view planned.now) }
-    ensures { IfOk result (λ end. AddsTold (problem_checked asked.entry.refine (planned_view planned.now) (flags_view asked.entry.flags.now) asked.entry.request.now asked.entry.book.now) (planned_view planned.now) y end (string_bytes pictures.old) (string_bytes pictures.new)) }
+    requires shown { IsStepShown (Ok (flags_view asked.flags.now)) asked.refine asked.request.now (recorded asked.evidence.now) (planned_view planned.now) }
+    ensures { IfOk result (λ end. AddsTold (asked_on (refining_checked asked.entry.refine (planned_view planned.now)) (flags_view asked.entry.flags.now) asked.entry.request.now (recorded asked.entry.evidence.now)) (planned_view planned.now) y end (string_bytes pictures.old) (string_bytes pictures.new)) }
 {
     match Request::read(alloc, asked.request) {
         Ok(request) => add_asked(rt, alloc, pictures, y, asked, &request, planned),
@@ -83,8 +87,8 @@ fn add_asked(
 ) -> Result<u64, AllocError>
     requires factor { IfSome asked.refine (λ m. 0 < m) }
     requires request { asked_of asked.request.now ≡ Ok request.now }
-    requires shown { IsShown (problem_checked asked.refine (planned_view planned.now) (flags_view asked.flags.now) asked.request.now asked.book.now) (planned_view planned.now) }
-    ensures { IfOk result (λ end. AddsTold (problem_checked asked.entry.refine (planned_view planned.now) (flags_view asked.entry.flags.now) asked.entry.request.now asked.entry.book.now) (planned_view planned.now) y end (string_bytes pictures.old) (string_bytes pictures.new)) }
+    requires shown { IsStepShown (Ok (flags_view asked.flags.now)) asked.refine asked.request.now (recorded asked.evidence.now) (planned_view planned.now) }
+    ensures { IfOk result (λ end. AddsTold (asked_on (refining_checked asked.entry.refine (planned_view planned.now)) (flags_view asked.entry.flags.now) asked.entry.request.now (recorded asked.entry.evidence.now)) (planned_view planned.now) y end (string_bytes pictures.old) (string_bytes pictures.new)) }
 {
     let problem = posed(rt, alloc, asked, request, planned)?;
     let below = draw(alloc, pictures, y, &problem, planned)?;
@@ -101,11 +105,12 @@ fn posed<'a>(
 ) -> Result<Problem<'a>, AllocError>
     requires factor { IfSome asked.refine (λ m. 0 < m) }
     requires request { asked_of asked.request.now ≡ Ok request.now }
-    requires shown { IsShown (problem_checked asked.refine (planned_view planned.now) (flags_view asked.flags.now) asked.request.now asked.book.now) (planned_view planned.now) }
-    ensures { IfOk result (λ p. IsPosed p (problem_checked asked.entry.refine (planned_view planned.now) (flags_view asked.entry.flags.now) asked.entry.request.now asked.entry.book.now)) }
+    requires shown { IsStepShown (Ok (flags_view asked.flags.now)) asked.refine asked.request.now (recorded asked.evidence.now) (planned_view planned.now) }
+    ensures asked { IfOk result (λ p. asked_on (refining_checked asked.entry.refine (planned_view planned.now)) (flags_view asked.entry.flags.now) asked.entry.request.now (recorded asked.entry.evidence.now) ≡ Ok (tally_view p)) }
+    ensures tally { IfOk result (λ p. IsTally (total_weight p.old) p.counts.items) }
 {
     let refining = refining_for(planned, asked.refine);
-    match problem_asked(rt, alloc, refining, asked.flags, request, asked.book) {
+    match counted(rt, alloc, refining, asked.flags, request, asked.evidence) {
         Ok(problem) => Ok(problem),
         Err(RolloutFault::WantOfMemory) => Err(AllocError),
         // The request was found lawful before.
@@ -113,10 +118,30 @@ fn posed<'a>(
     }
 }
 
+/// What a request asks of what was recorded: how many inputs fall on each point of the rule that is planned on. The condition is
+/// a factor from 1.
+fn counted<'a>(
+    rt: &(impl Threads + Sync),
+    alloc: Global,
+    refining: Refining,
+    flags: &Flags,
+    request: &'a Request,
+    evidence: &Evidence,
+) -> Result<Problem<'a>, RolloutFault>
+    requires { IsRefining refining }
+    ensures exact { GivesUnless RolloutFault.WantOfMemory tally_view result (asked_by refining (flags_view flags.now) request.now (recorded evidence.now)) }
+    ensures tally { IfOk result (λ p. IsTally (total_weight p.old) p.counts.items) }
+{
+    match evidence {
+        Evidence::Book(book) => problem_asked(rt, alloc, refining, flags, request, book),
+        Evidence::Tally(tally) => tally_problem_asked(alloc, refining, flags, request, tally),
+    }
+}
+
 /// How the site's rule is refined that an answer is checked against.
 fn refining_for(planned: &Planned, refine: Option<u32>) -> Refining
     requires { IfSome refine (λ m. 0 < m) }
-    ensures value { problem_checked refine (planned_view planned.now) ≡ problem_of result }
+    ensures value { result ≡ refining_checked refine (planned_view planned.now) }
     ensures lawful { IsRefining result }
 {
     match refine {
@@ -136,10 +161,8 @@ fn draw(
     problem: &Problem<'_>,
     planned: &Planned,
 ) -> Result<u64, AllocError>
-    requires points { length problem.now.counts.items ≡ total_weight problem.now.old }
-    requires few { sum problem.now.counts.items ≤ most_inputs }
-    requires weight { HasWeight (planned_view planned.now) (total_weight problem.now.old) }
-    ensures { IfOk result (λ end. (inputs : Inputs) → IsCounted problem.now inputs → AddsTold (Ok (problem_view problem.now inputs)) (planned_view planned.now) y end (string_bytes pictures.old) (string_bytes pictures.new)) }
+    requires { IsTally (total_weight problem.now.old) problem.now.counts.items }
+    ensures { IfOk result (λ end. AddsTold (Ok (tally_view problem.now)) (planned_view planned.now) y end (string_bytes pictures.old) (string_bytes pictures.new)) }
 {
     match planned {
         Planned::Emit(rule, certificate) => {
@@ -167,10 +190,8 @@ fn draw_rule(
     rule: &Rule,
     certificate: &Certificate,
 ) -> Result<u64, AllocError>
-    requires points { length problem.now.counts.items ≡ total_weight problem.now.old }
-    requires few { sum problem.now.counts.items ≤ most_inputs }
-    requires weight { total_weight rule.now ≡ total_weight problem.now.old }
-    ensures { IfOk result (λ end. (inputs : Inputs) → IsCounted problem.now inputs → AddsChange (problem_view problem.now inputs) rule.now (certificate_view certificate.now) y end (string_bytes pictures.old) (string_bytes pictures.new)) }
+    requires { IsTally (total_weight problem.now.old) problem.now.counts.items }
+    ensures { IfOk result (λ end. AddsChange (tally_view problem.now) rule.now (certificate_view certificate.now) y end (string_bytes pictures.old) (string_bytes pictures.new)) }
 {
     let counts = problem.counts.as_slice();
     let runs = runs(alloc, &problem.old, rule, counts)?;

@@ -4,7 +4,8 @@
 //! [`Picturing`], [`PicturingRamp`] and [`Planning`] are commands with their words, which `flagops_shell::run` reads by `clap`, does
 //! and reports. `picture` loads what a rollout is asked over and the plan, checks it as `verify` does, and prints its picture as SVG;
 //! `picture --ramp` does so with the answers to steps, as `verify-ramp` does; `plan --picture` prints what `plan` prints, and
-//! replaces a file whole by the picture of it. What is doubted of an answer that is drawn is told beside its picture.
+//! replaces a file whole by the picture of it. What is doubted of an answer that is drawn is told beside its picture. What was
+//! recorded is a book or a tally of the request's page, as the file has it (`flagops_files::Evidence`).
 //!
 //! ```rust
 //! use flag_text::WriteOutlet;
@@ -21,7 +22,7 @@
 //! (`Pictured`, `Ramps`, `Planning`), unless memory ran out; a file that could not be read or written is what it is refused for; only
 //! `plan --picture` changes a file, the one that it is to write, and only where the plan is printed; and a person is told of a refusal by
 //! the file or the word that was refused, of `picture` and `plan --picture` by the first that was (`Diagnostics`). `flagops_shell` has
-//! what is then written.
+//! what is then written. A picture on a tally is one on the book whose inputs it counts ([`tallies_draw_as_books`]).
 #![tactic(auto)]
 
 mod asked;
@@ -29,6 +30,7 @@ mod checking;
 mod command;
 mod doubts;
 mod drawing;
+mod laws;
 mod loading;
 mod planning;
 mod ramps;
@@ -36,3 +38,4 @@ mod usage;
 mod words;
 
 pub use asked::{Picturing, PicturingRamp, Planning};
+pub use laws::tallies_draw_as_books;

@@ -6,13 +6,12 @@ ghost use Rattle.flagops_rollouts.specs.Attempts.{TellsOfFirst};
 ghost use Rattle.flagops_rollouts.specs.Doubts.{NamesDoubted};
 ghost use Rattle.flagops_shell.specs.Diagnostic.{Says};
 ghost use Rattle.flagops_shell.specs.Files.{KeepsOthers};
-ghost use Rattle.flagops_files.specs.Question.{book_question_view, question_view};
+ghost use Rattle.flagops_files.specs.Question.{question_view};
 ghost use Rattle.flagops_rollouts.specs.Refusal.{ComesFrom, GivesOne, is_file_fault, TellsOfOne};
 ghost use Rattle.flagops_shell.specs.Report.{outcome_view};
 ghost use Rattle.flagops_pictures.specs.Commands.{plan_description};
 ghost use Rattle.flagops_pictures.specs.Diagnostics.{drawn_subjects, plan_attempts};
-ghost use Rattle.flagops_pictures.specs.Pictured.{as_question};
-ghost use Rattle.flagops_pictures.specs.Planning.{IsOfBook, IsPictureOf, IsPlanPicture, IsPlanWith, KeepsUnlessPlanned, plan_calls};
+ghost use Rattle.flagops_pictures.specs.Planning.{IsPictureOf, IsPlanPicture, IsPlanWith, KeepsUnlessPlanned, plan_calls};
 ghost use Rattle.flagops_pictures.specs.Words as words;
 ghost use Rattle.flagops_pictures.specs.Words.{planning_view};
 
@@ -21,11 +20,10 @@ use crate::drawing::{Asked, drawn};
 use crate::loading::load_question;
 use crate::words::read_plan;
 use clap::Error;
-use flagops_files::{BookQuestion, Evidence, Question};
+use flagops_files::Question;
 use flagops_rollouts::{Refused, RolloutCall, RolloutRefusal, out_of_memory, plan_answer, store};
 use flagops_shell::{Command, FileSet, Outcome};
 use flagops_words::factor_of;
-use page_tally::BookFile;
 use plan_text::{PlanFileFault, read_planned};
 use std::alloc::{AllocError, Global};
 use std::convert::AsStr;
@@ -82,26 +80,7 @@ fn outcome<R: Threads + Sync, F: FileSet>(
         asked.book,
         factor,
     )?;
-    planned(rt, alloc, files, asked, &as_question(question))
-}
-
-/// A question over a book, as `plan` asks it.
-fn as_question(question: BookQuestion) -> Question
-    ensures view { question_view result ≡ as_question (book_question_view question) }
-    ensures book { IsOfBook result.evidence }
-{
-    let BookQuestion {
-        document,
-        flags,
-        request,
-        book,
-    } = question;
-    Question {
-        document,
-        flags,
-        request,
-        evidence: Evidence::Book(book),
-    }
+    planned(rt, alloc, files, asked, &question)
 }
 
 /// The plan of a question, whose picture was written.
@@ -112,7 +91,6 @@ fn planned<R: Threads + Sync, F: FileSet>(
     asked: &Planning<'_>,
     question: &Question,
 ) -> Result<Outcome, Refused>
-    requires { IsOfBook question.now.evidence }
     ensures exact { IfSome (F.holding files.old) (λ at. GivesOne outcome_view result (IsPlanWith at (F.holding files.new) (planning_view asked.now) (question_view question.now))) }
     ensures calls { ComesFrom plan_calls result }
     ensures failed { F.has_failed files.new ≡ (F.has_failed files.old || is_file_fault result) }
@@ -144,8 +122,7 @@ fn picture_of<R: Threads + Sync>(
     question: &Question,
     outcome: &Outcome,
 ) -> Result<String, Refused>
-    requires book { IsOfBook question.now.evidence }
-    requires plan { IsPlanOf asked.now.strict asked.now.explain (option_map (λ m. m.number) asked.now.refine) (Ok (question_view question.now)) (Ok (outcome_view outcome.now)) }
+    requires { IsPlanOf asked.now.strict asked.now.explain (option_map (λ m. m.number) asked.now.refine) (Ok (question_view question.now)) (Ok (outcome_view outcome.now)) }
     ensures exact { IfOk result (λ s. IsPictureOf (option_map (λ m. m.number) asked.now.refine) (question_view question.now) outcome.now.text.items (string_bytes s)) }
     ensures wants { IfErr result (λ e. e.refusal ≡ RolloutRefusal.WantOfMemory RolloutCall.Plan) }
 {
@@ -162,27 +139,7 @@ fn picture_drawn<R: Threads + Sync>(
     question: &Question,
     outcome: &Outcome,
 ) -> Result<String, AllocError>
-    requires book { IsOfBook question.now.evidence }
-    requires plan { IsPlanOf asked.now.strict asked.now.explain (option_map (λ m. m.number) asked.now.refine) (Ok (question_view question.now)) (Ok (outcome_view outcome.now)) }
-    ensures { IfOk result (λ s. IsPictureOf (option_map (λ m. m.number) asked.now.refine) (question_view question.now) outcome.now.text.items (string_bytes s)) }
-{
-    match &question.evidence {
-        Evidence::Book(book) => on_book(rt, alloc, asked, question, book, outcome),
-        Evidence::Tally(_) => unreachable!(),
-    }
-}
-
-/// The same, over this book.
-fn on_book<R: Threads + Sync>(
-    rt: &R,
-    alloc: Global,
-    asked: &Planning<'_>,
-    question: &Question,
-    book: &BookFile,
-    outcome: &Outcome,
-) -> Result<String, AllocError>
-    requires book { question.now.evidence ≡ Evidence.Book book.now }
-    requires plan { IsPlanOf asked.now.strict asked.now.explain (option_map (λ m. m.number) asked.now.refine) (Ok (question_view question.now)) (Ok (outcome_view outcome.now)) }
+    requires { IsPlanOf asked.now.strict asked.now.explain (option_map (λ m. m.number) asked.now.refine) (Ok (question_view question.now)) (Ok (outcome_view outcome.now)) }
     ensures { IfOk result (λ s. IsPictureOf (option_map (λ m. m.number) asked.now.refine) (question_view question.now) outcome.now.text.items (string_bytes s)) }
 {
     let planned = match read_planned(alloc, outcome.text.as_slice()) {
@@ -194,7 +151,7 @@ fn on_book<R: Threads + Sync>(
     let asked = Asked {
         flags: &question.flags,
         request: question.request.bytes(),
-        book,
+        evidence: &question.evidence,
         refine: Some(factor_of(asked.refine)),
     };
     let text = drawn(rt, alloc, asked, &planned)?;

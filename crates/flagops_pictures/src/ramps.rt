@@ -4,18 +4,18 @@ ghost use Rattle.std.specs.Prelude.{◌≡◌, ◌≤◌, ◌<◌, ◌+◌, ◌|
 ghost use Rattle.flag_defs.specs.Flags.{flags_view};
 ghost use Rattle.flagops_shell.specs.Report.{outcome_view};
 ghost use Rattle.flagops_pictures.specs.Commands.{ramp_description};
-ghost use Rattle.flagops_pictures.specs.Ramps.{AreTold, Continues, IsRampDrawn, IsRampPicture, IsRampPictureOf};
-ghost use Rattle.flagops_ramps.specs.Attempts.{IsOfFirst, verify_files_on_book};
-ghost use Rattle.flagops_ramps.specs.Judging.{AreRightAnswers, IsOfBook, answered_view};
+ghost use Rattle.flagops_pictures.specs.Ramps.{AreTold, IsRampDrawn, IsRampPicture, IsRampPictureOf};
+ghost use Rattle.flagops_ramps.specs.Attempts.{IsOfFirst, verify_files};
+ghost use Rattle.flagops_ramps.specs.Judging.{AreRightAnswers, answered_view};
+ghost use Rattle.flagops_ramps.specs.Ramp.{recorded};
 ghost use Rattle.flagops_ramps.specs.Report.{GivesOne, is_file_fault};
 ghost use Rattle.flagops_ramps.specs.Diagnostics.{Diagnoses, IsOfVerify};
 ghost use Rattle.flagops_ramps.specs.Words as words;
 ghost use Rattle.flagops_rollouts.specs.Doubts.{NamesDoubted};
 ghost use Rattle.flagops_shell.specs.Diagnostic.{Says};
 ghost use Rattle.flagops_ramps.specs.Words.{verifying_view};
-ghost use Rattle.picture.specs.Spelling.{Pictures};
+ghost use Rattle.picture.specs.Spelling.{Continues, Pictures};
 ghost use Rattle.plan_text.specs.Answer.{planned_view};
-ghost use Rattle.ramp.specs.Ramp.{in_book};
 ghost use Rattle.ramp.specs.Right.{AreRight};
 ghost use Rattle.ramp_steps.specs.Steps.{most_steps, requests_view};
 
@@ -25,14 +25,11 @@ use crate::words::read_ramp;
 use clap::Error;
 use flag_defs::Flags;
 use flagops_files::Evidence;
-use flagops_ramps::{
-    RampRefusal, RightAnswers, Verifying, doubted, load_answers_on_book, out_of_memory,
-};
+use flagops_ramps::{RampRefusal, RightAnswers, Verifying, doubted, load_answers, out_of_memory};
 use flagops_rollouts::remark_in;
 use flagops_shell::{Command, FileSet, Outcome, Refused, Status};
 use flagops_words::factor_number;
-use page_tally::BookFile;
-use picture::{draw_step, page};
+use picture::{Title, draw_step, page};
 use plan_text::Planned;
 use ramp::left_by;
 use rollout_checks::RolloutFault;
@@ -56,7 +53,7 @@ impl<'w, R: Threads + Sync, F: FileSet> Command<'w, R, F> for PicturingRamp<'w> 
         Ok(PicturingRamp { answers })
     }
 
-    #[tactic(auto, using(flagops_ramps::proofs::Diagnosed::verify_remarks_on_book, flagops_ramps::proofs::Diagnosed::wants, flagops_ramps::proofs::Diagnosed::all_kept))]
+    #[tactic(auto, using(flagops_ramps::proofs::Diagnosed::verify_remarks, flagops_ramps::proofs::Diagnosed::wants, flagops_ramps::proofs::Diagnosed::all_kept))]
     fn answer(
         &self,
         rt: &R,
@@ -80,11 +77,11 @@ fn pictured<R: Threads + Sync, F: FileSet>(
 ) -> Result<Outcome, Refused<RampRefusal>>
     ensures exact { IfSome (F.holding files.old) (λ at. GivesOne outcome_view result (IsRampPicture at (verifying_view asked.now))) }
     ensures failed { F.has_failed files.new ≡ (F.has_failed files.old || is_file_fault result) }
-    ensures names { IfSome (F.holding files.old) (λ at. Diagnoses (IsOfFirst (verify_files_on_book at (verifying_view asked.now)) (IsOfVerify (verifying_view asked.now))) result) }
+    ensures names { IfSome (F.holding files.old) (λ at. Diagnoses (IsOfFirst (verify_files at (verifying_view asked.now)) (IsOfVerify (verifying_view asked.now))) result) }
     ensures notes { IfOk result (λ o. IfSome o.remark (Says (NamesDoubted asked.now.rollout.steps.now asked.now.rollout.book.now))) }
     ensures kept { F.holding files.new ≡ F.holding files.old }
 {
-    match load_answers_on_book(rt, alloc, files, asked) {
+    match load_answers(rt, alloc, files, asked) {
         Ok(right) => match drawn(rt, alloc, asked, &right) {
             Ok(outcome) => Ok(outcome),
             Err(AllocError) => Err(out_of_memory()),
@@ -102,7 +99,6 @@ fn drawn<R: Threads + Sync>(
     right: &RightAnswers,
 ) -> Result<Outcome, AllocError>
     requires right { AreRightAnswers (option_map (λ m. m.number) asked.now.rollout.refine) right.now }
-    requires book { IsOfBook right.now.question.evidence }
     ensures drawn { IfOk result (λ o. IsRampPictureOf (option_map (λ m. m.number) asked.now.rollout.refine) (Ok (answered_view right.now)) (Ok (outcome_view o))) }
     ensures notes { IfOk result (λ o. IfSome o.remark (Says (NamesDoubted asked.now.rollout.steps.now asked.now.rollout.book.now))) }
 {
@@ -125,26 +121,6 @@ fn sheet<R: Threads + Sync>(
 ) -> Result<String, AllocError>
     requires factor { IfSome refine (λ m. 0 < m) }
     requires right { AreRightAnswers refine right.now }
-    requires book { IsOfBook right.now.question.evidence }
-    ensures { IfOk result (λ s. IsRampDrawn refine (answered_view right.now) (string_bytes s)) }
-{
-    match &right.question.evidence {
-        Evidence::Book(book) => on_book(rt, alloc, refine, right, book),
-        Evidence::Tally(_) => unreachable!(),
-    }
-}
-
-/// The same, over this book.
-fn on_book<R: Threads + Sync>(
-    rt: &R,
-    alloc: Global,
-    refine: Option<u32>,
-    right: &RightAnswers,
-    book: &BookFile,
-) -> Result<String, AllocError>
-    requires factor { IfSome refine (λ m. 0 < m) }
-    requires right { AreRightAnswers refine right.now }
-    requires book { right.now.question.evidence ≡ Evidence.Book book.now }
     ensures { IfOk result (λ s. IsRampDrawn refine (answered_view right.now) (string_bytes s)) }
 {
     let mut pictures = String::new(alloc);
@@ -154,12 +130,12 @@ fn on_book<R: Threads + Sync>(
         &mut pictures,
         Place { number: 1, y: 0 },
         &right.question.flags,
-        book,
+        &right.question.evidence,
         refine,
         right.steps.as_slice(),
         right.answers.as_slice(),
     )?;
-    let text = page(alloc, height, pictures.as_str())?;
+    let text = page(alloc, Title::Rollout, height, pictures.as_str())?;
     Ok(text)
 }
 
@@ -177,15 +153,15 @@ fn add_steps<R: Threads + Sync>(
     pictures: &mut String,
     place: Place,
     flags: &Flags,
-    book: &BookFile,
+    evidence: &Evidence,
     refine: Option<u32>,
     steps: &[Vec<u8>],
     answers: &[Planned],
 ) -> Result<u64, AllocError>
     requires factor { IfSome refine (λ m. 0 < m) }
     requires few { place.number + length steps.now ≤ most_steps + 1 }
-    requires right { AreRight (Ok (flags_view flags.now)) refine (requests_view steps.now) (in_book book.now) (map planned_view answers.now) }
-    ensures { IfOk result (λ end. (ps : Pictures) × AreTold (Ok (flags_view flags.now)) refine (requests_view steps.now) book.now place.number (map planned_view answers.now) ps × Continues ps place.y end (string_bytes pictures.old) (string_bytes pictures.new)) }
+    requires right { AreRight (Ok (flags_view flags.now)) refine (requests_view steps.now) (recorded evidence.now) (map planned_view answers.now) }
+    ensures { IfOk result (λ end. (ps : Pictures) × AreTold (Ok (flags_view flags.now)) refine (requests_view steps.now) (recorded evidence.now) place.number (map planned_view answers.now) ps × Continues ps place.y end (string_bytes pictures.old) (string_bytes pictures.new)) }
 {
     let [request, more @ ..] = steps else {
         return Ok(place.y);
@@ -197,7 +173,7 @@ fn add_steps<R: Threads + Sync>(
     let asked = Asked {
         flags,
         request,
-        book,
+        evidence,
         refine,
     };
     let y = draw_step(alloc, pictures, place.y, u64::from(place.number))?;
@@ -221,7 +197,7 @@ fn add_steps<R: Threads + Sync>(
         pictures,
         below,
         &next,
-        book,
+        evidence,
         Some(1),
         more,
         others,

@@ -1,7 +1,7 @@
 -- Pictures on a page, one below the other.
 use Rattle.std.proofs.Common.{◌≡◌, ℕ, List, [], ◌∷◌, ◌++◌, append-nil, append_assoc, map, refl, sym, ap, subst, ◌∙◌}
 use Rattle.std.proofs.lemmas.List.{map-append}
-use Rattle.picture.specs.Spelling.{Adds, IsBody, Pictures, depth, placed, stacked}
+use Rattle.picture.specs.Spelling.{Adds, Continues, IsBody, Pictures, depth, placed, stacked}
 use Rattle.picture.specs.Told.{Item, down, foot, told}
 use Rattle.picture.specs.declared.element.Element.{Element}
 
@@ -41,3 +41,39 @@ one_more ps (high, items) before after (ds, bytes, tells) (es, added, new) =
 -- a picture alone
 pub alone : (p : ℕ × List Item) (before after : List ℕ) → before ≡ [] → Adds 0 p.1 before after → IsBody (p ∷ []) after
 alone p before after none adds = one_more [] p [] after none_yet (subst (λ (bytes : List ℕ). Adds 0 p.1 bytes after) none adds)
+
+-- ---- pictures below others
+
+pub continues_none : (y : ℕ) (bytes : List ℕ) → Continues [] y y bytes bytes
+continues_none y bytes = λ above body top. (subst (λ (ps : Pictures). IsBody ps bytes) (sym (append-nil above)) body, top ∙ ap depth (sym (append-nil above)))
+
+-- one picture
+pub continues_one : (high : ℕ) (items : List Item) (y end : ℕ) (before after : List ℕ) → Adds y items before after → end ≡ down y high → Continues ((high, items) ∷ []) y end before after
+continues_one high items y end before after adds ends = λ above body top.
+    let p : ℕ × List Item = (high, items) in (
+      one_more above p before after body (subst (λ (z : ℕ). Adds z items before after) top adds),
+      ends ∙ (ap (λ z. down z high) top ∙ sym (depth_more above p)),
+    )
+
+-- some, and then others
+pub continues_both : (ps qs : Pictures) (y mid end : ℕ) (a b c : List ℕ) → Continues ps y mid a b → Continues qs mid end b c → Continues (ps ++ qs) y end a c
+continues_both ps qs y mid end a b c first second = λ above body top.
+    let one = first above body top in
+    let all = second (above ++ ps) one.0 one.1 in (
+      subst (λ (rs : Pictures). IsBody rs c) (append_assoc above ps qs) all.0,
+      all.1 ∙ ap depth (append_assoc above ps qs),
+    )
+
+-- ---- a page without a picture
+
+-- where nothing is written there is no picture
+pub unwritten : (ps : Pictures) (bytes : List ℕ) → IsBody ps bytes → bytes ≡ [] → ps ≡ []
+unfolding IsBody placed
+unwritten ps bytes ([], is, tells) none = sym tells
+unwritten ps bytes (d ∷ ds, is, tells) none = absurd (let empty = sym is ∙ none in cc)
+
+-- and where something is there is one
+pub written : (ps : Pictures) (bytes : List ℕ) → IsBody ps bytes → ps ≡ [] → bytes ≡ []
+unfolding IsBody
+written ps bytes ([], is, tells) none = is
+written ps bytes (d ∷ ds, is, tells) none = absurd (let empty = tells ∙ none in cc)

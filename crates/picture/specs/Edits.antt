@@ -76,3 +76,11 @@ edit_told flag site inputs switched old new rows =
 
 unfoldable pub edit_height : Entries → Entries → Rows → ℕ
 edit_height old new rows = all_inputs_end rows (all_points_end (names_of old new) 466)
+
+-- ---- no page that was compared
+
+abbrev pub no_page_told : Item
+no_page_told = text style.Title (spot 40 66) (content.Word word.NoPage)
+
+abbrev pub no_page_height : ℕ
+no_page_height = 100

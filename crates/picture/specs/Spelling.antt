@@ -4,7 +4,7 @@ use Rattle.std.specs.Fmt.{decimal, signed_decimal}
 use Rattle.std.specs.List.{flat_map}
 use Rattle.xml_text.specs.Escape.{begun, escaped}
 use Rattle.picture.specs.Told.{Item, down, foot, told}
-use Rattle.picture.specs.Words.{class_of, text_of}
+use Rattle.picture.specs.Words.{class_of, text_of, title_of}
 use Rattle.picture.specs.declared.element.Band.{Band}
 use Rattle.picture.specs.declared.element.Content.{Content}
 use Rattle.picture.specs.declared.element.Content.TheVariants as content
@@ -16,6 +16,7 @@ use Rattle.picture.specs.declared.element.Piece.{Piece}
 use Rattle.picture.specs.declared.element.Place.{Place}
 use Rattle.picture.specs.declared.print.TheConstants.{HEAD}
 use Rattle.picture.specs.declared.words.Style.{Style}
+use Rattle.picture.specs.declared.words.Title.{Title}
 use Rattle.picture.specs.declared.words.Word.TheVariants as word
 
 -- where a text stands, and where and how large a rectangle is
@@ -84,9 +85,10 @@ spelled (element.Line p e) = spelled_line p e
 unfoldable pub placed : ℕ → List Element → List ℕ
 placed y es = codes "<g transform=\"translate(0 " ++ (decimal y ++ (codes ")\">\n" ++ (flat_map spelled es ++ codes "</g>\n")))
 
--- pictures on a page of this height, below its style sheet
-unfoldable pub page : ℕ → List ℕ → List ℕ
-page height pictures = codes "<svg xmlns=\"http://www.w3.org/2000/svg\" role=\"img\" viewBox=\"0 0 1200 " ++ (decimal height ++ (codes "\">\n" ++ (HEAD.now ++ (pictures ++ codes "</svg>\n"))))
+-- pictures on a page of this height, below its title and its style sheet
+unfoldable pub page : Title → ℕ → List ℕ → List ℕ
+page title height pictures =
+    codes "<svg xmlns=\"http://www.w3.org/2000/svg\" role=\"img\" viewBox=\"0 0 1200 " ++ (decimal height ++ (codes "\">\n<title>" ++ (title_of title ++ (codes "</title>\n" ++ (HEAD.now ++ (pictures ++ codes "</svg>\n"))))))
 
 -- a picture that tells this was added to those that were there, so far below the top of the page
 unfoldable pub Adds : ℕ → List Item → List ℕ → List ℕ → Type 0
@@ -109,6 +111,10 @@ depth ps = foot (λ y p. down y p.0) 0 ps
 unfoldable pub IsBody : Pictures → List ℕ → Type 0
 IsBody ps bytes = (ds : List (ℕ × List Element)) × (bytes ≡ stacked 0 ds) × (map (λ d. (d.0, told d.1)) ds ≡ ps)
 
--- a page that has these pictures, and is as high as they are
-unfoldable pub IsPicture : Pictures → List ℕ → Type 0
-IsPicture ps bytes = (pictures : List ℕ) × (bytes ≡ page (depth ps) pictures) × IsBody ps pictures
+-- these pictures were added below others, which end so far below the top of the page, and then all end so far below it
+abbrev pub Continues : Pictures → ℕ → ℕ → List ℕ → List ℕ → Type 0
+Continues ps y end before after = (above : Pictures) → IsBody above before → y ≡ depth above → IsBody (above ++ ps) after × (end ≡ depth (above ++ ps))
+
+-- a page of this title that has these pictures, and is as high as they are
+unfoldable pub IsPicture : Title → Pictures → List ℕ → Type 0
+IsPicture title ps bytes = (pictures : List ℕ) × (bytes ≡ page title (depth ps) pictures) × IsBody ps pictures

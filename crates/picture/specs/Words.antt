@@ -1,7 +1,9 @@
--- The words of a picture, and the classes of its texts.
+-- The words of a picture, the titles of its page, and the classes of its texts.
 use Rattle.std.specs.Prelude.{ℕ, List, codes}
 use Rattle.picture.specs.declared.words.Style.{Style}
 use Rattle.picture.specs.declared.words.Style.TheVariants as style
+use Rattle.picture.specs.declared.words.Title.{Title}
+use Rattle.picture.specs.declared.words.Title.TheVariants as title
 use Rattle.picture.specs.declared.words.Word.{Word}
 use Rattle.picture.specs.declared.words.Word.TheVariants as word
 
@@ -27,6 +29,11 @@ text_of word.Under = codes "They need more points than have or may take one of t
 text_of word.Site = codes "Site"
 text_of word.Inputs = codes "Inputs"
 text_of word.Switched = codes "Switch"
+text_of word.NoPage = codes "No page was compared."
+
+abbrev pub title_of : Title → List ℕ
+title_of title.Rollout = codes "Rollout"
+title_of title.Edit = codes "What an edit changes"
 
 abbrev pub class_of : Style → List ℕ
 class_of style.Title = codes "t"

@@ -1,9 +1,9 @@
 //! The picture of an edit: what it does to recorded inputs.
-ghost use Rattle.std.specs.Prelude.{◌≡◌, ◌++◌, [], IfOk, OnErr, OnOk, map, string_bytes};
+ghost use Rattle.std.specs.Prelude.{◌≡◌, ◌++◌, ◌∷◌, [], IfOk, OnErr, OnOk, map, string_bytes};
 ghost use Rattle.bucket_core.specs.Rule.{total_weight};
 ghost use Rattle.price_core.specs.Limits.{limit_view, limits_view};
 ghost use Rattle.rule_switches.specs.Switches.{row_view, rows_view};
-ghost use Rattle.picture.specs.Edits.{all_inputs_end, all_inputs_told, all_points_end, all_points_told, both_told, caption_told, edit_head_told, edit_height, edit_told, inputs_end, inputs_told, names_of, points_end, points_told};
+ghost use Rattle.picture.specs.Edits.{all_inputs_end, all_inputs_told, all_points_end, all_points_told, both_told, caption_told, edit_head_told, edit_height, edit_told, inputs_end, inputs_told, names_of, no_page_height, no_page_told, points_end, points_told};
 ghost use Rattle.picture.specs.Spelling.{Adds};
 ghost use Rattle.picture.specs.Told.{down, foot, rows_told, told};
 
@@ -56,6 +56,36 @@ pub fn draw_edit(
     let height = add_inputs(&mut elements, edited.switches, below)?;
     place(alloc, pictures, y, elements.as_slice())?;
     Ok(y.saturating_add(height))
+}
+
+/// The height of the words that no page was compared.
+const NO_PAGE: u64 = 100;
+
+/// Adds to the pictures of a page, so far below its top, that no page of a book was compared, and gives how far below the top
+/// that ends. Where memory runs out the pictures are as they were.
+#[tactic(auto, unfolding(crate::specs::Spelling::Adds))]
+pub fn draw_no_page(alloc: Global, pictures: &mut String, y: u64) -> Result<u64, AllocError>
+    ensures adds { OnOk result (Adds y (no_page_told ∷ []) (string_bytes pictures.old) (string_bytes pictures.new)) }
+    ensures below { IfOk result (λ end. end ≡ down y no_page_height) }
+    ensures kept { OnErr result (string_bytes pictures.new ≡ string_bytes pictures.old) }
+{
+    let mut elements = Vec::new(alloc);
+    add_no_page(&mut elements)?;
+    place(alloc, pictures, y, elements.as_slice())?;
+    Ok(y.saturating_add(NO_PAGE))
+}
+
+fn add_no_page(elements: &mut Vec<Element<'_>>) -> Result<(), AllocError>
+    ensures { OnOk result (told elements.new.items ≡ told elements.old.items ++ (no_page_told ∷ [])) }
+{
+    add(
+        elements,
+        &[Element::Text(
+            Style::Title,
+            Place { x: LEFT, y: 66 },
+            Content::Word(Word::NoPage),
+        )],
+    )
 }
 
 /// The names of both rules, each once, by whose places they have their looks.

@@ -4,7 +4,7 @@
 //! and the switches between them, with their numbers. [`draw_none`] draws a set of variants which shows that no rule fits, and
 //! [`draw_step`] the number of a step above its picture. [`draw_edit`] draws what an edit does to recorded inputs: the rule before
 //! it and after it, whose totals may differ, as bars of one width, then the variants, and how many inputs go from each to each
-//! other one. [`page`] is the page that has such pictures, one or several.
+//! other one, and [`draw_no_page`] that no page of a book was compared. [`page`] is the page that has such pictures, one or several.
 //! There is no script in it and nothing from elsewhere; colours follow the reader's scheme, and patterns tell them apart too.
 //!
 //! Proved, over the definitions of `specs/`: a picture is a list of elements, each spelled as `Spelling` says, so that no name
@@ -27,7 +27,8 @@ mod variants;
 mod words;
 
 pub use change::{Change, draw_change};
-pub use edit::{EditedRule, draw_edit};
+pub use edit::{EditedRule, draw_edit, draw_no_page};
 pub use none::{Deficit, draw_none};
 pub use print::page;
 pub use step::draw_step;
+pub use words::Title;

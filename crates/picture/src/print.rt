@@ -5,28 +5,31 @@ ghost use Rattle.std.specs.List.{flat_map};
 ghost use Rattle.picture.specs.Spelling.{IsBody, IsPicture, Pictures, at, band_title, coloured, depth, label, page, patterned, placed, rectangles, sized, spelled, spelled_band, spelled_content, spelled_line, spelled_name, spelled_piece, spelled_text, users_label};
 
 use crate::element::{Band, Content, Element, Extent, Look, Piece, Place};
-use crate::words::{Style, Word};
+use crate::words::{Style, Title, Word};
 use std::alloc::{AllocError, Global};
 use xml_text::{push_escaped, push_start};
 
-/// The page that has pictures, one below the other, as the calls that draw them wrote them, and ends this far below its top.
+/// The page of a title that has pictures, one below the other, as the calls that draw them wrote them, and ends this far below
+/// its top.
 #[tactic(auto, unfolding(crate::specs::Spelling::page, crate::specs::Spelling::IsPicture))]
-pub fn page(alloc: Global, height: u64, pictures: &str) -> Result<String, AllocError>
-    ensures { IfOk result (λ s. (ps : Pictures) → IsBody ps pictures.now → height ≡ depth ps → IsPicture ps (string_bytes s)) }
+pub fn page(alloc: Global, title: Title, height: u64, pictures: &str) -> Result<String, AllocError>
+    ensures { IfOk result (λ s. (ps : Pictures) → IsBody ps pictures.now → height ≡ depth ps → IsPicture title ps (string_bytes s)) }
 {
-    let text = page_text(alloc, height, pictures)?;
+    let text = page_text(alloc, title, height, pictures)?;
     Ok(text)
 }
 
 #[tactic(auto, unfolding(crate::specs::Spelling::page))]
-fn page_text(alloc: Global, height: u64, pictures: &str) -> Result<String, AllocError>
-    ensures { IfOk result (λ s. string_bytes s ≡ page height pictures.now) }
+fn page_text(alloc: Global, title: Title, height: u64, pictures: &str) -> Result<String, AllocError>
+    ensures { IfOk result (λ s. string_bytes s ≡ page title height pictures.now) }
 {
     let mut out = String::new(alloc);
     write!(
         out,
-        "<svg xmlns=\"http://www.w3.org/2000/svg\" role=\"img\" viewBox=\"0 0 1200 {height}\">\n"
+        "<svg xmlns=\"http://www.w3.org/2000/svg\" role=\"img\" viewBox=\"0 0 1200 {height}\">\n<title>"
     )?;
+    out.push_str(title.text())?;
+    out.push_str("</title>\n")?;
     out.push_str(HEAD)?;
     out.push_str(pictures)?;
     out.push_str("</svg>\n")?;
@@ -278,8 +281,7 @@ fn push_signed(out: &mut String, z: i64) -> Result<(), AllocError>
 }
 
 /// The style sheet with the colours of both schemes and the patterns, and the ground.
-const HEAD: &str = r##"<title>Rollout</title>
-<style>
+const HEAD: &str = r##"<style>
 svg{color-scheme:light dark;--paper:#fff;--ink:#1b1b1b;--soft:#5c5c5c;--mark:#0009}
 @media(prefers-color-scheme:dark){svg{--paper:#171717;--ink:#f4f4f4;--soft:#b4b4b4;--mark:#000a}}
 text{font:28px system-ui,"Segoe UI",Roboto,"Noto Sans",Arial,sans-serif;fill:var(--ink);unicode-bidi:plaintext;white-space:pre}

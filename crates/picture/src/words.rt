@@ -1,6 +1,6 @@
 //! The words of a picture.
 ghost use Rattle.std.specs.Prelude.{◌≡◌};
-ghost use Rattle.picture.specs.Words.{class_of, text_of};
+ghost use Rattle.picture.specs.Words.{class_of, text_of, title_of};
 
 /// What a picture says in words of its own.
 #[derive(Clone, Copy, Debug)]
@@ -26,6 +26,7 @@ pub enum Word {
     Site,
     Inputs,
     Switched,
+    NoPage,
 }
 
 impl Word {
@@ -55,6 +56,28 @@ impl Word {
             Word::Site => "Site",
             Word::Inputs => "Inputs",
             Word::Switched => "Switch",
+            Word::NoPage => "No page was compared.",
+        }
+    }
+}
+
+/// What the pictures of a page are of.
+#[derive(Clone, Copy, Debug)]
+pub enum Title {
+    /// A rollout: its plan, or that of each of its steps.
+    Rollout,
+    /// An edit of a document.
+    Edit,
+}
+
+impl Title {
+    /// Its text, in which nothing needs an entity.
+    pub(crate) fn text(self) -> &'static str
+        ensures { result.now ≡ title_of self }
+    {
+        match self {
+            Title::Rollout => "Rollout",
+            Title::Edit => "What an edit changes",
         }
     }
 }

@@ -1,5 +1,5 @@
 -- Runs, one behind the other.
-use Rattle.std.proofs.Common.{◌≡◌, ℕ, ◌+◌, List, [], ◌∷◌, ◌++◌, refl, subst, sym, arith}
+use Rattle.std.proofs.Common.{◌≡◌, ℕ, ◌+◌, List, [], ◌∷◌, ◌++◌, refl, subst, sym}
 use Rattle.bucket_core.specs.Rule.{Entries}
 use Rattle.switch_table.specs.Runs.{Run, AreRuns, IsRunAt}
 

@@ -1,4 +1,5 @@
 mod Counting
+pub mod Naming
 pub mod Placing
 mod Tables
 mod Tallying

@@ -1,11 +1,11 @@
 -- A table that is filled run by run.
-use Rattle.std.proofs.Common.{◌≡◌, ◌≢◌, ℕ, ◌+◌, ◌*◌, ◌/◌, ◌%◌, ◌<◌, ◌≤◌, ◌^◌, ⊎_elim, Bool, true, false, cond, List, [], ◌∷◌, length, set, get_or, replicate, sum_by, refl, sym, ap, ◌∙◌, subst, drop, add-one, drop-cons, arith}
+use Rattle.std.proofs.Common.{◌≡◌, ◌≢◌, ℕ, ◌+◌, ◌*◌, ◌/◌, ◌%◌, ◌<◌, ◌≤◌, ⊎_elim, Bool, true, false, cond, List, [], ◌∷◌, length, set, get_or, replicate, sum_by, refl, sym, ap, ◌∙◌, subst, drop, add-one, drop-cons, arith}
 use Rattle.std.specs.List.{AllPairs, slice_index_or}
 use Rattle.std.proofs.lemmas.Bool.{cases_eq}
 use Rattle.std.proofs.lemmas.List.{get_or-set_same, get_or-set_other, get_or-replicate, get_or_default, length-set, length-replicate}
 use Rattle.std.proofs.lemmas.List.Sums.{sum_by-cons}
 use Rattle.std.proofs.lemmas.Nat.{div-mul-add, mod-mul-add}
-use Rattle.book_core.specs.Book.{most_inputs}
+use Rattle.limits.specs.Limits.{tally_inputs}
 use Rattle.switch_table.specs.Runs.{Run, AreFew, run_view, runs_view}
 use Rattle.switch_table.specs.declared.change.Run as program
 use Rattle.switch_table.specs.Switches.{AreSmall, HasRun, IsTableOf, is_between, is_of_place, name_of, no_switch, run_points, run_users}
@@ -54,7 +54,7 @@ filled_small names rs rest xs few filled = λ c low.
       omega (arith, filled.users c low, part_le (is_between a b) (λ r. r.users) rs, few.users),
     )
 
-pub first_few : (names : List (List ℕ)) (rs left : List Run) (r : Run) (xs : List Switch) → AreFew rs → IsFilled names rs (r ∷ left) xs → r.users ≤ most_inputs
+pub first_few : (names : List (List ℕ)) (rs left : List Run) (r : Run) (xs : List Switch) → AreFew rs → IsFilled names rs (r ∷ left) xs → r.users ≤ tally_inputs
 first_few names rs left r xs few filled = omega (arith, sum_by-cons (λ (x : Run). x.users) r left, filled.few, few.users)
 
 pub filled_more : (names : List (List ℕ)) (rs left : List Run) (r : Run) (xs ys : List Switch) → IsFilled names rs (r ∷ left) xs → HasRun names r xs ys → IsFilled names rs left ys

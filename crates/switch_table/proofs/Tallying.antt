@@ -67,7 +67,7 @@ flat_points test b from (suc n) same =
 -- the points of a run have its names
 run_names : (old new : Entries) (counts a b : List ℕ) (p : ℕ) (r : Run) → IsRunAt old new counts p r → (q : ℕ) → p ≤ q → q < p + r.points → is_switched old new a b q ≡ is_between a b r
 run_names old new counts a b p r is q low high =
-    ap (λ o. bytes_eq (unwrap_or o []) a && bytes_eq (name_at new q) b) (is.old q low high) ∙ ap (λ o. bytes_eq r.from a && bytes_eq (unwrap_or o []) b) (is.new q low high)
+    ap (λ o. bytes_eq (unwrap_or o []) a && bytes_eq (name_at new q) b) (is.old q low high) ∙ ap (λ n. bytes_eq r.from a && bytes_eq n b) (is.new q low high)
 
 pub in_order : (old new : Entries) (counts : List ℕ) (p : ℕ) (rs : List Run) (end : ℕ) → AreRuns old new counts p rs end → p ≤ end
 in_order old new counts p [] end are = omega (arith, are)

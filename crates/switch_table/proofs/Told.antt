@@ -1,14 +1,14 @@
 -- What the runs of all points tell.
-use Rattle.std.proofs.Common.{◌≡◌, ℕ, ◌+◌, ◌-◌, ◌<◌, ◌≤◌, ◌^◌, List, drop, length, sum, sum_by, refl, sym, ap, ◌∙◌, cond, arith}
+use Rattle.std.proofs.Common.{◌≡◌, ℕ, ◌-◌, ◌<◌, ◌≤◌, ◌^◌, List, drop, length, sum, sum_by, refl, ap, ◌∙◌, cond, arith}
 use Rattle.std.specs.List.{range_with_len, slice_index}
-use Rattle.book_core.specs.Book.{most_inputs}
 use Rattle.bucket_core.specs.Rule.{Entries, total_weight}
+use Rattle.limits.specs.Limits.{tally_inputs}
 use Rattle.switch_table.specs.Runs.{Run, AreFew, AreRuns}
 use Rattle.switch_table.specs.Switches.{IsSwitchTable, IsTableOf, is_switched, name_of}
 use Rattle.switch_table.specs.declared.table.Switch.{Switch}
 use Rattle.switch_table.proofs.Tallying.{all_points, all_users, points_told, users_told}
 
-pub few_runs : (old new : Entries) (counts : List ℕ) (rs : List Run) → AreRuns old new counts 0 rs (total_weight old) → total_weight old < 2 ^ 31 → sum counts ≤ most_inputs → AreFew rs
+pub few_runs : (old new : Entries) (counts : List ℕ) (rs : List Run) → AreRuns old new counts 0 rs (total_weight old) → total_weight old < 2 ^ 31 → sum counts ≤ tally_inputs → AreFew rs
 few_runs old new counts rs are small few = record {
   points = omega (arith, all_points old new counts 0 rs (total_weight old) are, small);
   users = omega (arith, all_users old new counts 0 rs (total_weight old) are, few, whole counts);

@@ -2,9 +2,10 @@
 use Rattle.std.specs.Prelude.{◌≡◌, ℕ, ◌+◌, ◌*◌, ◌/◌, ◌%◌, ◌<◌, ◌≤◌, ◌^◌, Bool, ◌&&◌, List, [], count_by, length, slice_index, slice_index_or, sum_by, if◌then◌else◌}
 use Rattle.std.specs.List.{range_with_len}
 use Rattle.std.specs.Str.{bytes_eq}
-use Rattle.book_core.specs.Book.{Inputs, most_inputs}
+use Rattle.book_core.specs.Book.{Inputs}
 use Rattle.book_core.specs.Counts.{counts_of}
 use Rattle.bucket_core.specs.Rule.{Entries, total_weight}
+use Rattle.limits.specs.Limits.{tally_inputs}
 use Rattle.price_core.specs.Cost.{name_at, name_of_input}
 use Rattle.switch_table.specs.Runs.{Run}
 use Rattle.switch_table.specs.declared.table.Switch.{Switch}
@@ -68,7 +69,7 @@ pub record IsTableOf (names : List (List ℕ)) (rs : List Run) (t : ℕ × List 
 
 -- numbers that one more run may be added to
 abbrev pub AreSmall : List Switch → Type 0
-AreSmall switches = (c : ℕ) → c < length switches → ((slice_index_or switches c no_switch).points < 2 ^ 31) × ((slice_index_or switches c no_switch).users ≤ most_inputs)
+AreSmall switches = (c : ℕ) → c < length switches → ((slice_index_or switches c no_switch).points < 2 ^ 31) × ((slice_index_or switches c no_switch).users ≤ tally_inputs)
 
 -- the two names that a place of the table is for
 abbrev pub is_of_place : List (List ℕ) → ℕ → Run → Bool

@@ -2,8 +2,8 @@
 ghost use Rattle.std.specs.Prelude.{◌≡◌, ◌≢◌, ◌≤◌, ◌<◌, ◌^◌, ◌*◌, ◌+◌, ℕ, IfOk, MatchOption, length, replicate, sum};
 ghost use Rattle.std.specs.List.{AllPairs};
 ghost use Rattle.std.specs.Map.{keys_of};
-ghost use Rattle.book_core.specs.Book.{most_inputs};
 ghost use Rattle.bucket_core.specs.Rule.{total_weight};
+ghost use Rattle.limits.specs.Limits.{tally_inputs};
 ghost use Rattle.price_core.specs.Limits.{limits_view};
 ghost use Rattle.switch_table.specs.Runs.{AreFew, run_view, runs_view};
 ghost use Rattle.switch_table.specs.Switches.{AreSmall, HasRun, IsSwitchTable, IsTableOf, name_of, no_switch, switch_at};
@@ -68,9 +68,8 @@ pub fn switch_table(
     new: &Rule,
     counts: &[u32],
 ) -> Result<SwitchTable, AllocError>
-    requires total { total_weight new.now ≡ total_weight old.now }
     requires points { length counts.now ≡ total_weight old.now }
-    requires few { sum counts.now ≤ most_inputs }
+    requires few { sum counts.now ≤ tally_inputs }
     ensures { IfOk result (IsSwitchTable old.now new.now (keys_of totals.now) counts.now) }
 {
     // Called for what its contract says: a rule's total is below 2^31.
@@ -121,7 +120,7 @@ fn add_run(switches: &mut Vec<Switch>, names: &[Limit], run: &Run<'_>)
     requires square { length switches.old.items ≡ length (keys_of (limits_view names.now)) * length (keys_of (limits_view names.now)) }
     requires apart { AllPairs (λ x y. x ≢ y) (keys_of (limits_view names.now)) }
     requires small { AreSmall switches.old.items }
-    requires few { run.now.users ≤ most_inputs }
+    requires few { run.now.users ≤ tally_inputs }
     ensures { HasRun (keys_of (limits_view names.now)) (run_view run.now) switches.old.items switches.new.items }
 {
     let Some(from) = place_of(names, run.from) else {
@@ -137,8 +136,8 @@ fn add_run(switches: &mut Vec<Switch>, names: &[Limit], run: &Run<'_>)
 /// With the points and users of a run.
 fn more(switch: Switch, run: &Run<'_>) -> Switch
     requires points { switch.points < 2 ^ 31 }
-    requires users { switch.users ≤ most_inputs }
-    requires few { run.now.users ≤ most_inputs }
+    requires users { switch.users ≤ tally_inputs }
+    requires few { run.now.users ≤ tally_inputs }
     ensures points { result.points ≡ switch.points + run.now.points }
     ensures users { result.users ≡ switch.users + run.now.users }
 {

@@ -1,6 +1,7 @@
 use Rattle.std.proofs.Common.{ℕ, List, drop, string_bytes}
 use Rattle.flag_defs.specs.Flags.{flags_view}
-use Rattle.flagops_compare.specs.Drawn.{Continues, pages_drawn}
+use Rattle.picture.specs.Spelling.{Continues}
+use Rattle.flagops_compare.specs.Drawn.{compared_drawn}
 use Rattle.page_switches.specs.Found.{pages_view}
 use Rattle.flagops_compare.proofs.drawing.add_pages.Given as goal
 
@@ -9,4 +10,4 @@ abbrev pub invariant-loop-page : goal.invariant-loop-page
 invariant-loop-page l =
     let old = flags_view l.edit.old.now in
     let new = flags_view l.edit.new.now in
-    (end : ℕ) (after : List ℕ) → Continues (pages_drawn old new (pages_view (drop l.page-index l.pages))) l.y end (string_bytes l.pictures) after → Continues (pages_drawn old new (pages_view l.pages)) 0 end (string_bytes l.fn.pictures) after
+    (end : ℕ) (after : List ℕ) → Continues (compared_drawn old new (pages_view (drop l.page-index l.pages))) l.y end (string_bytes l.pictures) after → Continues (compared_drawn old new (pages_view l.pages)) 0 end (string_bytes l.fn.pictures) after

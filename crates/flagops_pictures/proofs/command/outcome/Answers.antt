@@ -1,7 +1,7 @@
 use Rattle.std.proofs.Common.{◌≡◌, ◌∙◌, Err, Result, ap, subst, sym}
 use Rattle.std.proofs.lemmas.Result.{err_from_is_err_and}
 use Rattle.plan_text.specs.Answer.{planned_view}
-use Rattle.flagops_files.specs.Question.{book_question_view}
+use Rattle.flagops_files.specs.Question.{question_view}
 use Rattle.flagops_rollouts.proofs.Verdicts.{failed_second}
 use Rattle.flagops_rollouts.specs.Attempts.{plan_read}
 use Rattle.flagops_rollouts.specs.Refusal.{ComesFrom, Refused, call_of}
@@ -15,14 +15,14 @@ use Rattle.flagops_pictures.proofs.command.outcome.Goals as goal
 
 pub returns-clause-exact : goal.returns-clause-exact
 returns-clause-exact g c =
-    pictured (picturing_view c.args.asked.now) (book_question_view c.in_ok-question.question) (planned_view c.in_ok-planned.planned) _ _ c.pictured.result c.load_question.ensures.kept c.in_ok-question.ensures.exact c.in_ok-planned.ensures.exact c.pictured.ensures.exact
+    pictured (picturing_view c.args.asked.now) (question_view c.in_ok-question.question) (planned_view c.in_ok-planned.planned) _ _ c.pictured.result c.load_question.ensures.kept c.in_ok-question.ensures.exact c.in_ok-planned.ensures.exact c.pictured.ensures.exact
 
 pub returns-clause-failed : goal.returns-clause-failed
 returns-clause-failed g c = no_failure _ _ _ _ c.in_ok-question.ensures.failed c.in_ok-planned.ensures.failed c.pictured.ensures.read
 
 pub returns-clause-names : goal.returns-clause-names
 returns-clause-names g c =
-    in_check (picturing_view c.args.asked.now) (book_question_view c.in_ok-question.question) (planned_view c.in_ok-planned.planned) _ _ c.pictured.result c.load_question.ensures.kept c.in_ok-question.ensures.exact c.in_ok-planned.ensures.exact c.pictured.ensures.names
+    in_check (picturing_view c.args.asked.now) (question_view c.in_ok-question.question) (planned_view c.in_ok-planned.planned) _ _ c.pictured.result c.load_question.ensures.kept c.in_ok-question.ensures.exact c.in_ok-planned.ensures.exact c.pictured.ensures.names
 
 -- ---- a file of the question that is refused
 
@@ -39,7 +39,7 @@ pub returns-in_err-planned-clause-exact : goal.returns-in_err-planned-clause-exa
 returns-in_err-planned-clause-exact g c =
     let p = err_from_is_err_and c.from_residual-in_err-planned.result c.from_residual-in_err-planned.ensures.1 in
     let is : c.from_residual-in_err-planned.result ≡ Err c.in_err-planned.field-0.0 = p.1 ∙ ap Err p.2 in
-    unanswered (picturing_view c.args.asked.now) (book_question_view c.in_ok-question.question) c.in_err-planned.field-0.0 _ _ c.from_residual-in_err-planned.result is c.load_question.ensures.kept c.in_ok-question.ensures.exact c.in_err-planned.ensures.exact
+    unanswered (picturing_view c.args.asked.now) (question_view c.in_ok-question.question) c.in_err-planned.field-0.0 _ _ c.from_residual-in_err-planned.result is c.load_question.ensures.kept c.in_ok-question.ensures.exact c.in_err-planned.ensures.exact
 
 pub returns-in_err-planned-clause-calls : goal.returns-in_err-planned-clause-calls
 returns-in_err-planned-clause-calls g c =
@@ -57,5 +57,5 @@ pub returns-in_err-planned-clause-names : goal.returns-in_err-planned-clause-nam
 returns-in_err-planned-clause-names g c =
     let p = err_from_is_err_and c.from_residual-in_err-planned.result c.from_residual-in_err-planned.ensures.1 in
     let is : c.from_residual-in_err-planned.result ≡ Err c.in_err-planned.field-0.0 = p.1 ∙ ap Err p.2 in
-    in_plan (picturing_view c.args.asked.now) (book_question_view c.in_ok-question.question) _ _ c.from_residual-in_err-planned.result c.in_err-planned.field-0.0 is c.load_question.ensures.kept c.in_ok-question.ensures.exact c.in_err-planned.ensures.exact
+    in_plan (picturing_view c.args.asked.now) (question_view c.in_ok-question.question) _ _ c.from_residual-in_err-planned.result c.in_err-planned.field-0.0 is c.load_question.ensures.kept c.in_ok-question.ensures.exact c.in_err-planned.ensures.exact
     c.in_err-planned.ensures.names

@@ -1,10 +1,8 @@
-use Rattle.std.proofs.Common.{◌≡◌, Err, IfSome, inl, rules, subst}
-use Rattle.flagops_files.specs.Question.{Question, book_question_view}
-use Rattle.flagops_rollouts.specs.Refusal.{GivesOne, is_file_fault}
-use Rattle.flagops_shell.specs.Report.{outcome_view}
+use Rattle.std.proofs.Common.{◌≡◌, Err, inl, rules}
+use Rattle.flagops_files.specs.Question.{question_view}
+use Rattle.flagops_rollouts.specs.Refusal.{is_file_fault}
 use Rattle.flagops_files.specs.Told.{by_kind}
 use Rattle.flagops_pictures.specs.Diagnostics.{drawn_subjects}
-use Rattle.flagops_pictures.specs.Planning.{IsPlanWith}
 use Rattle.flagops_pictures.specs.Words.{planning_view}
 use Rattle.flagops_pictures.proofs.Planned.{asked_of, failed_behind, kept_behind, left_behind, unasked}
 use Rattle.flagops_pictures.proofs.Naming.{in_planned, in_question}
@@ -12,9 +10,9 @@ use Rattle.flagops_pictures.proofs.planning.outcome.Goals as goal
 
 pub returns-clause-exact : goal.returns-clause-exact
 returns-clause-exact g c =
-    asked_of (planning_view c.args.asked.now) (g.F.FileSet.holding c.args.files.now) (g.F.FileSet.holding c.load_question.new.files) (g.F.FileSet.holding c.planned.new.files) (book_question_view c.in_ok-question.question) c.planned.result
+    asked_of (planning_view c.args.asked.now) (g.F.FileSet.holding c.args.files.now) (g.F.FileSet.holding c.load_question.new.files) (g.F.FileSet.holding c.planned.new.files) (question_view c.in_ok-question.question) c.planned.result
     c.load_question.ensures.kept c.in_ok-question.ensures.exact
-    (subst (λ (q : Question). IfSome (g.F.FileSet.holding c.load_question.new.files) (λ at. GivesOne outcome_view c.planned.result (IsPlanWith at (g.F.FileSet.holding c.planned.new.files) (planning_view c.args.asked.now) q))) c.as_question.ensures.view c.planned.ensures.exact)
+    c.planned.ensures.exact
 
 pub returns-in_err-question-clause-exact : goal.returns-in_err-question-clause-exact
 returns-in_err-question-clause-exact g c =
@@ -39,7 +37,7 @@ returns-clause-failed g c =
 
 pub returns-clause-names : goal.returns-clause-names
 returns-clause-names g c =
-    in_planned (planning_view c.args.asked.now) (book_question_view c.in_ok-question.question) _ c.planned.result c.in_ok-question.ensures.exact c.planned.ensures.names
+    in_planned (planning_view c.args.asked.now) (question_view c.in_ok-question.question) _ c.planned.result c.in_ok-question.ensures.exact c.planned.ensures.names
 
 pub returns-in_err-question-clause-names : goal.returns-in_err-question-clause-names
 returns-in_err-question-clause-names g c =

@@ -1,8 +1,8 @@
 use Rattle.std.specs.Prelude.{Err, Ok, Result}
 use Rattle.flagops_shell.specs.declared.outcome.Outcome.{Outcome}
 use Rattle.flagops_ramps.proofs.Diagnosed.{wanting as wants}
-use Rattle.flagops_ramps.proofs.Firsts.{found_read_on_book, made}
-use Rattle.flagops_ramps.specs.Attempts.{verify_files_on_book}
+use Rattle.flagops_ramps.proofs.Firsts.{found_read, made}
+use Rattle.flagops_ramps.specs.Attempts.{verify_files}
 use Rattle.flagops_ramps.specs.Diagnostics.{IsOfVerify}
 use Rattle.flagops_ramps.specs.Judging.{answered_view}
 use Rattle.flagops_ramps.specs.Report.{Told}
@@ -24,7 +24,7 @@ returns-in-Ok-drawn-clause-names g c =
     let v = verifying_view c.args.asked.now in
     let files = g.F.FileSet.holding c.args.files.now in
     let r : Result Outcome Told = Ok c.in-Ok-drawn.outcome in
-    made (IsOfVerify v) r files (λ at. verify_files_on_book at v) (found_read_on_book v (answered_view c.in-Ok.right) files c.in-Ok.ensures.exact) tt
+    made (IsOfVerify v) r files (λ at. verify_files at v) (found_read v (answered_view c.in-Ok.right) files c.in-Ok.ensures.exact) tt
 
 pub returns-in-Ok-clause-names : goal.returns-in-Ok-clause-names
 returns-in-Ok-clause-names g c =
@@ -32,4 +32,4 @@ returns-in-Ok-clause-names g c =
     let files = g.F.FileSet.holding c.args.files.now in
     let t = c.out_of_memory.result in
     let r : Result Outcome Told = Err t in
-    made (IsOfVerify v) r files (λ at. verify_files_on_book at v) (found_read_on_book v (answered_view c.in-Ok.right) files c.in-Ok.ensures.exact) (wants (IsOfVerify v) t c.out_of_memory.ensures.want)
+    made (IsOfVerify v) r files (λ at. verify_files at v) (found_read v (answered_view c.in-Ok.right) files c.in-Ok.ensures.exact) (wants (IsOfVerify v) t c.out_of_memory.ensures.want)

@@ -1,6 +1,5 @@
 use Rattle.std.proofs.Common.{◌+◌, ◌∷◌, [], List, sym, ap, ◌∙◌, subst}
 use Rattle.std.proofs.lemmas.List.{map-append}
-use Rattle.bucket_core.specs.Rule.{total_weight}
 use Rattle.switch_table.specs.Runs.{Run, AreRuns, run_view, runs_view}
 use Rattle.switch_table.proofs.Counting.{runs_more}
 use Rattle.switch_table.proofs.change.runs.Goals as goal

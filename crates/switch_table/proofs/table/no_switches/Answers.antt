@@ -1,6 +1,6 @@
-use Rattle.std.proofs.Common.{◌*◌, length, replicate, ap, ◌∙◌, sym, arith}
+use Rattle.std.proofs.Common.{length, ◌∙◌}
 use Rattle.switch_table.specs.Switches.{no_switch}
-use Rattle.switch_table.proofs.Placing.{long_keys, row_more}
+use Rattle.switch_table.proofs.Placing.{row_more}
 use Rattle.switch_table.proofs.table.no_switches.Goals as goal
 
 pub loop-preserved : goal.loop-preserved
