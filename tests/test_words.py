@@ -107,6 +107,7 @@ class Words(ProgramTest):
             (["flagops", "apply", "--ke"], ["--keep"]),
             (["flagops", "check", "--st"], ["--strict"]),
             (["flagops", "compare", "--f"], ["--flag"]),
+            (["flagops", "compare", "--p"], ["--picture"]),
             (["flagops", "ramp", "--st"], ["--strict"]),
             (["flagops", "verify-ramp", "--"], ["--refine", "--strict", "--help"]),
             (["flagops", "help", "res"], ["resolve"]),

@@ -52,6 +52,11 @@ MayRefuse number sources text (Publish share.Closed) = IsAccepted number sources
 MayRefuse number sources text WantOfMemory = Unit {0}
 MayRefuse number sources text refusal = ⊥
 
+-- What is left of the sources then: where the merge was refused, the document is set; else they are as they were.
+abbrev pub LeavesSources : ℕ → SourceList → List ℕ → SourceList → Refusal → Type 0
+LeavesSources number before text after (Merged fault) = Sets before (decimal number) text (Ok after)
+LeavesSources number before text after refusal = after ≡ before
+
 -- the merges that were published, in order, or why not all documents were
 abbrev pub Answer : Type 0
 Answer = Result (List Definitions) Refusal

@@ -1,10 +1,10 @@
 //! The documents that are published one after the other.
-ghost use Rattle.std.specs.Prelude.{◌≡◌, ◌≤◌, ◌+◌, ◌++◌, ◌∷◌, [], decimal, length, string_bytes, false, Ok, Err, IfErr, IfOk, OnOk};
+ghost use Rattle.std.specs.Prelude.{◌≡◌, ◌≤◌, ◌+◌, ◌++◌, ◌∷◌, [], decimal, length, string_bytes, false, Ok, Err, IfErr, IfOk, OnErr, OnOk};
 ghost use Rattle.flag_defs.specs.Flags.{flags_view};
 ghost use Rattle.source_merge.specs.Merge.{merged_of};
 ghost use Rattle.source_merge.specs.Sources.{Sets, most_sources};
 ghost use Rattle.source_merge.specs.View.{sources_view};
-ghost use Rattle.flagops_streams.specs.Documents.{MayRefuse, documents_in, source_added, texts_of};
+ghost use Rattle.flagops_streams.specs.Documents.{LeavesSources, MayRefuse, documents_in, source_added, texts_of};
 ghost use Rattle.flagops_streams.specs.Refusal.{GivesUnlessWant, is_unreadable};
 
 use crate::refusal::Refusal;
@@ -48,6 +48,7 @@ impl Documents {
         ensures full { most_sources ≤ documents_in self.old → result ≡ Err (Refusal.Add SourceFault.TooMany) }
         ensures same { documents_in self.new ≡ documents_in self.old }
         ensures texts { self.new.texts ≡ self.old.texts }
+        ensures kept { OnErr result (sources_view self.new.sources ≡ sources_view self.old.sources) }
         ensures loads { IfErr result (λ refusal. is_unreadable refusal ≡ false) }
     {
         let place = self.texts.len();
@@ -61,10 +62,11 @@ impl Documents {
         }
     }
 
-    /// Puts the document of the source that was added last. It is refused for want of memory alone.
+    /// Puts the document of the source that was added last. It is refused for want of memory alone, and leaves all as it was then.
     pub fn push(&mut self, text: Vec<u8>) -> Result<(), Refusal>
         ensures more { OnOk result (documents_in self.new ≡ documents_in self.old + 1) }
         ensures text { OnOk result (texts_of self.new.texts.items ≡ texts_of self.old.texts.items ++ text.items ∷ []) }
+        ensures kept { OnErr result (texts_of self.new.texts.items ≡ texts_of self.old.texts.items) }
         ensures sources { self.new.sources ≡ self.old.sources }
         ensures want { IfErr result (λ refusal. refusal ≡ Refusal.WantOfMemory) }
         ensures loads { IfErr result (λ refusal. is_unreadable refusal ≡ false) }
@@ -74,7 +76,8 @@ impl Documents {
     }
 }
 
-/// Sets the document of the source of a number, and merges all that were set.
+/// Sets the document of the source of a number, and merges all that were set. Where the merge is refused the document stays set;
+/// any other refusal leaves the sources as they were.
 pub fn merge_next(
     alloc: Global,
     sources: &mut Sources,
@@ -83,6 +86,7 @@ pub fn merge_next(
 ) -> Result<Flags, Refusal>
     ensures merged { IfOk result (λ flags. Sets (sources_view sources.old) (decimal number) text.now (Ok (sources_view sources.new)) × (merged_of (sources_view sources.new) ≡ Ok (flags_view flags))) }
     ensures refused { IfErr result (λ refusal. MayRefuse number (sources_view sources.old) text.now refusal) }
+    ensures left { IfErr result (λ refusal. LeavesSources number (sources_view sources.old) text.now (sources_view sources.new) refusal) }
 {
     let name = name_of(alloc, number)?;
     if let Err(fault) = sources.set(alloc, name.as_str(), text) {

@@ -46,7 +46,7 @@ _flagops() {
     fi
     case ${COMP_WORDS[1]}:$word in
         check:-*) COMPREPLY=($(compgen -W "--strict --json --help" -- "$word")) ;;
-        compare:-*) COMPREPLY=($(compgen -W "--flag --strict --json --help" -- "$word")) ;;
+        compare:-*) COMPREPLY=($(compgen -W "--flag --picture --strict --json --help" -- "$word")) ;;
         bucket:-* | price:-*) COMPREPLY=($(compgen -W "--json --help" -- "$word")) ;;
         plan:-*) COMPREPLY=($(compgen -W "--refine --strict --explain --picture --help" -- "$word")) ;;
         picture:-*) COMPREPLY=($(compgen -W "--refine --ramp --help" -- "$word")) ;;
@@ -102,6 +102,7 @@ complete -c flagops -n __fish_use_subcommand -f -a help -d 'Print the help of a 
 complete -c flagops -n '__fish_seen_subcommand_from bucket price check compare verify drive' -l json -d 'Print the answer as JSON'
 complete -c flagops -n '__fish_seen_subcommand_from check compare plan verify apply drive ramp verify-ramp' -l strict -d 'Refuse what is else only told'
 complete -c flagops -n '__fish_seen_subcommand_from compare' -l flag -x -d 'Only the pages of this flag'
+complete -c flagops -n '__fish_seen_subcommand_from compare' -l picture -r -d 'Write the picture of the pages'
 complete -c flagops -n '__fish_seen_subcommand_from plan' -l explain -d 'Tell the plan in words'
 complete -c flagops -n '__fish_seen_subcommand_from plan verify ramp verify-ramp picture tally' -l refine -x -d 'Plan in finer points'
 complete -c flagops -n '__fish_seen_subcommand_from plan' -l picture -r -d 'Write the picture of the plan'
@@ -171,8 +172,8 @@ _flagops() {
             _arguments '--strict[refuse what is else only told]' '--json[print the answer as JSON]' '--help[print help]' '*:file:_files'
             ;;
         compare)
-            _arguments '--flag[only the pages of this flag]:KEY:' '--strict[refuse what is else only told]' '--json[print the answer as JSON]' \
-                '--help[print help]' '*:file:_files'
+            _arguments '--flag[only the pages of this flag]:KEY:' '--picture[write the picture of the pages]:file:_files' \
+                '--strict[refuse what is else only told]' '--json[print the answer as JSON]' '--help[print help]' '*:file:_files'
             ;;
         plan)
             _arguments '--refine[plan in finer points]:M:' '--strict[refuse what is else only told]' '--explain[tell the plan in words]' \
@@ -219,7 +220,7 @@ _flagops() {
                 '--help[print help]' '*:file:_files'
             ;;
         serve | follow) _arguments '--wait[the most seconds to wait]:S:' '--help[print help]' '*:file:_files' ;;
-        completions) _values shell bash fish zsh ;;
+        completions) _arguments '--help[print help]' '2:shell:(bash fish zsh)' ;;
         *) _arguments '--help[print help]' '*:file:_files' ;;
     esac
 }

@@ -1,0 +1,2 @@
+mod Followed
+mod Replaced

@@ -1,0 +1,12 @@
+//! What holds of the definitions of a kept document and of trees.
+ghost use Rattle.kept_laws.specs.Replaced.{ReplacedIsRead};
+
+use part_texts::the_bytes_of_a_part_read_as_it;
+
+/// What is replaced in a document begins and ends with items of one list of its tree, which its bytes read as. A law: it computes
+/// nothing.
+pub fn what_is_replaced_is_read()
+    ensures { ReplacedIsRead }
+{
+    the_bytes_of_a_part_read_as_it();
+}
