@@ -61,6 +61,9 @@ fn main(rt: HostRuntime) -> ExitCode {
             ExitCode::from(want(&mut Console::new(out, err), "flagops"))
         }
     };
-    tell_failure(&rt, trouble.load(Ordering::SeqCst));
+    let failure = trouble.load(Ordering::SeqCst);
+    if failure != 0 {
+        tell_failure(&rt, failure);
+    }
     code
 }

@@ -51,10 +51,8 @@ fn remember(trouble: &AtomicI32, failure: io::Error) {
     }
 }
 
-/// Tells a person why the output failed, by the number that the system gave the failure: 0 where it did not fail.
+/// Tells a person why the output failed, by the number that the system gave the failure.
 pub fn tell_failure(rt: &HostRuntime, number: i32) {
-    if number != 0 {
-        let failure = io::Error::from_raw_os_error(number);
-        let _ = eprintln!(rt; "error: the output cannot be written: {failure}");
-    }
+    let failure = io::Error::from_raw_os_error(number);
+    let _ = eprintln!(rt; "error: the output cannot be written: {failure}");
 }

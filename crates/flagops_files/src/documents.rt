@@ -1,10 +1,10 @@
 //! From the path of a flag document to its flags.
-ghost use Rattle.std.specs.Prelude.{◌≡◌, ◌||◌, false, IfOk, IfSome, Ok};
+ghost use Rattle.std.specs.Prelude.{◌≡◌, ◌||◌, IfOk, IfSome, Ok};
 ghost use Rattle.flag_defs.specs.Flags.{flags_view};
-ghost use Rattle.flagops_files.specs.Documents.{IsDocumentAt, IsDocumentIn};
+ghost use Rattle.flagops_files.specs.Documents.{IsDocumentAt};
 ghost use Rattle.flagops_shell.specs.Files.{load_of};
 ghost use Rattle.flagops_files.specs.Loading.{max_text};
-ghost use Rattle.flagops_files.specs.Refusal.{ComesFrom, GivesOne, is_file_fault, loads_flags, reads_flags, TellsOf};
+ghost use Rattle.flagops_files.specs.Refusal.{ComesFrom, GivesOne, is_file_fault, loads_flags, TellsOf};
 ghost use Rattle.flagops_files.specs.Told.{file};
 
 use crate::loading::{TEXT_LIMIT, load};
@@ -35,7 +35,7 @@ pub fn load_flags<F: FileSet>(alloc: Global, files: &mut F, path: &str) -> Resul
 }
 
 /// The document at a path.
-#[tactic(auto, unfolding(crate::specs::Documents::IsDocumentAt))]
+#[tactic(auto, using(crate::proofs::Told::says), unfolding(crate::specs::Documents::IsDocumentAt))]
 pub fn load_document<F: FileSet>(
     alloc: Global,
     files: &mut F,
@@ -49,24 +49,12 @@ pub fn load_document<F: FileSet>(
     ensures names { TellsOf (file path.now) result }
 {
     let bytes = load(alloc, files, path, u64::from(TEXT_LIMIT))?;
-    let flags = flags_in(alloc, path, bytes.as_slice())?;
-    Ok(Document { bytes, flags })
-}
-
-/// The flags of a document that was loaded from a path.
-#[tactic(auto, using(crate::proofs::Told::says))]
-fn flags_in(alloc: Global, path: &str, bytes: &[u8]) -> Result<Flags, Refused>
-    ensures exact { GivesOne flags_view result (IsDocumentIn bytes.now) }
-    ensures calls { ComesFrom reads_flags result }
-    ensures read { is_file_fault result ≡ false }
-    ensures names { TellsOf (file path.now) result }
-{
     make_room_for(alloc, bytes.len());
-    match read_flags(alloc, bytes) {
-        Ok(flags) => Ok(flags),
+    match read_flags(alloc, bytes.as_slice()) {
+        Ok(flags) => Ok(Document { bytes, flags }),
         Err(fault) => Err(Refused {
             refusal: Refusal::ReadFlags(fault),
-            remark: Remark::of(of_document(alloc, path, bytes, fault)),
+            remark: Remark::of(of_document(alloc, path, bytes.as_slice(), fault)),
         }),
     }
 }

@@ -69,7 +69,7 @@ fn evidence_in<R: Threads>(
     ensures read { is_file_fault result ≡ false }
     ensures names { TellsOf (file path.now) result }
 {
-    if begins_tally(bytes.as_slice()) {
+    if bytes.as_slice().starts_with(TALLY_OPENING) {
         return tally_in(alloc, path, bytes.as_slice());
     }
     let ends = Ends::of(bytes.as_slice());
@@ -98,11 +98,4 @@ fn tally_in(alloc: Global, path: &str, bytes: &[u8]) -> Result<Evidence, Refused
             remark: Remark::of(of_tally(alloc, path, Ends::of(bytes), fault)),
         }),
     }
-}
-
-/// Whether bytes begin as the file of a tally.
-fn begins_tally(bytes: &[u8]) -> bool
-    ensures { result ≡ begins_tally bytes.now }
-{
-    bytes.starts_with(TALLY_OPENING)
 }

@@ -87,12 +87,12 @@ impl<'a, R: Files + Print> FileSet for SystemFiles<'a, R> {
 
     fn read(&mut self, alloc: Global, path: &str, max: u64) -> Result<Vec<u8>, LoadFault> {
         let meter = self.begin(alloc, path);
-        self.loaded(read_front(self.rt, alloc, read_from(path), max, meter))
+        self.loaded(read_front(self.rt, alloc, path, max, meter))
     }
 
     fn read_book(&mut self, alloc: Global, path: &str, max: u64) -> Result<Vec<u8>, LoadFault> {
         let meter = self.begin(alloc, path);
-        self.loaded(read_book_front(self.rt, alloc, read_from(path), max, meter))
+        self.loaded(read_book_front(self.rt, alloc, path, max, meter))
     }
 
     fn read_notes(
@@ -103,7 +103,7 @@ impl<'a, R: Files + Print> FileSet for SystemFiles<'a, R> {
         max: u64,
     ) -> Result<Vec<u8>, LoadFault> {
         let meter = self.begin(alloc, path);
-        self.loaded(read_notes_front(self.rt, alloc, read_from(path), passing, max, meter))
+        self.loaded(read_notes_front(self.rt, alloc, path, passing, max, meter))
     }
 
     fn front(&self, alloc: Global, path: &str) -> Result<Option<Vec<u8>>, AllocError> {
@@ -138,11 +138,6 @@ impl<'a, R: Files + Print> FileSet for SystemFiles<'a, R> {
     }
 }
 
-/// Where the file at a path is read from: `-` is the standard input.
-fn read_from(path: &str) -> &str {
-    if path == "-" { "/dev/stdin" } else { path }
-}
-
 /// Where the file at a path that is written lies: `-` is the standard output.
 fn written_to(path: &str) -> &str {
     if path == "-" { "/dev/stdout" } else { path }
@@ -158,12 +153,14 @@ fn written<R: Files + Print>(rt: &R, alloc: Global, path: &str, bytes: &[u8]) ->
     }
 }
 
-/// The file at the path, whose bytes the meter counts, and how many they are, as far as the system knows it.
+/// The file at the path, whose bytes the meter counts, and how many they are, as far as the system knows it. `-` is the
+/// standard input.
 fn opened<'a, R: Files>(
     rt: &R,
     path: &str,
     meter: Option<&'a Meter>,
 ) -> io::Result<(Counted<'a, R::File>, u64)> {
+    let path = if path == "-" { "/dev/stdin" } else { path };
     let file = fs::open(rt, path)?;
     let len = file.metadata()?.len();
     if let Some(meter) = meter {

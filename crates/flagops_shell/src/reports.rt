@@ -1,11 +1,11 @@
 //! Writing what a command reports.
-ghost use Rattle.std.specs.Prelude.{◌≡◌, ◌<◌, ◌++◌, length, false, not, is_some};
+ghost use Rattle.std.specs.Prelude.{◌≡◌, ◌<◌, ◌++◌, length, false, not};
 ghost use Rattle.std.specs.Bool.{OnTrue};
 ghost use Rattle.std.specs.Io.KnownBytes.{Appends};
 ghost use Rattle.flag_text.specs.Outlet.{AppendsPart};
 ghost use Rattle.flagops_shell.specs.Console.{IsOpen};
 ghost use Rattle.flagops_shell.specs.Diagnostic.{PutsRemark, spoken};
-ghost use Rattle.flagops_shell.specs.Report.{Puts, PutsText, Reports, ShowsReport, TellsIf, outcome_view, refusal_report, want_line_of};
+ghost use Rattle.flagops_shell.specs.Report.{Puts, PutsText, Reports, ShowsReport, outcome_view, refusal_report, want_line_of};
 
 use crate::console::Console;
 use crate::outcome::{Outcome, Status};
@@ -20,7 +20,9 @@ pub fn report<O: Outlet, E: Outlet>(console: &mut Console<O, E>, outcome: &Outco
     ensures remark { PutsRemark console.old.reported console.new.reported console.new.is_mute outcome.now.remark }
 {
     let status = print(&mut console.out, outcome);
-    tell_remark(&mut console.err, &outcome.remark);
+    if let Some(remark) = &outcome.remark {
+        tell(&mut console.err, remark.text());
+    }
     status
 }
 
@@ -52,17 +54,6 @@ fn print_want<O: Outlet>(out: &mut O, call: &str) -> u8
 {
     write_three(out, b"refused ", call.as_bytes(), b" 0 WantOfMemory\n");
     Status::Refused.number()
-}
-
-/// Tells a remark where there is one.
-fn tell_remark<E: Outlet>(err: &mut E, remark: &Option<Remark>)
-    requires { E.is_broken err.old ≡ false }
-    ensures told { TellsIf (E.bytes err.old) (E.bytes err.new) (E.is_broken err.new) (is_some remark.now) }
-    ensures remark { PutsRemark (E.bytes err.old) (E.bytes err.new) (E.is_broken err.new) remark.now }
-{
-    if let Some(remark) = remark {
-        tell(err, remark.text());
-    }
 }
 
 /// Writes what a person is told.

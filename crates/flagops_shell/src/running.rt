@@ -1,8 +1,8 @@
 //! Running a command.
-ghost use Rattle.std.specs.Prelude.{◌≡◌, false, true, map, IfSome};
+ghost use Rattle.std.specs.Prelude.{map};
 ghost use Rattle.flagops_shell.specs.Console.{IsOpen};
-ghost use Rattle.flagops_shell.specs.Ending.{Ends, ShowsRefusal, ShowsUnread};
-ghost use Rattle.flagops_shell.specs.Running.{AnswersAsked, AnswersStored, AnswersUnread, IsFileCall, LeavesAsked, MayRun, TellsUnasked};
+ghost use Rattle.flagops_shell.specs.Ending.{ShowsRefusal};
+ghost use Rattle.flagops_shell.specs.Running.{AnswersAsked, AnswersStored, AnswersUnread, LeavesAsked, TellsUnasked};
 
 use crate::command::Command;
 use crate::command_refusal::CommandRefusal;
@@ -37,28 +37,10 @@ pub fn run<'w, R: AllocGlobal, S: AsStr, F: FileSet, C: Command<'w, R, F>, O: Ou
     ensures stored { AnswersStored C.description console.old console.new result (F.holding files.old) (F.holding files.new) }
 {
     let alloc = rt.alloc();
-    match C::read(alloc, words) {
-        Ok(command) => answered(rt, alloc, &command, files, console),
-        Err(error) => report_usage(alloc, &error, console),
-    }
-}
-
-/// Writes what a command comes to.
-fn answered<'w, R, F: FileSet, C: Command<'w, R, F>, O: Outlet, E: Outlet>(
-    rt: &R,
-    alloc: Global,
-    command: &C,
-    files: &mut F,
-    console: &mut Console<O, E>,
-) -> u8
-    requires needs { C.Needs }
-    requires open { IsOpen console.old }
-    ensures answers { IfSome (F.holding files.old) (λ at. Ends console.old console.new result C.Refusal.line_of (C.description.MayWant (C.view command.now)) (C.description.MayTell (C.view command.now) at)
-        (MayRun C.description C.Refusal.is_unread (C.view command.now) at (F.holding files.new) (F.has_failed files.new))) }
-    ensures unread { F.has_failed files.old ≡ false → F.has_failed files.new ≡ true → ShowsUnread console.old console.new result (IsFileCall C.description C.Refusal.is_unread (C.view command.now)) }
-    ensures left { C.description.MayLeave (C.view command.now) (F.holding files.old) (F.holding files.new) }
-    ensures stored { AnswersStored C.description console.old console.new result (F.holding files.old) (F.holding files.new) }
-{
+    let command = match C::read(alloc, words) {
+        Ok(command) => command,
+        Err(error) => return report_usage(alloc, &error, console),
+    };
     match command.answer(rt, alloc, files) {
         Ok(outcome) => report(console, &outcome),
         Err(refused) => {

@@ -2,7 +2,7 @@
 ghost use Rattle.std.specs.Prelude.{◌≡◌, Some, IfOk, IfErr, map, option_map};
 ghost use Rattle.clap.specs.Words.{found_of, kind_of, rows_of, subcommand_rows_of};
 ghost use Rattle.flagops_words.specs.Asked.{asked_view};
-ghost use Rattle.flagops_words.specs.Words.{IsToldBy, applied_in, apply_in, asked_by, asked_in, asked_of, bucket_in, completions_in, drive_in, is_stray, keep_in, mistake_of, plan_in, price_in, resolve_in, rollout_in, verify_in};
+ghost use Rattle.flagops_words.specs.Words.{IsToldBy, applied_in, apply_in, asked_by, asked_of, bucket_in, completions_in, drive_in, is_stray, keep_in, mistake_of, plan_in, price_in, resolve_in, verify_in};
 
 use crate::asked::Asked;
 use crate::kinds::kind_spelled;
@@ -49,28 +49,12 @@ fn asked_of<'a>(matches: &ArgMatches<'a>) -> Option<Asked<'a>>
     ensures { option_map asked_view result ≡ asked_of (subcommand_rows_of matches.now) }
 {
     let (name, words) = matches.subcommand()?;
-    asked_in(name, words)
-}
-
-/// The same of a command, by its name.
-fn asked_in<'a>(name: &str, words: &ArgMatches<'a>) -> Option<Asked<'a>>
-    ensures { option_map asked_view result ≡ asked_in (name.now, rows_of (found_of words.now)) }
-{
     match name {
         "resolve" => resolve_in(words),
         "completions" => completions_in(words),
         "apply" => apply_in(words),
         "price" => price_in(words),
         "bucket" => bucket_in(words),
-        _ => rollout_in(name, words),
-    }
-}
-
-/// The same of a command on rollouts.
-fn rollout_in<'a>(name: &str, words: &ArgMatches<'a>) -> Option<Asked<'a>>
-    ensures { option_map asked_view result ≡ rollout_in (name.now, rows_of (found_of words.now)) }
-{
-    match name {
         "verify" => verify_in(words),
         "plan" => plan_in(words),
         "drive" => drive_in(words),
