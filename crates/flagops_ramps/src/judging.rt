@@ -315,12 +315,21 @@ fn of_verdict(
     ensures { IfOk result (λ s. NamesStep (judged_path (verifying_view asked.now) fault.now) step (string_bytes s)) }
 {
     let more = more?;
-    let (path, advice) = match fault {
-        VerifyFault::Request(fault) => (asked.rollout.steps, advice_on(*fault)),
-        VerifyFault::Check(_) => (asked.ramp, ""),
+    let path = match fault {
+        VerifyFault::Request(_) => asked.rollout.steps,
+        VerifyFault::Check(_) => asked.ramp,
     };
+    let advice = advice_of(fault);
     let reason = format!(in alloc; "{fault}{advice}{more}")?;
     step_line(alloc, path, step, reason.as_str())
+}
+
+/// What to do about a request that is refused; nothing of an answer that is not right.
+fn advice_of(fault: &VerifyFault) -> &'static str {
+    match fault {
+        VerifyFault::Request(fault) => advice_on(*fault),
+        VerifyFault::Check(_) => "",
+    }
 }
 
 /// What a person is told of a file that is none of answers, by what is seen of it at its ends.
