@@ -341,12 +341,12 @@ class Answers(ServiceTest):
                 stream.sendall(head)
                 self.assertTrue(stream.recv(4096).startswith(b"HTTP/1.1 400 "))
         with self.connect() as stream:
-            stream.sendall(b"POST / HTTP/1.1\r\nHost: h\r\nContent-Length: 4194305\r\n\r\n")
+            stream.sendall(b"POST / HTTP/1.1\r\nHost: h\r\nContent-Length: 1048577\r\n\r\n")
             self.assertTrue(stream.recv(4096).startswith(b"HTTP/1.1 413 "))
 
     def test_who_is_still_sending_sees_the_refusal(self):
         with self.connect() as stream:
-            stream.sendall(b"POST / HTTP/1.1\r\nHost: h\r\nContent-Length: 4194305\r\n\r\n" + b"x" * 60_000)
+            stream.sendall(b"POST / HTTP/1.1\r\nHost: h\r\nContent-Length: 1048577\r\n\r\n" + b"x" * 60_000)
             told = b""
             while part := stream.recv(4096):
                 told += part
