@@ -860,6 +860,33 @@ class Many(ServiceTest):
         self.assertTrue(self.is_healthy(streams[1]))
 
 
+class Limits(ServiceTest):
+    """How long a connection may be idle, and how large a body may be, where that is said."""
+
+    def test_an_idle_connection_is_closed(self):
+        self.start("--workers", "1", "--idle", "1")
+        with self.connect() as stream:
+            stream.sendall(b"GET /healthz HTTP/1.1\r\nHost: h\r\n\r\n")
+            told = b""
+            while part := stream.recv(4096):
+                told += part
+        self.assertTrue(told.startswith(b"HTTP/1.1 200 ") and told.endswith(b"ok"), told)
+        self.assertIn('\nofrep_connections_closed_total{reason="idle"} 1\n', self.ask("GET", "/metrics")[2].decode())
+
+    def test_a_body_of_so_many_bytes_is_the_largest(self):
+        body = context("mallory")
+        self.start("--workers", "1", "--max-body", str(len(body)))
+        self.assertEqual(self.flag("color", body), (200, color_of("mallory")))
+        status, _, told = self.ask("POST", f"{FLAGS}/color", body + b" ")
+        self.assertEqual((status, told), (413, b""))
+
+    def test_the_largest_that_may_be_said(self):
+        self.start("--workers", "1", "--max-body", "4194304")
+        body = context("mallory")
+        self.assertEqual(self.flag("color", body + b" " * (4_194_304 - len(body))), (200, color_of("mallory")))
+        self.assertEqual(self.ask("POST", f"{FLAGS}/color", body + b" " * (4_194_305 - len(body)))[0], 413)
+
+
 class Logs(ServiceTest):
     """What stands in the logs once something is told."""
 
