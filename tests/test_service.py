@@ -715,6 +715,16 @@ class Operations(ServiceTest):
         self.assertEqual(lines.count({"method": "POST", "path": f"{FLAGS}/nobody", "status": 404}), 5)
         self.assertIn({"method": "GET", "path": "/healthz", "status": 200}, lines)
 
+    def test_what_is_told_has_its_time_and_level(self):
+        child = self.operated()
+        told = self.told(child, "answers from snapshot 1")
+        for line in told.splitlines():
+            self.assertRegex(line, r"\A\d{4}-[01]\d-[0-3]\dT[0-2]\d:[0-5]\d:[0-5]\d\.\d{3}Z INFO ofrep: ")
+
+    def test_a_refusal_is_an_error(self):
+        told = run(["ofrep", "--cors", "nowhere", "d"], {"d": compact(DOCUMENT)})
+        self.assertRegex(told.err, r"\A\d{4}-[01]\d-[0-3]\dT[0-2]\d:[0-5]\d:[0-5]\d\.\d{3}Z ERROR error: ")
+
     def test_no_line_without_it(self):
         child = self.operated()
         self.flag("size")
