@@ -1,5 +1,5 @@
 //! What is opened before anybody is answered.
-ghost use Rattle.std.specs.Prelude.{◌≡◌, ◌-◌, IfErr, IfOk, IfSome, None, is_some, map, vec_len};
+ghost use Rattle.std.specs.Prelude.{◌≡◌, ◌-◌, IfErr, IfOk, IfSome, None, OnOk, is_some, map, vec_len};
 ghost use Rattle.ofrep_service.specs.Logs.{path_in, paths_of};
 ghost use Rattle.flagops_service.specs.Ended.{cors_fault};
 ghost use Rattle.flagops_service.specs.Unready.{HasKeys, MayBeUnready};
@@ -66,9 +66,7 @@ where
     ensures logs { IfOk result (λ p. map (λ post. path_in post.journal) p.posts.items ≡ paths_of (answering_view answering.now).log answering.now.workers) }
     ensures unready { IfErr result (MayBeUnready (answering_view answering.now)) }
 {
-    if let Some(fault) = fault_in(answering.cors.as_slice()) {
-        return Err(Unready::Stopped(Stop::BadOrigin(fault)));
-    }
+    judge_origins(answering)?;
     let clients = read_keys(alloc, files, answering)?;
     let logs = match open_logs(rt, alloc, answering.log, answering.workers as usize) {
         Ok(logs) => logs,
@@ -95,6 +93,17 @@ where
             clients,
         }),
         Err(fault) => Err(why_unready(fault.kind())),
+    }
+}
+
+/// Refuses an origin that no browser names so.
+fn judge_origins(answering: &Answering<'_>) -> Result<(), Unready>
+    ensures cors { OnOk result (cors_fault (answering_view answering.now).cors ≡ None) }
+    ensures unready { IfErr result (MayBeUnready (answering_view answering.now)) }
+{
+    match fault_in(answering.cors.as_slice()) {
+        Some(fault) => Err(Unready::Stopped(Stop::BadOrigin(fault))),
+        None => Ok(()),
     }
 }
 

@@ -45,7 +45,7 @@ pub(crate) fn watch<J: ShareName, R: Clock + LogPaths + Wait, F: FileSet, E: Out
     let mut told = LogNews::none();
     for turn in 0..u64::MAX {
         if !rest(rt, watched.alloc, board, err) {
-            break;
+            return;
         }
         told = tell_news(board, told, err);
         if !is_turn(turn, poll) {

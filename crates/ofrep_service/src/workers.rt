@@ -196,6 +196,21 @@ fn serve<'a, S: Recording + CountsStatus, R: Net + Clock>(
     ensures { (turns : List (List Call)) × Works ⟦<Dated<'a, R, LoggedService<'a, R, Guard<'a, S>>> as Service>⟧.answers ⟦<Dated<'a, R, LoggedService<'a, R, Guard<'a, S>>> as Recording>⟧.looked dated.old turns dated.new
         × AllStand ⟦<Dated<'a, R, LoggedService<'a, R, Guard<'a, S>>> as Recording>⟧.stands dated.new (flat_map (λ calls. calls) turns) }
 {
+    serve_recorded(rt, alloc, keys, board, listener, dated)
+}
+
+/// Has a service whose answers rest on something answer the connections of a listener. That stands in the end, for each of them.
+fn serve_recorded<S: Recording, R: Net + Clock>(
+    rt: &R,
+    alloc: Global,
+    keys: RandomState,
+    board: &Board,
+    listener: TcpListener,
+    service: &mut S,
+) -> io::Result<()>
+    ensures { (turns : List (List Call)) × Works S.answers S.looked service.old turns service.new
+        × AllStand S.stands service.new (flat_map (λ calls. calls) turns) }
+{
     let config = Config {
         max_body_len: board.limits.body_bytes,
         max_pending: MOST_PENDING,
@@ -211,7 +226,7 @@ fn serve<'a, S: Recording + CountsStatus, R: Net + Clock>(
         listener,
         &board.load,
         &board.is_stopping,
-        dated,
+        service,
     )
 }
 
