@@ -1,3 +1,4 @@
 mod Peers
 mod Sockets
 mod Turns
+mod Statuses

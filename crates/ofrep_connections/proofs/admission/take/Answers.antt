@@ -1,7 +1,5 @@
-use Rattle.std.proofs.Common.{List, ℕ, [], subst, sym}
-use Rattle.http_server.specs.Connection.{history}
+use Rattle.std.proofs.Common.{subst, sym}
 use Rattle.http_server.specs.History.{History}
-use Rattle.http_server.specs.Exchange.{Call}
 use Rattle.recorded_answers.specs.Stand.{AllStand}
 use Rattle.ofrep_connections.specs.Socket.{IsTied}
 use Rattle.ofrep_connections.proofs.Sockets.{nothing_stands, tied_new}
