@@ -1,5 +1,5 @@
 //! The command `ofrep`.
-ghost use Rattle.std.specs.Prelude.{◌≡◌, ◌≤◌, ◌<◌, ◌++◌, ◌&&◌, None, false, if◌then◌else◌, is_some, length, map, option_copied, option_map, string_bytes, vec_len, IfOk, IfSome};
+ghost use Rattle.std.specs.Prelude.{◌≡◌, ◌≤◌, ◌<◌, ◌++◌, ◌&&◌, None, false, if◌then◌else◌, is_some, length, map, option_map, string_bytes, vec_len, IfOk, IfSome};
 ghost use Rattle.std.specs.List.{list_any};
 ghost use Rattle.std.specs.NonZero.{non_zero_usize_get};
 ghost use Rattle.flag_defs.specs.Flag.{is_broken};
