@@ -341,12 +341,12 @@ class Answers(ServiceTest):
                 stream.sendall(head)
                 self.assertTrue(stream.recv(4096).startswith(b"HTTP/1.1 400 "))
         with self.connect() as stream:
-            stream.sendall(b"POST / HTTP/1.1\r\nHost: h\r\nContent-Length: 4194305\r\n\r\n")
+            stream.sendall(b"POST / HTTP/1.1\r\nHost: h\r\nContent-Length: 1048577\r\n\r\n")
             self.assertTrue(stream.recv(4096).startswith(b"HTTP/1.1 413 "))
 
     def test_who_is_still_sending_sees_the_refusal(self):
         with self.connect() as stream:
-            stream.sendall(b"POST / HTTP/1.1\r\nHost: h\r\nContent-Length: 4194305\r\n\r\n" + b"x" * 60_000)
+            stream.sendall(b"POST / HTTP/1.1\r\nHost: h\r\nContent-Length: 1048577\r\n\r\n" + b"x" * 60_000)
             told = b""
             while part := stream.recv(4096):
                 told += part
@@ -715,6 +715,16 @@ class Operations(ServiceTest):
         self.assertEqual(lines.count({"method": "POST", "path": f"{FLAGS}/nobody", "status": 404}), 5)
         self.assertIn({"method": "GET", "path": "/healthz", "status": 200}, lines)
 
+    def test_what_is_told_has_its_time_and_level(self):
+        child = self.operated()
+        told = self.told(child, "answers from snapshot 1")
+        for line in told.splitlines():
+            self.assertRegex(line, r"\A\d{4}-[01]\d-[0-3]\dT[0-2]\d:[0-5]\d:[0-5]\d\.\d{3}Z INFO ofrep: ")
+
+    def test_a_refusal_is_an_error(self):
+        told = run(["ofrep", "--cors", "nowhere", "d"], {"d": compact(DOCUMENT)})
+        self.assertRegex(told.err, r"\A\d{4}-[01]\d-[0-3]\dT[0-2]\d:[0-5]\d:[0-5]\d\.\d{3}Z ERROR error: ")
+
     def test_no_line_without_it(self):
         child = self.operated()
         self.flag("size")
@@ -858,6 +868,33 @@ class Many(ServiceTest):
             self.assertTrue(self.is_healthy(streams[-1]))
         self.assertEqual(streams[0].recv(1), b"")
         self.assertTrue(self.is_healthy(streams[1]))
+
+
+class Limits(ServiceTest):
+    """How long a connection may be idle, and how large a body may be, where that is said."""
+
+    def test_an_idle_connection_is_closed(self):
+        self.start("--workers", "1", "--idle", "1")
+        with self.connect() as stream:
+            stream.sendall(b"GET /healthz HTTP/1.1\r\nHost: h\r\n\r\n")
+            told = b""
+            while part := stream.recv(4096):
+                told += part
+        self.assertTrue(told.startswith(b"HTTP/1.1 200 ") and told.endswith(b"ok"), told)
+        self.assertIn('\nofrep_connections_closed_total{reason="idle"} 1\n', self.ask("GET", "/metrics")[2].decode())
+
+    def test_a_body_of_so_many_bytes_is_the_largest(self):
+        body = context("mallory")
+        self.start("--workers", "1", "--max-body", str(len(body)))
+        self.assertEqual(self.flag("color", body), (200, color_of("mallory")))
+        status, _, told = self.ask("POST", f"{FLAGS}/color", body + b" ")
+        self.assertEqual((status, told), (413, b""))
+
+    def test_the_largest_that_may_be_said(self):
+        self.start("--workers", "1", "--max-body", "4194304")
+        body = context("mallory")
+        self.assertEqual(self.flag("color", body + b" " * (4_194_304 - len(body))), (200, color_of("mallory")))
+        self.assertEqual(self.ask("POST", f"{FLAGS}/color", body + b" " * (4_194_305 - len(body)))[0], 413)
 
 
 class Logs(ServiceTest):

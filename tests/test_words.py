@@ -37,6 +37,8 @@ MISTAKES = [
     (["drive", "--keep", "d", "a", "1", "b"], "unexpected argument '--keep'"),
     (["book"], "Usage: flagops book <OUT> <FILE>..."),
     (["book", "o"], "<FILE>..."),
+    (["ofrep", "--idle", "0", "d"], "invalid value '0' for '--idle <S>'"),
+    (["ofrep", "--max-body", "4194305", "d"], "invalid value '4194305' for '--max-body <BYTES>'"),
 ]
 
 # The words, and what is printed within.

@@ -35,3 +35,8 @@ work_of is_typed (first ∷ words) =
 abbrev pub is_filter : Family → Bool
 is_filter Record = true
 is_filter _ = false
+
+-- the command that serves until it is ended, and tells what happens to it meanwhile
+abbrev pub is_service : Family → Bool
+is_service Ofrep = true
+is_service _ = false

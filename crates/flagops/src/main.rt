@@ -25,11 +25,12 @@ use outputs::{StandardOutput, tell_failure};
 use persistent_io::PersistentInput;
 use progress::{BesideLine, Counted, Progress, TerminalLine};
 use stack::on_stack;
+use stamped_lines::StampedLines;
 use std::env;
 use std::io::IsTerminal;
 use std::process::ExitCode;
 use std::sync::atomic::{AtomicI32, Ordering};
-use watching::{Watch, is_filter, work_of};
+use watching::{Watch, is_filter, is_service, work_of};
 use words::asked_words;
 
 fn main(rt: HostRuntime) -> ExitCode {
@@ -37,6 +38,11 @@ fn main(rt: HostRuntime) -> ExitCode {
     let words = asked_words(rt.alloc(), env::args(&rt), rt.stderr().is_terminal());
     let work = work_of(&words, rt.stdin().is_terminal());
     let goes_on = is_filter(&words) && !rt.stdout().is_terminal();
+    let stamps = if is_service(&words) && !rt.stderr().is_terminal() {
+        Some(rt.stderr())
+    } else {
+        None
+    };
     let progress = Progress::new();
     let line = TerminalLine::new(rt.stderr(), work.is_some() && rt.stderr().is_terminal());
     let watch = Watch {
@@ -52,7 +58,8 @@ fn main(rt: HostRuntime) -> ExitCode {
     let out = StandardOutput::new(rt.stdout(), &trouble);
     let out = WriteOutlet::new(BesideLine::new(&rt, &line, out, goes_on));
     let err = StandardOutput::new(rt.stderr(), &unread);
-    let err = WriteOutlet::new(BesideLine::new(&rt, &line, err, false));
+    let err = BesideLine::new(&rt, &line, err, false);
+    let err = WriteOutlet::new(StampedLines::new(&rt, rt.alloc(), stamps, err));
     let code = match on_stack(&rt, words, input, files, out, err, &watch) {
         Some(code) => code,
         None => {

@@ -1,7 +1,7 @@
 //! Which commands someone at a terminal watches, and what is told of them.
 ghost use Rattle.std.specs.Prelude.{◌≡◌, false, IfErr, IfOk, None, map, option_map, string_bytes};
 ghost use Rattle.flagops.specs.First.{family_of};
-ghost use Rattle.flagops.specs.Watched.{is_filter, work_in, work_of};
+ghost use Rattle.flagops.specs.Watched.{is_filter, is_service, work_in, work_of};
 
 use crate::family::{Family, family_of, has_word};
 use progress::{Progress, TerminalLine};
@@ -90,4 +90,28 @@ fn writes_while_it_reads(family: Family) -> bool
     ensures { result ≡ is_filter family }
 {
     matches!(family, Family::Record)
+}
+
+/// Whether the words ask for the command that serves until it is ended, and tells what happens to it meanwhile.
+pub fn is_service(words: &io::Result<Vec<String>>) -> bool
+    ensures asked { IfOk words.now (λ w. result ≡ is_service (family_of (map string_bytes w.items))) }
+    ensures unread { IfErr words.now (λ _. result ≡ false) }
+{
+    match words {
+        Ok(words) => asks_for_service(words.as_slice()),
+        Err(_) => false,
+    }
+}
+
+/// The same of words that were read.
+fn asks_for_service(words: &[String]) -> bool
+    ensures { result ≡ is_service (family_of (map string_bytes words.now)) }
+{
+    answers_over_http(family_of(words))
+}
+
+fn answers_over_http(family: Family) -> bool
+    ensures { result ≡ is_service family }
+{
+    matches!(family, Family::Ofrep)
 }

@@ -12,15 +12,18 @@ use Rattle.flagops_shell.specs.declared.refused.Remark.{Remark}
 use Rattle.flagops_words.specs.Asked.{Asked}
 use Rattle.flagops_commands.specs.Commands.{calls_of}
 use Rattle.flagops_commands.specs.Attempts.{TellsOfFirst, attempts_of, remark_of}
-use Rattle.flagops_commands.specs.Subjects.{notes_of, numbers_of}
+use Rattle.flagops_commands.specs.Subjects.{notes_of, numbers_of, parts_of}
 
--- of a report its note and its numbers, and of a refusal the name of the first that is refused
+-- of a report its note, its numbers and its parts, and of a refusal the name of the first that is refused
 pub remarks : (files : Option Holding) (a : Asked) (r : Result Outcome Refused) → IfSome files (λ at. TellsOfFirst (attempts_of a at) r) → IfOk r (λ o. IfSome o.remark (Says (notes_of a)))
-    → IfOk r (λ o. IfSome files (λ at. IfSome o.remark (Says (numbers_of a at (outcome_view o))))) → IfSome files (λ at. Remarks is_want (remark_of a at) r)
-remarks None a r names notes numbers = tt
-remarks (Some at) a (Ok o) names notes numbers = λ remark is.
-    (subst (λ (m : Option Remark). IfSome m (Says (notes_of a))) is notes, subst (λ (m : Option Remark). IfSome m (Says (numbers_of a at (outcome_view o)))) is numbers)
-remarks (Some at) a (Err e) names notes numbers = names
+    → IfOk r (λ o. IfSome files (λ at. IfSome o.remark (Says (numbers_of a at (outcome_view o))))) → IfSome files (λ at. IfOk r (λ o. parts_of a at (outcome_view o) o.remark)) → IfSome files (λ at. Remarks is_want (remark_of a at) r)
+remarks None a r names notes numbers parts = tt
+remarks (Some at) a (Ok o) names notes numbers parts = λ remark is. (
+  subst (λ (m : Option Remark). IfSome m (Says (notes_of a))) is notes,
+  subst (λ (m : Option Remark). IfSome m (Says (numbers_of a at (outcome_view o)))) is numbers,
+  subst (λ (m : Option Remark). parts_of a at (outcome_view o) m) is parts,
+)
+remarks (Some at) a (Err e) names notes numbers parts = names
 
 -- a call of the command ran out of memory
 pub wants : (a : Asked) (r : Result Outcome Refused) → ComesFrom (calls_of a) r → IfErr r (λ e. IsCallOf call_name (calls_of a) (call_name (call_of e.refusal)))

@@ -1,7 +1,7 @@
 -- The first of what a command attempts in turn that is refused.
 use Rattle.std.proofs.Common.{◌≡◌, false, ℕ, List, ◌∷◌, ◌++◌, IfOk, Option, Some, None, IfSome, inl, inr, sym, subst}
 use Rattle.std.specs.Prelude.{Bool, Result, Ok, Err, unwrap_or}
-use Rattle.flagops_commands.specs.Subjects.{numbers_of}
+use Rattle.flagops_commands.specs.Subjects.{numbers_of, parts_of}
 use Rattle.flagops_rollouts.specs.Finer.{TellsFinerOf}
 use Rattle.flagops_shell.specs.Report.{outcome_view}
 use Rattle.flagops_commands.specs.Attempts.{Attempts, TellsOfFirst, attempts_of}
@@ -37,6 +37,10 @@ points_told old a document request book refine strict explain r is told =
 -- what the words ask for, as they were matched
 pub as_asked : {X : Type 0} (old : Option Holding) (a b : Asked) (r : Result X Refused) → a ≡ b → IfSome old (λ at. TellsOfFirst (attempts_of b at) r) → IfSome old (λ at. TellsOfFirst (attempts_of a at) r)
 as_asked {X} old a b r is told = subst (λ (x : Asked). IfSome old (λ at. TellsOfFirst (attempts_of x at) r)) (sym is) told
+
+-- and the parts that they are told in
+pub parts_told : (old : Option Holding) (a b : Asked) (r : Result Outcome Refused) → a ≡ b → IfSome old (λ at. IfOk r (λ o. parts_of b at (outcome_view o) o.remark)) → IfSome old (λ at. IfOk r (λ o. parts_of a at (outcome_view o) o.remark))
+parts_told old a b r is told = subst (λ (x : Asked). IfSome old (λ at. IfOk r (λ o. parts_of x at (outcome_view o) o.remark))) (sym is) told
 
 -- ---- of several kinds
 

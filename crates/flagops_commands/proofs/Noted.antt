@@ -23,3 +23,9 @@ pub no_numbers : (files : Option Holding) (r : Result Outcome Refused) → IfOk 
 no_numbers files (Err e) = tt
 no_numbers None (Ok o) = tt
 no_numbers (Some at) (Ok o) = says_nothing o.remark
+
+-- nor of its parts
+pub no_parts : (files : Option Holding) (r : Result Outcome Refused) → IfSome files (λ at. IfOk r (λ o. Unit {0}))
+no_parts None r = tt
+no_parts (Some at) (Ok o) = tt
+no_parts (Some at) (Err e) = tt

@@ -1,11 +1,11 @@
 -- What each command attempts in turn: a person is told of the first that is refused.
-use Rattle.std.specs.Prelude.{ℕ, Bool, List, [], ◌∷◌, ◌++◌, codes, map, Result, Ok, Err}
+use Rattle.std.specs.Prelude.{ℕ, Bool, List, [], ◌∷◌, ◌++◌, codes, map, Some, Result, Ok, Err}
 use Rattle.flag_text.specs.Reading.{tree_of}
 use Rattle.flagops_commands.specs.Drive.{before_at}
 use Rattle.flagops_commands.specs.Loaded.{IsDocumentAt, choice_at, rule_at, tree_at}
 use Rattle.flagops_commands.specs.Price.{request_at}
 use Rattle.flagops_commands.specs.Refusal.{Refused, Remarks, is_want, no_tree}
-use Rattle.flagops_commands.specs.Subjects.{driven_subjects, is_of_keys, is_of_rules, notes_of, numbers_of, old_weights, written_subjects}
+use Rattle.flagops_commands.specs.Subjects.{driven_subjects, is_of_keys, is_of_rules, notes_of, numbers_of, old_weights, parts_of, written_subjects}
 use Rattle.flagops_commands.specs.declared.refusal.ListedRefusal.{ListedRefusal}
 use Rattle.flagops_commands.specs.declared.refusal.ListedRefusal.TheVariants.{Rollout}
 use Rattle.flagops_files.specs.Loading.{max_text}
@@ -62,5 +62,5 @@ attempts_of (completions shell) at = []
 
 -- the remark on what a command comes to over these files
 abbrev pub remark_of : Asked → Holding → Remarks
-remark_of asked at (Ok report) remark = Says (notes_of asked) remark × Says (numbers_of asked at report) remark
+remark_of asked at (Ok report) remark = Says (notes_of asked) remark × Says (numbers_of asked at report) remark × parts_of asked at report (Some remark)
 remark_of asked at (Err e) remark = NamesFirst (attempts_of asked at) e remark

@@ -1,18 +1,20 @@
 -- What a person is told: of a refusal that is known by its kind the name of the file at a path, or of the word, that it is of; and
 -- what is told beside a report.
-use Rattle.std.specs.Prelude.{ℕ, Bool, true, false, List, [], ◌∷◌, codes, unwrap_or}
+use Rattle.std.specs.Prelude.{ℕ, Bool, true, false, List, [], ◌∷◌, codes, unwrap_or, Option}
 use Rattle.flagops_drive.specs.declared.fault.DriveRefusal.{DriveRefusal}
 use Rattle.flagops_drive.specs.declared.fault.DriveRefusal.TheVariants as driving
 use Rattle.flagops_commands.specs.Refusal.{loads_book, loads_tree, stores_file, Subjects, by}
 use Rattle.flagops_files.specs.Told.{file, word}
 use Rattle.flagops_shell.specs.Files.{Holding}
 use Rattle.flagops_shell.specs.Report.{Report}
+use Rattle.flagops_shell.specs.declared.refused.Remark.{Remark}
 use Rattle.flagops_commands.specs.declared.refusal.PriceMismatch.TheVariants.{Weight, BadKeys}
 use Rattle.flagops_commands.specs.declared.refusal.ListedRefusal.{ListedRefusal}
 use Rattle.flagops_commands.specs.declared.refusal.ListedRefusal.TheVariants.{Note, Price, Drive, Doubted, WouldLose}
 use Rattle.flagops_commands.specs.DriveSummary.{TellsPrinted}
 use Rattle.flagops_rollouts.specs.Doubts.{NamesDoubted}
 use Rattle.flagops_rollouts.specs.Finer.{TellsFinerOf}
+use Rattle.flagops_rollouts.specs.Remarks.{TellsAppliedAt, TellsDoubtsAt, TellsKeptAt, TellsPlanAt}
 use Rattle.file_diagnostics.specs.Named.{Names, NamesWord}
 use Rattle.flagops_words.specs.Asked.{Asked, price, verify, apply, keep, plan, drive}
 
@@ -84,3 +86,11 @@ abbrev pub numbers_of : Asked → Holding → Report → List ℕ → Type 0
 numbers_of (plan document request book refine strict explain) at report = TellsFinerOf request (unwrap_or refine 1) report.text
 numbers_of (drive document asks workers book add replace strict json) at report = TellsPrinted at asks book add json report.text
 numbers_of asked at report = λ lines. Unit {0}
+
+-- and of a command on rollouts all that is told, part after part
+abbrev pub parts_of : Asked → Holding → Report → Option Remark → Type 0
+parts_of (verify document request book answer refine strict json) at report told = TellsDoubtsAt at document request book told
+parts_of (plan document request book refine strict explain) at report told = TellsPlanAt at document request book (unwrap_or refine 1) explain report.text told
+parts_of (apply document answer key site strict) at report told = TellsAppliedAt at document answer key site told
+parts_of (keep document answer request book write refine strict) at report told = TellsKeptAt at document answer request book told
+parts_of asked at report told = Unit {0}

@@ -7,7 +7,7 @@ ghost use Rattle.flagops_commands.specs.Refusal.{ComesFrom, GivesOne, is_file_fa
 ghost use Rattle.flagops_shell.specs.Report.{outcome_view};
 ghost use Rattle.flagops_shell.specs.Diagnostic.{Says};
 ghost use Rattle.flagops_commands.specs.Attempts.{TellsOfFirst, attempts_of};
-ghost use Rattle.flagops_commands.specs.Subjects.{notes_of, numbers_of};
+ghost use Rattle.flagops_commands.specs.Subjects.{notes_of, numbers_of, parts_of};
 
 use crate::books::drive::drive;
 use crate::completions::completions;
@@ -23,7 +23,7 @@ use std::sync::Wait;
 use std::thread::Threads;
 
 /// What the command answers, or why it is refused. `drive` alone waits, for its workers.
-#[tactic(auto, using(crate::proofs::Noted::nothing, crate::proofs::Noted::no_numbers, crate::proofs::Refusing::all_kept, crate::proofs::Firsts::in_any_files))]
+#[tactic(auto, using(crate::proofs::Noted::nothing, crate::proofs::Noted::no_numbers, crate::proofs::Noted::no_parts, crate::proofs::Refusing::all_kept, crate::proofs::Firsts::in_any_files))]
 pub fn outcome<R: Threads + Wait + Sync, F: FileSet>(
     rt: &R,
     alloc: Global,
@@ -38,6 +38,7 @@ pub fn outcome<R: Threads + Wait + Sync, F: FileSet>(
     ensures names { IfSome (F.holding files.old) (λ at. TellsOfFirst (attempts_of (asked_view asked.now) at) result) }
     ensures notes { IfOk result (λ o. IfSome o.remark (Says (notes_of (asked_view asked.now)))) }
     ensures numbers { IfOk result (λ o. IfSome (F.holding files.old) (λ at. IfSome o.remark (Says (numbers_of (asked_view asked.now) at (outcome_view o))))) }
+    ensures parts { IfSome (F.holding files.old) (λ at. IfOk result (λ o. parts_of (asked_view asked.now) at (outcome_view o) o.remark)) }
 {
     match asked {
         Asked::Bucket { rule, key, json } => bucket(alloc, files, rule, key, *json),

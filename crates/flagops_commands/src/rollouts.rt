@@ -11,6 +11,7 @@ ghost use Rattle.flagops_rollouts.specs.Doubts.{NamesDoubted};
 ghost use Rattle.flagops_rollouts.specs.Finer.{TellsFinerOf};
 ghost use Rattle.flagops_rollouts.specs.Keep.{IsKeepReport, LeavesDocument};
 ghost use Rattle.flagops_rollouts.specs.Plan.{IsPlanReport};
+ghost use Rattle.flagops_rollouts.specs.Remarks.{TellsAppliedAt, TellsDoubtsAt, TellsKeptAt, TellsPlanAt};
 ghost use Rattle.flagops_rollouts.specs.Verify.{IsVerifyReport};
 ghost use Rattle.flagops_shell.specs.Diagnostic.{Says};
 ghost use Rattle.flagops_shell.specs.Ending.{KeepsUnlessDone};
@@ -43,6 +44,7 @@ pub(crate) fn plan<R: Threads + Sync, F: FileSet>(
     ensures names { IfSome (F.holding files.old) (λ at. TellsOfFirst (rolled (plan_attempts at document.now request.now book.now)) result) }
     ensures notes { IfOk result (λ o. IfSome o.remark (Says (NamesDoubted request.now book.now))) }
     ensures numbers { IfOk result (λ o. IfSome o.remark (Says (TellsFinerOf request.now (unwrap_or (option_map (λ m. m.number) refine) 1) o.text.items))) }
+    ensures parts { IfSome (F.holding files.old) (λ at. IfOk result (λ o. TellsPlanAt at document.now request.now book.now (unwrap_or (option_map (λ m. m.number) refine) 1) explain o.text.items o.remark)) }
 {
     match flagops_rollouts::plan(
         rt, alloc, files, document, request, book, refine, strict, explain,
@@ -72,6 +74,7 @@ pub(crate) fn verify<R: Threads + Sync, F: FileSet>(
     ensures kept { F.holding files.new ≡ F.holding files.old }
     ensures names { IfSome (F.holding files.old) (λ at. TellsOfFirst (rolled (verify_attempts at document.now request.now book.now plan.now)) result) }
     ensures notes { IfOk result (λ o. IfSome o.remark (Says (NamesDoubted request.now book.now))) }
+    ensures parts { IfSome (F.holding files.old) (λ at. IfOk result (λ o. TellsDoubtsAt at document.now request.now book.now o.remark)) }
 {
     match flagops_rollouts::verify(
         rt, alloc, files, document, request, book, plan, refine, strict, json,
@@ -98,6 +101,7 @@ pub(crate) fn apply<F: FileSet>(
     ensures kept { F.holding files.new ≡ F.holding files.old }
     ensures names { IfSome (F.holding files.old) (λ at. TellsOfFirst (rolled (apply_attempts at document.now plan.now)) result) }
     ensures notes { IfOk result (λ o. IfSome o.remark (Says (Names document.now))) }
+    ensures parts { IfSome (F.holding files.old) (λ at. IfOk result (λ o. TellsAppliedAt at document.now plan.now key.now site o.remark)) }
 {
     match flagops_rollouts::apply(alloc, files, document, plan, key, site, strict) {
         Ok(outcome) => Ok(outcome),
@@ -126,6 +130,7 @@ pub(crate) fn keep<R: Threads + Sync, F: FileSet>(
     ensures kept { KeepsUnlessDone (F.holding files.old) (F.holding files.new) result }
     ensures names { IfSome (F.holding files.old) (λ at. TellsOfFirst (rolled (keep_attempts at document.now plan.now request.now book.now)) result) }
     ensures notes { IfOk result (λ o. IfSome o.remark (Says (NamesDoubted request.now book.now))) }
+    ensures parts { IfSome (F.holding files.old) (λ at. IfOk result (λ o. TellsKeptAt at document.now plan.now request.now book.now o.remark)) }
 {
     match flagops_rollouts::keep(
         rt, alloc, files, document, plan, request, book, write, refine, strict,

@@ -1,5 +1,5 @@
 -- What a person is told of what a command that draws comes to.
-use Rattle.std.proofs.Common.{◌≡◌, ℕ, Bool, List, Option, Some, None, Result, Ok, Err, IfErr, IfOk, IfSome, inl, refl, sym, subst, option_map}
+use Rattle.std.proofs.Common.{◌≡◌, ℕ, Bool, List, Option, Some, None, Result, Ok, Err, IfErr, IfOk, IfSome, inl, refl, sym, subst, option_map, unwrap_or}
 use Rattle.flagops_rollouts.specs.Attempts.{TellsOfFirst}
 use Rattle.flagops_rollouts.specs.Refusal.{ComesFrom, Refused, call_name, call_of, is_want}
 use Rattle.flagops_shell.specs.Outcomes.{IsCallOf}
@@ -7,6 +7,7 @@ use Rattle.flagops_rollouts.specs.declared.refusal.RolloutCall.{RolloutCall}
 use Rattle.flagops_rollouts.specs.declared.refusal.Doubt.{Doubt}
 use Rattle.flagops_rollouts.specs.Doubts.{NamesDoubt, NamesDoubted}
 use Rattle.flagops_rollouts.specs.declared.doubts.NotedDoubt.{NotedDoubt}
+use Rattle.flagops_rollouts.specs.Remarks.{TellsDoubtsAt, TellsPlanAt}
 use Rattle.flagops_shell.specs.Diagnostic.{Says}
 use Rattle.flagops_shell.specs.Ending.{KeepsUnlessDone, Remarks}
 use Rattle.flagops_shell.specs.Files.{Holding}
@@ -17,15 +18,23 @@ use Rattle.flagops_pictures.specs.Diagnostics.{picture_attempts, picture_told, p
 use Rattle.flagops_pictures.specs.Words.{Picturing, Planning}
 
 -- of a report its note, and of a refusal the name of what is refused
-pub picture_remarks : (a : Picturing) (files : Option Holding) (r : Result Outcome Refused) → IfSome files (λ at. TellsOfFirst (picture_attempts at a) r) → IfOk r (λ o. IfSome o.remark (Says (NamesDoubted a.request a.book))) → IfSome files (λ at. Remarks is_want (picture_told at a) r)
-picture_remarks a None r names notes = tt
-picture_remarks a (Some at) (Ok o) names notes = λ remark is. subst (λ (m : Option Remark). IfSome m (Says (NamesDoubted a.request a.book))) is notes
-picture_remarks a (Some at) (Err e) names notes = names
+pub picture_remarks : (a : Picturing) (files : Option Holding) (r : Result Outcome Refused) → IfSome files (λ at. TellsOfFirst (picture_attempts at a) r) → IfOk r (λ o. IfSome o.remark (Says (NamesDoubted a.request a.book)))
+    → IfSome files (λ at. IfOk r (λ o. TellsDoubtsAt at a.document a.request a.book o.remark)) → IfSome files (λ at. Remarks is_want (picture_told at a) r)
+picture_remarks a None r names notes parts = tt
+picture_remarks a (Some at) (Ok o) names notes parts = λ remark is. (
+  subst (λ (m : Option Remark). IfSome m (Says (NamesDoubted a.request a.book))) is notes,
+  subst (λ (m : Option Remark). TellsDoubtsAt at a.document a.request a.book m) is parts,
+)
+picture_remarks a (Some at) (Err e) names notes parts = names
 
-pub plan_remarks : (p : Planning) (files : Option Holding) (r : Result Outcome Refused) → IfSome files (λ at. TellsOfFirst (plan_attempts at p) r) → IfOk r (λ o. IfSome o.remark (Says (NamesDoubted p.request p.book))) → IfSome files (λ at. Remarks is_want (plan_told at p) r)
-plan_remarks p None r names notes = tt
-plan_remarks p (Some at) (Ok o) names notes = λ remark is. subst (λ (m : Option Remark). IfSome m (Says (NamesDoubted p.request p.book))) is notes
-plan_remarks p (Some at) (Err e) names notes = names
+pub plan_remarks : (p : Planning) (files : Option Holding) (r : Result Outcome Refused) → IfSome files (λ at. TellsOfFirst (plan_attempts at p) r) → IfOk r (λ o. IfSome o.remark (Says (NamesDoubted p.request p.book)))
+    → IfSome files (λ at. IfOk r (λ o. TellsPlanAt at p.document p.request p.book (unwrap_or p.refine 1) p.explain o.text.items o.remark)) → IfSome files (λ at. Remarks is_want (plan_told at p) r)
+plan_remarks p None r names notes parts = tt
+plan_remarks p (Some at) (Ok o) names notes parts = λ remark is. (
+  subst (λ (m : Option Remark). IfSome m (Says (NamesDoubted p.request p.book))) is notes,
+  subst (λ (m : Option Remark). TellsPlanAt at p.document p.request p.book (unwrap_or p.refine 1) p.explain o.text.items m) is parts,
+)
+plan_remarks p (Some at) (Err e) names notes parts = names
 
 -- a call of the command ran out of memory
 pub wants : (calls : RolloutCall → Bool) (r : Result Outcome Refused) → ComesFrom calls r → IfErr r (λ e. IsCallOf call_name calls (call_name (call_of e.refusal)))

@@ -1,5 +1,5 @@
 -- Which file is named where a command that draws is refused.
-use Rattle.std.proofs.Common.{◌≡◌, ◌++◌, ◌∷◌, ℕ, false, List, Option, Some, None, Result, Ok, Err, IfSome, inl, inr, subst, sym}
+use Rattle.std.proofs.Common.{◌≡◌, ◌++◌, ℕ, false, List, Option, Some, None, Result, Ok, Err, IfSome, inl, inr, subst, sym}
 use Rattle.flagops_files.proofs.Succeeded.{question_succeed}
 use Rattle.flagops_files.proofs.Told.{first_by_kind, first_left, first_right, succeed_within}
 use Rattle.flagops_files.specs.Question as questions

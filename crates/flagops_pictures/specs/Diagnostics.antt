@@ -1,8 +1,9 @@
 -- What a person is told of what a command that draws comes to: of a refusal the first file or word that was refused, and beside a report
--- what is doubted.
-use Rattle.std.specs.Prelude.{[], ◌∷◌, ◌++◌, Bool, true, false, List, ℕ, Ok, Err}
+-- what is doubted, and of a plan the rest that `plan` tells.
+use Rattle.std.specs.Prelude.{[], ◌∷◌, ◌++◌, Bool, true, false, List, ℕ, unwrap_or, Some, Ok, Err}
 use Rattle.flagops_rollouts.specs.Attempts.{Attempts, plan_read, question_attempts}
 use Rattle.flagops_rollouts.specs.Doubts.{NamesDoubted, doubt_subjects}
+use Rattle.flagops_rollouts.specs.Remarks.{TellsDoubtsAt, TellsPlanAt}
 use Rattle.flagops_rollouts.specs.Subjects.{is_of_request, is_of_size, the_plan}
 use Rattle.flagops_rollouts.specs.Refusal.{Remarks, Subjects, by, stores_file}
 use Rattle.flagops_rollouts.specs.declared.refusal.RolloutRefusal.{RolloutRefusal}
@@ -39,9 +40,9 @@ abbrev pub plan_attempts : Holding → Planning → Attempts
 plan_attempts at p = question_attempts at p.document p.request p.book ++ by_kind (drawn_subjects p)
 
 abbrev pub picture_told : Holding → Picturing → Remarks
-picture_told at a (Ok report) remark = Says (NamesDoubted a.request a.book) remark
+picture_told at a (Ok report) remark = Says (NamesDoubted a.request a.book) remark × TellsDoubtsAt at a.document a.request a.book (Some remark)
 picture_told at a (Err e) remark = NamesFirst (picture_attempts at a) e remark
 
 abbrev pub plan_told : Holding → Planning → Remarks
-plan_told at p (Ok report) remark = Says (NamesDoubted p.request p.book) remark
+plan_told at p (Ok report) remark = Says (NamesDoubted p.request p.book) remark × TellsPlanAt at p.document p.request p.book (unwrap_or p.refine 1) p.explain report.text (Some remark)
 plan_told at p (Err e) remark = NamesFirst (plan_attempts at p) e remark

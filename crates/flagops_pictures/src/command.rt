@@ -2,7 +2,9 @@
 ghost use denote.Param.Send.{IsSync};
 ghost use Rattle.std.specs.Prelude.{◌≡◌, ◌||◌, false, true, is_some, map, IfErr, IfOk, IfSome, Ok, option_map, string_bytes};
 ghost use Rattle.flagops_rollouts.specs.Attempts.{TellsOfFirst};
-ghost use Rattle.flagops_rollouts.specs.Doubts.{NamesDoubted, doubt_of};
+ghost use Rattle.flagops_rollouts.specs.Beside.{Tells};
+ghost use Rattle.flagops_rollouts.specs.Doubts.{NamesDoubted, doubt_of, doubt_parts};
+ghost use Rattle.flagops_rollouts.specs.Remarks.{TellsDoubtsAt};
 ghost use Rattle.flagops_rollouts.specs.Subjects.{NamesVerified};
 ghost use Rattle.flagops_rollouts.specs.Refusal.{ComesFrom, GivesOne, GivesUnlessWant, is_file_fault, is_want, TellsOfOne};
 ghost use Rattle.flagops_shell.specs.Outcomes.{beside};
@@ -71,6 +73,7 @@ fn outcome<R: Threads + Sync, F: FileSet>(
     ensures failed { F.has_failed files.new ≡ (F.has_failed files.old || is_file_fault result) }
     ensures names { IfSome (F.holding files.old) (λ at. TellsOfFirst (picture_attempts at (picturing_view asked.now)) result) }
     ensures notes { IfOk result (λ o. IfSome o.remark (Says (NamesDoubted asked.now.request.now asked.now.book.now))) }
+    ensures parts { IfSome (F.holding files.old) (λ at. IfOk result (λ o. TellsDoubtsAt at asked.now.document.now asked.now.request.now asked.now.book.now o.remark)) }
     ensures kept { F.holding files.new ≡ F.holding files.old }
 {
     let factor = factor_of(asked.refine);
@@ -101,6 +104,7 @@ fn pictured(
     ensures read { is_file_fault result ≡ false }
     ensures names { TellsOfOne (checked_subjects asked.now.request.now asked.now.plan.now) result }
     ensures notes { IfOk result (λ o. IfSome o.remark (Says (NamesDoubted asked.now.request.now asked.now.book.now))) }
+    ensures parts { IfOk result (λ o. Tells (doubt_parts asked.now.request.now asked.now.book.now (question_view question.now)) o.remark) }
 {
     match checked_picture(rt, alloc, question, planned, asked.refine) {
         Ok(text) => told(rt, alloc, asked, question, text),
@@ -127,6 +131,7 @@ fn told(
     ensures read { is_file_fault result ≡ false }
     ensures wants { IfErr result (λ t. is_want t.refusal ≡ true) }
     ensures notes { IfOk result (λ o. IfSome o.remark (Says (NamesDoubted asked.now.request.now asked.now.book.now))) }
+    ensures parts { IfOk result (λ o. Tells (doubt_parts asked.now.request.now asked.now.book.now (question_view question.now)) o.remark) }
 {
     match noted(rt, alloc, asked, question) {
         Ok(remark) => Ok(Outcome {

@@ -1,6 +1,7 @@
 //! What is doubted of an answer that is drawn, which a person is told.
 ghost use Rattle.std.specs.Prelude.{◌≡◌, is_some, IfOk, IfSome};
-ghost use Rattle.flagops_rollouts.specs.Doubts.{NamesDoubted, doubt_of};
+ghost use Rattle.flagops_rollouts.specs.Beside.{Tells};
+ghost use Rattle.flagops_rollouts.specs.Doubts.{NamesDoubted, doubt_of, doubt_parts};
 ghost use Rattle.flagops_shell.specs.Diagnostic.{Says};
 ghost use Rattle.flagops_files.specs.Question.{question_view};
 
@@ -22,6 +23,7 @@ pub(crate) fn noted<R: Threads>(
 ) -> Result<Option<Remark>, AllocError>
     ensures told { IfOk result (λ r. is_some r ≡ is_some (doubt_of (question_view question.now))) }
     ensures notes { IfOk result (λ r. IfSome r (Says (NamesDoubted asked.now.request.now asked.now.book.now))) }
+    ensures parts { IfOk result (Tells (doubt_parts asked.now.request.now asked.now.book.now (question_view question.now))) }
 {
     let unread = unread_in_file(alloc, asked.request, &question.request)?;
     let (flags, evidence) = (&question.flags, &question.evidence);

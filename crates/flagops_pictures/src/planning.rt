@@ -1,9 +1,10 @@
 //! The command `plan --picture`: it prints what `plan` does, and replaces the file of the picture whole.
 ghost use denote.Param.Send.{IsSync};
-ghost use Rattle.std.specs.Prelude.{◌≡◌, ◌⊎◌, ◌||◌, Ok, map, option_map, IfErr, IfOk, IfSome, string_bytes};
+ghost use Rattle.std.specs.Prelude.{◌≡◌, ◌⊎◌, ◌||◌, Ok, map, option_map, unwrap_or, IfErr, IfOk, IfSome, string_bytes};
 ghost use Rattle.flagops_rollouts.specs.Plan.{IsPlanOf};
 ghost use Rattle.flagops_rollouts.specs.Attempts.{TellsOfFirst};
 ghost use Rattle.flagops_rollouts.specs.Doubts.{NamesDoubted};
+ghost use Rattle.flagops_rollouts.specs.Remarks.{TellsPlan, TellsPlanAt};
 ghost use Rattle.flagops_shell.specs.Diagnostic.{Says};
 ghost use Rattle.flagops_shell.specs.Files.{KeepsOthers};
 ghost use Rattle.flagops_files.specs.Question.{question_view};
@@ -67,6 +68,7 @@ fn outcome<R: Threads + Sync, F: FileSet>(
     ensures failed { F.has_failed files.new ≡ (F.has_failed files.old || is_file_fault result) }
     ensures names { IfSome (F.holding files.old) (λ at. TellsOfFirst (plan_attempts at (planning_view asked.now)) result) }
     ensures notes { IfOk result (λ o. IfSome o.remark (Says (NamesDoubted asked.now.request.now asked.now.book.now))) }
+    ensures parts { IfSome (F.holding files.old) (λ at. IfOk result (λ o. TellsPlanAt at asked.now.document.now asked.now.request.now asked.now.book.now (unwrap_or (option_map (λ m. m.number) asked.now.refine) 1) asked.now.explain o.text.items o.remark)) }
     ensures left { (F.holding files.new ≡ F.holding files.old) ⊎ KeepsOthers (F.holding files.old) (F.holding files.new) asked.now.picture.now }
     ensures kept { KeepsUnlessPlanned (F.holding files.old) (F.holding files.new) result }
 {
@@ -96,6 +98,7 @@ fn planned<R: Threads + Sync, F: FileSet>(
     ensures failed { F.has_failed files.new ≡ (F.has_failed files.old || is_file_fault result) }
     ensures names { TellsOfOne (drawn_subjects (planning_view asked.now)) result }
     ensures notes { IfOk result (λ o. IfSome o.remark (Says (NamesDoubted asked.now.request.now asked.now.book.now))) }
+    ensures parts { IfOk result (λ o. TellsPlan asked.now.request.now asked.now.book.now (question_view question.now) (unwrap_or (option_map (λ m. m.number) asked.now.refine) 1) asked.now.explain o.text.items o.remark) }
     ensures left { (F.holding files.new ≡ F.holding files.old) ⊎ KeepsOthers (F.holding files.old) (F.holding files.new) asked.now.picture.now }
     ensures kept { KeepsUnlessPlanned (F.holding files.old) (F.holding files.new) result }
 {

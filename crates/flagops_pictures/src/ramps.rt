@@ -2,15 +2,19 @@
 ghost use denote.Param.Send.{IsSync};
 ghost use Rattle.std.specs.Prelude.{◌≡◌, ◌≤◌, ◌<◌, ◌+◌, ◌||◌, length, List, map, option_map, Ok, IfOk, IfSome, string_bytes};
 ghost use Rattle.flag_defs.specs.Flags.{flags_view};
+ghost use Rattle.flagops_files.specs.Question.{question_view};
 ghost use Rattle.flagops_shell.specs.Report.{outcome_view};
 ghost use Rattle.flagops_pictures.specs.Commands.{ramp_description};
 ghost use Rattle.flagops_pictures.specs.Ramps.{AreTold, IsRampDrawn, IsRampPicture, IsRampPictureOf};
 ghost use Rattle.flagops_ramps.specs.Attempts.{IsOfFirst, verify_files};
 ghost use Rattle.flagops_ramps.specs.Judging.{AreRightAnswers, answered_view};
+ghost use Rattle.flagops_ramps.specs.Doubts.{doubt_parts_of_steps};
 ghost use Rattle.flagops_ramps.specs.Ramp.{recorded};
+ghost use Rattle.flagops_ramps.specs.Remarks.{TellsVerdictAt};
 ghost use Rattle.flagops_ramps.specs.Report.{GivesOne, is_file_fault};
 ghost use Rattle.flagops_ramps.specs.Diagnostics.{Diagnoses, IsOfVerify};
 ghost use Rattle.flagops_ramps.specs.Words as words;
+ghost use Rattle.flagops_rollouts.specs.Beside.{Tells};
 ghost use Rattle.flagops_rollouts.specs.Doubts.{NamesDoubted};
 ghost use Rattle.flagops_shell.specs.Diagnostic.{Says};
 ghost use Rattle.flagops_ramps.specs.Words.{verifying_view};
@@ -79,6 +83,7 @@ fn pictured<R: Threads + Sync, F: FileSet>(
     ensures failed { F.has_failed files.new ≡ (F.has_failed files.old || is_file_fault result) }
     ensures names { IfSome (F.holding files.old) (λ at. Diagnoses (IsOfFirst (verify_files at (verifying_view asked.now)) (IsOfVerify (verifying_view asked.now))) result) }
     ensures notes { IfOk result (λ o. IfSome o.remark (Says (NamesDoubted asked.now.rollout.steps.now asked.now.rollout.book.now))) }
+    ensures parts { IfSome (F.holding files.old) (λ at. IfOk result (λ o. TellsVerdictAt at (verifying_view asked.now) o.remark)) }
     ensures kept { F.holding files.new ≡ F.holding files.old }
 {
     match load_answers(rt, alloc, files, asked) {
@@ -101,6 +106,7 @@ fn drawn<R: Threads + Sync>(
     requires right { AreRightAnswers (option_map (λ m. m.number) asked.now.rollout.refine) right.now }
     ensures drawn { IfOk result (λ o. IsRampPictureOf (option_map (λ m. m.number) asked.now.rollout.refine) (Ok (answered_view right.now)) (Ok (outcome_view o))) }
     ensures notes { IfOk result (λ o. IfSome o.remark (Says (NamesDoubted asked.now.rollout.steps.now asked.now.rollout.book.now))) }
+    ensures parts { IfOk result (λ o. Tells (doubt_parts_of_steps asked.now.rollout.steps.now asked.now.rollout.book.now (question_view right.now.question) (requests_view right.now.steps.items)) o.remark) }
 {
     let steps = right.steps.as_slice();
     let doubted = doubted(rt, alloc, &asked.rollout, &right.question, steps)?;

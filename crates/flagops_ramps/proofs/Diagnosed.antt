@@ -18,9 +18,9 @@ use Rattle.flagops_shell.specs.declared.outcome.Outcome.{Outcome}
 use Rattle.flagops_shell.specs.declared.refused.Remark.{Remark}
 use Rattle.flagops_shell.specs.declared.refused.Remark.TheVariants.{Short, Lines}
 use Rattle.flagops_ramps.specs.Remarks.{TellsKeepAt, TellsRampAt, TellsStepAt, TellsVerdictAt}
-use Rattle.flagops_ramps.specs.Attempts.{IsOfFirst, ramp_files, step_files, verify_files, verify_files_on_book}
-use Rattle.flagops_ramps.specs.Commands.{keep_told, ramp_told, step_told, verify_told, verify_told_on_book}
-use Rattle.flagops_ramps.specs.Diagnostics.{Diagnoses, Diagnosis, IsOfAnswers, IsOfDoubted, IsOfKeep, IsOfRamp, IsOfSize, IsOfStep, IsOfVerify, NamesPath, NamesStep, put_subjects, told_by, told_with}
+use Rattle.flagops_ramps.specs.Attempts.{IsOfFirst, ramp_files, step_files, verify_files}
+use Rattle.flagops_ramps.specs.Commands.{keep_told, ramp_told, step_told, verify_told}
+use Rattle.flagops_ramps.specs.Diagnostics.{Diagnoses, Diagnosis, IsOfAnswers, IsOfDoubted, IsOfKeep, IsOfRamp, IsOfSize, IsOfStep, IsOfVerify, NamesPath, NamesStep, put_subjects, told_with}
 use Rattle.flagops_ramps.specs.Refusal.{is_unread, is_want}
 use Rattle.flagops_shell.proofs.Lifted as lifted
 use Rattle.rollout_checks.specs.declared.fault.RolloutFault.{RolloutFault}
@@ -196,17 +196,6 @@ failed_put old new t e is failed = failed ∙ ap (λ b. old || b) (sym (ap is_un
 
 -- ---- what a command tells of what it comes to
 
-module _ (Notes : Holding → List ℕ → Type 0) (Is : Holding → Diagnosis) where
-  remarks : (files : Option Holding) (r : Result Outcome Told) → IfSome files (λ at. Diagnoses (Is at) r) → IfSome files (λ at. IfOk r (λ o. IfSome o.remark (Says (Notes at)))) → IfSome files (λ at. Remarks is_want (told_by (Notes at) (Is at)) r)
-  remarks None r names notes = tt
-  remarks (Some at) (Ok o) names notes = λ remark is. subst (λ (m : Option Remark). IfSome m (Says (Notes at))) is notes
-  remarks (Some at) (Err t) names notes = names
-
-whatever : {P : Type 0} (files : Option Holding) → P → IfSome files (λ at. P)
-whatever None p = tt
-whatever (Some at) p = p
-
--- and in which parts
 module _ (Notes : List ℕ → Type 0) (Beside : Holding → Report → Option Remark → Type 0) (Is : Holding → Diagnosis) where
   remarks_with : (files : Option Holding) (r : Result Outcome Told) → IfSome files (λ at. Diagnoses (Is at) r) → IfOk r (λ o. IfSome o.remark (Says Notes)) → IfSome files (λ at. IfOk r (λ o. Beside at (outcome_view o) o.remark))
       → IfSome files (λ at. Remarks is_want (told_with Notes (λ report remark. Beside at report (Some remark)) (Is at)) r)
@@ -221,10 +210,6 @@ ramp_remarks a files r names notes parts = remarks_with (NamesDoubted a.steps a.
 pub verify_remarks : (v : Verifying) (files : Option Holding) (r : Result Outcome Told) → IfSome files (λ at. Diagnoses (IsOfFirst (verify_files at v) (IsOfVerify v)) r) → IfOk r (λ o. IfSome o.remark (Says (NamesDoubted v.rollout.steps v.rollout.book)))
     → IfSome files (λ at. IfOk r (λ o. TellsVerdictAt at v o.remark)) → IfSome files (λ at. Remarks is_want (verify_told v at) r)
 verify_remarks v files r names notes parts = remarks_with (NamesDoubted v.rollout.steps v.rollout.book) (λ at report told. TellsVerdictAt at v told) (λ at. IsOfFirst (verify_files at v) (IsOfVerify v)) files r names notes parts
-
-pub verify_remarks_on_book : (v : Verifying) (files : Option Holding) (r : Result Outcome Told) → IfSome files (λ at. Diagnoses (IsOfFirst (verify_files_on_book at v) (IsOfVerify v)) r) → IfOk r (λ o. IfSome o.remark (Says (NamesDoubted v.rollout.steps v.rollout.book)))
-    → IfSome files (λ at. Remarks is_want (verify_told_on_book v at) r)
-verify_remarks_on_book v files r names notes = remarks (λ at. NamesDoubted v.rollout.steps v.rollout.book) (λ at. IsOfFirst (verify_files_on_book at v) (IsOfVerify v)) files r names (whatever files notes)
 
 pub keep_remarks : (k : Keeping) (files : Option Holding) (r : Result Outcome Told) → IfSome files (λ at. Diagnoses (IsOfFirst (verify_files at k.answered) (IsOfKeep k)) r)
     → IfOk r (λ o. IfSome o.remark (Says (NamesDoubted k.answered.rollout.steps k.answered.rollout.book))) → IfSome files (λ at. IfOk r (λ o. TellsKeepAt at k o.remark)) → IfSome files (λ at. Remarks is_want (keep_told k at) r)

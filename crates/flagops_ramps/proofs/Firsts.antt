@@ -1,10 +1,10 @@
 -- The first of the files of a command on steps that is refused, or what is made of them.
 use Rattle.std.proofs.Common.{◌≡◌, false, ℕ, List, [], ◌∷◌, ◌++◌, map, Option, Some, None, IfSome, inl, inr, refl, sym, subst}
 use Rattle.std.specs.Prelude.{Result, Ok, Err}
-use Rattle.flagops_files.proofs.Succeeded.{book_question_succeed, question_succeed}
+use Rattle.flagops_files.proofs.Succeeded.{question_succeed}
 use Rattle.flagops_files.proofs.Told.{first_left, succeed_both, told_of_first}
 use Rattle.flagops_files.specs.Loading.{max_rule}
-use Rattle.flagops_files.specs.Question.{BookQuestion, IsBookQuestionAt, IsQuestionAt, Question, book_question_attempts}
+use Rattle.flagops_files.specs.Question.{IsQuestionAt, Question}
 use Rattle.flagops_files.specs.Refusal as files
 use Rattle.flagops_files.specs.Refusal.{Attempts}
 use Rattle.flagops_files.specs.Told.{AllSucceed, NamesFirst, NamesSubject, attempt, file, within}
@@ -17,10 +17,9 @@ use Rattle.flagops_shell.specs.Files.{Holding, load_of}
 use Rattle.flagops_shell.specs.Outcomes.{refused_by}
 use Rattle.flagops_shell.specs.declared.refused.Remark.{Remark}
 use Rattle.plan_text.specs.Answer.{Answer}
-use Rattle.flagops_ramps.specs.Attempts.{IsOfFirst, answers_file, ramp_files, verify_files, verify_files_on_book}
+use Rattle.flagops_ramps.specs.Attempts.{IsOfFirst, answers_file, ramp_files, verify_files}
 use Rattle.flagops_ramps.specs.Diagnostics.{Diagnoses, Diagnosis}
-use Rattle.flagops_files.specs.declared.evidence.Evidence.TheVariants.{Book}
-use Rattle.flagops_ramps.specs.Judging.{Answered, IsFoundAt, IsFoundOf, IsFoundOnBook, answers_at, if_loaded}
+use Rattle.flagops_ramps.specs.Judging.{Answered, IsFoundAt, IsFoundOf, answers_at, if_loaded}
 use Rattle.flagops_ramps.specs.Refusal.{is_want}
 use Rattle.flagops_ramps.specs.Report.{Told}
 use Rattle.flagops_ramps.specs.Words.{Ramping, Verifying}
@@ -102,10 +101,6 @@ pub question_read : (a : Ramping) (q : Question) (old : Option Holding) → IfSo
 question_read a q None asked = tt
 question_read a q (Some at) asked = question_succeed at a.document a.steps a.book q asked
 
-pub book_question_read : (a : Ramping) (q : BookQuestion) (old : Option Holding) → IfSome old (λ at. IsBookQuestionAt at a.document a.steps a.book (Ok q)) → IfSome old (λ at. AllSucceed (book_question_attempts at a.document a.steps a.book))
-book_question_read a q None asked = tt
-book_question_read a q (Some at) asked = book_question_succeed at a.document a.steps a.book q asked
-
 pub document_read : (path : List ℕ) (flags : Definitions) (old : Option Holding) → IfSome old (λ at. IsDocumentAt at path (Ok flags)) → IfSome old (λ at. AllSucceed (let xs : Attempts = attempt (file path) (IsDocumentAt at path) ∷ [] in xs))
 document_read path flags None there = tt
 document_read path flags (Some at) there = ((flags, there), tt)
@@ -137,17 +132,6 @@ module _ (v : Verifying) (a : Answered) (at : Holding) where
   found_there (Err e, asked, found) = differ found
   found_there (Ok q, asked, found) = succeed_both (ramp_files at v.rollout) (answers_file at v.ramp) (question_succeed at v.rollout.document v.rollout.steps v.rollout.book q asked) (answers_found q (answers_at at v.ramp) refl found)
 
-  found_there_on_book : IsFoundOnBook at v (Ok a) → AllSucceed (verify_files_on_book at v)
-  unfolding IsFoundOnBook
-  found_there_on_book (Err e, asked, found) = differ found
-  found_there_on_book (Ok q, asked, found) =
-      succeed_both (book_question_attempts at v.rollout.document v.rollout.steps v.rollout.book) (answers_file at v.ramp) (book_question_succeed at v.rollout.document v.rollout.steps v.rollout.book q asked)
-      (answers_found (record { flags = q.flags; request = q.request; evidence = Book q.book }) (answers_at at v.ramp) refl found)
-
 pub found_read : (v : Verifying) (a : Answered) (old : Option Holding) → IfSome old (λ at. IsFoundAt at v (Ok a)) → IfSome old (λ at. AllSucceed (verify_files at v))
 found_read v a None found = tt
 found_read v a (Some at) found = found_there v a at found
-
-pub found_read_on_book : (v : Verifying) (a : Answered) (old : Option Holding) → IfSome old (λ at. IsFoundOnBook at v (Ok a)) → IfSome old (λ at. AllSucceed (verify_files_on_book at v))
-found_read_on_book v a None found = tt
-found_read_on_book v a (Some at) found = found_there_on_book v a at found

@@ -5,6 +5,6 @@ pub mod Firsts
 mod Kept
 mod Loaded
 pub mod Matched
-mod Noted
+pub mod Noted
 mod Stepped
 mod Valid

@@ -1,21 +1,20 @@
 -- What comes of the files that were loaded.
 use Rattle.std.proofs.Common.{◌≡◌, false, List, Vec, Global, Option, None, Some, Result, Ok, Err, ℕ, map, refl, ap, ◌∙◌, subst, sym}
-use Rattle.std.specs.Prelude.{IfOk, IfSome}
+use Rattle.std.specs.Prelude.{IfSome}
 use Rattle.flagops_shell.specs.Files.{Holding, load_of}
 use Rattle.flagops_files.specs.Loading.{max_rule}
 use Rattle.flagops_shell.specs.Outcomes.{refused_by}
-use Rattle.flagops_files.specs.Question.{IsBookQuestionAt, IsQuestionAt, book_question_view, question_view, BookQuestion as OverBook, Question as Asked}
+use Rattle.flagops_files.specs.Question.{IsQuestionAt, question_view}
 use Rattle.flagops_files.specs.Refusal as files
 use Rattle.flagops_shell.specs.Report.{outcome_view}
 use Rattle.flagops_shell.specs.declared.outcome.Outcome.{Outcome}
-use Rattle.flagops_files.specs.declared.evidence.Evidence.{Evidence}
 use Rattle.flagops_files.specs.declared.question.Question.{Question}
 use Rattle.flagops_files.specs.declared.refusal.Refusal.TheVariants.{Load as Unread}
 use Rattle.flagops_files.specs.Refusal.{Refused}
 use Rattle.plan_text.specs.Answer.{Answer, planned_view}
 use Rattle.plan_text.specs.declared.planned.Planned.{Planned}
 use Rattle.ramp_steps.specs.Lines.{ramp_of}
-use Rattle.flagops_ramps.specs.Judging.{IsFoundAt, IsFoundOf, IsFoundOnBook, IsOfBook, answered_view, answers_at, if_loaded, on_book, read_as}
+use Rattle.flagops_ramps.specs.Judging.{IsFoundAt, IsFoundOf, answered_view, answers_at, if_loaded, read_as}
 use Rattle.flagops_ramps.specs.Ramp.{IsRampOf, IsRampReport}
 use Rattle.flagops_ramps.specs.Refusal.{is_want}
 use Rattle.flagops_ramps.specs.Report.{GivesOne, GivesUnlessWant, Told}
@@ -73,30 +72,6 @@ module _ (v : Verifying) where
   judged (Some at) kept q r same asked gives =
       judged_at at q r asked (subst (λ (h : Option Holding). IfSome h (λ it. GivesOne answered_view r (IsFoundOf v.rollout.refine (Ok (question_view q)) (answers_at it v.ramp)))) same gives)
 
-  -- where what was recorded has to be a book
-  unasked_book_at : (at : Holding) (e : Refused) (t : Told) → t.refusal ≡ Load e.refusal → files.GivesOne book_question_view (Err e) (IsBookQuestionAt at v.rollout.document v.rollout.steps v.rollout.book) → GivesOne answered_view (Err t) (IsFoundOnBook at v)
-  unfolding IsFoundOnBook
-  unasked_book_at at e t is asked = λ no_want. (Err e.refusal, asked (not_want t e is no_want), ap Err is)
-
-  pub unasked_book : (holding : Option Holding) (e : Refused) (t : Told) → t.refusal ≡ Load e.refusal → IfSome holding (λ at. files.GivesOne book_question_view (Err e) (IsBookQuestionAt at v.rollout.document v.rollout.steps v.rollout.book))
-      → IfSome holding (λ at. GivesOne answered_view (Err t) (IsFoundOnBook at v))
-  unasked_book None e t is asked = tt
-  unasked_book (Some at) e t is asked = unasked_book_at at e t is asked
-
-  judged_book_at : (at : Holding) (q : OverBook) (r : Result RightAnswers Told) → IsBookQuestionAt at v.rollout.document v.rollout.steps v.rollout.book (Ok q)
-      → GivesOne answered_view r (IsFoundOf v.rollout.refine (Ok (on_book q)) (answers_at at v.ramp)) → GivesOne answered_view r (IsFoundOnBook at v)
-  unfolding IsFoundOnBook
-  judged_book_at at q (Ok a) asked gives = (Ok q, asked, gives)
-  judged_book_at at q (Err t) asked gives = λ no_want. (Ok q, asked, gives no_want)
-
-  pub judged_book : (old kept : Option Holding) (q : OverBook) (asked : Asked) (r : Result RightAnswers Told) → asked ≡ on_book q → kept ≡ old → IfSome old (λ at. IsBookQuestionAt at v.rollout.document v.rollout.steps v.rollout.book (Ok q))
-      → IfSome kept (λ at. GivesOne answered_view r (IsFoundOf v.rollout.refine (Ok asked) (answers_at at v.ramp))) → IfSome old (λ at. GivesOne answered_view r (IsFoundOnBook at v))
-  judged_book None kept q asked r same stays is gives = tt
-  judged_book (Some at) kept q asked r same stays is gives =
-      judged_book_at at q r is
-      (subst (λ (x : Asked). GivesOne answered_view r (IsFoundOf v.rollout.refine (Ok x) (answers_at at v.ramp))) same
-      (subst (λ (h : Option Holding). IfSome h (λ it. GivesOne answered_view r (IsFoundOf v.rollout.refine (Ok asked) (answers_at it v.ramp)))) stays gives))
-
   -- what is reported of right answers
   reported_at : (at : Holding) (a : RightAnswers) (r : Result Outcome Told) → IsFoundAt at v (Ok (answered_view a)) → GivesUnlessWant outcome_view r (report_found v.rollout.strict (Ok (answered_view a))) → GivesOne outcome_view r (IsVerdictReport at v)
   unfolding IsVerdictReport
@@ -116,11 +91,6 @@ module _ (v : Verifying) where
   pub refused : (holding : Option Holding) (t : Told) → IfSome holding (λ at. GivesOne answered_view (Err t) (IsFoundAt at v)) → IfSome holding (λ at. GivesOne outcome_view (Err t) (IsVerdictReport at v))
   refused None t found = tt
   refused (Some at) t found = refused_at at t found
-
--- a question keeps what was recorded, which is a book
-pub book_still : (r : Result RightAnswers Told) (evidence : Evidence) → IfOk r (λ a. a.question.evidence ≡ evidence) → IsOfBook evidence → IfOk r (λ a. IsOfBook a.question.evidence)
-book_still (Ok a) evidence same of = subst IsOfBook (sym same) of
-book_still (Err t) evidence same of = tt
 
 -- answers that were not read
 pub unread : (holding : Option Holding) (path : List ℕ) (refine : Option ℕ) (q : Question) (t : Told) → IfSome holding (λ at. is_want t.refusal ≡ false → answers_at at path ≡ Err t.refusal)

@@ -2,7 +2,7 @@
 use Rattle.std.specs.Prelude.{◌⊎◌, ℕ, List, [], ◌∷◌, ◌++◌, map}
 use Rattle.flagops_files.specs.Documents.{IsDocumentAt}
 use Rattle.flagops_files.specs.Loading.{max_rule}
-use Rattle.flagops_files.specs.Question.{book_question_attempts, question_attempts}
+use Rattle.flagops_files.specs.Question.{question_attempts}
 use Rattle.flagops_files.specs.Refusal.{Attempts}
 use Rattle.flagops_files.specs.Told.{AllSucceed, NamesFirst, attempt, attempt_of, file, within}
 use Rattle.flagops_files.specs.declared.refusal.Refusal.TheVariants.{Load as Unread}
@@ -27,10 +27,6 @@ ramp_files at a = question_attempts at a.document a.steps a.book
 -- the same, and then the answers
 abbrev pub verify_files : Holding → Verifying → Attempts
 verify_files at v = ramp_files at v.rollout ++ answers_file at v.ramp
-
--- the same where what was recorded has to be a book
-abbrev pub verify_files_on_book : Holding → Verifying → Attempts
-verify_files_on_book at v = book_question_attempts at v.rollout.document v.rollout.steps v.rollout.book ++ answers_file at v.ramp
 
 -- a document, and then the answers
 abbrev pub step_files : Holding → Applying → Attempts

@@ -9,8 +9,8 @@ use Rattle.flagops_shell.specs.Files.{Holding}
 use Rattle.flagops_shell.specs.Running.{Description}
 use Rattle.file_diagnostics.specs.Named.{Names}
 use Rattle.flagops_ramps.specs.Apply.{IsStepReport}
-use Rattle.flagops_ramps.specs.Attempts.{IsOfFirst, ramp_files, step_files, verify_files, verify_files_on_book}
-use Rattle.flagops_ramps.specs.Diagnostics.{IsOfKeep, IsOfRamp, IsOfStep, IsOfVerify, told_by, told_with}
+use Rattle.flagops_ramps.specs.Attempts.{IsOfFirst, ramp_files, step_files, verify_files}
+use Rattle.flagops_ramps.specs.Diagnostics.{IsOfKeep, IsOfRamp, IsOfStep, IsOfVerify, told_with}
 use Rattle.flagops_ramps.specs.Keep.{IsKeepReport}
 use Rattle.flagops_ramps.specs.Ramp.{IsRampReport}
 use Rattle.flagops_ramps.specs.Remarks.{TellsKeepAt, TellsRampAt, TellsStepAt, TellsVerdictAt}
@@ -38,10 +38,6 @@ ramp_told a at = told_with (NamesDoubted a.steps a.book) (λ report remark. Tell
 
 abbrev pub verify_told : Verifying → Holding → RemarksOf RampRefusal
 verify_told v at = told_with (NamesDoubted v.rollout.steps v.rollout.book) (λ report remark. TellsVerdictAt at v (Some remark)) (IsOfFirst (verify_files at v) (IsOfVerify v))
-
--- the same where what was recorded has to be a book
-abbrev pub verify_told_on_book : Verifying → Holding → RemarksOf RampRefusal
-verify_told_on_book v at = told_by (NamesDoubted v.rollout.steps v.rollout.book) (IsOfFirst (verify_files_on_book at v) (IsOfVerify v))
 
 abbrev pub step_told : Applying → Holding → RemarksOf RampRefusal
 step_told a at = told_with (Names a.document) (λ report remark. TellsStepAt at a (Some remark)) (IsOfFirst (step_files at a) (IsOfStep a))

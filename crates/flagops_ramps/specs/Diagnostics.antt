@@ -92,11 +92,6 @@ IsOfKeep k OtherRule remark = Says (NamesPath k.answered.rollout.document) remar
 IsOfKeep k e remark = IsOfVerify k.answered e remark
 
 -- what is told of what a command comes to: such lines beside a report, and such a remark on a refusal
-abbrev pub told_by : (List ℕ → Type 0) → Diagnosis → RemarksOf RampRefusal
-told_by Notes Is (Ok report) remark = Says Notes remark
-told_by Notes Is (Err e) remark = Is e remark
-
--- the same, and a remark beside a report is such a one of it
 abbrev pub told_with : (List ℕ → Type 0) → (Report → Remark → Type 0) → Diagnosis → RemarksOf RampRefusal
 told_with Notes Beside Is (Ok report) remark = Says Notes remark × Beside report remark
 told_with Notes Beside Is (Err e) remark = Is e remark

@@ -4,9 +4,7 @@ use Rattle.flag_defs.specs.Flags.{flags_view}
 use Rattle.flagops_shell.specs.Files.{Holding, load_of}
 use Rattle.flagops_files.specs.Loading.{max_rule}
 use Rattle.flagops_shell.specs.Outcomes.{refused_by}
-use Rattle.flagops_files.specs.Question.{BookQuestion, IsBookQuestionAt, IsQuestionAt, Question, question_view}
-use Rattle.flagops_files.specs.declared.evidence.Evidence.{Evidence}
-use Rattle.flagops_files.specs.declared.evidence.Evidence.TheVariants.{Book, Tally}
+use Rattle.flagops_files.specs.Question.{IsQuestionAt, Question, question_view}
 use Rattle.flagops_files.specs.declared.refusal.Refusal.{Refusal}
 use Rattle.flagops_files.specs.declared.refusal.Refusal.TheVariants.{Load as Unread}
 use Rattle.plan_text.specs.Answer.{Answer, planned_view}
@@ -80,23 +78,3 @@ IsFoundOf refine (Ok q) (Ok answers) r = IsFoundOver refine q answers (steps_of 
 unfoldable pub IsFoundAt : Holding → Verifying → Found → Type 0
 IsFoundAt at v r =
     (question : Result Question Refusal) × IsQuestionAt at v.rollout.document v.rollout.steps v.rollout.book question × IsFoundOf v.rollout.refine question (answers_at at v.ramp) r
-
--- ---- where what was recorded has to be a book
-
-abbrev pub IsOfBook : Evidence → Type 0
-IsOfBook (Book book) = Unit {0}
-IsOfBook (Tally tally) = ⊥
-
--- a question over a book, as one over what was recorded
-abbrev pub on_book : BookQuestion → Question
-on_book q = record { flags = q.flags; request = q.request; evidence = Book q.book }
-
-abbrev pub if_on_book : Result BookQuestion Refusal → Result Question Refusal
-if_on_book (Ok q) = Ok (on_book q)
-if_on_book (Err e) = Err e
-
--- what is then found of the files at the paths
-unfoldable pub IsFoundOnBook : Holding → Verifying → Found → Type 0
-IsFoundOnBook at v r =
-    (question : Result BookQuestion Refusal) × IsBookQuestionAt at v.rollout.document v.rollout.steps v.rollout.book question
-    × IsFoundOf v.rollout.refine (if_on_book question) (answers_at at v.ramp) r

@@ -2,10 +2,10 @@
 ghost use Rattle.std.specs.Prelude.{◌≡◌, ◌<◌, ◌≤◌, ◌-◌, ◌^◌, ◌||◌, false, true, length, map, option_map, string_bytes, IfOk, IfSome, Ok};
 ghost use Rattle.flag_defs.specs.Flags.{flags_view};
 ghost use Rattle.flagops_files.specs.Lines.{NamesFile};
-ghost use Rattle.flagops_files.specs.Question.{book_question_view, question_view};
+ghost use Rattle.flagops_files.specs.Question.{question_view};
 ghost use Rattle.flagops_shell.specs.Diagnostic.{Says};
-ghost use Rattle.flagops_ramps.specs.Attempts.{IsOfFirst, answers_file, verify_files, verify_files_on_book};
-ghost use Rattle.flagops_ramps.specs.Judging.{AreRightAnswers, IsFoundAt, IsFoundOf, IsFoundOnBook, IsFoundOver, IsOfBook, answered_view, answers_at, on_book, read_as, refused_as};
+ghost use Rattle.flagops_ramps.specs.Attempts.{IsOfFirst, answers_file, verify_files};
+ghost use Rattle.flagops_ramps.specs.Judging.{AreRightAnswers, IsFoundAt, IsFoundOf, IsFoundOver, answered_view, answers_at, read_as, refused_as};
 ghost use Rattle.flagops_ramps.specs.Refusal.{is_unread, is_want};
 ghost use Rattle.flagops_ramps.specs.Diagnostics.{Diagnoses, IsOfAnswers, IsOfVerify, NamesPath, NamesStep, judged_path};
 ghost use Rattle.flagops_ramps.specs.Ramp.{of_steps, recorded};
@@ -24,10 +24,7 @@ use crate::refusal::RampRefusal;
 use crate::remarks::{advice_on, of_steps_in, step_line};
 use file_diagnostics::Ends;
 use flag_defs::Flags;
-use flagops_files::{
-    BookQuestion, Evidence, Question, file_line, load, load_book_question, load_question,
-    whole_line,
-};
+use flagops_files::{Evidence, Question, file_line, load, load_question, whole_line};
 use flagops_shell::{FileSet, Refused, Remark};
 use flagops_words::{factor_number, factor_of};
 use plan_text::Planned;
@@ -78,55 +75,6 @@ pub fn load_answers<R: Threads + Sync, F: FileSet>(
     }
 }
 
-/// The same where what was recorded has to be a book: a tally is refused as a file that is none.
-#[tactic(auto, using(crate::proofs::Diagnosed::failed_load))]
-pub fn load_answers_on_book<R: Threads + Sync, F: FileSet>(
-    rt: &R,
-    alloc: Global,
-    files: &mut F,
-    asked: &Verifying<'_>,
-) -> Result<RightAnswers, Refused<RampRefusal>>
-    ensures exact { IfSome (F.holding files.old) (λ at. GivesOne answered_view result (IsFoundOnBook at (verifying_view asked.now))) }
-    ensures right { IfOk result (AreRightAnswers (option_map (λ m. m.number) asked.now.rollout.refine)) }
-    ensures book { IfOk result (λ a. IsOfBook a.question.evidence) }
-    ensures failed { F.has_failed files.new ≡ (F.has_failed files.old || is_file_fault result) }
-    ensures names { IfSome (F.holding files.old) (λ at. Diagnoses (IsOfFirst (verify_files_on_book at (verifying_view asked.now)) (IsOfVerify (verifying_view asked.now))) result) }
-    ensures kept { F.holding files.new ≡ F.holding files.old }
-{
-    let rollout = &asked.rollout;
-    match load_book_question(
-        rt,
-        alloc,
-        files,
-        rollout.document,
-        rollout.steps,
-        rollout.book,
-        factor_of(rollout.refine),
-    ) {
-        Ok(question) => against(rt, alloc, files, asked, on_book(question)),
-        Err(refused) => Err(Refused::of(refused)),
-    }
-}
-
-/// A question over a book, as one over what was recorded.
-fn on_book(question: BookQuestion) -> Question
-    ensures question { question_view result ≡ on_book (book_question_view question) }
-    ensures book { IsOfBook result.evidence }
-{
-    let BookQuestion {
-        document,
-        flags,
-        request,
-        book,
-    } = question;
-    Question {
-        document,
-        flags,
-        request,
-        evidence: Evidence::Book(book),
-    }
-}
-
 /// The same to a question, whose answers stand in a file.
 fn against<R: Threads + Sync, F: FileSet>(
     rt: &R,
@@ -137,7 +85,6 @@ fn against<R: Threads + Sync, F: FileSet>(
 ) -> Result<RightAnswers, Refused<RampRefusal>>
     ensures exact { IfSome (F.holding files.old) (λ at. GivesOne answered_view result (IsFoundOf (option_map (λ m. m.number) asked.now.rollout.refine) (Ok (question_view question)) (answers_at at asked.now.ramp.now))) }
     ensures right { IfOk result (AreRightAnswers (option_map (λ m. m.number) asked.now.rollout.refine)) }
-    ensures evidence { IfOk result (λ a. a.question.evidence ≡ question.evidence) }
     ensures failed { F.has_failed files.new ≡ (F.has_failed files.old || is_file_fault result) }
     ensures names { IfSome (F.holding files.old) (λ at. Diagnoses (IsOfFirst (answers_file at asked.now.ramp.now) (IsOfVerify (verifying_view asked.now))) result) }
     ensures kept { F.holding files.new ≡ F.holding files.old }
@@ -181,7 +128,6 @@ fn over<R: Threads + Sync>(
     requires { length steps.items ≤ most_steps }
     ensures exact { GivesOne answered_view result (IsFoundOver (option_map (λ m. m.number) asked.now.rollout.refine) (question_view question) (map planned_view answers.items) (Ok (requests_view steps.items))) }
     ensures right { IfOk result (AreRightAnswers (option_map (λ m. m.number) asked.now.rollout.refine)) }
-    ensures evidence { IfOk result (λ a. a.question.evidence ≡ question.evidence) }
     ensures read { is_file_fault result ≡ false }
     ensures names { Diagnoses (IsOfVerify (verifying_view asked.now)) result }
 {
@@ -315,12 +261,21 @@ fn of_verdict(
     ensures { IfOk result (λ s. NamesStep (judged_path (verifying_view asked.now) fault.now) step (string_bytes s)) }
 {
     let more = more?;
-    let (path, advice) = match fault {
-        VerifyFault::Request(fault) => (asked.rollout.steps, advice_on(*fault)),
-        VerifyFault::Check(_) => (asked.ramp, ""),
+    let path = match fault {
+        VerifyFault::Request(_) => asked.rollout.steps,
+        VerifyFault::Check(_) => asked.ramp,
     };
+    let advice = advice_of(fault);
     let reason = format!(in alloc; "{fault}{advice}{more}")?;
     step_line(alloc, path, step, reason.as_str())
+}
+
+/// What to do about a request that is refused; nothing of an answer that is not right.
+fn advice_of(fault: &VerifyFault) -> &'static str {
+    match fault {
+        VerifyFault::Request(fault) => advice_on(*fault),
+        VerifyFault::Check(_) => "",
+    }
 }
 
 /// What a person is told of a file that is none of answers, by what is seen of it at its ends.

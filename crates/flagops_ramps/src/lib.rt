@@ -4,7 +4,7 @@
 //!
 //! [`Ramping`], [`Verifying`], [`Applying`] and [`Keeping`] are commands with their words, which `flagops_shell::run` reads by `clap`, does and
 //! reports. What they do with the files that they load is `ramp_steps` and `ramp`. [`load_answers`] loads and judges the answers
-//! that a command takes; what draws them uses [`load_answers_on_book`].
+//! that a command takes, also one that draws them.
 //!
 //! ```rust
 //! use flag_text::WriteOutlet;
@@ -42,7 +42,7 @@ mod words;
 
 pub use asked::{Applying, Keeping, Ramping, Verifying};
 pub use doubts::{doubted, first_of};
-pub use judging::{RightAnswers, load_answers, load_answers_on_book, out_of_memory};
+pub use judging::{RightAnswers, load_answers, out_of_memory};
 pub use laws::printed_ramps_are_valid;
 pub use refusal::{RampRefusal, StepCall};
 pub use usage::with_steps;

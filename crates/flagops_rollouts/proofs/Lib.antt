@@ -8,7 +8,7 @@ mod Omissions
 pub mod Parts
 mod Passed
 pub mod Points
-mod Said
+pub mod Said
 mod Tallies
 pub mod Telling
 pub mod Valid

@@ -16,7 +16,7 @@ use Rattle.ofrep_guards.specs.declared.rules.Paths.TheVariants.{All, Evaluations
 use Rattle.ofrep_worker.specs.declared.unrecorded.WithoutRecord.{WithoutRecord}
 use Rattle.ofrep_worker.specs.declared.unrecorded.WithoutRecord.TheVariants as unrecorded
 
--- Documents, by their paths, answered at an address, also to the web pages of these origins, to whoever shows a key of a file where one is named, operations at another address where one is given, which may be asked to stop it, with a line told of each request or none, by so many workers that keep notes in a folder and remember so many of them together, and streamed on a port; read again after so many seconds, 0 for never. And what becomes of answers that can't be recorded, and of flags that are broken.
+-- Documents, by their paths, answered at an address, also to the web pages of these origins, to whoever shows a key of a file where one is named, operations at another address where one is given, which may be asked to stop it, with a line told of each request or none, by so many workers that keep notes in a folder and remember so many of them together, and streamed on a port; read again after so many seconds, 0 for never; idle connections are kept for so many seconds, and bodies taken of so many bytes at most. And what becomes of answers that can't be recorded, and of flags that are broken.
 pub record Answering : Type 0 where
   pub listen : Option Text
   pub cors : List Text
@@ -30,6 +30,8 @@ pub record Answering : Type 0 where
   pub stream : Option ℕ
   pub workers : ℕ
   pub poll : ℕ
+  pub idle : ℕ
+  pub max_body : ℕ
   pub broken : OnBroken
   pub documents : List Text
 
@@ -47,6 +49,8 @@ answering_view a = record {
   stream = a.stream;
   workers = a.workers;
   poll = a.poll;
+  idle = a.idle;
+  max_body = a.max_body;
   broken = a.broken;
   documents = map (λ d. d.now) a.documents.items;
 }
@@ -96,6 +100,14 @@ max_remembered = 16777216
 abbrev pub max_poll : ℕ
 max_poll = 3600
 
+-- the longest that an idle connection is kept, in seconds
+abbrev pub max_idle : ℕ
+max_idle = 3600
+
+-- the most bytes of a body that may be taken
+abbrev pub max_body_bytes : ℕ
+max_body_bytes = 4194304
+
 -- an option with a text, which may be left out
 abbrev pub option_text : Text → Text → Rule
 option_text id long = record (new_rule id) { long = Some long }
@@ -117,10 +129,14 @@ ofrep_guarded = with_rule (with_rule ofrep_begun (option_texts (codes "ORIGIN") 
 unfoldable pub ofrep_operated : App
 ofrep_operated = with_rule (with_rule (with_rule ofrep_guarded (option_text (codes "HOST:PORT") (codes "admin"))) (flag (codes "allow-stop"))) (flag (codes "access-log"))
 
+-- the same with `--idle SECONDS` and `--max-body BYTES`
+unfoldable pub ofrep_limited : App
+ofrep_limited = with_rule (with_rule ofrep_operated (option_number (codes "S") (codes "idle") 1 max_idle)) (option_number (codes "BYTES") (codes "max-body") 1 max_body_bytes)
+
 -- the same with `--remember N`, `--without-record answer|refuse` and `--broken refuse|serve`
 unfoldable pub ofrep_chosen : App
 ofrep_chosen =
-    with_rule (with_rule (with_rule ofrep_operated (option_number (codes "NOTES") (codes "remember") 0 max_remembered)) (option_text (codes "answer|refuse") (codes "without-record")))
+    with_rule (with_rule (with_rule ofrep_limited (option_number (codes "NOTES") (codes "remember") 0 max_remembered)) (option_text (codes "answer|refuse") (codes "without-record")))
     (option_text (codes "refuse|serve") (codes "broken"))
 
 -- the same with `--stream PORT`, `--workers N` and `--poll SECONDS`
@@ -174,6 +190,8 @@ answering_in rows = do
   stream ← port_in rows
   workers ← number_or 4 1 max_workers (first_of (codes "N") rows)
   poll ← number_or 2 0 max_poll (first_of (codes "SECONDS") rows)
+  idle ← number_or 75 1 max_idle (first_of (codes "S") rows)
+  max_body ← number_or 1048576 1 max_body_bytes (first_of (codes "BYTES") rows)
   documents ← texts_at (codes "DOC") rows
   Some (record {
     listen = first_of (codes "ADDRESS:PORT") rows;
@@ -188,6 +206,8 @@ answering_in rows = do
     stream = stream;
     workers = workers;
     poll = poll;
+    idle = idle;
+    max_body = max_body;
     broken = broken;
     documents = documents;
   })

@@ -17,7 +17,8 @@ pub enum OnBroken {
 /// What `ofrep` is asked for: to answer from documents, by their paths, at an address, also the web pages of these origins, whoever
 /// shows a key of a file where one is named, operations at another address where one is given, which may be asked to stop it, with a line
 /// told of each request or none, by so many workers that keep their notes in a folder and remember so many of them together, to serve the stream on a port, and to read
-/// the documents again after so many seconds, 0 for never; and what becomes of answers that can't be recorded, and of flags that are
+/// the documents again after so many seconds, 0 for never, with idle connections kept for so many seconds and bodies of so many bytes
+/// at most; and what becomes of answers that can't be recorded, and of flags that are
 /// broken.
 #[derive(Debug, Drop)]
 pub struct Answering<'a> {
@@ -33,6 +34,8 @@ pub struct Answering<'a> {
     pub stream: Option<u16>,
     pub workers: u64,
     pub poll: u64,
+    pub idle: u64,
+    pub max_body: u64,
     pub broken: OnBroken,
     pub documents: Vec<&'a str>,
     ghost some: { 0 < length documents.items },

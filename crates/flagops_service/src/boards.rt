@@ -7,12 +7,12 @@ use crate::asked::Answering;
 use crate::remembering::share_of;
 use access_lines::AccessLines;
 use ofrep_guards::{Keys, Paths};
-use ofrep_service::Board;
+use ofrep_service::{Board, ConnectionLimits};
 use std::alloc::{AllocError, Global};
 use std::time::{Clock, SystemTime, UNIX_EPOCH};
 
 /// A board for what is asked for: the workers share the notes that are remembered, want a key of these where a file is named, and serve
-/// the evaluations alone where operations have an address of their own.
+/// the evaluations alone where operations have an address of their own. Their connections have the limits that are asked for.
 pub(crate) fn board_of(
     alloc: Global,
     answering: &Answering<'_>,
@@ -23,6 +23,8 @@ pub(crate) fn board_of(
     ensures origins { IfOk result (λ board. map string_bytes board.origins.items ≡ (answering_view answering.now).cors) }
     ensures keys { IfOk result (λ board. option_map (λ ring. ring.first) board.keys ≡ clients) }
     ensures paths { IfOk result (λ board. board.paths ≡ paths_served (answering_view answering.now).admin) }
+    ensures idle { IfOk result (λ board. board.limits.idle_seconds ≡ answering.now.idle) }
+    ensures max_body { IfOk result (λ board. board.limits.body_bytes ≡ answering.now.max_body) }
 {
     let origins = copied(alloc, answering.cors.as_slice())?;
     let share = share_of(answering.remember, answering.workers);
@@ -35,6 +37,10 @@ pub(crate) fn board_of(
         clients,
         paths,
         lines,
+        ConnectionLimits {
+            idle_seconds: answering.idle,
+            body_bytes: answering.max_body as usize,
+        },
     );
     board.watch_documents(answering.documents.len());
     Ok(board)

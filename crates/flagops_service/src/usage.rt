@@ -1,7 +1,7 @@
 //! What `ofrep` takes, in the terms of `clap`.
 ghost use Rattle.std.specs.Prelude.{◌≡◌, IfOk, false};
 ghost use Rattle.clap.specs.Words.{app_of, rule_of};
-ghost use Rattle.flagops_service.specs.Words.{ofrep_app, ofrep_begun, ofrep_chosen, ofrep_guarded, ofrep_operated, option_text, option_texts};
+ghost use Rattle.flagops_service.specs.Words.{ofrep_app, ofrep_begun, ofrep_chosen, ofrep_guarded, ofrep_limited, ofrep_operated, option_text, option_texts};
 
 use clap::{Arg, ArgAction, Command};
 use flagops_words::arguments::{flag, option_number, some_words};
@@ -16,6 +16,12 @@ pub const MOST_REMEMBERED: u64 = 16_777_216;
 
 /// The most seconds between two readings of the documents.
 pub const LONGEST_POLL: u64 = 3_600;
+
+/// The longest that an idle connection is kept, in seconds.
+pub const LONGEST_IDLE: u64 = 3_600;
+
+/// The most bytes of a body that may be taken.
+pub const LARGEST_BODY: u64 = 4_194_304;
 
 /// The command `ofrep`. The first of its words is its own name.
 #[tactic(auto, unfolding(crate::specs::Words::ofrep_app))]
@@ -74,10 +80,34 @@ fn chosen<'a>(alloc: Global) -> Result<Command<'a>, AllocError>
         "broken",
         "Refuse to start with a broken flag; or take each change of a document, though it breaks flags. Without it neither",
     );
-    operated(alloc)?
+    limited(alloc)?
         .arg(remember)?
         .arg(without_record)?
         .arg(broken)
+}
+
+/// The command `ofrep` with the words that are texts, those that say who may ask, those of operations, and the limits of connections.
+#[tactic(auto, unfolding(crate::specs::Words::ofrep_limited))]
+fn limited<'a>(alloc: Global) -> Result<Command<'a>, AllocError>
+    ensures { IfOk result (λ c. app_of c ≡ ofrep_limited) }
+{
+    let idle = option_number(
+        alloc,
+        "S",
+        "idle",
+        "After how many seconds a connection on which nothing comes is closed, from 1 to 3600 [default: 75]",
+        1,
+        LONGEST_IDLE,
+    );
+    let body = option_number(
+        alloc,
+        "BYTES",
+        "max-body",
+        "The most bytes of a request's body, from 1 to 4194304 [default: 1048576]",
+        1,
+        LARGEST_BODY,
+    );
+    operated(alloc)?.arg(idle)?.arg(body)
 }
 
 /// The command `ofrep` with the words that are texts, those that say who may ask, and those of operations.

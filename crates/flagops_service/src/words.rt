@@ -7,7 +7,9 @@ ghost use Rattle.flagops_words.specs.Numbers.{max_port};
 ghost use Rattle.flagops_service.specs.Words.{answering_in, answering_view, broken_in, broken_named, ofrep_by, ofrep_faults, origins_in, port_in, without_record_in, without_record_named};
 
 use crate::asked::{Answering, OnBroken};
-use crate::usage::{LONGEST_POLL, MOST_REMEMBERED, MOST_WORKERS, command};
+use crate::usage::{
+    LARGEST_BODY, LONGEST_IDLE, LONGEST_POLL, MOST_REMEMBERED, MOST_WORKERS, command,
+};
 use clap::{ArgMatches, Error};
 use flagops_words::arguments::missing_value;
 use flagops_words::matches::{flag_in, number_or, texts_at};
@@ -24,6 +26,12 @@ const REMEMBERED: u64 = 1_000_000;
 
 /// The seconds between two readings where they are left out.
 const POLL: u64 = 2;
+
+/// The seconds for which an idle connection is kept where they are left out: more than the usual 60 of proxies.
+const IDLE: u64 = 75;
+
+/// The most bytes of a body where they are left out.
+const BODY: u64 = 1_048_576;
 
 /// What the words after the program's name ask of `ofrep`, which is the first of them.
 #[tactic(auto, unfolding(crate::specs::Words::ofrep_by, crate::specs::Words::ofrep_faults))]
@@ -64,6 +72,12 @@ fn answering_in<'a>(
     let Some(poll) = number_or(matches, "SECONDS", POLL, 0, LONGEST_POLL) else {
         return Ok(None);
     };
+    let Some(idle) = number_or(matches, "S", IDLE, 1, LONGEST_IDLE) else {
+        return Ok(None);
+    };
+    let Some(max_body) = number_or(matches, "BYTES", BODY, 1, LARGEST_BODY) else {
+        return Ok(None);
+    };
     let Some(documents) = texts_at(matches, "DOC") else {
         return Ok(None);
     };
@@ -80,6 +94,8 @@ fn answering_in<'a>(
         stream,
         workers,
         poll,
+        idle,
+        max_body,
         broken,
         documents: documents.to_vec(alloc)?,
     }))

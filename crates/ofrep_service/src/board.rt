@@ -12,10 +12,17 @@ use std::num::NonZeroUsize;
 use std::sync::Wait;
 use std::sync::atomic::{AtomicBool, AtomicU64, Ordering};
 
+/// How long a worker keeps a connection on which nothing comes, in seconds, and the most bytes of a body that it takes.
+#[derive(Clone, Copy, Debug, PartialEq, Eq)]
+pub struct ConnectionLimits {
+    pub idle_seconds: u64,
+    pub body_bytes: usize,
+}
+
 /// What the threads of a service tell each other: what the workers count, how many connections they hold, which snapshot was
 /// published last, whether they are to end; and what becomes of answers that can't be recorded, how many notes each worker
-/// remembers, the pages of which origins may ask, the keys of which a request shows one, where one is wanted, and what the workers
-/// serve.
+/// remembers, the pages of which origins may ask, the keys of which a request shows one, where one is wanted, what the workers
+/// serve, and the limits of their connections.
 #[derive(Drop)]
 pub struct Board {
     pub(crate) counts: Counts,
@@ -32,12 +39,13 @@ pub struct Board {
     pub(crate) paths: Paths,
     /// The lines of requests, where they are wanted.
     pub(crate) lines: Option<AccessLines>,
+    pub(crate) limits: ConnectionLimits,
 }
 
 impl Board {
     /// A board where nothing was counted or published yet. This becomes of answers that can't be recorded, each worker remembers so
     /// many notes, or none, the pages of these origins may ask, or with `*` any, a request shows one of the keys, where there are
-    /// some, the workers serve these paths, and the lines of requests go there, where they are wanted.
+    /// some, the workers serve these paths, the lines of requests go there, where they are wanted, and connections have these limits.
     pub fn new(
         without_record: WithoutRecord,
         remember: Option<NonZeroUsize>,
@@ -45,12 +53,14 @@ impl Board {
         keys: Option<Keys>,
         paths: Paths,
         lines: Option<AccessLines>,
+        limits: ConnectionLimits,
     ) -> Board
         ensures without { result.without_record ≡ without_record }
         ensures remember { result.remember ≡ remember }
         ensures origins { result.origins ≡ origins }
         ensures keys { option_map (λ ring. ring.first) result.keys ≡ keys }
         ensures paths { result.paths ≡ paths }
+        ensures limits { result.limits ≡ limits }
     {
         let keys = match keys {
             Some(keys) => Some(KeyRing::new(keys)),
@@ -68,6 +78,7 @@ impl Board {
             keys,
             paths,
             lines,
+            limits,
         }
     }
 

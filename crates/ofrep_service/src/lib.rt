@@ -22,7 +22,7 @@ mod subscriber;
 mod workers;
 
 pub use admin::{AdminPost, bind_admin};
-pub use board::Board;
+pub use board::{Board, ConnectionLimits};
 pub use logs::{Journal, open_logs};
 pub use posts::{Post, bind};
 pub use streams::bind_stream;

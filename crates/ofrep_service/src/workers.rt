@@ -15,7 +15,7 @@ use crate::streams::stream_beside;
 use access_lines::LoggedService;
 use dated_answers::Dated;
 use http_server::{Config, Service};
-use limits::{STACK_BYTES, TEXT_BYTES};
+use limits::STACK_BYTES;
 use log_file::{LogPaths, SystemLog};
 use note_log::NoteLog;
 use ofrep_connections::{Patience, answer_connections_with};
@@ -212,7 +212,7 @@ fn serve_recorded<S: Recording, R: Net + Clock>(
         × AllStand S.stands service.new (flat_map (λ calls. calls) turns) }
 {
     let config = Config {
-        max_body_len: TEXT_BYTES,
+        max_body_len: board.limits.body_bytes,
         max_pending: MOST_PENDING,
         ..Config::default()
     };
@@ -221,7 +221,7 @@ fn serve_recorded<S: Recording, R: Net + Clock>(
         alloc,
         keys,
         config,
-        Patience::default(),
+        Patience::with_idle_seconds(board.limits.idle_seconds),
         board.counts.traffic(),
         listener,
         &board.load,

@@ -6,7 +6,7 @@ use Rattle.flagops_filters.specs.Words.{join_app, record_app, tally_app}
 use Rattle.flagops_pictures.specs.Words as pictures
 use Rattle.flagops_pictures.specs.Words.{picture_app}
 use Rattle.flagops_ramps.specs.Words.{keep_app, ramp_app, step_app, verify_app as verify_ramp_app}
-use Rattle.flagops_service.specs.Words.{ofrep_app, ofrep_begun, ofrep_chosen, ofrep_guarded}
+use Rattle.flagops_service.specs.Words.{ofrep_app, ofrep_begun, ofrep_chosen, ofrep_guarded, ofrep_limited, ofrep_operated}
 use Rattle.flagops_streams.specs.Words.{follow_app, serve_app, serve_begun}
 use Rattle.flagops_words.specs.Shell.{script_of}
 use Rattle.flagops_words.specs.Words.{apply_app, bucket_app, completions_app, drive_app, flagops_app, plan_app, price_app, resolve_app, verify_app}
@@ -81,7 +81,7 @@ unfolding script_of join_app
 returns-clause-join c = (refl, refl, refl)
 
 pub returns-clause-ofrep : goal.returns-clause-ofrep
-unfolding script_of ofrep_app ofrep_chosen ofrep_guarded ofrep_begun
+unfolding script_of ofrep_app ofrep_chosen ofrep_limited ofrep_operated ofrep_guarded ofrep_begun
 returns-clause-ofrep c = (refl, refl, refl)
 
 pub returns-clause-serve : goal.returns-clause-serve

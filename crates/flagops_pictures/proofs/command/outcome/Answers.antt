@@ -2,9 +2,11 @@ use Rattle.std.proofs.Common.{◌≡◌, ◌∙◌, Err, Result, ap, subst, sym}
 use Rattle.std.proofs.lemmas.Result.{err_from_is_err_and}
 use Rattle.plan_text.specs.Answer.{planned_view}
 use Rattle.flagops_files.specs.Question.{question_view}
+use Rattle.flagops_rollouts.proofs.Said.{doubts_said_at, nothing_said}
 use Rattle.flagops_rollouts.proofs.Verdicts.{failed_second}
 use Rattle.flagops_rollouts.specs.Attempts.{plan_read}
 use Rattle.flagops_rollouts.specs.Refusal.{ComesFrom, Refused, call_of}
+use Rattle.flagops_rollouts.specs.Remarks.{TellsDoubtsAt}
 use Rattle.flagops_shell.specs.declared.outcome.Outcome.{Outcome}
 use Rattle.flagops_pictures.specs.Diagnostics.{checked_subjects}
 use Rattle.flagops_pictures.specs.Pictured.{picture_calls}
@@ -59,3 +61,17 @@ returns-in_err-planned-clause-names g c =
     let is : c.from_residual-in_err-planned.result ≡ Err c.in_err-planned.field-0.0 = p.1 ∙ ap Err p.2 in
     in_plan (picturing_view c.args.asked.now) (question_view c.in_ok-question.question) _ _ c.from_residual-in_err-planned.result c.in_err-planned.field-0.0 is c.load_question.ensures.kept c.in_ok-question.ensures.exact c.in_err-planned.ensures.exact
     c.in_err-planned.ensures.names
+
+-- ---- what is told beside a picture
+
+pub returns-clause-parts : goal.returns-clause-parts
+returns-clause-parts g c =
+    let a = picturing_view c.args.asked.now in
+    doubts_said_at a.document a.request a.book (question_view c.in_ok-question.question) (g.F.FileSet.holding c.args.files.now) c.pictured.result c.in_ok-question.ensures.exact c.pictured.ensures.parts
+
+pub returns-in_err-planned-clause-parts : goal.returns-in_err-planned-clause-parts
+returns-in_err-planned-clause-parts g c =
+    let a = picturing_view c.args.asked.now in
+    let p = err_from_is_err_and c.from_residual-in_err-planned.result c.from_residual-in_err-planned.ensures.1 in
+    let is : c.from_residual-in_err-planned.result ≡ Err c.in_err-planned.field-0.0 = p.1 ∙ ap Err p.2 in
+    nothing_said (λ at o. TellsDoubtsAt at a.document a.request a.book o.remark) (g.F.FileSet.holding c.args.files.now) c.in_err-planned.field-0.0 c.from_residual-in_err-planned.result is

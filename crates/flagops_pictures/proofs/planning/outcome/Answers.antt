@@ -1,4 +1,4 @@
-use Rattle.std.proofs.Common.{◌≡◌, Err, inl, rules}
+use Rattle.std.proofs.Common.{◌≡◌, Err, inl, rules, unwrap_or}
 use Rattle.flagops_files.specs.Question.{question_view}
 use Rattle.flagops_rollouts.specs.Refusal.{is_file_fault}
 use Rattle.flagops_files.specs.Told.{by_kind}
@@ -6,6 +6,7 @@ use Rattle.flagops_pictures.specs.Diagnostics.{drawn_subjects}
 use Rattle.flagops_pictures.specs.Words.{planning_view}
 use Rattle.flagops_pictures.proofs.Planned.{asked_of, failed_behind, kept_behind, left_behind, unasked}
 use Rattle.flagops_pictures.proofs.Naming.{in_planned, in_question}
+use Rattle.flagops_rollouts.proofs.Said.{plan_said_at}
 use Rattle.flagops_pictures.proofs.planning.outcome.Goals as goal
 
 pub returns-clause-exact : goal.returns-clause-exact
@@ -44,3 +45,8 @@ returns-in_err-question-clause-names g c =
     let p = planning_view c.args.asked.now in
     let is : c.from_residual.result ≡ Err c.in_err-question.field-0.0 = search rules in
     in_question p.document p.request p.book (λ at. by_kind (drawn_subjects p)) _ c.from_residual.result c.in_err-question.field-0.0 is c.in_err-question.ensures.names
+
+pub returns-clause-parts : goal.returns-clause-parts
+returns-clause-parts g c =
+    let p = planning_view c.args.asked.now in
+    plan_said_at p.document p.request p.book (question_view c.in_ok-question.question) (unwrap_or p.refine 1) p.explain (g.F.FileSet.holding c.args.files.now) c.planned.result c.in_ok-question.ensures.exact c.planned.ensures.parts

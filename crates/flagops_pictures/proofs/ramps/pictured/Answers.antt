@@ -2,6 +2,7 @@ use Rattle.std.specs.Prelude.{Err, Ok, Result}
 use Rattle.flagops_shell.specs.declared.outcome.Outcome.{Outcome}
 use Rattle.flagops_ramps.proofs.Diagnosed.{wanting as wants}
 use Rattle.flagops_ramps.proofs.Firsts.{found_read, made}
+use Rattle.flagops_ramps.proofs.Noted.{verdict_said_at}
 use Rattle.flagops_ramps.specs.Attempts.{verify_files}
 use Rattle.flagops_ramps.specs.Diagnostics.{IsOfVerify}
 use Rattle.flagops_ramps.specs.Judging.{answered_view}
@@ -33,3 +34,8 @@ returns-in-Ok-clause-names g c =
     let t = c.out_of_memory.result in
     let r : Result Outcome Told = Err t in
     made (IsOfVerify v) r files (λ at. verify_files at v) (found_read v (answered_view c.in-Ok.right) files c.in-Ok.ensures.exact) (wants (IsOfVerify v) t c.out_of_memory.ensures.want)
+
+pub returns-in-Ok-drawn-clause-parts : goal.returns-in-Ok-drawn-clause-parts
+returns-in-Ok-drawn-clause-parts g c =
+    let r : Result Outcome Told = Ok c.in-Ok-drawn.outcome in
+    verdict_said_at (verifying_view c.args.asked.now) (answered_view c.in-Ok.right) (g.F.FileSet.holding c.args.files.now) r c.in-Ok.ensures.exact c.in-Ok-drawn.ensures.parts

@@ -7,8 +7,6 @@ use Rattle.flagops_ramps.specs.Apply.{IsStepOver}
 use Rattle.flagops_ramps.specs.Report.{GivesOne}
 use Rattle.flagops_ramps.specs.Words.{applying_view}
 use Rattle.flagops_ramps.proofs.Applied.{answered_so, unanswered}
-use Rattle.std.specs.Prelude.{IfOk}
-use Rattle.flagops_ramps.specs.Remarks.{TellsStepOf}
 use Rattle.flagops_ramps.proofs.Noted.{step_said_from}
 use Rattle.flagops_ramps.proofs.applying.against.Goals as goal
 use Rattle.flagops_ramps.proofs.Firsts.{answers_were_read, made, told_as}

@@ -1,6 +1,6 @@
-use Rattle.std.proofs.Common.{Err, Global, List, Ok, Option, Vec, ap, map, option_map, subst, ℕ}
+use Rattle.std.proofs.Common.{Err, Global, List, Ok, Option, Vec, map, option_map, subst, ℕ}
 use Rattle.flag_defs.specs.Flags.{flags_view}
-use Rattle.flagops_files.specs.Question.{Question, question_view}
+use Rattle.flagops_files.specs.Question.{question_view}
 use Rattle.plan_text.specs.Answer.{planned_view}
 use Rattle.plan_text.specs.declared.planned.Planned.{Planned}
 use Rattle.ramp.specs.Right.{IsTold}
@@ -20,9 +20,6 @@ returns-in-Ok-verified_on-clause-right g c = record {
   few = c.requires;
   right = rw (c.as_slice-2.ensures.value, c.as_slice-3.ensures.value, c.factor_number.ensures.value) at c.in-Ok-verified_on.ensures;
 }
-
-pub returns-in-Ok-verified_on-clause-evidence : goal.returns-in-Ok-verified_on-clause-evidence
-returns-in-Ok-verified_on-clause-evidence g c = ap (λ (q : Question). q.evidence) c.count.ensures.kept
 
 pub returns-in-Err-clause-exact : goal.returns-in-Err-clause-exact
 returns-in-Err-clause-exact g c =
