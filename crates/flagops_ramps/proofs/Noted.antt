@@ -227,3 +227,8 @@ module _ (path : List ℕ) (flags : Definitions) (requests : List (List ℕ)) wh
 
 pub not_noted : (more : Bool) (settled : Result Bool RampRefusal) (t : Told) (r : Result (Option Remark) Told) → r ≡ Err t → (is_want t.refusal ≡ false → settled ≡ Err t.refusal) → GivesUnlessWant (λ x. is_some x) r (noted_with more settled)
 not_noted more settled t r is refused = subst (λ (s : Result (Option Remark) Told). GivesUnlessWant (λ x. is_some x) s (noted_with more settled)) (sym is) (λ wanted. ap (noted_with more) (refused wanted))
+
+-- beside a refusal nothing is told
+pub nothing_said : (P : Holding → Outcome → Type 0) (old : Option Holding) (t : Told) (r : Result Outcome Told) → r ≡ Err t → IfSome old (λ at. IfOk r (P at))
+nothing_said P None t r is = tt
+nothing_said P (Some at) t r is = subst (λ (s : Result Outcome Told). IfOk s (P at)) (sym is) tt

@@ -261,13 +261,20 @@ fn of_verdict(
     ensures { IfOk result (λ s. NamesStep (judged_path (verifying_view asked.now) fault.now) step (string_bytes s)) }
 {
     let more = more?;
-    let path = match fault {
-        VerifyFault::Request(_) => asked.rollout.steps,
-        VerifyFault::Check(_) => asked.ramp,
-    };
+    let path = path_of(asked, fault);
     let advice = advice_of(fault);
     let reason = format!(in alloc; "{fault}{advice}{more}")?;
     step_line(alloc, path, step, reason.as_str())
+}
+
+/// The file that a refusal is of: that of the steps, or that of their answers.
+fn path_of<'a>(asked: &Verifying<'a>, fault: &VerifyFault) -> &'a str
+    ensures { result.now ≡ judged_path (verifying_view asked.now) fault.now }
+{
+    match fault {
+        VerifyFault::Request(_) => asked.rollout.steps,
+        VerifyFault::Check(_) => asked.ramp,
+    }
 }
 
 /// What to do about a request that is refused; nothing of an answer that is not right.

@@ -6,7 +6,8 @@ use Rattle.flagops_pictures.specs.Diagnostics.{drawn_subjects}
 use Rattle.flagops_pictures.specs.Words.{planning_view}
 use Rattle.flagops_pictures.proofs.Planned.{asked_of, failed_behind, kept_behind, left_behind, unasked}
 use Rattle.flagops_pictures.proofs.Naming.{in_planned, in_question}
-use Rattle.flagops_rollouts.proofs.Said.{plan_said_at}
+use Rattle.flagops_rollouts.proofs.Said.{nothing_said, plan_said_at}
+use Rattle.flagops_rollouts.specs.Remarks.{TellsPlanAt}
 use Rattle.flagops_pictures.proofs.planning.outcome.Goals as goal
 
 pub returns-clause-exact : goal.returns-clause-exact
@@ -50,3 +51,9 @@ pub returns-clause-parts : goal.returns-clause-parts
 returns-clause-parts g c =
     let p = planning_view c.args.asked.now in
     plan_said_at p.document p.request p.book (question_view c.in_ok-question.question) (unwrap_or p.refine 1) p.explain (g.F.FileSet.holding c.args.files.now) c.planned.result c.in_ok-question.ensures.exact c.planned.ensures.parts
+
+pub returns-in_err-question-clause-parts : goal.returns-in_err-question-clause-parts
+returns-in_err-question-clause-parts g c =
+    let p = planning_view c.args.asked.now in
+    let is : c.from_residual.result ≡ Err c.in_err-question.field-0.0 = search rules in
+    nothing_said (λ at o. TellsPlanAt at p.document p.request p.book (unwrap_or p.refine 1) p.explain o.text.items o.remark) (g.F.FileSet.holding c.args.files.now) c.in_err-question.field-0.0 c.from_residual.result is

@@ -4,12 +4,13 @@ use Rattle.plan_text.specs.Answer.{planned_view}
 use Rattle.ramp_steps.specs.Steps.{requests_view, steps_of}
 use Rattle.flagops_ramps.specs.Words.{keeping_view}
 use Rattle.flagops_ramps.proofs.Kept.{failed_once, kept_once, left_once, of_both, of_no_steps, of_none}
-use Rattle.flagops_ramps.proofs.Noted.{keep_said_from}
+use Rattle.flagops_ramps.proofs.Noted.{keep_said_from, nothing_said}
 use Rattle.flagops_ramps.proofs.keeping.against.Goals as goal
 use Rattle.flagops_ramps.proofs.Firsts.{answers_were_read, made, told_as}
 use Rattle.flagops_ramps.specs.Diagnostics.{IsOfAnswers, IsOfKeep}
 use Rattle.flagops_ramps.specs.Attempts.{answers_file}
 use Rattle.flagops_ramps.specs.Ramp.{of_steps}
+use Rattle.flagops_ramps.specs.Remarks.{TellsKeepFrom}
 use Rattle.flagops_ramps.proofs.Diagnosed.{keep_answers, keep_steps}
 use Rattle.std.specs.Prelude.{Result}
 use Rattle.flagops_ramps.specs.Report.{Told}
@@ -78,3 +79,8 @@ returns-in-Ok-clause-parts g c =
     let tells = rw (c.as_slice-in-Ok.ensures.value, c.as_slice.ensures.value) at c.over.ensures.parts in
     keep_said_from (keeping_view c.args.asked.now) (question_view c.args.question) (g.F.FileSet.holding c.args.files.now) (requests_view c.in-Ok.steps.items) (map planned_view c.in_ok-answers.answers.items) c.over.result
     c.in_ok-answers.ensures.exact (ap steps_of (sym c.bytes.ensures) ∙ c.in-Ok.ensures.exact) tells
+
+pub returns-in_err-answers-clause-parts : goal.returns-in_err-answers-clause-parts
+returns-in_err-answers-clause-parts g c =
+    let is : c.from_residual.result ≡ Err c.in_err-answers.field-0.0 = search rules in
+    nothing_said (λ at o. TellsKeepFrom at (keeping_view c.args.asked.now) (question_view c.args.question) o.remark) (g.F.FileSet.holding c.args.files.now) c.in_err-answers.field-0.0 c.from_residual.result is
