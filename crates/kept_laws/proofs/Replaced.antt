@@ -23,7 +23,7 @@ module _ (reads : BytesReadAsPart) (document : List ℕ) (t : Shape) (document_r
   item_read path items i front old back there stands =
       let found = reads document max_bytes (path ++ index i ∷ []) front old back t document_read stands in
       let one : part_at (path ++ index i ∷ []) t ≡ option_and_then (part_at []) (item_at i items) = part_append path (index i ∷ []) t ∙ ap (option_and_then (part_at (index i ∷ []))) there in
-      (found.0, none_more (item_at i items) found.0 (sym one ∙ found.1.0), found.1.1)
+      (found.0, none_more (item_at i items) found.0 (sym one ∙ found.1), found.2)
     where
       none_more : (o : Option Shape) (u : Shape) → option_and_then (part_at []) o ≡ Some u → o ≡ Some u
       none_more None u e = cc
