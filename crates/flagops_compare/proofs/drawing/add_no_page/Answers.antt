@@ -12,8 +12,8 @@ returns-then-is_empty c =
     let none : string_bytes s ≡ [] = nil_from_length (string_bytes s) (sym long ∙ eqb-true (string_len s) 0 (sym c.is_empty.ensures ∙ c.if-is_empty.true)) in
     none_there c.args.end (string_bytes s) (string_bytes c.draw_no_page.new.pictures) c.draw_no_page.result none c.draw_no_page.ensures.adds c.draw_no_page.ensures.below
 
-pub returns : goal.returns
-returns c = λ ps body ends.
+pub returns-else-is_empty : goal.returns-else-is_empty
+returns-else-is_empty c = λ ps body ends.
     let s = c.args.pictures.now in
     let long : string_len s ≡ length (string_bytes s) = s.bytes.ok.0 in
     let some : string_bytes s ≢ [] = λ none.
