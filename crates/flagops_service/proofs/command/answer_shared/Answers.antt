@@ -11,7 +11,7 @@ returns g c =
     let old = g.O.Outlet.bytes c.args.out.now in
     let new = g.O.Outlet.bytes c.write_line-status.new.out in
     let broken = g.O.Outlet.is_broken c.write_line-status.new.out in
-    let is : c.as_str.result.now ≡ serving_line n = c.as_str.ensures.value ∙ c.in-Ok.ensures ∙ ap serving_line c.len.ensures in
+    let is : c.as_str.result.now ≡ serving_line n = c.as_str.ensures.value ∙ c.in-Ok.ensures ∙ ap serving_line (c.len.ensures ∙ c.args.watched.accepted.ok.0) in
     let put = subst (λ (line : List ℕ). Writes old new broken c.write_line-status.result line 0) is c.write_line-status.ensures in
     inl (inl (
       c.requires.cors,
