@@ -212,7 +212,10 @@ def answer(document, method, path, tags, body):
     """The status, the body (None: an `errorDetails` alone; bytes: as they are) and the entity tag of a request."""
     if path in ("/healthz", "/readyz", "/metrics"):
         return (200, b"ok", None) if method == "GET" else (405, None, None)
-    key = key_of(path[len(FLAGS) + 1 :]) if re.fullmatch(FLAGS + "/[^/]+", path) else None
+    named = re.fullmatch(FLAGS + "/([^/]*)", path)
+    key = key_of(named[1]) if named else None
+    if named and not key:
+        return *error(named[1], 404, "FLAG_NOT_FOUND"), None
     if path != FLAGS and key is None:
         return 404, None, None
     if method != "POST":

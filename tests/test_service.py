@@ -428,9 +428,9 @@ class Browsers(ServiceTest):
         rows = [
             ("1 NoOrigin", ["", "app.example.com", "https:app.example.com", "https://", "//app.example.com", "localhost:3000"]),
             ("2 UpperCase", ["HTTPS://app.example.com", "https://App.example.com"]),
-            ("3 Path", ["https://app.example.com/", "https://app.example.com/shop", "https://app.example.com?a", "https://app.example.com#a"]),
+            ("3 Path", ["https://app.example.com/", "https://app.example.com/shop", "https://app.example.com?a", "https://app.example.com#a", "https://app.example.com,https://b.example.com"]),
             ("4 OwnPort", ["https://app.example.com:443", "http://app.example.com:80", "http://[::1]:80"]),
-            ("5 BadByte", ["https://*.example.com", "https://me@app.example.com", "https://app.example.com,https://b.example.com", "https://münchen.example"]),
+            ("5 BadByte", ["https://*.example.com", "https://me@app.example.com", "https://app.example.com,b.example.com", "https://münchen.example"]),
         ]
         for name, origins in rows:
             for origin in origins:
@@ -896,7 +896,9 @@ class Limits(ServiceTest):
         self.start("--workers", "1", "--max-body", "4194304")
         body = context("mallory")
         self.assertEqual(self.flag("color", body + b" " * (4_194_304 - len(body))), (200, color_of("mallory")))
-        self.assertEqual(self.ask("POST", f"{FLAGS}/color", body + b" " * (4_194_305 - len(body)))[0], 413)
+        with self.connect() as stream:
+            stream.sendall(b"POST / HTTP/1.1\r\nHost: h\r\nContent-Length: 4194305\r\n\r\n")
+            self.assertTrue(stream.recv(4096).startswith(b"HTTP/1.1 413 "))
 
 
 class Logs(ServiceTest):
