@@ -7,11 +7,13 @@ pub mod Foreseen
 pub mod Law
 pub mod Lawful
 pub mod Limited
+pub mod Marked
 pub mod Meanings
 pub mod Meant
 pub mod Outlines
 pub mod Paired
 pub mod Parted
+pub mod Pieces
 pub mod Printed
 pub mod PrintedBytes
 pub mod Reasons
@@ -20,3 +22,4 @@ pub mod Targetings
 pub mod Trees
 pub mod Unreferred
 pub mod Weighed
+pub mod Wholes

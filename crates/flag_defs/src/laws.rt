@@ -1,7 +1,21 @@
 //! What holds of the definitions alone.
 ghost use Rattle.flag_defs.specs.Document.{HasOneMeaning};
+ghost use Rattle.flag_defs.specs.FloatsLaw.{FloatsChangeNothing, HasOneMeaningWithFloats, NoneHasFloats};
+
+use float_variants::whole_flags_have_no_floats;
 
 /// A document means one thing: its flags, or one refusal.
 pub fn a_document_has_one_meaning()
     ensures { HasOneMeaning }
 {}
+
+/// A document whose numbers are all whole means with floats what it means without them, and none of its flags has floats. A document
+/// with floats means one thing, too.
+pub fn floats_change_nothing()
+    ensures same { FloatsChangeNothing }
+    ensures none { NoneHasFloats }
+    ensures one { HasOneMeaningWithFloats }
+{
+    float_variants::floats_change_nothing();
+    whole_flags_have_no_floats();
+}
