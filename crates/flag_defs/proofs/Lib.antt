@@ -4,6 +4,8 @@ pub mod Counted
 pub mod Deep
 pub mod Followed
 pub mod Foreseen
+mod Grown
+mod Joined
 pub mod Law
 pub mod Lawful
 pub mod Limited
@@ -18,8 +20,12 @@ pub mod Printed
 pub mod PrintedBytes
 pub mod Reasons
 pub mod Sorted
+mod Spelling
+mod SpellingPrinted
+mod SpellingRead
 pub mod Targetings
 pub mod Trees
 pub mod Unreferred
 pub mod Weighed
 pub mod Wholes
+mod Written

@@ -25,7 +25,7 @@ Entry = String Global × Flag
 -- ---- the last of each key
 
 -- what is told of a key once one more mark was read
-abbrev told : List ℕ → Bool → List ℕ × Bool → Bool
+abbrev pub told : List ℕ → Bool → List ℕ × Bool → Bool
 told key found m = if bytes_eq m.0 key then m.1 else found
 
 mark_of-push : (key : List ℕ) (ms : Marks) (m : List ℕ × Bool) → mark_of key (ms ++ m ∷ []) ≡ told key (mark_of key ms) m

@@ -17,5 +17,6 @@ pub mod Outline
 pub mod PrintedBytes
 pub mod Rules
 pub mod Spelled
+pub mod SpelledLaw
 pub mod Targeting
 pub mod Weighing

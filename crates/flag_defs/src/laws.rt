@@ -1,6 +1,7 @@
 //! What holds of the definitions alone.
 ghost use Rattle.flag_defs.specs.Document.{HasOneMeaning};
 ghost use Rattle.flag_defs.specs.FloatsLaw.{FloatsChangeNothing, HasOneMeaningWithFloats, NoneHasFloats};
+ghost use Rattle.flag_defs.specs.SpelledLaw.{PrintedWithFloatsReadsBack};
 
 use float_variants::whole_flags_have_no_floats;
 
@@ -19,3 +20,9 @@ pub fn floats_change_nothing()
     float_variants::floats_change_nothing();
     whole_flags_have_no_floats();
 }
+
+/// What is printed for flags of which some have floats is a document with floats that means these flags, and of which the same
+/// have floats: where the texts that their variants are spell such variants.
+pub fn printed_floats_read_back()
+    ensures { PrintedWithFloatsReadsBack }
+{}

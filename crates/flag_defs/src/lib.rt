@@ -66,6 +66,6 @@ pub use fault::DefFault;
 pub use flag::Flag;
 pub use flags::Flags;
 pub use kind::Kind;
-pub use laws::{a_document_has_one_meaning, floats_change_nothing};
+pub use laws::{a_document_has_one_meaning, floats_change_nothing, printed_floats_read_back};
 pub use print::print_flags;
 pub use spelled::{print_flags_with_floats, push_spelled};
