@@ -6,10 +6,12 @@ pub mod Followed
 pub mod Foreseen
 mod Grown
 mod Joined
+mod Lasts
 pub mod Law
 pub mod Lawful
 pub mod Limited
 pub mod Marked
+mod Marking
 pub mod Meanings
 pub mod Meant
 pub mod Outlines
@@ -20,6 +22,7 @@ pub mod Printed
 pub mod PrintedBytes
 pub mod Reasons
 pub mod Sorted
+mod SortedTexts
 mod Spelling
 mod SpellingPrinted
 mod SpellingRead

@@ -1,5 +1,5 @@
 -- What is printed of flags of which some have floats means these flags, and which of them have floats.
-use Rattle.std.specs.Prelude.{◌≡◌, List, [], ◌∷◌, Bool, true, false, Ok}
+use Rattle.std.specs.Prelude.{◌≡◌, ℕ, List, [], ◌∷◌, Bool, true, false, Ok}
 use Rattle.std.specs.Str.{is_utf8}
 use Rattle.json.specs.Json as json
 use Rattle.json.specs.Print.{print}
@@ -40,3 +40,7 @@ AreMarked (f ∷ fs) (m ∷ ms) = (m.0 ≡ f.0) × IsSpelled f.1 m.1 × AreMarke
 abbrev pub PrintedWithFloatsReadsBack : Type 0
 PrintedWithFloatsReadsBack = (fs : Definitions) (ms : Marks) → AreFlags fs → AreMarked fs ms → is_utf8 (printed_with_floats fs ms) ≡ true
     → MeansWithFloats (printed_with_floats fs ms) (Ok fs) × (marked (marks_of_text (printed_with_floats fs ms)) fs ≡ ms)
+
+-- Flags that a document with floats means have the marks of the document so that they may be printed.
+abbrev pub DocumentsAreMarked : Type 0
+DocumentsAreMarked = (bytes : List ℕ) (fs : Definitions) → MeansWithFloats bytes (Ok fs) → AreMarked fs (marked (marks_of_text bytes) fs)

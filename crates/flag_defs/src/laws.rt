@@ -1,7 +1,7 @@
 //! What holds of the definitions alone.
 ghost use Rattle.flag_defs.specs.Document.{HasOneMeaning};
 ghost use Rattle.flag_defs.specs.FloatsLaw.{FloatsChangeNothing, HasOneMeaningWithFloats, NoneHasFloats};
-ghost use Rattle.flag_defs.specs.SpelledLaw.{PrintedWithFloatsReadsBack};
+ghost use Rattle.flag_defs.specs.SpelledLaw.{DocumentsAreMarked, PrintedWithFloatsReadsBack};
 
 use float_variants::whole_flags_have_no_floats;
 
@@ -21,8 +21,9 @@ pub fn floats_change_nothing()
     whole_flags_have_no_floats();
 }
 
-/// What is printed for flags of which some have floats is a document with floats that means these flags, and of which the same
-/// have floats: where the texts that their variants are spell such variants.
+/// What is printed for flags of which some have floats is a document with floats that means these flags, and gives them the same
+/// marks, where the texts that the variants of these are spell such variants. So are those of each document with floats.
 pub fn printed_floats_read_back()
-    ensures { PrintedWithFloatsReadsBack }
+    ensures marked { DocumentsAreMarked }
+    ensures back { PrintedWithFloatsReadsBack }
 {}
