@@ -2,27 +2,16 @@
 import http.client
 import json
 import os
-import shutil
 import socket
 import ssl
 import subprocess
 import tempfile
 import unittest
 
-from program import PROGRAM, ROOT, SECONDS, free_port, run, wait_until
+from program import PROGRAM, ROOT, SECONDS, found, free_port, needs, run, wait_until
 from test_service import FLAGS, ServiceTest, context
 
 DEPLOY = os.path.join(ROOT, "deploy")
-
-
-def needs(*programs):
-    """Skips a test where one of the programs is not there. Debian has some where only root looks."""
-    lacking = [it for it in programs if not found(it)]
-    return unittest.skipIf(lacking, f"there is no {', '.join(lacking)}")
-
-
-def found(program):
-    return shutil.which(program, path=os.environ.get("PATH", "") + ":/usr/sbin:/sbin")
 
 
 def text_of(name):
