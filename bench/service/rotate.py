@@ -1,0 +1,54 @@
+"""Debian's `logrotate` with the rule of `deploy/`, once a second for SECONDS, on the logs of a service under load: every key that a
+client was told a variant for stands in a file of the folder. (The rule keeps 30 files; here it keeps all.)
+
+    bench/service/rotate.py [SECONDS [CLIENTS]]
+
+Ends with 1 where a line is lost."""
+import os
+import shutil
+import subprocess
+import sys
+import tempfile
+import time
+
+from service import ROOT, Load, Service, line_for, wait_until
+
+WORKERS = 2
+
+
+def rule_for(log):
+    """The rule of `deploy/`, for the logs of a folder."""
+    with open(os.path.join(ROOT, "deploy", "logrotate"), encoding="utf-8") as file:
+        text = file.read()
+    for old, new in (("/var/lib/flagops/log", log), ("rotate 30", "rotate 1000000")):
+        assert old in text, old
+        text = text.replace(old, new)
+    return text
+
+
+def main(seconds="300", clients="4"):
+    logrotate = shutil.which("logrotate", path=os.environ.get("PATH", "") + ":/usr/sbin:/sbin")
+    with tempfile.TemporaryDirectory() as folder:
+        log, rule = os.path.join(folder, "log"), os.path.join(folder, "rule")
+        service = Service(folder, log, "--workers", str(WORKERS))
+        with open(rule, "w", encoding="utf-8") as file:
+            file.write(rule_for(log))
+        os.chmod(rule, 0o644)
+        load, begun, turns = Load(service, int(clients)), time.monotonic(), 0
+        while turns < int(seconds):
+            time.sleep(max(0, begun + turns - time.monotonic()))
+            subprocess.run([logrotate, "--force", "--state", os.path.join(folder, "state"), rule], check=True)
+            turns += 1
+        told = len(load.told)
+        wait_until(lambda: len(load.told) > told, "the load does not go on")
+        load.end()
+        reopened = sum(count for series, count in service.metrics().items() if series.startswith("ofrep_log_reopened_total"))
+        service.kill()
+        lines = service.lines()
+        lost = [told.key for told in load.told if line_for(told.key) not in lines]
+        print(f"{turns} rotations, {len(os.listdir(log))} files, {reopened:.0f} times opened anew, {len(load.told)} told, {len(lines)} lines, {len(lost)} lost, other answers {load.others}")
+    return 1 if lost else 0
+
+
+if __name__ == "__main__":
+    sys.exit(main(*sys.argv[1:]))
