@@ -34,11 +34,12 @@ def main(seconds="300", clients="4"):
         with open(rule, "w", encoding="utf-8") as file:
             file.write(rule_for(log))
         os.chmod(rule, 0o644)
-        load, begun, turns = Load(service, int(clients)), time.monotonic(), 0
-        while turns < int(seconds):
-            time.sleep(max(0, begun + turns - time.monotonic()))
+        load, before = Load(service, int(clients)), 0
+        for _ in range(int(seconds)):
+            # (a rotated file is named by its second, so two rotations in one would be one)
+            wait_until(lambda: int(time.time()) > before, "the clock stands still")
+            before = int(time.time())
             subprocess.run([logrotate, "--force", "--state", os.path.join(folder, "state"), rule], check=True)
-            turns += 1
         told = len(load.told)
         wait_until(lambda: len(load.told) > told, "the load does not go on")
         load.end()
@@ -46,7 +47,7 @@ def main(seconds="300", clients="4"):
         service.kill()
         lines = service.lines()
         lost = [told.key for told in load.told if line_for(told.key) not in lines]
-        print(f"{turns} rotations, {len(os.listdir(log))} files, {reopened:.0f} times opened anew, {len(load.told)} told, {len(lines)} lines, {len(lost)} lost, other answers {load.others}")
+        print(f"{seconds} rotations, {len(os.listdir(log))} files, {reopened:.0f} times opened anew, {len(load.told)} told, {len(lines)} lines, {len(lost)} lost, other answers {load.others}")
     return 1 if lost else 0
 
 

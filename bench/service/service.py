@@ -119,7 +119,7 @@ class Load:
 
     def __init__(self, service, clients):
         self.service, self.told, self.others, self.is_over = service, [], {}, threading.Event()
-        self.threads = [threading.Thread(target=self.ask_on, args=(client,)) for client in range(clients)]
+        self.threads = [threading.Thread(target=self.ask_on, args=(client,), daemon=True) for client in range(clients)]
         for thread in self.threads:
             thread.start()
 
