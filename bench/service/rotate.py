@@ -26,6 +26,13 @@ def rule_for(log):
     return text
 
 
+def rotated(words):
+    """Whether a rotation found its file there: it is named by its second, and some two are in one where the machine is slow."""
+    ran = subprocess.run(words, stderr=subprocess.PIPE, text=True, check=False)
+    assert ran.returncode == 0 or "already exists, skipping rotation" in ran.stderr, ran.stderr
+    return ran.returncode != 0
+
+
 def main(seconds="300", clients="4"):
     logrotate = shutil.which("logrotate", path=os.environ.get("PATH", "") + ":/usr/sbin:/sbin")
     with tempfile.TemporaryDirectory() as folder:
@@ -34,12 +41,10 @@ def main(seconds="300", clients="4"):
         with open(rule, "w", encoding="utf-8") as file:
             file.write(rule_for(log))
         os.chmod(rule, 0o644)
-        load, before = Load(service, int(clients)), 0
-        for _ in range(int(seconds)):
-            # (a rotated file is named by its second, so two rotations in one would be one)
-            wait_until(lambda: int(time.time()) > before, "the clock stands still")
-            before = int(time.time())
-            subprocess.run([logrotate, "--force", "--state", os.path.join(folder, "state"), rule], check=True)
+        load, begun, skipped = Load(service, int(clients)), time.monotonic(), 0
+        while time.monotonic() < begun + int(seconds):
+            skipped += rotated([logrotate, "--force", "--state", os.path.join(folder, "state"), rule])
+            time.sleep(1)
         told = len(load.told)
         wait_until(lambda: len(load.told) > told, "the load does not go on")
         load.end()
@@ -47,7 +52,7 @@ def main(seconds="300", clients="4"):
         service.kill()
         lines = service.lines()
         lost = [told.key for told in load.told if line_for(told.key) not in lines]
-        print(f"{seconds} rotations, {len(os.listdir(log))} files, {reopened:.0f} times opened anew, {len(load.told)} told, {len(lines)} lines, {len(lost)} lost, other answers {load.others}")
+        print(f"{seconds} seconds, {skipped} rotations that found their file there, {len(os.listdir(log))} files, {reopened:.0f} times opened anew, {len(load.told)} told, {len(lines)} lines, {len(lost)} lost, other answers {load.others}")
     return 1 if lost else 0
 
 
