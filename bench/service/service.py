@@ -47,8 +47,9 @@ class Service:
     def __init__(self, folder, log, *words, document=DOCUMENT):
         self.log, self.err = log, os.path.join(folder, "err")
         path = os.path.join(folder, "flags.json")
-        with open(path, "w", encoding="utf-8") as file:
-            json.dump(document, file)
+        if not os.path.exists(path):
+            with open(path, "w", encoding="utf-8") as file:
+                json.dump(document, file)
         self.port = free_port()
         words = [PROGRAM, "ofrep", "--listen", f"127.0.0.1:{self.port}", "--log", log, *words, path]
         with open(self.err, "ab") as err:
