@@ -1,4 +1,5 @@
-"""The files of `deploy/`, by the programs that read them where they are there: systemd, Prometheus, nginx, logrotate."""
+"""The files of `deploy/`, by the programs that read them where they are there: systemd, Prometheus, nginx, logrotate. NGINX_REQUESTS
+is how many go through nginx, 1,000 by default."""
 import http.client
 import json
 import os
@@ -12,6 +13,7 @@ from program import PROGRAM, ROOT, SECONDS, found, free_port, needs, run, wait_u
 from test_service import FLAGS, ServiceTest, context
 
 DEPLOY = os.path.join(ROOT, "deploy")
+REQUESTS = int(os.environ.get("NGINX_REQUESTS", "1000"))
 
 
 def text_of(name):
@@ -102,10 +104,11 @@ class Running(ServiceTest):
         trusted.check_hostname = False
         client = http.client.HTTPSConnection("127.0.0.1", port, context=trusted, timeout=SECONDS)
         self.addCleanup(client.close)
-        for turn in range(200):
+        for turn in range(REQUESTS):
             client.request("POST", f"{FLAGS}/color", context(f"user-{turn}"))
             told = client.getresponse()
             self.assertEqual((told.status, json.loads(told.read())["key"]), (200, "color"))
+        self.assertEqual({json.loads(line)[3] for line in self.notes()}, {f"coloruser-{turn}" for turn in range(REQUESTS)})
         for path in ("/metrics", "/readyz", "/", "/ofrep/v1/configuration"):
             client.request("GET", path)
             told = client.getresponse()

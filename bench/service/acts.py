@@ -81,10 +81,12 @@ def sed(folder):
 
 
 def copytruncate(folder):
-    """What was told between the copy's last read and the cut may be gone."""
-    begun = time.monotonic()
-    shutil.copyfile(folder.path(), f"{folder.path()}.{folder.turn}")
-    os.truncate(folder.path(), 0)
+    """Of a log that has lines. What was told between the copy's last read and the cut may be gone."""
+    paths = [os.path.join(folder.log, f"worker-{number}.log") for number in range(1, WORKERS + 1)]
+    wait_until(lambda: any(map(os.path.getsize, paths)), "no log has lines")
+    path, begun = max(paths, key=os.path.getsize), time.monotonic()
+    shutil.copyfile(path, f"{path}.{folder.turn}")
+    os.truncate(path, 0)
     folder.windows.append((begun, time.monotonic()))
 
 
