@@ -30,8 +30,9 @@ SECONDS, SECONDS_A_MEGABYTE = 0.1, 0.2
 MEGABYTES, BYTES_A_BYTE = 64, 40
 KEPT, SHOWN = 40, 12
 
-# (a walk over the buckets of a split is known to be dear: `costly.py` has it, and this seeks what is not known)
-MOST_BUCKETS = 200
+# (a walk over the buckets of a split, and long keys that many splits reach, are known to be dear: `costly.py` has both, and this seeks
+# what is not known)
+MOST_BUCKETS, MOST_KEY = 200, 1_000
 
 PATHS = ["", "", "xs", "xs", "xs.0", "o", "o.m7", "t", "u", "names", "deep", "deep.a.a.a", "targetingKey", "accumulator", "current", "m1", "nothing", "$flagd.timestamp"]
 UNARY = ["!", "!!", "missing", "cat", "max", "min", "+", "merge"]
@@ -108,7 +109,7 @@ class Service:
 # Where it begins: what was found dear before.
 ENDED = {"e": {"var": "t"}, "f": {"var": "o"}}
 KNOWN = [
-    Case({"map": [{"var": "xs"}, {"fractional": [["on", 1], ["off", 1]]}]}, ENDED, {"xs": {"#list": [6_000, 0]}, "targetingKey": {"#text": [65_000, "k"]}}),
+    Case({"map": [{"var": "xs"}, {"fractional": [["on", 1], ["off", 1]]}]}, ENDED, {"xs": {"#list": [6_000, 0]}, "targetingKey": {"#text": [MOST_KEY, "k"]}}),
     Case({"missing": {"var": "names"}}, ENDED, {"names": {"#names": [40_000, "o.m"]}, "o": {"#members": [40_000, 1]}}),
     Case({"map": [{"var": "xs"}, {"fractional": [{"#spread": [200, ["on", 1]]}]}]}, ENDED, {"xs": {"#list": [24_000, 0]}, "targetingKey": "k"}),
     Case({"map": [{"var": "xs"}, {"cat": [{"var": "t"}, "x"]}]}, ENDED, {"xs": {"#list": [20_000, 0]}, "t": {"#text": [60_000, "x"]}}),
@@ -184,9 +185,9 @@ def value(draw):
 def drawn(draw):
     """A case from nothing."""
     context = {name: value(draw) for name in ("xs", "o", "t", "u", "names", "deep") if draw.randrange(3)}
-    context["targetingKey"] = draw.choice(["k", {"#text": [size(draw), "k"]}])
+    context["targetingKey"] = draw.choice(["k", {"#text": [draw.randrange(MOST_KEY), "k"]}])
     evaluators = {"e": expression(draw, 2), "f": expression(draw, 1)}
-    return Case({"if": [expression(draw), "on", "off"]} if draw.randrange(2) else expression(draw), evaluators, context)
+    return Case(expression(draw), evaluators, context)
 
 
 def whole(tree):
@@ -263,7 +264,7 @@ def resized(draw, tree):
     if not found:
         return tree
     path = draw.choice(found)
-    most = {"#nest": 110, "#spread": MOST_BUCKETS}.get(path[-2], 200_000)
+    most = MOST_KEY if path[0] == "targetingKey" else {"#nest": 110, "#spread": MOST_BUCKETS}.get(path[-2], 200_000)
     return put(tree, path, max(1, min(most, int(at(tree, path) * draw.choice([0.5, 0.8, 1.2, 2, 4, 10])))))
 
 
@@ -304,7 +305,7 @@ def varied(draw, case, other):
         elif kind < 6:
             case = case._replace(targeting=changed(draw, case.targeting, other.targeting, lambda by: expression(by, 2)))
         elif kind == 6:
-            name = draw.choice(["xs", "o", "t", "u", "names", "deep", "targetingKey"])
+            name = draw.choice(["xs", "o", "t", "u", "names", "deep"])
             case = case._replace(context={**case.context, name: draw.choice([value(draw), other.context.get(name, 0)])})
         else:
             name = draw.choice("ef")
@@ -313,10 +314,11 @@ def varied(draw, case, other):
 
 
 def texts_of(case):
-    """The document and the body of a case; nothing where one is too long."""
+    """The document and the body of a case; nothing where one is too long. The targeting comes to a variant whatever its value is, since
+    an answer costs more than an error."""
     if max(weight(case.targeting), weight(case.evaluators), weight(case.context)) > 2 * MOST_BYTES:
         return None
-    flag = {"state": "ENABLED", "variants": {"on": True, "off": False}, "defaultVariant": "off", "targeting": whole(case.targeting)}
+    flag = {"state": "ENABLED", "variants": {"on": True, "off": False}, "defaultVariant": "off", "targeting": {"if": [{"!": [whole(case.targeting)]}, "on", "off"]}}
     trees = {"flags": {"a": flag}, "$evaluators": whole(case.evaluators)}, {"context": whole(case.context)}
     texts = [json.dumps(tree, separators=(",", ":"), ensure_ascii=False).encode() for tree in trees]
     return texts if max(map(len, texts)) <= MOST_BYTES else None
