@@ -115,19 +115,19 @@ def services(folder):
 
 ACTS = {"mv": mv, "gzip": gzip, "rm": rm, "rm-folder": rm_folder, "sed": sed, "copytruncate": copytruncate, "remount": remount, "services": services}
 
-# How what is told of it on the error output begins.
-TOLD = {"copytruncate": ["a log was cut"], "sed": ["a log was moved or removed", "another file was put in the place of a log"]}
+# How the report of it on the error output begins.
+REPORTS = {"copytruncate": ["a log was cut"], "sed": ["a log was moved or removed", "another file was put in the place of a log"]}
 
 
 def round_of(name, folder):
     """One act; then waits until the service has found it, and has all paths again."""
     folder.open_all()
-    before, told = folder.reopened(), folder.service.told()
+    before, reported = folder.reopened(), folder.service.reports()
     ACTS[name](folder)
     if name != "services":
         wait_until(lambda: folder.reopened() > before, f"{name}: no log is opened anew")
-        parts = TOLD.get(name, ["a log was moved or removed"])
-        wait_until(lambda: any(part in folder.service.told()[len(told) :] for part in parts), f"{name}: nothing is told")
+        parts = REPORTS.get(name, ["a log was moved or removed"])
+        wait_until(lambda: any(part in folder.service.reports()[len(reported) :] for part in parts), f"{name}: nothing is reported")
     for number in range(1, WORKERS + 1):
         path = os.path.join(folder.log, f"worker-{number}.log")
         wait_until(lambda: os.path.exists(path), f"{name}: {path} is not there again")
@@ -142,8 +142,8 @@ def tried(name, rounds, clients):
         try:
             folder = Folder(top, clients)
             for folder.turn in range(rounds):
-                begun = len(folder.load.told)
-                wait_until(lambda: len(folder.load.told) > begun + 20, f"{name}: the load does not go on")
+                begun = len(folder.load.answered)
+                wait_until(lambda: len(folder.load.answered) > begun + 20, f"{name}: the load does not go on")
                 round_of(name, folder)
             lines = folder.end()
         finally:
@@ -151,10 +151,10 @@ def tried(name, rounds, clients):
                 subprocess.run(["umount", "-l", os.path.join(top, "log")], check=True)
         # (what was below the file systems: the service may look between two of them)
         lines |= folder.service.lines()
-    lost = [told for told in folder.load.told if line_for(told.key) not in lines]
-    known = [told for told in lost if any(told.asked < last and first < told.answered for first, last in folder.windows)]
+    lost = [each for each in folder.load.answered if line_for(each.key) not in lines]
+    known = [each for each in lost if any(each.asked < last and first < each.answered for first, last in folder.windows)]
     print(
-        f"{name}: {rounds} times, {len(folder.load.told)} told, {len(lost) - len(known)} lost"
+        f"{name}: {rounds} times, {len(folder.load.answered)} told, {len(lost) - len(known)} lost"
         + (f", {len(known)} gone between copy and cut" if folder.windows else "")
         + (f", other answers {folder.load.others}" if folder.load.others else ""),
         flush=True,

@@ -45,14 +45,14 @@ def main(seconds="300", clients="4"):
         while time.monotonic() < begun + int(seconds):
             skipped += rotated([logrotate, "--force", "--state", os.path.join(folder, "state"), rule])
             time.sleep(1)
-        told = len(load.told)
-        wait_until(lambda: len(load.told) > told, "the load does not go on")
+        count = len(load.answered)
+        wait_until(lambda: len(load.answered) > count, "the load does not go on")
         load.end()
         reopened = sum(count for series, count in service.metrics().items() if series.startswith("ofrep_log_reopened_total"))
         service.kill()
         lines = service.lines()
-        lost = [told.key for told in load.told if line_for(told.key) not in lines]
-        print(f"{seconds} seconds, {skipped} rotations that found their file there, {len(os.listdir(log))} files, {reopened:.0f} times opened anew, {len(load.told)} told, {len(lines)} lines, {len(lost)} lost, other answers {load.others}")
+        lost = [each.key for each in load.answered if line_for(each.key) not in lines]
+        print(f"{seconds} seconds, {skipped} rotations that found their file there, {len(os.listdir(log))} files, {reopened:.0f} times opened anew, {len(load.answered)} told, {len(lines)} lines, {len(lost)} lost, other answers {load.others}")
     return 1 if lost else 0
 
 

@@ -42,7 +42,7 @@ def free_port():
 
 
 class Service:
-    """A service with a log. What it tells goes into the file `err` of its folder, behind what others told there."""
+    """A service with a log. What it reports goes into the file `err` of its folder, after the reports of others there."""
 
     def __init__(self, folder, log, *words, document=DOCUMENT):
         self.log, self.err = log, os.path.join(folder, "err")
@@ -66,8 +66,8 @@ class Service:
         self.child.wait()
         self.child.stdout.close()
 
-    def told(self):
-        """What it has told."""
+    def reports(self):
+        """What it has reported."""
         with open(self.err, encoding="utf-8") as file:
             return file.read()
 
@@ -106,8 +106,8 @@ def ask(connection, key):
     return answer.status
 
 
-class Told(NamedTuple):
-    """A key that a client was told a variant for, when it asked, and when it had the answer."""
+class Answered(NamedTuple):
+    """A key for which a client got a variant, when it asked, and when it had the answer."""
 
     key: str
     asked: float
@@ -115,11 +115,11 @@ class Told(NamedTuple):
 
 
 class Load:
-    """Clients that ask for one key after another, each on a connection of its own, and keep what they were told. Where a connection
+    """Clients that ask for one key after another, each on a connection of its own, and keep the keys that were answered with a variant. Where a connection
     is closed, they connect again, to the service that `service` then is."""
 
     def __init__(self, service, clients):
-        self.service, self.told, self.others, self.is_over = service, [], {}, threading.Event()
+        self.service, self.answered, self.others, self.is_over = service, [], {}, threading.Event()
         self.threads = [threading.Thread(target=self.ask_on, args=(client,), daemon=True) for client in range(clients)]
         for thread in self.threads:
             thread.start()
@@ -137,7 +137,7 @@ class Load:
                 time.sleep(0.01)
                 continue
             if status == 200:
-                self.told.append(Told(key, asked, time.monotonic()))
+                self.answered.append(Answered(key, asked, time.monotonic()))
             else:
                 self.others[status] = self.others.get(status, 0) + 1
 
