@@ -3,6 +3,7 @@ was built here, else of the shipped one."""
 import json
 import os
 import resource
+import shutil
 import socket
 import subprocess
 import tempfile
@@ -97,6 +98,17 @@ def text_of(path):
     """The text of a file, with marks in place of bytes that are no UTF-8."""
     with open(path, encoding="utf-8", errors="surrogateescape", newline="") as file:
         return file.read()
+
+
+def found(program):
+    """The path of a program of the system; nothing where it is not there. Debian has some where only root looks."""
+    return shutil.which(program, path=os.environ.get("PATH", "") + ":/usr/sbin:/sbin")
+
+
+def needs(*programs):
+    """Skips a test where one of the programs is not there."""
+    lacking = [it for it in programs if not found(it)]
+    return unittest.skipIf(lacking, f"there is no {', '.join(lacking)}")
 
 
 def broken_lines(told):

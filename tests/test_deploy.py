@@ -1,28 +1,19 @@
-"""The files of `deploy/`, by the programs that read them where they are there: systemd, Prometheus, nginx, logrotate."""
+"""The files of `deploy/`, by the programs that read them where they are there: systemd, Prometheus, nginx, logrotate. NGINX_REQUESTS
+is how many go through nginx, 1,000 by default."""
 import http.client
 import json
 import os
-import shutil
 import socket
 import ssl
 import subprocess
 import tempfile
 import unittest
 
-from program import PROGRAM, ROOT, SECONDS, free_port, run, wait_until
+from program import PROGRAM, ROOT, SECONDS, found, free_port, needs, run, wait_until
 from test_service import FLAGS, ServiceTest, context
 
 DEPLOY = os.path.join(ROOT, "deploy")
-
-
-def needs(*programs):
-    """Skips a test where one of the programs is not there. Debian has some where only root looks."""
-    lacking = [it for it in programs if not found(it)]
-    return unittest.skipIf(lacking, f"there is no {', '.join(lacking)}")
-
-
-def found(program):
-    return shutil.which(program, path=os.environ.get("PATH", "") + ":/usr/sbin:/sbin")
+REQUESTS = int(os.environ.get("NGINX_REQUESTS", "1000"))
 
 
 def text_of(name):
@@ -113,10 +104,11 @@ class Running(ServiceTest):
         trusted.check_hostname = False
         client = http.client.HTTPSConnection("127.0.0.1", port, context=trusted, timeout=SECONDS)
         self.addCleanup(client.close)
-        for turn in range(200):
+        for turn in range(REQUESTS):
             client.request("POST", f"{FLAGS}/color", context(f"user-{turn}"))
             told = client.getresponse()
             self.assertEqual((told.status, json.loads(told.read())["key"]), (200, "color"))
+        self.assertEqual({json.loads(line)[3] for line in self.notes()}, {f"coloruser-{turn}" for turn in range(REQUESTS)})
         for path in ("/metrics", "/readyz", "/", "/ofrep/v1/configuration"):
             client.request("GET", path)
             told = client.getresponse()

@@ -36,6 +36,9 @@ class Hostile(Script):
     def test_for_long(self):
         self.none_bad("long.py", 1)
 
+    def test_a_search_for_dear_bodies(self):
+        self.last("search.py", 5)
+
 
 @unittest.skipUnless(shutil.which("cc"), "no compiler of C is here")
 class Libraries(Script):

@@ -3,7 +3,7 @@
 
     bench/hostile/costly.py [GROUP [WORD]]
 
-Those of a GROUP (targeting, evaluation, documents, records, rules, evaluations, plans) whose names hold a WORD, or all.
+Those of a GROUP (targeting, evaluation, documents, records, rules, evaluations, plans, found) whose names hold a WORD, or all.
 A run is bad where it is ended by a signal, answers another than the row's, or takes more than a second of a processor and one for each
 megabyte of what it read and printed, or more than 60 MB and 60 bytes for each byte read or printed, or more than 500 MB. Prints a
 row for each: what it is, the bytes read and printed, the answer, the time and the memory. The last line is 'N cases, M bad'; ends
@@ -290,6 +290,24 @@ def costly_plans():
     yield Row("64 names, all but a ring forbidden", ["plan", "doc", "request", "book"], {"doc": wide_doc, "request": json.dumps({**ask, "totals": totals, "forbid": forbid}), "book": book})
 
 
+def found_before():
+    """Small inputs that once took seconds or gigabytes."""
+    mapped = lambda each: {"if": [{"in": ["z", {"map": [{"var": "xs"}, each]}]}, "on", "off"]}
+    context = json.dumps({"xs": [0] * 24_000, "targetingKey": "k" * 65_000}, separators=(",", ":"))
+    yield resolved("a key of 65 KB at 24,000 elements", mapped({"fractional": [["on", 1], ["off", 1]]}), context, '{"code":null')
+    context = json.dumps({"names": [f"o.x{n}" for n in range(49_000)], "o": {f"m{n}": 0 for n in range(80_000)}}, separators=(",", ":"))
+    yield resolved("49,000 paths into an object of 80,000 members", {"if": [{"in": [0, {"missing": {"var": "names"}}]}, "on", "off"]}, context, '{"code":null')
+    context = json.dumps({"xs": [0] * 24_000, "targetingKey": "k"}, separators=(",", ":"))
+    yield resolved("16,000 buckets at 24,000 elements", mapped(split(16_000)), context)
+    doc = document({"a": flag({"fractional": [["on", 1], ["off", 1]]})})
+    request = '{"plan":1,"flag":"a","totals":{"on":1,"off":1}}'
+    book = '{"book":1}\n{"by":null,"flag":"a","site":0}\n"ax"\n'
+    plan = '{"alpha":[["off",0,0],["on",1,0]],"beta":[["off",0],["on",0]],"cost":0,"plan":1,"rule":[["on",1],["off",1]]' + ',"unread":[' + "[]," * 20_000_000 + "0]}"
+    files = {"doc": doc, "request": request, "book": book, "plan": plan}
+    for words in (["verify", "doc", "request", "book", "plan"], ["apply", "doc", "plan", "a", "0"], ["picture", "doc", "request", "book", "plan"]):
+        yield Row(f"{words[0]}: a plan with an unread list of 20,000,000 empty lists", words, files)
+
+
 def run(forks, row, folder):
     """How a run ended: its status, the front of its first line, the bytes that it printed and told, the seconds of a processor, and
     the megabytes that it took at most."""
@@ -309,6 +327,7 @@ GROUPS = {
     "rules": limits_of_rules,
     "evaluations": costly_evaluations,
     "plans": costly_plans,
+    "found": found_before,
 }
 
 

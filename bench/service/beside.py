@@ -1,6 +1,6 @@
-"""Requests a second, the 99th percentile and memory of `ofrep` beside a plain server (`bench/plain`) over the same document in one
-run, by `wrk`, the two by turns, the best of three: 1 and 4 workers, 1, 4 and 64 connections, with and without a log, a flag with a rule and one without;
-then the memory of each beside 4,000 idle connections. Needs `wrk`, and cargo with Debian's librust-{mio,rayon,serde-json}-dev.
+"""Requests a second, the 99th percentile, the time of a processor for each request, and memory of `ofrep` beside a plain server
+(`bench/plain`) over the same document in one run, by `wrk`, the two by turns, the best of three: 1 and 4 workers, 1, 4 and 64 connections, with and without a log, a flag with a rule and one without;
+then the memory of each beside 4,000 idle connections. On a busy machine only the time of a processor says something. Needs `wrk`, and cargo with Debian's librust-{mio,rayon,serde-json}-dev.
 Usage: beside.py [SECONDS]"""
 import json
 import os
@@ -11,9 +11,10 @@ import subprocess
 import sys
 import tempfile
 
+from service import PROGRAM as PROVED
+
 HERE = os.path.dirname(os.path.abspath(__file__))
 ROOT = os.path.dirname(os.path.dirname(HERE))
-PROVED = os.environ.get("FLAGOPS", os.path.join(ROOT, "crates", "flagops", "out", "flagops"))
 SECONDS = int(sys.argv[1]) if len(sys.argv) > 1 else 3
 SHOP = os.path.join(ROOT, "demo", "flags", "shop.json")
 SIZE = {"state": "ENABLED", "variants": {"small": 1, "large": 2}, "defaultVariant": "small"}
@@ -65,20 +66,31 @@ class Server:
         self.child.wait()
         self.child.stdout.close()
 
+    def seconds(self):
+        """The seconds of a processor that it has taken."""
+        spent, tasks = 0, f"/proc/{self.child.pid}/task"
+        for task in os.listdir(tasks):
+            with open(f"{tasks}/{task}/schedstat", encoding="utf-8") as file:
+                spent += int(file.read().split()[0])
+        return spent / 1e9
+
     def resident(self):
         with open(f"/proc/{self.child.pid}/status", encoding="utf-8") as file:
             return next(int(line.split()[1]) for line in file if line.startswith("VmRSS:")) / 1024
 
 
 def timed(program, folder, workers, connections, logs, flag):
-    """Requests a second and the 99th percentile, as `wrk` gives them."""
+    """Requests a second and the 99th percentile, as `wrk` gives them, and the microseconds of a processor for each request."""
     with tempfile.TemporaryDirectory(dir=folder) as log, Server(program, os.path.join(folder, "flags.json"), workers, log if logs else None) as server:
         threads = str(min(connections, 2))
         words = ["wrk", "-t", threads, "-c", str(connections), "-d", f"{SECONDS}s", "--latency", "-s", os.path.join(folder, "ask.lua")]
         words.append(f"http://127.0.0.1:{server.port}/ofrep/v1/evaluate/flags/{flag}")
+        begun = server.seconds()
         told = subprocess.run(words, capture_output=True, text=True, check=True).stdout
+        spent = server.seconds() - begun
         assert "Non-2xx" not in told, told
-        return float(re.search(r"Requests/sec:\s+([0-9.]+)", told)[1]), re.search(r"99%\s+(\S+)", told)[1]
+        answers = int(re.search(r"(\d+) requests in", told)[1])
+        return float(re.search(r"Requests/sec:\s+([0-9.]+)", told)[1]), re.search(r"99%\s+(\S+)", told)[1], spent / answers * 1e6
 
 
 def main():
@@ -90,8 +102,8 @@ def main():
             document = json.load(shop)
             document["flags"]["size"] = SIZE
             json.dump(document, file)
-        print("| workers | connections | log | flag | proved, 1/s (p99) | plain, 1/s (p99) | ratio |\n|---|---|---|---|---|---|---|")
-        ratios = []
+        print("| workers | connections | log | flag | proved, 1/s (p99) | plain, 1/s (p99) | ratio | proved and plain, microseconds | ratio |\n|---|---|---|---|---|---|---|---|---|")
+        ratios, spent_ratios = [], []
         for workers in (1, 4):
             for connections in (1, 4, 64):
                 for logs in (True, False):
@@ -99,10 +111,12 @@ def main():
                         runs = [[timed(it, folder, workers, connections, logs, flag) for it in (PROVED, plain)] for _ in range(3)]
                         ours, theirs = map(max, zip(*runs))
                         ratios.append(ours[0] / theirs[0])
+                        spent = [min(run[2] for run in each) for each in zip(*runs)]
+                        spent_ratios.append(spent[1] / spent[0])
                         kind = "with a rule" if flag == "checkout" else "without"
-                        rates = " | ".join(f"{rate:,.0f} ({slowest})" for rate, slowest in (ours, theirs))
-                        print(f"| {workers} | {connections} | {'yes' if logs else 'no'} | {kind} | {rates} | {ratios[-1]:.2f} |", flush=True)
-        print(f"lowest ratio {min(ratios):.2f}")
+                        rates = " | ".join(f"{rate:,.0f} ({slowest})" for rate, slowest, _ in (ours, theirs))
+                        print(f"| {workers} | {connections} | {'yes' if logs else 'no'} | {kind} | {rates} | {ratios[-1]:.2f} | {spent[0]:.1f} and {spent[1]:.1f} | {spent_ratios[-1]:.2f} |", flush=True)
+        print(f"lowest ratio {min(ratios):.2f}, by the time of a processor {min(spent_ratios):.2f}")
         for name, program in (("proved", PROVED), ("plain", plain)):
             with Server(program, os.path.join(folder, "flags.json"), 4, None) as server:
                 before = server.resident()
