@@ -5,7 +5,8 @@
     bench/wrong_bodies.py --check    writes nothing; status 1 where the page is not what would be written
 
 A wrong body is an edit, `crates/CRATE/must-fail/NAME.edit` where the gate tries it, or `bench/wrong/CRATE/NAME.edit` where
-bench/wrong.sh does. Its line `clause:` says which clause refuses it; the prover passes over that line.
+bench/wrong.sh does. Its line `clause:` says which clause refuses it; the prover passes over that line. `bench/wrong_tried.txt` says when
+one was tried last, in a line `CRATE/NAME DAY BY`, where BY is what refused it first: `clause`, or `answer` for one that a proof file gives.
 """
 import glob
 import os
@@ -14,9 +15,10 @@ import sys
 
 TOP = os.path.dirname(os.path.dirname(os.path.realpath(__file__)))
 PAGE = os.path.join(TOP, "docs", "WRONG_BODIES.md")
+TRIED = os.path.join(TOP, "bench", "wrong_tried.txt")
 HEAD = """# Wrong bodies
 
-Each line is an edit of one function that the prover has to refuse, since a clause of a contract is false of it. `rt ci` tries those of the gate, `bench/wrong.sh [CRATE ..]` the others; [CHECKS.md](CHECKS.md#wrong-bodies) says when, which were never tried, and of which the clause was only read. A clause is named as "clause of function", or by the function alone where it has only one. This page is written by `bench/wrong_bodies.py`.
+Each line is an edit of one function that the prover has to refuse, since a clause of a contract is false of it. `rt ci` tries those of the gate, `bench/wrong.sh [CRATE ..]` the others; [CHECKS.md](CHECKS.md#wrong-bodies) says more of both. Of these the third column has the day of the last trial, where it was noted; "answer" stands beside it where an answer in a proof file, which mentions what the edit takes away, was refused before any clause, so that it shows less. A clause is named as "clause of function", or by the function alone where it has only one. This page is written by `bench/wrong_bodies.py`.
 """
 
 
@@ -32,6 +34,13 @@ def crates():
     return groups
 
 
+def trials():
+    """When a wrong body was tried last, and by what it was refused first, by crate and name."""
+    with open(TRIED, encoding="utf-8") as file:
+        rows = [line.split() for line in file if line.strip() and not line.startswith("#")]
+    return {name: day + (", answer" if by == "answer" else "") for name, day, by in rows}
+
+
 def edits(crate):
     """The name of each edit of a crate, where it is tried, the file that it changes, and its clause."""
     for where, folder in ("gate", f"crates/{crate}/must-fail"), ("by hand", f"bench/wrong/{crate}"):
@@ -44,12 +53,13 @@ def edits(crate):
 
 def page():
     """The text of the page."""
-    text = HEAD
+    text, tried = HEAD, trials()
+    when = lambda crate, name, where: where if where == "gate" else tried.get(f"{crate}/{name}", where)
     for group, names in crates():
         rows = [(crate, *edit) for crate in names for edit in edits(crate)]
         if rows:
             text += f"\n## {group.split(':')[0]}\n\n| crate | wrong body | tried | file | refused by |\n|---|---|---|---|---|\n"
-            text += "".join(f"| `{crate}` | {name} | {where} | `{file}` | {clause} |\n" for crate, name, where, file, clause in rows)
+            text += "".join(f"| `{crate}` | {name} | {when(crate, name, where)} | `{file}` | {clause} |\n" for crate, name, where, file, clause in rows)
     return text
 
 
