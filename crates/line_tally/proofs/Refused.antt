@@ -7,7 +7,7 @@ use Rattle.page_tally.specs.Folding.{is_above_last}
 use Rattle.flag_text.specs.Printing.{text_of}
 use Rattle.note_lines.specs.Hashed.{Hashed, IsHashed, has_hash, hashed_line}
 use Rattle.note_lines.specs.Note.{Noted, IsNote, note_line, note_shape}
-use Rattle.note_lines.proofs.Kinds.{hash_kind, input_kind}
+use Rattle.note_lines.proofs.OneKind.{hash_kind, input_kind}
 use Rattle.tally_core.specs.Tally.{IsLineOn, hash_line_on, hashed_on, line_on, noted_on}
 use Rattle.tally_core.proofs.Pages.{same_page}
 use Rattle.line_tally.specs.Lines.{IsSaid, Said, Tallied, has_room, is_alike, of_hash, of_input, passed, said_line, said_page, said_point, tallied, with_point, with_said}
@@ -132,7 +132,7 @@ other_taken t new line (Ok x) is above alike done = (
   is.1,
   is.2,
   said_other t is.0 (subst (λ (l : List ℕ). is_above_last t.before l ≡ true) is.2 above) (subst (λ (l : List ℕ). is_alike t.before l ≡ true) is.2 alike) is.3
-  ∙ ap (λ (l : List ℕ). Ok (passed t l)) (sym is.2) ∙ ap (λ (u : Tallied). Ok u) (sym done),
+      ∙ ap (λ (l : List ℕ). Ok (passed t l)) (sym is.2) ∙ ap (λ (u : Tallied). Ok u) (sym done),
 )
 other_taken t new line (Err e) is above alike done = tt
 

@@ -23,7 +23,7 @@ use Rattle.book_core.proofs.Taken.{is_less}
 use Rattle.page_tally.specs.Folding.{is_above_last}
 use Rattle.note_lines.specs.Note.{IsNote, Noted, note_line}
 use Rattle.note_lines.specs.Hashed.{has_hash}
-use Rattle.note_lines.proofs.Kinds.{input_kind}
+use Rattle.note_lines.proofs.OneKind.{input_kind}
 use Rattle.note_lines.proofs.Lines.{one_note}
 use Rattle.tally_core.specs.Law.{TalliesInAnyOrder, lines_on}
 use Rattle.tally_core.specs.Tally.{line_on, most_at_point, noted_on}

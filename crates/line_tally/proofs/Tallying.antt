@@ -15,7 +15,7 @@ use Rattle.book_core.proofs.Taken.{is_less}
 use Rattle.page_tally.specs.Folding.{is_above_last}
 use Rattle.note_lines.specs.Hashed.{Hashed, has_hash, hashed_line}
 use Rattle.note_lines.specs.Note.{Noted, note_line}
-use Rattle.note_lines.proofs.Kinds.{hash_kind, input_kind}
+use Rattle.note_lines.proofs.OneKind.{hash_kind, input_kind}
 use Rattle.tally_core.specs.Law.{IsRangeBy, counts_by, first_line, last_line}
 use Rattle.tally_core.specs.Tally.{hash_line_on, line_on}
 use Rattle.tally_core.proofs.Pages.{same_page}

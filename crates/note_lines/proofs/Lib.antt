@@ -1,3 +1,3 @@
-pub mod Kinds
+pub mod OneKind
 pub mod Lines
 mod Lengths

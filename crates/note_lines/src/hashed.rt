@@ -55,11 +55,7 @@ pub fn read_hashed_note(alloc: Global, line: &[u8]) -> Result<Option<HashedNote>
 }
 
 /// The note that a tree stands for, where its line is this one.
-fn spelled_note(
-    alloc: Global,
-    tree: &Tree,
-    line: &[u8],
-) -> Result<Option<HashedNote>, AllocError>
+fn spelled_note(alloc: Global, tree: &Tree, line: &[u8]) -> Result<Option<HashedNote>, AllocError>
     ensures note { IfOk result (λ r. IfSome r (λ note. IsHashed note × (line.now ≡ hashed_line note))) }
     ensures none { IfOk result (λ r. r ≡ None → (note : Hashed) → IsHashed note → line.now ≡ hashed_line note → view tree.now ≢ hashed_shape note) }
 {

@@ -9,10 +9,7 @@ use flag_text::Tree;
 use std::alloc::{AllocError, Global};
 
 /// The page of a list `[FLAG,SITE,BY,LAST]`, and its last part.
-pub(crate) fn page_and_last(
-    alloc: Global,
-    tree: &Tree,
-) -> Result<Option<(Page, &Tree)>, AllocError>
+pub(crate) fn page_and_last(alloc: Global, tree: &Tree) -> Result<Option<(Page, &Tree)>, AllocError>
     ensures { IfOk result (λ r. option_map (λ p. (p.0, view p.1.now)) r ≡ page_and_last (view tree.now)) }
 {
     match tree {
@@ -49,12 +46,7 @@ fn four_parts<'a>(
     Ok(Some((page, last)))
 }
 
-fn page_from(
-    alloc: Global,
-    flag: &Tree,
-    site: &Tree,
-    by: &Tree,
-) -> Result<Option<Page>, AllocError>
+fn page_from(alloc: Global, flag: &Tree, site: &Tree, by: &Tree) -> Result<Option<Page>, AllocError>
     ensures { IfOk result (λ page. page ≡ page_from (view flag.now) (view site.now) (view by.now)) }
 {
     let Some(flag) = flag.as_text() else {

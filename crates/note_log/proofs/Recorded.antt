@@ -66,7 +66,7 @@ module _ (form : NoteForm) (earlier : List (List ℕ)) (b0 b2 : Option (List ℕ
       wanted = b.wanted;
       more = m.more;
       form = refl;
-    earlier = refl;
+      earlier = refl;
       handed = m.handed;
       bytes = m.bytes;
       lines = ap (λ (t : List ℕ). w0 ++ t) (sym b.bytes) ∙ m.waiting;

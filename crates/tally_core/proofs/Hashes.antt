@@ -57,8 +57,7 @@ once_around : (front : List ℕ) (x : ℕ) (rest : List ℕ) → IsEachOnce (fro
 once_around [] x rest once = (once.1, once.0)
 once_around (y ∷ front) x rest once =
     let later = once_around front x rest once.1 in
-    let apart : ¬ (y ≡ x) = λ same. once.0 (subst (Contains (front ++ x ∷ rest)) (sym same) (Contains-append_right front (x ∷ rest) x (first_in x rest))) in
-    (
+    let apart : ¬ (y ≡ x) = λ same. once.0 (subst (Contains (front ++ x ∷ rest)) (sym same) (Contains-append_right front (x ∷ rest) x (first_in x rest))) in (
       (λ c. once.0 (widened front x rest y c), later.0),
       λ c. (elim (which y (front ++ rest) x c) [
         | inl same ↦ apart same
@@ -118,9 +117,9 @@ again : (page : PageName) (hash : ℕ) (hashes : List ℕ) → AllByRecursion (�
 again page hash [] above c = none_in hash c
 again page hash (next ∷ hashes) above c = elim (which next hashes hash c) [
   | inl same ↦ (
-    let tied : bytes_cmp (hash_line_on page hash) (hash_line_on page next) ≡ Equal = ap (λ (h : ℕ). bytes_cmp (hash_line_on page hash) (hash_line_on page h)) same ∙ tied_itself nat_list_cmp_total (hash_line_on page hash) in
-    let less : bytes_cmp (hash_line_on page hash) (hash_line_on page next) ≡ Less = above.0 in
-    cc)
+      let tied : bytes_cmp (hash_line_on page hash) (hash_line_on page next) ≡ Equal = ap (λ (h : ℕ). bytes_cmp (hash_line_on page hash) (hash_line_on page h)) same ∙ tied_itself nat_list_cmp_total (hash_line_on page hash) in
+      let less : bytes_cmp (hash_line_on page hash) (hash_line_on page next) ≡ Less = above.0 in
+      cc)
   | inr later ↦ again page hash hashes above.1 later
 ]
 

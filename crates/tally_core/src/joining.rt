@@ -57,9 +57,7 @@ pub fn join(one: PageTally, other: PageTally) -> Result<PageTally, JoinFault>
 fn are_alike(one: &PageTally, other: &PageTally) -> bool
     ensures { result ≡ are_alike one.now other.now }
 {
-    one.page == other.page
-        && one.total == other.total
-        && are_of_one_kind(&one.last, &other.first)
+    one.page == other.page && one.total == other.total && are_of_one_kind(&one.last, &other.first)
 }
 
 /// Whether both lines have inputs, or both have hashes, where both are there.

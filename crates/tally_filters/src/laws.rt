@@ -2,7 +2,9 @@
 ghost use Rattle.tally_filters.specs.Filter.{StreamIsTallied};
 ghost use Rattle.tally_filters.specs.Joined.{JoinsAllHashes, JoinsAllSets};
 
-use line_tally::{a_tally_is_of_its_hashes, a_tally_is_of_its_lines, tallied_lines_are_of_one_kind};
+use line_tally::{
+    a_tally_is_of_its_hashes, a_tally_is_of_its_lines, tallied_lines_are_of_one_kind,
+};
 use tally_core::{a_join_is_the_tally_of_both, a_join_of_hashes_is_the_tally_of_both};
 
 /// Where no line of a stream was refused, its note lines rise strictly, and either all have inputs, and what was tallied is the tally

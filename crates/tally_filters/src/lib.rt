@@ -17,6 +17,4 @@ mod laws;
 pub use fault::FilterFault;
 pub use filter::TallyFilter;
 pub use joined::join_all;
-pub use laws::{
-    a_stream_is_tallied, joined_tallies_are_of_all, joined_tallies_are_of_all_hashes,
-};
+pub use laws::{a_stream_is_tallied, joined_tallies_are_of_all, joined_tallies_are_of_all_hashes};

@@ -5,7 +5,7 @@ use Rattle.book_core.specs.PageOrder.{pages_equal}
 use Rattle.note_lines.specs.Hashed.{Hashed, IsHashed, hashed_line}
 use Rattle.note_lines.specs.Note.{Noted, IsNote, note_line}
 use Rattle.note_lines.specs.Reading.{Reads, ReadsHashed}
-use Rattle.note_lines.proofs.Kinds.{not_both}
+use Rattle.note_lines.proofs.OneKind.{not_both}
 use Rattle.note_lines.proofs.Lines.{one_hashed, one_note}
 use Rattle.tally_core.specs.Tally.{IsHashLineOn, IsInputLineOn, IsLineOn, hash_line_on, hashed_on, line_on, noted_on}
 use Rattle.tally_core.proofs.Pages.{same_page}

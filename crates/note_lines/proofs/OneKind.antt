@@ -50,12 +50,12 @@ pub input_kind : (note : Noted) → has_hash (note_line note) ≡ false
 unfolding note_line text_of
 input_kind note =
     let before = before_last note.page in
-    let open = before ++ 34 ∷ escape note.input in
-    let whole : note_line note ≡ open ++ 34 ∷ 93 ∷ 10 ∷ [] =
-        line_of note.page (text note.input)
-        ∙ ap (λ (l : List ℕ). before ++ 34 ∷ l) (append_assoc (escape note.input) (34 ∷ []) (93 ∷ 10 ∷ []))
-        ∙ sym (append_assoc before (34 ∷ escape note.input) (34 ∷ 93 ∷ 10 ∷ [])) in
-    ap has_hash whole ∙ kind_by open 34
+    let front = before ++ 34 ∷ escape note.input in
+    let whole : note_line note ≡ front ++ 34 ∷ 93 ∷ 10 ∷ [] =
+    line_of note.page (text note.input)
+    ∙ ap (λ (l : List ℕ). before ++ 34 ∷ l) (append_assoc (escape note.input) (34 ∷ []) (93 ∷ 10 ∷ []))
+    ∙ sym (append_assoc before (34 ∷ escape note.input) (34 ∷ 93 ∷ 10 ∷ [])) in
+    ap has_hash whole ∙ kind_by front 34
 
 -- the last of some digits is no quotation mark
 record EndsWithDigit (ds : List ℕ) : Type 0 where
@@ -87,10 +87,10 @@ hash_kind note is =
     let numeral = (decimal_is_IsNumeral note.hash (omega (arith, is.hash))).0 in
     let ends = number_digit (decimal note.hash) numeral.0 numeral.1 in
     let whole : hashed_line note ≡ (before ++ ends.front) ++ ends.digit ∷ 93 ∷ 10 ∷ [] =
-        line_of note.page (whole (pos note.hash))
-        ∙ ap (λ (l : List ℕ). before ++ (l ++ 93 ∷ 10 ∷ [])) ends.parts
-        ∙ ap (λ (l : List ℕ). before ++ l) (append_assoc ends.front (ends.digit ∷ []) (93 ∷ 10 ∷ []))
-        ∙ sym (append_assoc before ends.front (ends.digit ∷ 93 ∷ 10 ∷ [])) in
+    line_of note.page (whole (pos note.hash))
+    ∙ ap (λ (l : List ℕ). before ++ (l ++ 93 ∷ 10 ∷ [])) ends.parts
+    ∙ ap (λ (l : List ℕ). before ++ l) (append_assoc ends.front (ends.digit ∷ []) (93 ∷ 10 ∷ []))
+    ∙ sym (append_assoc before ends.front (ends.digit ∷ 93 ∷ 10 ∷ [])) in
     ap has_hash whole ∙ kind_by (before ++ ends.front) ends.digit ∙ digit_kind ends.digit ends.other
 
 pub not_both : (note : Noted) (other : Hashed) → IsHashed other → note_line note ≢ hashed_line other
