@@ -28,7 +28,7 @@ use Rattle.book_core.specs.Printing.{by_shape, line_text}
 use Rattle.book_core.specs.Reading.{by_of, site_of}
 use Rattle.note_lines.specs.Hashed.{Hashed, IsHashed, hashed_line, hashed_shape}
 use Rattle.note_lines.specs.Note.{Noted, IsNote, note_shape, note_line, parts_shape}
-use Rattle.note_lines.specs.Reading.{Reads, ReadsHashed, page_and_last, shape_hashed, shape_note}
+use Rattle.note_lines.specs.Reading.{Reads, ReadsHashed, shape_hashed, shape_note}
 
 -- ---- the tree of a note is that of no other
 
@@ -36,31 +36,29 @@ by_seen : (by : Option (List ℕ)) → by_of (by_shape by) ≡ Some by
 by_seen None = refl
 by_seen (Some s) = refl
 
-parts_seen : (page : PageName) (last : Shape) → page.site < 2 ^ 32 → page_and_last (parts_shape page last) ≡ Some (page, last)
-parts_seen page last small =
-    let site : nat_lt page.site (2 ^ 32) ≡ true = lt-ltb _ _ small in
-    rw (site, by_seen page.by) refl
-
 pub shape_note-seen : (note : Noted) → note.page.site < 2 ^ 32 → shape_note (note_shape note) ≡ Some note
-shape_note-seen note small = rw (parts_seen note.page (text note.input) small) refl
+shape_note-seen note small =
+    let site : nat_lt note.page.site (2 ^ 32) ≡ true = lt-ltb _ _ small in
+    rw (site, by_seen note.page.by) refl
 
 pub shape_hashed-seen : (note : Hashed) → IsHashed note → shape_hashed (hashed_shape note) ≡ Some note
 shape_hashed-seen note is =
+    let site : nat_lt note.page.site (2 ^ 32) ≡ true = lt-ltb _ _ is.site in
     let hash : nat_lt note.hash (2 ^ 32) ≡ true = lt-ltb _ _ is.hash in
-    rw (parts_seen note.page (whole (pos note.hash)) is.site, hash) refl
+    rw (site, by_seen note.page.by, hash) refl
 
 -- ---- what may stand last
 
 record IsLast (last : Shape) : Type 0 where
-  is_whole : is_whole last ≡ true
-  flat : levels last ≡ 0
-  numbers : HasNumbers (outline (data_of last))
-  reads : of_json (outline (data_of last)) ≡ Some (data_of last)
-  shallow : depth (outline (data_of last)) ≡ 0
-  utf8 : IsUtf8 (compact_text (data_of last))
+  has_range : is_whole last ≡ true
+  has_level : levels last ≡ 0
+  has_numbers : HasNumbers (outline (data_of last))
+  has_data : of_json (outline (data_of last)) ≡ Some (data_of last)
+  has_depth : depth (outline (data_of last)) ≡ 0
+  has_text : IsUtf8 (compact_text (data_of last))
 
 input_last : (input : List ℕ) → IsUtf8 input → IsLast (text input)
-input_last input u = record { is_whole = refl; flat = refl; numbers = tt; reads = refl; shallow = refl; utf8 = IsUtf8-quoted input u }
+input_last input u = record { has_range = refl; has_level = refl; has_numbers = tt; has_data = refl; has_depth = refl; has_text = IsUtf8-quoted input u }
 
 number_read : (n : ℕ) → n < 2 ^ 64 → of_json (outline (data_of (whole (pos n)))) ≡ Some (data_of (whole (pos n)))
 number_read n small =
@@ -72,12 +70,12 @@ whole_number n small = lt-ltb _ _ small
 
 hash_last : (hash : ℕ) → hash < 2 ^ 32 → IsLast (whole (pos hash))
 hash_last hash small = record {
-  is_whole = whole_number hash (omega (arith, small));
-  flat = refl;
-  numbers = IsNumber-decimal hash (omega (arith, small));
-  reads = number_read hash (omega (arith, small));
-  shallow = refl;
-  utf8 = IsUtf8-from_ascii _ (IsAscii-decimal hash (omega (arith, small)));
+  has_range = whole_number hash (omega (arith, small));
+  has_level = refl;
+  has_numbers = IsNumber-decimal hash (omega (arith, small));
+  has_data = number_read hash (omega (arith, small));
+  has_depth = refl;
+  has_text = IsUtf8-from_ascii _ (IsAscii-decimal hash (omega (arith, small)));
 }
 
 -- ---- its text is UTF-8
@@ -123,7 +121,7 @@ module _ (page : PageName) (last : Shape) (is : IsLast last) (small : page.site 
   utf8_parts flag by =
       let close : IsUtf8 (93 ∷ []) = IsUtf8-are_ascii (93 ∷ []) refl in
       let start : IsUtf8 (91 ∷ []) = IsUtf8-are_ascii (91 ∷ []) refl in
-      let end = comma _ (IsUtf8-append (compact_text (data_of last)) (93 ∷ []) is.utf8 close) in
+      let end = comma _ (IsUtf8-append (compact_text (data_of last)) (93 ∷ []) is.has_text close) in
       let middle = comma _ (IsUtf8-append (compact_text (data_of (by_shape page.by))) _ (utf8_by page.by by) end) in
       let site = comma _ (IsUtf8-append (decimal page.site) _ (IsUtf8-from_ascii _ (IsAscii-decimal page.site (omega (arith, small)))) middle) in
       IsUtf8-append (91 ∷ []) _ start (IsUtf8-append (quoted page.flag) _ (IsUtf8-quoted page.flag flag) site)
@@ -131,15 +129,15 @@ module _ (page : PageName) (last : Shape) (is : IsLast last) (small : page.site 
   -- ---- it reads as the tree
 
   numbers_parts : HasNumbers (outline (data_of shape))
-  numbers_parts = (tt, (IsNumber-decimal page.site (omega (arith, small)), (numbers_by page.by, (is.numbers, tt))))
+  numbers_parts = (tt, (IsNumber-decimal page.site (omega (arith, small)), (numbers_by page.by, (is.has_numbers, tt))))
 
   of_parts : of_json (outline (data_of shape)) ≡ Some (data_of shape)
   of_parts =
       let site : number_of (decimal page.site) ≡ Some (json.unsigned page.site) = number_of-decimal page.site (omega (arith, small)) in
-      rw (site, of_by page.by, is.reads) refl
+      rw (site, of_by page.by, is.has_data) refl
 
   shallow : depth (outline (data_of shape)) ≤ max_depth
-  shallow = rw (depth_by page.by, is.shallow) (omega arith)
+  shallow = rw (depth_by page.by, is.has_depth) (omega arith)
 
   read_text : read (text_of shape) ≡ Some (data_of shape)
   unfolding text_of
@@ -152,13 +150,13 @@ module _ (page : PageName) (last : Shape) (is : IsLast last) (small : page.site 
       ∙ of_parts
 
   flat : levels shape ≤ 120
-  flat = rw (levels_by page.by, is.flat) (omega arith)
+  flat = rw (levels_by page.by, is.has_level) (omega arith)
 
   -- the text of the tree reads as the tree
   tree_of-parts : IsUtf8 page.flag → IfSome page.by IsUtf8 → tree_of (text_of shape) (length (text_of shape)) ≡ Ok shape
   tree_of-parts flag by =
       let bytes = text_of shape in
-      tree_of-written bytes (length bytes) shape (whole_parts page last small is.is_whole) flat (omega arith) (utf8_parts flag by) read_text
+      tree_of-written bytes (length bytes) shape (whole_parts page last small is.has_range) flat (omega arith) (utf8_parts flag by) read_text
 
 pub utf8_text : (note : Noted) → IsNote note → IsUtf8 (text_of (note_shape note))
 utf8_text note is = utf8_parts note.page (text note.input) (input_last note.input is.input) is.site is.flag is.by
@@ -199,11 +197,11 @@ before_end (x ∷ y ∷ xs) [] e = cc
 before_end (x ∷ xs) (y ∷ ys) e = ap₂ (λ (b : ℕ) (bs : List ℕ). b ∷ bs) (head-same x y _ _ e) (before_end xs ys (rest-same x y _ _ e))
 
 -- trees that are read from their texts, of which the lines are one, are one
-same_trees : (one other : Shape) → tree_of (text_of one) (length (text_of one)) ≡ Ok one → tree_of (text_of other) (length (text_of other)) ≡ Ok other → line_text one ≡ line_text other → one ≡ other
-same_trees one other is also same =
-    let texts : text_of one ≡ text_of other = before_end _ _ same in
-    let trees : good one ≡ good other = sym is ∙ ap (λ b. tree_of b (length b)) texts ∙ also in
-    ok-same one other trees
+same_trees : (s t : Shape) → tree_of (text_of s) (length (text_of s)) ≡ Ok s → tree_of (text_of t) (length (text_of t)) ≡ Ok t → line_text s ≡ line_text t → s ≡ t
+same_trees s t is also same =
+    let texts : text_of s ≡ text_of t = before_end _ _ same in
+    let trees : good s ≡ good t = sym is ∙ ap (λ b. tree_of b (length b)) texts ∙ also in
+    ok-same s t trees
 
 pub one_note : (one other : Noted) → IsNote one → IsNote other → note_line one ≡ note_line other → one ≡ other
 unfolding note_line
@@ -220,34 +218,34 @@ one_hashed one other is also same =
 -- ---- what reading a line's text tells of the line
 
 -- the text of the line of a tree that is read from its own text is read as the tree
-read_as : (text : List ℕ) (shape : Shape) → tree_of (text_of shape) (length (text_of shape)) ≡ Ok shape → text ++ 10 ∷ [] ≡ line_text shape → tree_of text (length text) ≡ Ok shape
-read_as text shape is same = ap (λ b. tree_of b (length b)) (before_end text (text_of shape) same) ∙ is
+read_as : (bytes : List ℕ) (t : Shape) → tree_of (text_of t) (length (text_of t)) ≡ Ok t → bytes ++ 10 ∷ [] ≡ line_text t → tree_of bytes (length bytes) ≡ Ok t
+read_as bytes t is same = ap (λ b. tree_of b (length b)) (before_end bytes (text_of t) same) ∙ is
 
-pub read_note_as : (text : List ℕ) (note : Noted) → IsNote note → text ++ 10 ∷ [] ≡ note_line note → tree_of text (length text) ≡ Ok (note_shape note)
+pub read_note_as : (bytes : List ℕ) (note : Noted) → IsNote note → bytes ++ 10 ∷ [] ≡ note_line note → tree_of bytes (length bytes) ≡ Ok (note_shape note)
 unfolding note_line
-read_note_as text note is same = read_as text (note_shape note) (tree_of-note note is) same
+read_note_as bytes note is same = read_as bytes (note_shape note) (tree_of-note note is) same
 
-pub read_hashed_as : (text : List ℕ) (note : Hashed) → IsHashed note → text ++ 10 ∷ [] ≡ hashed_line note → tree_of text (length text) ≡ Ok (hashed_shape note)
+pub read_hashed_as : (bytes : List ℕ) (note : Hashed) → IsHashed note → bytes ++ 10 ∷ [] ≡ hashed_line note → tree_of bytes (length bytes) ≡ Ok (hashed_shape note)
 unfolding hashed_line
-read_hashed_as text note is same = read_as text (hashed_shape note) (tree_of-hashed note is) same
+read_hashed_as bytes note is same = read_as bytes (hashed_shape note) (tree_of-hashed note is) same
 
 -- a text that is no tree is that of no note's line
-pub no_tree : (line text : List ℕ) → line ≡ text ++ 10 ∷ [] → ((tree : Shape) → tree_of text (length text) ≢ Ok tree) → Reads line None × ReadsHashed line None
-no_tree line text is_line refused = (
-  λ note is same. refused (note_shape note) (read_note_as text note is (sym is_line ∙ same)),
-  λ note is same. refused (hashed_shape note) (read_hashed_as text note is (sym is_line ∙ same)),
+pub no_tree : (line bytes : List ℕ) → line ≡ bytes ++ 10 ∷ [] → ((tree : Shape) → tree_of bytes (length bytes) ≢ Ok tree) → Reads line None × ReadsHashed line None
+no_tree line bytes is_line refused = (
+  λ note is same. refused (note_shape note) (read_note_as bytes note is (sym is_line ∙ same)),
+  λ note is same. refused (hashed_shape note) (read_hashed_as bytes note is (sym is_line ∙ same)),
 )
 
 -- what the tree of a text tells of its line
-pub of_tree : (line text : List ℕ) (tree : Shape) → line ≡ text ++ 10 ∷ [] → tree_of text (length text) ≡ Ok tree → (r : Option Noted)
+pub of_tree : (line bytes : List ℕ) (tree : Shape) → line ≡ bytes ++ 10 ∷ [] → tree_of bytes (length bytes) ≡ Ok tree → (r : Option Noted)
     → IfSome r (λ note. IsNote note × (line ≡ note_line note)) → (r ≡ None → (note : Noted) → IsNote note → line ≡ note_line note → tree ≢ note_shape note) → Reads line r
-of_tree line text tree is_line seen (Some note) found none = found
-of_tree line text tree is_line seen None found none = λ note is same. none refl note is same (ok-same _ _ (sym seen ∙ read_note_as text note is (sym is_line ∙ same)))
+of_tree line bytes tree is_line seen (Some note) found none = found
+of_tree line bytes tree is_line seen None found none = λ note is same. none refl note is same (ok-same _ _ (sym seen ∙ read_note_as bytes note is (sym is_line ∙ same)))
 
-pub of_hashed_tree : (line text : List ℕ) (tree : Shape) → line ≡ text ++ 10 ∷ [] → tree_of text (length text) ≡ Ok tree → (r : Option Hashed)
+pub of_hashed_tree : (line bytes : List ℕ) (tree : Shape) → line ≡ bytes ++ 10 ∷ [] → tree_of bytes (length bytes) ≡ Ok tree → (r : Option Hashed)
     → IfSome r (λ note. IsHashed note × (line ≡ hashed_line note)) → (r ≡ None → (note : Hashed) → IsHashed note → line ≡ hashed_line note → tree ≢ hashed_shape note) → ReadsHashed line r
-of_hashed_tree line text tree is_line seen (Some note) found none = found
-of_hashed_tree line text tree is_line seen None found none = λ note is same. none refl note is same (ok-same _ _ (sym seen ∙ read_hashed_as text note is (sym is_line ∙ same)))
+of_hashed_tree line bytes tree is_line seen (Some note) found none = found
+of_hashed_tree line bytes tree is_line seen None found none = λ note is same. none refl note is same (ok-same _ _ (sym seen ∙ read_hashed_as bytes note is (sym is_line ∙ same)))
 
 -- what holds of an answer by two facts
 pub by_both : {X E : Type 0} {P Q R : X → Type 0} (r : Result X E) → ((x : X) → P x → Q x → R x) → IfOk r P → IfOk r Q → IfOk r R
@@ -255,6 +253,6 @@ by_both (Ok x) f p q = f x p q
 by_both (Err e) f p q = tt
 
 -- a line of a note ends with a line feed
-pub ends_line : (line : List ℕ) → ((text : List ℕ) → line ≢ text ++ 10 ∷ []) → Reads line None × ReadsHashed line None
+pub ends_line : (line : List ℕ) → ((bytes : List ℕ) → line ≢ bytes ++ 10 ∷ []) → Reads line None × ReadsHashed line None
 unfolding note_line hashed_line
 ends_line line none = (λ note is same. none (text_of (note_shape note)) same, λ note is same. none (text_of (hashed_shape note)) same)

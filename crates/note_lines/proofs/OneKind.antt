@@ -1,6 +1,7 @@
 -- A line with a hash ends with a digit, and one with an input with a quotation mark, so that no line is of both kinds.
-use Rattle.std.proofs.Common.{◌≡◌, ◌≢◌, ◌<◌, ◌≤◌, ◌+◌, ◌-◌, ◌^◌, ℕ, Bool, true, false, not, nat_eq, List, [], ◌∷◌, ◌++◌, length, drop, append_assoc, decimal, pos, refl, sym, ap, ◌∙◌, arith}
+use Rattle.std.proofs.Common.{◌≡◌, ◌≢◌, ◌<◌, ◌≤◌, ◌+◌, ◌-◌, ◌^◌, ℕ, Bool, true, false, not, nat_eq, List, [], ◌∷◌, ◌++◌, length, drop, append_assoc, decimal, pos, refl, sym, ap, ◌∙◌, subst, arith}
 use Rattle.std.specs.List.{ends_with}
+use Rattle.std.specs.Char.{digit_value}
 use Rattle.std.specs.Str.Parse.{AllDigits}
 use Rattle.std.proofs.lemmas.Bool.{ne_eqb}
 use Rattle.std.proofs.lemmas.Fmt.{decimal_is_IsNumeral}
@@ -65,7 +66,9 @@ record EndsWithDigit (ds : List ℕ) : Type 0 where
   other : nat_eq 34 digit ≡ false
 
 digit_other : (d : ℕ) → AllDigits 10 (d ∷ []) → nat_eq 34 d ≡ false
-digit_other d is = ne_eqb 34 d (λ (same : 34 ≡ d). (let two = ap (λ (n : ℕ). AllDigits 10 (n ∷ [])) same in absurd (omega (arith, is.0, same))))
+digit_other d is = ne_eqb 34 d (λ (same : 34 ≡ d).
+    let low : digit_value 34 < 10 = subst (λ (n : ℕ). digit_value n < 10) (sym same) is.0 in
+    absurd (omega (arith, low)))
 
 last_digit : (d : ℕ) (ds : List ℕ) → AllDigits 10 (d ∷ ds) → EndsWithDigit (d ∷ ds)
 last_digit d [] is = record { front = []; digit = d; parts = refl; other = digit_other d is }

@@ -31,6 +31,7 @@ impl Model for HashedNote {
 
 /// The line of a note without its input: the compact JSON text `[FLAG,SITE,BY,HASH]` and a line feed. Want of memory is its
 /// one fault.
+#[tactic(auto, unfolding(crate::specs::Hashed::hashed_line))]
 pub fn hashed_line(alloc: Global, page: &Page, hash: u32) -> Result<Vec<u8>, AllocError>
     ensures text { IfOk result (λ line. line.items ≡ hashed_line (record { page = page.now; hash = hash })) }
     ensures note { OnOk result (IsHashed (record { page = page.now; hash = hash })) }

@@ -121,9 +121,12 @@ pub record Handed : Type 0 where
   pub form : NoteForm
   pub files : List (List ℕ)
 
+abbrev pub handed_of : Kept → Handed
+handed_of k = record { form = k.logged.form; files = files_of k.logged }
+
 -- of a log that is kept
 abbrev pub files : Option Kept → Option Handed
-files log = option_map (λ k. record { form = k.logged.form; files = files_of k.logged }) log
+files log = option_map handed_of log
 
 -- the line of each note that is to be recorded stands in the bytes, in this form
 abbrev pub HasLines : NoteForm → List Noted → List ℕ → Type 0
