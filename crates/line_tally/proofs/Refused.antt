@@ -1,8 +1,8 @@
 -- What a line changes, or why it is refused.
-use Rattle.std.proofs.Common.{◌≡◌, ◌≢◌, ◌<◌, Bool, true, false, if◌then◌else◌, List, [], ◌∷◌, ◌++◌, ℕ, Result, Ok, Err, OnOk, IfErr, Option, Some, None, MatchOption, refl, sym, ap, ◌∙◌, subst, inl, inr, arith}
+use Rattle.std.proofs.Common.{◌≡◌, ◌≢◌, ◌<◌, Bool, true, false, if◌then◌else◌, List, [], ◌∷◌, ◌++◌, ℕ, Result, Ok, Err, IfOk, OnOk, IfErr, Option, Some, None, MatchOption, refl, sym, ap, ◌∙◌, subst, inl, inr, arith}
 use Rattle.bucket_core.specs.Point.{point_of, scale}
-use Rattle.bucket_core.proofs.Hashes.{point_of-below, scale-below}
 use Rattle.book_core.specs.Page.{PageName, page_eq}
+use Rattle.book_core.specs.PageOrder.{pages_equal}
 use Rattle.page_tally.specs.Folding.{is_above_last}
 use Rattle.flag_text.specs.Printing.{text_of}
 use Rattle.note_lines.specs.Hashed.{Hashed, IsHashed, has_hash, hashed_line}
@@ -117,12 +117,8 @@ on_page (of_hash note) page is same =
 pub own_line : (t : Tallied) (line : List ℕ) (at : ℕ) → IsPlace t line (Own at) → IsLineOn t.page line
 own_line t line at is = subst (IsLineOn t.page) (sym is.2) (on_page is.0 t.page is.1 is.3)
 
-point_below : (said : Said) (total : ℕ) → IsSaid said → 0 < total → said_point total said < total
-point_below (of_input note) total is some = point_of-below total note.input some
-point_below (of_hash note) total is some = scale-below total note.hash some is.hash
-
-pub own_below : (t : Tallied) (line : List ℕ) (at : ℕ) → IsPlace t line (Own at) → 0 < t.total → at < t.total
-own_below t line at is some = let below = point_below is.0 t.total is.1 some in omega (arith, below, is.4)
+pub own_below : (t : Tallied) (line : List ℕ) (at : ℕ) → IsPlace t line (Own at) → at < t.total
+own_below t line at is = is.5
 
 -- ---- a line of another page
 
@@ -152,23 +148,35 @@ module _ (line : List ℕ) where
   no_input kind none (of_input note) is same = none note is same
   no_input kind none (of_hash note) is same = let hash : has_hash line ≡ true = ap has_hash same ∙ hash_kind note is in cc
 
-pub matched_hash : (t : Tallied) (line : List ℕ) (o : Option Place) → has_hash line ≡ true → MatchOption o ((note : Hashed) → IsHashed note → line ≢ hashed_line note) (IsPlace t line) → MatchOption o (SaysNothing line) (IsPlace t line)
-matched_hash t line None kind none = no_hash line kind none
-matched_hash t line (Some place) kind is = is
+abbrev Told : {X : Type 0} → Tallied → List ℕ → (X → Type 0) → (X → List ℕ) → Option Place → Type 0
+Told {X} t line is spelled o = MatchOption o ((x : X) → is x → line ≢ spelled x) (IsPlace t line)
 
-pub matched_input : (t : Tallied) (line : List ℕ) (o : Option Place) → has_hash line ≡ false → MatchOption o ((note : Noted) → IsNote note → line ≢ note_line note) (IsPlace t line) → MatchOption o (SaysNothing line) (IsPlace t line)
-matched_input t line None kind none = no_input line kind none
-matched_input t line (Some place) kind is = is
+pub matched_hash : {E : Type 0} (t : Tallied) (line : List ℕ) (r : Result (Option Place) E) → has_hash line ≡ true → IfOk r (Told t line IsHashed hashed_line) → IfOk r (Told t line IsSaid said_line)
+matched_hash t line (Ok None) kind none = no_hash line kind none
+matched_hash t line (Ok (Some place)) kind is = is
+matched_hash t line (Err e) kind none = tt
+
+pub matched_input : {E : Type 0} (t : Tallied) (line : List ℕ) (r : Result (Option Place) E) → has_hash line ≡ false → IfOk r (Told t line IsNote note_line) → IfOk r (Told t line IsSaid said_line)
+matched_input t line (Ok None) kind none = no_input line kind none
+matched_input t line (Ok (Some place)) kind is = is
+matched_input t line (Err e) kind none = tt
+
+-- where a line has a place
+pub has_place : (t : Tallied) (line : List ℕ) (o : Option Place) (place : Place) → o ≡ Some place → Told t line IsSaid said_line o → IsPlace t line place
+has_place t line o place is told = subst (Told t line IsSaid said_line) is told
 
 -- a note of the page, and one of another
-pub note_own : (t : Tallied) (line : List ℕ) (note : Noted) (at : ℕ) → IsNote note → line ≡ note_line note → page_eq note.page t.page ≡ true → at ≡ point_of t.total note.input → IsPlace t line (Own at)
-note_own t line note at is same page here = (of_input note, is, same, page, here)
+pub note_own : (t : Tallied) (line : List ℕ) (note : Noted) (at : ℕ) → IsNote note → line ≡ note_line note → page_eq note.page t.page ≡ true → at ≡ point_of t.total note.input → at < t.total → IsPlace t line (Own at)
+note_own t line note at is same page here below = (of_input note, is, same, page, here, below)
+
+pub own_input : (t : Tallied) (line input : List ℕ) (at : ℕ) → IsNote (noted_on t.page input) × (line ≡ line_on t.page input) → at ≡ point_of t.total input → at < t.total → IsPlace t line (Own at)
+own_input t line input at is here below = note_own t line (noted_on t.page input) at is.0 is.1 (pages_equal.refl t.page) here below
 
 pub note_other : (t : Tallied) (line : List ℕ) (note : Noted) → IsNote note → line ≡ note_line note → page_eq note.page t.page ≡ false → IsPlace t line Other
 note_other t line note is same page = (of_input note, is, same, page)
 
-pub hash_own : (t : Tallied) (line : List ℕ) (note : Hashed) (at : ℕ) → IsHashed note → line ≡ hashed_line note → page_eq note.page t.page ≡ true → at ≡ scale t.total note.hash → IsPlace t line (Own at)
-hash_own t line note at is same page here = (of_hash note, is, same, page, here)
+pub hash_own : (t : Tallied) (line : List ℕ) (note : Hashed) (at : ℕ) → IsHashed note → line ≡ hashed_line note → page_eq note.page t.page ≡ true → at ≡ scale t.total note.hash → at < t.total → IsPlace t line (Own at)
+hash_own t line note at is same page here below = (of_hash note, is, same, page, here, below)
 
 pub hash_other : (t : Tallied) (line : List ℕ) (note : Hashed) → IsHashed note → line ≡ hashed_line note → page_eq note.page t.page ≡ false → IsPlace t line Other
 hash_other t line note is same page = (of_hash note, is, same, page)

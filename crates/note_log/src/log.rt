@@ -49,6 +49,7 @@ impl<F: LogFile + Drop> NoteLog<F> {
         remember: Option<NonZeroUsize>,
     ) -> Result<NoteLog<F>, AllocError>
         ensures fresh { IfOk result (λ log. logged log ≡ record { form = form; earlier = []; handed = []; waiting = [] }) }
+        ensures form { IfOk result (λ log. log.form ≡ form) }
         ensures journal { IfOk result (λ log. log.journal ≡ journal) }
         ensures remember { IfOk result (λ log. IfSome remember (λ most. log.remembered.cap ≡ non_zero_usize_get most)) }
         ensures forgets { IfOk result (λ log. log.forgets ≡ is_none remember) }
