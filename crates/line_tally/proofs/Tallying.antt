@@ -212,7 +212,7 @@ module _ {N X : Type 0} (say : N → Said) (own : N → X) (line : PageName → 
       let xs = its page notes in
       let lines : lines_of page saids ≡ map (line t.page) xs = its_lines page notes ∙ ap (λ (p : PageName). map (line p) xs) (sym g.page) in
       let points = its_points total page notes in
-      let size : length (saids_of page saids) ≡ length xs = sym (length-map (said_point total) (saids_of page saids)) ∙ ap length points ∙ length-map (at total) xs in
+      let size : length (saids_of page saids) ≡ length xs = sym (length-map (saids_of page saids) (said_point total)) ∙ ap length points ∙ length-map xs (at total) in
       record {
         rising = subst (IsStrictlySortedBy bytes_cmp) (all_lines notes) rising;
         same = g.page;

@@ -148,6 +148,6 @@ pub stand_for_inputs : HashesStandForInputs
 stand_for_inputs t hashes inputs range are each =
     let same = moved hashes (map hash_of inputs) (once t.page hashes range.rising) each are in
     record {
-      inputs = range.tally.inputs ∙ sym (length_permutation hashes (map hash_of inputs) same) ∙ length-map hash_of inputs;
+      inputs = range.tally.inputs ∙ sym (length_permutation hashes (map hash_of inputs) same) ∙ length-map inputs hash_of;
       counts = range.tally.counts ∙ counts_alike t.total hashes inputs same;
     }
