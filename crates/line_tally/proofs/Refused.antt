@@ -38,28 +38,28 @@ told_mixed true false same counted other a k = refl
 told_mixed false alike same counted other a k = cc
 
 module _ (t : Tallied) (said : Said) where
-  abbrev line : List ℕ
-  line = said_line said
+  abbrev its_line : List ℕ
+  its_line = said_line said
 
   abbrev counted : Answer
-  counted = with_point t line (said_point t.total said)
+  counted = with_point t its_line (said_point t.total said)
 
   abbrev other : Answer
-  other = Ok (passed t line)
+  other = Ok (passed t its_line)
 
-  pub said_own : is_above_last t.before line ≡ true → is_alike t.before line ≡ true → page_eq (said_page said) t.page ≡ true → with_said t said ≡ counted
+  pub said_own : is_above_last t.before its_line ≡ true → is_alike t.before its_line ≡ true → page_eq (said_page said) t.page ≡ true → with_said t said ≡ counted
   said_own above alike same =
-      told (is_above_last t.before line) (is_alike t.before line) (page_eq (said_page said) t.page) counted other above alike ∙ ap (λ (b : Bool). if b then counted else other) same
+      told (is_above_last t.before its_line) (is_alike t.before its_line) (page_eq (said_page said) t.page) counted other above alike ∙ ap (λ (b : Bool). if b then counted else other) same
 
-  pub said_other : is_above_last t.before line ≡ true → is_alike t.before line ≡ true → page_eq (said_page said) t.page ≡ false → with_said t said ≡ other
+  pub said_other : is_above_last t.before its_line ≡ true → is_alike t.before its_line ≡ true → page_eq (said_page said) t.page ≡ false → with_said t said ≡ other
   said_other above alike apart =
-      told (is_above_last t.before line) (is_alike t.before line) (page_eq (said_page said) t.page) counted other above alike ∙ ap (λ (b : Bool). if b then counted else other) apart
+      told (is_above_last t.before its_line) (is_alike t.before its_line) (page_eq (said_page said) t.page) counted other above alike ∙ ap (λ (b : Bool). if b then counted else other) apart
 
-  said_low : is_above_last t.before line ≡ false → with_said t said ≡ Err Order
-  said_low low = told_order (is_above_last t.before line) (is_alike t.before line) (page_eq (said_page said) t.page) counted other low
+  said_low : is_above_last t.before its_line ≡ false → with_said t said ≡ Err Order
+  said_low low = told_order (is_above_last t.before its_line) (is_alike t.before its_line) (page_eq (said_page said) t.page) counted other low
 
-  said_mixed : is_above_last t.before line ≡ true → is_alike t.before line ≡ false → with_said t said ≡ Err Mixed
-  said_mixed above unlike = told_mixed (is_above_last t.before line) (is_alike t.before line) (page_eq (said_page said) t.page) counted other above unlike
+  said_mixed : is_above_last t.before its_line ≡ true → is_alike t.before its_line ≡ false → with_said t said ≡ Err Mixed
+  said_mixed above unlike = told_mixed (is_above_last t.before its_line) (is_alike t.before its_line) (page_eq (said_page said) t.page) counted other above unlike
 
 -- ---- what it says
 

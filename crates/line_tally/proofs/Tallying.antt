@@ -258,9 +258,9 @@ AreOf kind saids = AllByRecursion (λ (said : Said). has_hash (said_line said) �
 one_kind : (above alike same room : Bool) (t u : Tallied) (said : Said) (saids : List Said) → is_alike t.before (said_line said) ≡ alike
     → with_saids (if above then (if alike then (if same then (if room then Ok (tallied t (said_line said) (said_point t.total said)) else Err TooMany) else Ok (passed t (said_line said))) else Err Mixed) else Err Order) saids ≡ Ok u
     → (is_alike t.before (said_line said) ≡ true) × ((v : Tallied) × (v.before ≡ Some (said_line said)) × (with_saids (Ok v) saids ≡ Ok u))
-one_kind true true true true t u said saids k e = (k, tallied t (said_line said) (said_point t.total said), refl, e)
+one_kind true true true true t u said saids k e = (k, (tallied t (said_line said) (said_point t.total said), refl, e))
 one_kind true true true false t u said saids k e = cc
-one_kind true true false room t u said saids k e = (k, passed t (said_line said), refl, e)
+one_kind true true false room t u said saids k e = (k, (passed t (said_line said), refl, e))
 one_kind true false same room t u said saids k e = cc
 one_kind false alike same room t u said saids k e = cc
 
@@ -274,7 +274,7 @@ later_kinds [] t u before is e = tt
 later_kinds (said ∷ saids) t u before is e =
     let next = next_kind t u said saids e in
     let here : has_hash before ≡ has_hash (said_line said) = same_from_beq (has_hash before) (has_hash (said_line said)) (subst (λ (o : Option (List ℕ)). is_alike o (said_line said) ≡ true) is next.0) in
-    (sym here, subst (λ (kind : Bool). AreOf kind saids) (sym here) (later_kinds saids next.1 u (said_line said) next.2 next.3))
+    (sym here, subst (λ (kind : Bool). AreOf kind saids) (sym here) (later_kinds saids next.1.0 u (said_line said) next.1.1 next.1.2))
 
 as_notes : (saids : List Said) → AllByRecursion IsSaid saids → AreOf false saids → (notes : List Noted) × (saids ≡ map of_input notes)
 as_notes [] are kinds = ([], refl)
@@ -294,4 +294,4 @@ pub of_one_kind : TalliedAreOfOneKind
 of_one_kind page total [] t are e = inl ([], refl)
 of_one_kind page total (said ∷ saids) t are e =
     let next = next_kind (untallied page total) t said saids e in
-    by_kind (has_hash (said_line said)) (said ∷ saids) are (refl, later_kinds saids next.1 t (said_line said) next.2 next.3)
+    by_kind (has_hash (said_line said)) (said ∷ saids) are (refl, later_kinds saids next.1.0 t (said_line said) next.1.1 next.1.2)

@@ -27,7 +27,7 @@ returns-then-has_hash-clause-place c =
     let kind : has_hash c.args.line.now ≡ true = search rules in
     matched_hash c.args.self.now c.args.line.now c.place_of_hash.result kind c.place_of_hash.ensures.place
 
-pub returns-clause-place : goal.returns-clause-place
-returns-clause-place c =
+pub returns-else-has_hash-clause-place : goal.returns-else-has_hash-clause-place
+returns-else-has_hash-clause-place c =
     let kind : has_hash c.args.line.now ≡ false = search rules in
     matched_input c.args.self.now c.args.line.now c.place_of_input.result kind c.place_of_input.ensures.place
