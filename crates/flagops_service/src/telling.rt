@@ -74,9 +74,14 @@ pub(crate) fn say_operations<E: Outlet>(
 fn say_recording<E: Outlet>(alloc: Global, err: &mut E, answering: &Answering<'_>) {
     match answering.log {
         Some(folder) => {
+            let what = if answering.log_points {
+                "the hashes of hash inputs, and no input,"
+            } else {
+                "hash inputs"
+            };
             say_made(
                 err,
-                format!(in alloc; "ofrep: records hash inputs in the folder \"{folder}\"\n"),
+                format!(in alloc; "ofrep: records {what} in the folder \"{folder}\"\n"),
             );
             if let WithoutRecord::Answer = answering.without_record {
                 say(

@@ -3,6 +3,7 @@ ghost use Rattle.std.specs.Prelude.{◌≡◌, option_map};
 
 use access_lines::AccessLines;
 use log_file::Loss;
+use note_lines::NoteForm;
 use note_log::Trouble;
 use ofrep_connections::Load;
 use ofrep_guards::{KeyRing, Keys, Paths};
@@ -21,8 +22,8 @@ pub struct ConnectionLimits {
 
 /// What the threads of a service tell each other: what the workers count, how many connections they hold, which snapshot was
 /// published last, whether they are to end; and what becomes of answers that can't be recorded, how many notes each worker
-/// remembers, the pages of which origins may ask, the keys of which a request shows one, where one is wanted, what the workers
-/// serve, and the limits of their connections.
+/// remembers, what their lines have of the inputs, the pages of which origins may ask, the keys of which a request shows one, where one
+/// is wanted, what the workers serve, and the limits of their connections.
 #[derive(Drop)]
 pub struct Board {
     pub(crate) counts: Counts,
@@ -34,6 +35,7 @@ pub struct Board {
     published: AtomicU64,
     pub(crate) without_record: WithoutRecord,
     pub(crate) remember: Option<NonZeroUsize>,
+    pub(crate) form: NoteForm,
     pub(crate) origins: Vec<String>,
     pub(crate) keys: Option<KeyRing>,
     pub(crate) paths: Paths,
@@ -44,11 +46,13 @@ pub struct Board {
 
 impl Board {
     /// A board where nothing was counted or published yet. This becomes of answers that can't be recorded, each worker remembers so
-    /// many notes, or none, the pages of these origins may ask, or with `*` any, a request shows one of the keys, where there are
-    /// some, the workers serve these paths, the lines of requests go there, where they are wanted, and connections have these limits.
+    /// many notes, or none, and their lines have this form, the pages of these origins may ask, or with `*` any, a request shows one of
+    /// the keys, where there are some, the workers serve these paths, the lines of requests go there, where they are wanted, and
+    /// connections have these limits.
     pub fn new(
         without_record: WithoutRecord,
         remember: Option<NonZeroUsize>,
+        form: NoteForm,
         origins: Vec<String>,
         keys: Option<Keys>,
         paths: Paths,
@@ -57,6 +61,7 @@ impl Board {
     ) -> Board
         ensures without { result.without_record ≡ without_record }
         ensures remember { result.remember ≡ remember }
+        ensures form { result.form ≡ form }
         ensures origins { result.origins ≡ origins }
         ensures keys { option_map (λ ring. ring.first) result.keys ≡ keys }
         ensures paths { result.paths ≡ paths }
@@ -74,6 +79,7 @@ impl Board {
             published: AtomicU64::new(0),
             without_record,
             remember,
+            form,
             origins,
             keys,
             paths,

@@ -243,10 +243,11 @@ pub(crate) fn worker_of<'a, J: ShareName, R: Clock>(
     ensures log { IfOk result (λ worker. option_map (λ l. l.journal) worker.log ≡ journal) }
     ensures without { IfOk result (λ worker. worker.without_record ≡ board.now.without_record) }
     ensures remember { IfOk result (λ worker. IfSome worker.log (λ l. IfSome board.now.remember (λ most. l.remembered.cap ≡ non_zero_usize_get most))) }
+    ensures form { IfOk result (λ worker. IfSome worker.log (λ l. l.form ≡ board.now.form)) }
     ensures forgets { IfOk result (λ worker. IfSome worker.log (λ l. l.forgets ≡ is_none board.now.remember)) }
 {
     let log = match journal {
-        Some(journal) => Some(NoteLog::new(alloc, keys, journal, board.remember)?),
+        Some(journal) => Some(NoteLog::new(alloc, keys, board.form, journal, board.remember)?),
         None => None,
     };
     Ok(OfrepWorker::new(rt, alloc, seat, log, &board.counts, board.without_record))

@@ -7,7 +7,9 @@ use Rattle.http_server.specs.Response.{IsResponse}
 use Rattle.http_server.specs.declared.response.Response.{Response}
 use Rattle.log_file.specs.declared.file.LogFile.{Ghosts}
 use Rattle.log_file.specs.declared.journal.Look.{Look}
-use Rattle.note_lines.specs.Note.{Noted, note_line}
+use Rattle.note_lines.specs.Hashed.{line_as}
+use Rattle.note_lines.specs.Note.{Noted}
+use Rattle.note_lines.specs.declared.form.NoteForm.{NoteForm}
 use Rattle.note_log.specs.Line.{HasLine}
 use Rattle.note_log.specs.Log.{Logged, Records, Wants, files_of, logged, logged_after, trouble_of}
 use Rattle.note_log.specs.declared.log.NoteLog.{NoteLog}
@@ -93,6 +95,7 @@ Responds without seat seat' request response old new =
 -- what waited is handed over as far as the file takes it
 pub record HandsOver (old new : Logged) : Type 0 where
   pub more : List ℕ
+  pub form : new.form ≡ old.form
   pub earlier : new.earlier ≡ old.earlier
   pub handed : new.handed ≡ old.handed ++ more
   pub waiting : old.waiting ≡ more ++ new.waiting
@@ -113,17 +116,25 @@ Rises (Some old) (Some new) = old < new
 Rises None None = Unit {0}
 Rises _ _ = ⊥
 
--- what the files of a log that is kept were handed
-abbrev pub files : Option Kept → Option (List (List ℕ))
-files log = option_map (λ k. files_of k.logged) log
+-- the form of the lines of a log, and what its files were handed
+pub record Handed : Type 0 where
+  pub form : NoteForm
+  pub files : List (List ℕ)
 
--- the line of each note that is to be recorded stands in the bytes
-abbrev pub HasLines : List Noted → List ℕ → Type 0
-HasLines notes bytes = (note : Noted) → Wants notes note → HasLine (note_line note) bytes
+abbrev pub handed_of : Kept → Handed
+handed_of k = record { form = k.logged.form; files = files_of k.logged }
+
+-- of a log that is kept
+abbrev pub files : Option Kept → Option Handed
+files log = option_map handed_of log
+
+-- the line of each note that is to be recorded stands in the bytes, in this form
+abbrev pub HasLines : NoteForm → List Noted → List ℕ → Type 0
+HasLines form notes bytes = (note : Noted) → Wants notes note → HasLine (line_as form note) bytes
 
 -- the line of each note that is to be recorded stands in what one of the files was handed
-abbrev pub HaveLines : List Noted → List (List ℕ) → Type 0
-HaveLines notes handed = (file : List ℕ) × Contains handed file × HasLines notes file
+abbrev pub HaveLines : List Noted → Handed → Type 0
+HaveLines notes handed = (file : List ℕ) × Contains handed.files file × HasLines handed.form notes file
 
 -- The response is the answer to the request, of a snapshot among these.
 pub record IsAnswer (known : List Flags) (request : Request (List ℕ)) (response : Response) : Type 0 where
@@ -133,8 +144,8 @@ pub record IsAnswer (known : List Flags) (request : Request (List ℕ)) (respons
   pub is_moment : moment < 2 ^ 53
   pub sends : Sends (answer_of s.flags moment (asked_of request)) response
 
--- It is such an answer, and where a log is kept, whose files were handed these bytes, the line of each of its notes stands in one of them.
-pub record RestsOn (known : List Flags) (handed : Option (List (List ℕ))) (request : Request (List ℕ)) (response : Response) : Type 0 where
+-- It is such an answer, and where a log is kept, whose files were handed these bytes, the line of each of its notes, in the form of the log, stands in one of them.
+pub record RestsOn (known : List Flags) (handed : Option Handed) (request : Request (List ℕ)) (response : Response) : Type 0 where
   pub answer : IsAnswer known request response
   pub lines : IfSome handed (HaveLines (notes_of answer.s.flags (answer_of answer.s.flags answer.moment (asked_of request))))
 
@@ -143,6 +154,6 @@ abbrev pub TellsNoFlag : Response → Type 0
 TellsNoFlag response = Fails response ⊎ ((trouble : Trouble) × TellsUnready trouble response)
 
 -- What a response rests on stands: it is such an answer, or it tells nothing of flags. Where what can't be recorded is answered it may be an answer without its notes.
-abbrev pub Stands : WithoutRecord → List Flags → Option (List (List ℕ)) → Request (List ℕ) → Response → Type 0
+abbrev pub Stands : WithoutRecord → List Flags → Option Handed → Request (List ℕ) → Response → Type 0
 Stands without known handed request response =
     TellsNoFlag response ⊎ (∥ RestsOn known handed request response ∥₁) ⊎ ((is_answered without ≡ true) × (∥ IsAnswer known request response ∥₁))
