@@ -11,6 +11,7 @@ use Rattle.tally_core.specs.Tally.{PageTally}
 use Rattle.control_answers.specs.Refusal.{of_read, of_verdict}
 use Rattle.control_answers.specs.Target.{Target, target_of}
 use Rattle.control_answers.specs.Turns.{OfFiles, Outcomes, WithTarget}
+use Rattle.control_answers.specs.declared.refusal.ControlRefusal.{ControlRefusal}
 
 -- what may be told of an answer
 pub record MayBeTold (flags : Definitions) (request : List ℕ) (t : PageTally) (answer : Answer) (verdict : Result (Unit {0}) VerifyFault) : Type 0 where
@@ -24,7 +25,7 @@ unfoldable pub valid_text : Answer → List ℕ
 valid_text (emit rule c) = codes "{\"cost\":" ++ (decimal c.cost ++ codes ",\"valid\":true}\n")
 valid_text (none_exists kind names) = codes "{\"cost\":null,\"valid\":true}\n"
 
-abbrev pub verdict_report : Answer → Result (Unit {0}) VerifyFault → Result (List ℕ) Rattle.control_answers.specs.declared.refusal.ControlRefusal.ControlRefusal
+abbrev pub verdict_report : Answer → Result (Unit {0}) VerifyFault → Result (List ℕ) ControlRefusal
 verdict_report answer (Ok right) = Ok (valid_text answer)
 verdict_report answer (Err e) = Err (of_verdict e)
 

@@ -6,8 +6,6 @@ pub mod Target
 pub mod Turns
 pub mod Record
 pub mod Check
-pub mod Effect
-pub mod Document
 pub mod Body
 pub mod View
 pub mod Plan

@@ -13,8 +13,8 @@ use Rattle.rollout_checks.specs.declared.fault.RolloutFault.{RolloutFault}
 use Rattle.rollout_checks.specs.declared.refining.Refining.TheVariants.{Times}
 use Rattle.tally_core.specs.Tally.{PageTally}
 use Rattle.control_answers.specs.Body.{Told, told_text, token_text}
-use Rattle.control_answers.specs.Document.{MayBeKept}
-use Rattle.control_answers.specs.Effect.{Effect, IsEffect}
+use Rattle.plan_effects.specs.Document.{MayBeKept}
+use Rattle.plan_effects.specs.Effect.{Effect, IsEffect}
 use Rattle.control_answers.specs.Refusal.{of_printed, of_rollout}
 use Rattle.control_answers.specs.Target.{Target, target_of}
 use Rattle.control_answers.specs.Turns.{OfFiles, Outcomes, WithTarget}

@@ -3,18 +3,16 @@ ghost use Rattle.std.specs.Prelude.{◌≡◌, IfOk, string_bytes};
 ghost use Rattle.flag_defs.specs.Flags.{flags_view};
 ghost use Rattle.log_tallies.specs.Lines.{files_view};
 ghost use Rattle.plan_text.specs.Answer.{planned_view};
-ghost use Rattle.price_core.specs.Request.{asked_of};
 ghost use Rattle.control_answers.specs.Check.{IsCheckAnswer, IsVerdictOn, valid_text};
 ghost use Rattle.control_answers.specs.Target.{target_of, target_view};
 ghost use Rattle.control_answers.specs.Turns.{Gives, OfFiles, WithTarget};
 
 use crate::place::target_in;
-use crate::refusal::ControlRefusal;
+use crate::refusal::{ControlRefusal, of_read};
 use crate::target::Target;
 use flag_defs::Flags;
 use log_tallies::{LogFile, tally_files};
-use plan_text::{Planned, PlanFileFault, read_planned};
-use price_core::Request;
+use plan_text::{Planned, read_planned};
 use rollout_checks::{RequestFile, verify_file_on_tally};
 use std::alloc::{AllocError, Global};
 use tally_core::PageTally;
@@ -33,8 +31,7 @@ pub fn check_answer(
 {
     let planned = match read_planned(alloc, plan) {
         Ok(planned) => planned,
-        Err(PlanFileFault::WantOfMemory) => return Err(ControlRefusal::WantOfMemory),
-        Err(fault) => return Err(ControlRefusal::ReadPlan(fault)),
+        Err(fault) => return Err(of_read(fault)),
     };
     check_planned(alloc, flags, request, &planned, files)
 }

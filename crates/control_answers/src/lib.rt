@@ -20,8 +20,6 @@
 
 mod body;
 mod checking;
-mod document;
-mod effect;
 mod laws;
 mod place;
 mod planning;

@@ -1,35 +1,31 @@
 //! The plan of a request on what is recorded.
 ghost use Rattle.std.specs.Prelude.{◌≡◌, ◌≤◌, Ok, IfOk, sum_by};
-ghost use Rattle.bucket_core.specs.Rule.{total_weight};
 ghost use Rattle.flag_defs.specs.Flags.{flags_view};
 ghost use Rattle.limits.specs.Limits.{tally_inputs};
 ghost use Rattle.log_tallies.specs.Lines.{files_view};
 ghost use Rattle.plan_text.specs.Answer.{planned_view};
 ghost use Rattle.price_core.specs.Request.{asked_of};
 ghost use Rattle.rollout.specs.Tallied.{IsTallyPlanned};
-ghost use Rattle.rollout_checks.specs.Tallied.{tally_problem_asked, tally_problem_of, tally_view};
+ghost use Rattle.rollout_checks.specs.Tallied.{tally_problem_of};
 ghost use Rattle.rollout_checks.specs.declared.refining.Refining.TheVariants.{Times};
 ghost use Rattle.rule_switches.specs.Switches.{rows_view};
-ghost use Rattle.transport_instance.specs.Tally.{IsTally};
-ghost use Rattle.control_answers.specs.Effect.{IsEffect, KeepsTotal, effect_view};
+ghost use Rattle.plan_effects.specs.Effect.{IsOfSome};
 ghost use Rattle.control_answers.specs.Plan.{IsPlanAnswer, IsPlanOn, IsTold, snapshot_view};
 ghost use Rattle.control_answers.specs.Target.{target_view};
 ghost use Rattle.control_answers.specs.Turns.{Gives, OfFiles};
 ghost use Rattle.control_answers.specs.View.{bytes_view, told_view};
 
 use crate::body::{Told, told_text, token_text};
-use crate::document::document_with;
-use crate::effect::{Effect, effect_of};
 use crate::place::target_in;
-use crate::refusal::ControlRefusal;
+use crate::refusal::{ControlRefusal, of_printed};
 use crate::snapshot::Snapshot;
 use crate::target::Target;
-use flag_defs::Flags;
 use log_tallies::{LogFile, tally_files};
-use plan_text::{PlanFileFault, Planned, print_planned};
+use plan_effects::{document_with, effect_of, posed};
+use plan_text::{Planned, print_planned};
 use price_core::Request;
 use rollout::plan_file_on_tally;
-use rollout_checks::{Problem, Refining, RequestFile, RolloutFault, tally_problem_asked};
+use rollout_checks::RequestFile;
 use std::alloc::{AllocError, Global};
 use tally_core::PageTally;
 
@@ -76,14 +72,14 @@ fn plan_on(
     asked: &Request,
     tally: &PageTally,
 ) -> Result<Vec<u8>, ControlRefusal>
-    requires { asked_of request.now ≡ Ok asked.now }
+    requires asked { asked_of request.now ≡ Ok asked.now }
+    requires inputs { IsOfSome tally.now }
     ensures { Gives bytes_view (IsPlanOn (snapshot_view snapshot.now) request.now tally.now) result }
 {
     let planned = plan_file_on_tally(alloc, snapshot.flags, request, tally, 1)?;
     let plan = match print_planned(alloc, &planned) {
         Ok(plan) => plan,
-        Err(PlanFileFault::WantOfMemory) => return Err(ControlRefusal::WantOfMemory),
-        Err(fault) => return Err(ControlRefusal::PrintPlan(fault)),
+        Err(fault) => return Err(of_printed(fault)),
     };
     let told = told(alloc, snapshot, request, asked, tally, &planned, plan)?;
     Ok(told_text(alloc, &told)?)
@@ -100,6 +96,7 @@ fn told(
     plan: Vec<u8>,
 ) -> Result<Told, AllocError>
     requires asked { asked_of request.now ≡ Ok asked.now }
+    requires inputs { IsOfSome tally.now }
     requires planned { IsTallyPlanned (tally_problem_of (Times 1) (flags_view snapshot.now.flags.now) request.now tally.now) (Ok planned.now) }
     ensures told { IfOk result (λ t. IsTold (snapshot_view snapshot.now) request.now tally.now (planned_view planned.now) plan.items (told_view t)) }
     ensures few { IfOk result (λ t. sum_by (λ r. r.1) (rows_view t.effect.switches.items) ≤ tally_inputs) }
@@ -108,7 +105,7 @@ fn told(
     let document = snapshot.document;
     let token = token_text(alloc, document, request.bytes(), plan.as_slice())?;
     let document = document_with(alloc, document, flags, asked.flag(), asked.site(), planned)?;
-    let problem = posed(alloc, flags, asked, tally, planned)?;
+    let problem = posed(alloc, flags, request, tally, planned)?;
     let effect = effect_of(alloc, &problem, planned)?;
     Ok(Told {
         snapshot: snapshot.number,
@@ -118,25 +115,4 @@ fn told(
         document,
         token,
     })
-}
-
-/// What was asked of a tally and has been planned.
-fn posed<'a>(
-    alloc: Global,
-    flags: &Flags,
-    asked: &'a Request,
-    tally: &PageTally,
-    planned: &Planned,
-) -> Result<Problem<'a>, AllocError>
-    requires { IsTallyPlanned (tally_problem_asked (Times 1) (flags_view flags.now) asked.now tally.now) (Ok planned.now) }
-    ensures asked { IfOk result (λ p. tally_problem_asked (Times 1) (flags_view flags.now) asked.now tally.now ≡ Ok (tally_view p)) }
-    ensures tally { IfOk result (λ p. IsTally (total_weight p.old) p.counts.items) }
-    ensures total { IfOk result (λ p. KeepsTotal p.old (planned_view planned.now)) }
-{
-    match tally_problem_asked(alloc, Refining::Times(1), flags, asked, tally) {
-        Ok(problem) => Ok(problem),
-        Err(RolloutFault::WantOfMemory) => Err(AllocError),
-        // What was planned is lawful.
-        Err(_) => unreachable!(),
-    }
 }

@@ -1,6 +1,6 @@
 //! Why a call is refused.
 ghost use Rattle.std.specs.Prelude.{◌≡◌, IfOk, string_bytes};
-ghost use Rattle.control_answers.specs.Refusal.{call_of, logs_name, logs_number, name_of, number_of, of_check, of_logs, of_price, of_rollout, of_verdict, refusal_text};
+ghost use Rattle.control_answers.specs.Refusal.{call_of, logs_name, logs_number, name_of, number_of, of_check, of_logs, of_price, of_printed, of_read, of_rollout, of_verdict, refusal_text};
 ghost use Rattle.control_answers.specs.declared.refusal.ControlRefusal.TheVariants.{WantOfMemory};
 
 use flag_text::push_string;
@@ -108,6 +108,26 @@ fn logs_name(fault: LogTallyFault) -> &'static str
         LogTallyFault::WantOfMemory => "WantOfMemory",
         LogTallyFault::Line(_, _) => "Line",
         LogTallyFault::TooMany => "TooMany",
+    }
+}
+
+/// Why what was handed over as a plan is refused.
+pub(crate) fn of_read(fault: PlanFileFault) -> ControlRefusal
+    ensures { result ≡ of_read fault }
+{
+    match fault {
+        PlanFileFault::WantOfMemory => ControlRefusal::WantOfMemory,
+        _ => ControlRefusal::ReadPlan(fault),
+    }
+}
+
+/// Why a plan is not printed.
+pub(crate) fn of_printed(fault: PlanFileFault) -> ControlRefusal
+    ensures { result ≡ of_printed fault }
+{
+    match fault {
+        PlanFileFault::WantOfMemory => ControlRefusal::WantOfMemory,
+        _ => ControlRefusal::PrintPlan(fault),
     }
 }
 

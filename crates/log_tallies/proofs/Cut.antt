@@ -40,7 +40,8 @@ more_files files i file old new here is =
     ∙ append_assoc old (lines_in file.bytes.now) (all_lines (files_view (drop (i + 1) files)))
     ∙ ap (λ (fs : List program.LogFile). old ++ all_lines (files_view fs)) (sym here)
 
-pub next_file : (files : List program.LogFile) (i : ℕ) (file : program.LogFile) → i < length files → get_or files i file ≡ file → drop i files ≡ file ∷ drop (i + 1) files
-next_file files i file below is =
-    let step : drop i files ≡ get_or files i file ∷ drop (i + 1) files = rw (add-one, drop-cons files i file) refl in
-    step ∙ ap (λ (f : program.LogFile). f ∷ drop (i + 1) files) is
+-- the first of what is left
+pub next_item : {X : Type 0} (xs : List X) (i : ℕ) (x : X) → i < length xs → x ≡ get_or xs i x → drop i xs ≡ x ∷ drop (i + 1) xs
+next_item xs i x below is =
+    let step : drop i xs ≡ get_or xs i x ∷ drop (i + 1) xs = rw add-one (drop-cons xs i x below) in
+    step ∙ ap (λ y. y ∷ drop (i + 1) xs) (sym is)

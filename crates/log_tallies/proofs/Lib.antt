@@ -1,7 +1,7 @@
 mod Among
 mod Crowded
 mod Cut
-mod Distinct
+mod Once
 mod Held
 mod Strays
 mod Taken

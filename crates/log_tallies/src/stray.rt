@@ -17,14 +17,10 @@ pub(crate) fn first_stray(
     requires { HasStray (files_view files.now) }
     ensures { IfOk result (λ r. IsFirstStray (files_view files.now) r.0 r.1) }
 {
-    let mut rest = files;
-    let mut at = 0;
-    'files: while let Some((file, others)) = rest.split_first() {
-        if let Some(line) = stray_in(alloc, file.bytes)? {
+    'files: for at in 0..files.len() {
+        if let Some(line) = stray_in(alloc, files[at].bytes)? {
             return Ok((at, line));
         }
-        rest = others;
-        at += 1;
     }
     unreachable!()
 }

@@ -58,10 +58,8 @@ fn tally_lines(
     ensures { TalliesLines page total (lines_view lines.now) result }
 {
     let mut filter = TallyFilter::new(alloc, page, total)?;
-    let mut rest = lines;
-    'rests: while let Some((line, others)) = rest.split_first() {
+    'lines: for line in lines {
         filter.take(alloc, line)?;
-        rest = others;
     }
     Ok(filter.finish())
 }

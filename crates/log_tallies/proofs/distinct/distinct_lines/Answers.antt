@@ -1,5 +1,5 @@
 use Rattle.std.proofs.lemmas.List.Filters.{dedup_is}
-use Rattle.log_tallies.proofs.Distinct.{distinct, same_line}
+use Rattle.log_tallies.proofs.Once.{distinct, same_line}
 use Rattle.log_tallies.specs.Lines.{files_view}
 use Rattle.log_tallies.proofs.distinct.distinct_lines.Goals as goal
 

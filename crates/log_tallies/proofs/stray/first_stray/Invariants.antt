@@ -1,13 +1,8 @@
-use Rattle.std.proofs.Common.{◌≤◌, ◌+◌, length}
+use Rattle.std.proofs.Common.{drop}
 use Rattle.log_tallies.proofs.Strays.{Passed}
 use Rattle.log_tallies.specs.Lines.{files_view}
 use Rattle.log_tallies.proofs.stray.first_stray.Given as goal
 
+-- the files before this one have no stray line
 abbrev pub invariant-files : goal.invariant-files
-invariant-files l = record {
-  few : l.at + length l.rest ≤ length l.fn.files;
-  passed : Passed (files_view l.fn.files) (files_view l.rest) l.at;
-}
-
-abbrev pub decreases-files : goal.decreases-files
-decreases-files l = length l.rest
+invariant-files l = Passed (files_view l.files) (files_view (drop l.at l.files)) l.at

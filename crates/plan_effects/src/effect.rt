@@ -6,7 +6,7 @@ ghost use Rattle.plan_text.specs.Answer.{planned_view};
 ghost use Rattle.rollout_checks.specs.Tallied.{tally_view};
 ghost use Rattle.rule_switches.specs.Switches.{rows_view};
 ghost use Rattle.transport_instance.specs.Tally.{IsTally};
-ghost use Rattle.control_answers.specs.Effect.{IsEffect, IsEffectOf, KeepsTotal, effect_view};
+ghost use Rattle.plan_effects.specs.Effect.{IsEffect, IsEffectOf, KeepsTotal, effect_view};
 
 use bucket_core::Rule;
 use plan_text::Planned;
@@ -16,15 +16,15 @@ use std::alloc::{AllocError, Global};
 
 /// What an answer does to recorded inputs.
 #[derive(Drop)]
-pub(crate) struct Effect {
+pub struct Effect {
     /// The changes of name with their inputs, none where no rule fits.
-    pub(crate) switches: Vec<Switch>,
+    pub switches: Vec<Switch>,
     /// How many inputs the edit that comes to mind first would switch; nothing where no rule fits.
-    pub(crate) by_hand: Option<u64>,
+    pub by_hand: Option<u64>,
 }
 
 /// What an answer to a problem does. The conditions are that a rule keeps the total, and that the problem has a tally.
-pub(crate) fn effect_of(
+pub fn effect_of(
     alloc: Global,
     problem: &Problem<'_>,
     planned: &Planned,

@@ -2,7 +2,7 @@
 ghost use Rattle.std.specs.Prelude.{IfOk, option_map, string_bytes};
 ghost use Rattle.flag_defs.specs.Flags.{flags_view};
 ghost use Rattle.plan_text.specs.Answer.{planned_view};
-ghost use Rattle.control_answers.specs.Document.{IsUnkeptOrKept, MayBeKept};
+ghost use Rattle.plan_effects.specs.Document.{IsUnkeptOrKept, MayBeKept};
 
 use bucket_core::Rule;
 use flag_defs::Flags;
@@ -13,7 +13,7 @@ use std::alloc::{AllocError, Global};
 
 /// The text of a document with the rule of an answer at a site of the flag of this key, and all else as it was; none where no
 /// rule fits, where the site's buckets stand in an evaluator, or where the text would be too long.
-pub(crate) fn document_with(
+pub fn document_with(
     alloc: Global,
     document: &str,
     flags: &Flags,

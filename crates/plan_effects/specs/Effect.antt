@@ -6,7 +6,9 @@ use Rattle.plan_text.specs.Answer.{Answer, emit, none_exists}
 use Rattle.rollout_checks.specs.Tallied.{AreTallied, TallyProblem}
 use Rattle.rule_switches.specs.Edit.{IsObvious}
 use Rattle.rule_switches.specs.Switches.{AreSwitches, Rows, rows_view}
-use Rattle.control_answers.specs.declared.effect.Effect as program
+use Rattle.tally_core.specs.Law.{IsTallyOf}
+use Rattle.tally_core.specs.Tally.{PageTally}
+use Rattle.plan_effects.specs.declared.effect.Effect as program
 
 -- the changes of name, each once with the number of its inputs, and how many the edit that comes to mind first would switch
 pub record Effect : Type 0 where
@@ -24,6 +26,10 @@ pub record IsEffectOf (p : TallyProblem) (rule : Entries) (e : Effect) : Type 0 
 abbrev pub IsEffect : TallyProblem → Answer → Effect → Type 0
 IsEffect p (emit rule c) e = IsEffectOf p rule e
 IsEffect p (none_exists kind names) e = (e.switches ≡ []) × (e.by_hand ≡ None)
+
+-- it is the tally of some inputs
+abbrev pub IsOfSome : PageTally → Type 0
+IsOfSome t = (inputs : Inputs) × IsTallyOf inputs t
 
 -- a rule has as many points as the one that it takes the place of
 abbrev pub KeepsTotal : Entries → Answer → Type 0

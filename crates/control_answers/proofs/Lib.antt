@@ -1,0 +1,4 @@
+mod Asked
+mod Checked
+mod Recorded
+mod Turns

@@ -1,1 +1,0 @@
-use Rattle.log_tallies.proofs.tallying.tally_files.Goals as goal
