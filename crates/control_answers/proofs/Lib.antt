@@ -1,4 +1,4 @@
-mod Asked
 mod Checked
+mod Planned
 mod Recorded
 mod Turns

@@ -7,7 +7,7 @@ ghost use Rattle.control_answers.specs.Check.{IsCheckAnswer, IsVerdictOn, valid_
 ghost use Rattle.control_answers.specs.Target.{target_of, target_view};
 ghost use Rattle.control_answers.specs.Turns.{Gives, OfFiles, WithTarget};
 
-use crate::place::target_in;
+use crate::place::target_of;
 use crate::refusal::{ControlRefusal, of_read};
 use crate::target::Target;
 use flag_defs::Flags;
@@ -46,9 +46,9 @@ fn check_planned(
 ) -> Result<String, ControlRefusal>
     ensures { Gives string_bytes (WithTarget (λ target. OfFiles (files_view files.now) target (IsVerdictOn (flags_view flags.now) request.now (planned_view planned.now))) (target_of (flags_view flags.now) request.now)) result }
 {
-    let request = RequestFile::read(alloc, request.to_vec(alloc)?)?;
-    let asked = request.asked()?;
-    let target = target_in(alloc, flags, asked.flag(), asked.site())?;
+    let bytes = request.to_vec(alloc)?;
+    let request = RequestFile::read(alloc, bytes)?;
+    let target = target_of(alloc, flags, &request)?;
     check_recorded(alloc, flags, &request, planned, target, files)
 }
 

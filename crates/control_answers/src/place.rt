@@ -3,16 +3,28 @@ ghost use Rattle.std.specs.Prelude.{◌≡◌, ◌<◌, ◌≤◌, IfOk};
 ghost use Rattle.flag_defs.specs.Flags.{flags_view};
 ghost use Rattle.flag_text.specs.Outcome.{GivesUnless};
 ghost use Rattle.rollout_checks.specs.Lawful.{place_of};
-ghost use Rattle.control_answers.specs.Target.{place_view, points_of, site_of, target_in, target_view};
+ghost use Rattle.control_answers.specs.Target.{place_view, points_of, site_of, target_in, target_of, target_view};
 
 use crate::target::Target;
 use book_core::Page;
 use bucket_core::total_weight;
 use flag_defs::Flags;
 use logic_ast::{Site, site};
-use rollout_checks::RolloutFault;
+use rollout_checks::{RequestFile, RolloutFault};
 use std::alloc::Global;
 use tally_core::MOST_POINTS;
+
+/// What is tallied for the file of a request.
+pub(crate) fn target_of(
+    alloc: Global,
+    flags: &Flags,
+    request: &RequestFile,
+) -> Result<Target, RolloutFault>
+    ensures { GivesUnless RolloutFault.WantOfMemory target_view result (target_of (flags_view flags.now) request.now) }
+{
+    let asked = request.asked()?;
+    target_in(alloc, flags, asked.flag(), asked.site())
+}
 
 /// What is tallied for a site of the flag of this key.
 pub(crate) fn target_in(

@@ -4,7 +4,6 @@ ghost use Rattle.flag_defs.specs.Flags.{flags_view};
 ghost use Rattle.limits.specs.Limits.{tally_inputs};
 ghost use Rattle.log_tallies.specs.Lines.{files_view};
 ghost use Rattle.plan_text.specs.Answer.{planned_view};
-ghost use Rattle.price_core.specs.Request.{asked_of};
 ghost use Rattle.rollout.specs.Tallied.{IsTallyPlanned};
 ghost use Rattle.rollout_checks.specs.Tallied.{tally_problem_of};
 ghost use Rattle.rollout_checks.specs.declared.refining.Refining.TheVariants.{Times};
@@ -16,14 +15,13 @@ ghost use Rattle.control_answers.specs.Turns.{Gives, OfFiles};
 ghost use Rattle.control_answers.specs.View.{bytes_view, told_view};
 
 use crate::body::{Told, told_text, token_text};
-use crate::place::target_in;
+use crate::place::target_of;
 use crate::refusal::{ControlRefusal, of_printed};
 use crate::snapshot::Snapshot;
 use crate::target::Target;
 use log_tallies::{LogFile, tally_files};
 use plan_effects::{document_with, effect_of, posed};
 use plan_text::{Planned, print_planned};
-use price_core::Request;
 use rollout::plan_file_on_tally;
 use rollout_checks::RequestFile;
 use std::alloc::{AllocError, Global};
@@ -42,10 +40,10 @@ pub fn plan_answer(
 ) -> Result<Vec<u8>, ControlRefusal>
     ensures { Gives bytes_view (IsPlanAnswer (snapshot_view snapshot.now) request.now (files_view files.now)) result }
 {
-    let request = RequestFile::read(alloc, request.to_vec(alloc)?)?;
-    let asked = request.asked()?;
-    let target = target_in(alloc, snapshot.flags, asked.flag(), asked.site())?;
-    plan_recorded(alloc, snapshot, &request, asked, target, files)
+    let bytes = request.to_vec(alloc)?;
+    let request = RequestFile::read(alloc, bytes)?;
+    let target = target_of(alloc, snapshot.flags, &request)?;
+    plan_recorded(alloc, snapshot, &request, target, files)
 }
 
 /// The same on what is held of a target.
@@ -53,15 +51,13 @@ fn plan_recorded(
     alloc: Global,
     snapshot: &Snapshot<'_>,
     request: &RequestFile,
-    asked: &Request,
     target: Target,
     files: &[LogFile<'_>],
 ) -> Result<Vec<u8>, ControlRefusal>
-    requires { asked_of request.now ≡ Ok asked.now }
     ensures { Gives bytes_view (OfFiles (files_view files.now) (target_view target) (IsPlanOn (snapshot_view snapshot.now) request.now)) result }
 {
     let tally = tally_files(alloc, target.page, target.total, files)?;
-    plan_on(alloc, snapshot, request, asked, &tally)
+    plan_on(alloc, snapshot, request, &tally)
 }
 
 /// The same on a tally.
@@ -69,11 +65,9 @@ fn plan_on(
     alloc: Global,
     snapshot: &Snapshot<'_>,
     request: &RequestFile,
-    asked: &Request,
     tally: &PageTally,
 ) -> Result<Vec<u8>, ControlRefusal>
-    requires asked { asked_of request.now ≡ Ok asked.now }
-    requires inputs { IsOfSome tally.now }
+    requires { IsOfSome tally.now }
     ensures { Gives bytes_view (IsPlanOn (snapshot_view snapshot.now) request.now tally.now) result }
 {
     let planned = plan_file_on_tally(alloc, snapshot.flags, request, tally, 1)?;
@@ -81,7 +75,7 @@ fn plan_on(
         Ok(plan) => plan,
         Err(fault) => return Err(of_printed(fault)),
     };
-    let told = told(alloc, snapshot, request, asked, tally, &planned, plan)?;
+    let told = told(alloc, snapshot, request, tally, &planned, plan)?;
     Ok(told_text(alloc, &told)?)
 }
 
@@ -90,12 +84,10 @@ fn told(
     alloc: Global,
     snapshot: &Snapshot<'_>,
     request: &RequestFile,
-    asked: &Request,
     tally: &PageTally,
     planned: &Planned,
     plan: Vec<u8>,
 ) -> Result<Told, AllocError>
-    requires asked { asked_of request.now ≡ Ok asked.now }
     requires inputs { IsOfSome tally.now }
     requires planned { IsTallyPlanned (tally_problem_of (Times 1) (flags_view snapshot.now.flags.now) request.now tally.now) (Ok planned.now) }
     ensures told { IfOk result (λ t. IsTold (snapshot_view snapshot.now) request.now tally.now (planned_view planned.now) plan.items (told_view t)) }
@@ -103,6 +95,11 @@ fn told(
 {
     let flags = snapshot.flags;
     let document = snapshot.document;
+    let asked = match request.asked() {
+        Ok(asked) => asked,
+        // What was planned is lawful.
+        Err(_) => unreachable!(),
+    };
     let token = token_text(alloc, document, request.bytes(), plan.as_slice())?;
     let document = document_with(alloc, document, flags, asked.flag(), asked.site(), planned)?;
     let problem = posed(alloc, flags, request, tally, planned)?;
