@@ -9,4 +9,5 @@ pub mod Check
 pub mod Body
 pub mod View
 pub mod Plan
+pub mod Held
 pub mod Law

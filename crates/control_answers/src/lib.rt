@@ -2,7 +2,7 @@
 //!
 //! A service that answers flag evaluations notes in log files what it has answered. [`record_answer`] tallies what they hold of a
 //! site's page, [`plan_answer`] plans a request on it, and says who would switch beside the edit that comes to mind first, and
-//! [`check_answer`] checks an answer, whoever made it. None opens a file or a socket: whoever calls hands over the bytes.
+//! [`check_answer`] checks an answer, whoever made it. [`document_tag`] is the tag of a snapshot's document. None opens a file or a socket: whoever calls hands over the bytes.
 //!
 //! ```rust
 //! use control_answers::{Snapshot, plan_answer};
@@ -20,6 +20,7 @@
 
 mod body;
 mod checking;
+mod holding;
 mod laws;
 mod place;
 mod planning;
@@ -29,6 +30,7 @@ mod snapshot;
 mod target;
 
 pub use checking::check_answer;
+pub use holding::{DocumentTag, document_tag};
 pub use laws::answers_plan_the_record;
 pub use planning::plan_answer;
 pub use recording::record_answer;
