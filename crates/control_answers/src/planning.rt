@@ -14,7 +14,7 @@ ghost use Rattle.control_answers.specs.Target.{target_view};
 ghost use Rattle.control_answers.specs.Turns.{Gives, OfFiles};
 ghost use Rattle.control_answers.specs.View.{bytes_view, told_view};
 
-use crate::body::{Told, told_text, token_text};
+use crate::body::{Told, token_text, told_text};
 use crate::place::target_of;
 use crate::refusal::{ControlRefusal, of_printed};
 use crate::snapshot::Snapshot;

@@ -31,11 +31,7 @@ pub fn record_answer(
 }
 
 /// The file of the tally of what is held of a target.
-fn recorded(
-    alloc: Global,
-    target: Target,
-    files: &[LogFile<'_>],
-) -> Result<String, ControlRefusal>
+fn recorded(alloc: Global, target: Target, files: &[LogFile<'_>]) -> Result<String, ControlRefusal>
     ensures { Gives string_bytes (IsRecordOver (files_view files.now) (target_view target)) result }
 {
     let tally = tally_files(alloc, target.page, target.total, files)?;

@@ -58,8 +58,8 @@ full_in : (t : Tallied) (inputs : Inputs) (total : ℕ) (input : List ℕ) → 0
 full_in t inputs total input some same is full =
     let p = point_of total input in
     let there : get_or t.counts (point_of t.total input) 0 ≡ inputs_at inputs total p =
-        ap (λ (n : ℕ). get_or t.counts (point_of n input) 0) same ∙ ap (λ (cs : List ℕ). get_or cs p 0) (is.counts ∙ ap (counts_of inputs) same)
-        ∙ get_or-map-range_with_len (λ (q : ℕ). inputs_at inputs total q) 0 total p p 0 (point_of-below total input some) (omega arith) in
+    ap (λ (n : ℕ). get_or t.counts (point_of n input) 0) same ∙ ap (λ (cs : List ℕ). get_or cs p 0) (is.counts ∙ ap (counts_of inputs) same)
+    ∙ get_or-map-range_with_len (λ (q : ℕ). inputs_at inputs total q) 0 total p p 0 (point_of-below total input some) (omega arith) in
     ⊎_elim
     (λ (all : nat_lt t.inputs most_in_all ≡ false). inl (let many = ltb-false _ _ all in omega (arith, many, is.inputs)))
     (λ (one : nat_lt (get_or t.counts (point_of t.total input) 0) most_at_point ≡ false). inr (let many = ltb-false _ _ one in omega (arith, many, there)))
@@ -76,9 +76,9 @@ module _ (law : StreamIsTallied) (files lines : List (List ℕ)) (page : PageNam
       let on : no.note ≡ noted_on page no.note.input = note_is_on no.note page same in
       let its : line ≡ line_on page no.note.input = ap note_line on in
       let below = each_on (λ (l : List ℕ). bytes_cmp l (line_on page no.note.input) ≡ Less) page no.before read.0
-          (λ l there. subst (λ (k : List ℕ). bytes_cmp l k ≡ Less) its (below_later no.before no.after line l rising there)) read.1 in
+      (λ l there. subst (λ (k : List ℕ). bytes_cmp l k ≡ Less) its (below_later no.before no.after line l rising there)) read.1 in
       let pairs = each_on (Contains (all_lines files)) page no.before read.0
-          (λ l there. are.each l (subst (λ (ls : List (List ℕ)). Contains ls l) (sym no.split) (from_in (no.before ++ line ∷ no.after) l (in_front no.before (line ∷ no.after) l there)))) read.1 in
+      (λ l there. are.each l (subst (λ (ls : List (List ℕ)). Contains ls l) (sym no.split) (from_in (no.before ++ line ∷ no.after) l (in_front no.before (line ∷ no.after) l there)))) read.1 in
       let here : Contains (all_lines files) line = are.each line (subst (λ (ls : List (List ℕ)). Contains ls line) (sym no.split) (from_in (no.before ++ line ∷ no.after) line (in_middle no.before no.after line))) in
       record {
         inputs = inputs;

@@ -122,17 +122,19 @@ module _ (law : StreamIsTallied) (files lines : List (List ℕ)) (page : PageNam
       let last = is.0 in
       let read = law page total lines last some is.1 in
       let inputs = inputs_of page read.0 in
-      let pairs = each_on (Contains (all_lines files)) page lines read.0 (λ l there. are.each l (from_in lines l there)) read.1 in
-      (record {
-        inputs = inputs;
-        recorded = record {
-          once = of_lines page last inputs read.2.same read.2.tally;
-          each = all_of (IsRecorded files page) inputs (λ input there.
-              let both = of_all (λ (x : List ℕ). IsNote (noted_on page x) × Contains (all_lines files) (line_on page x)) inputs input pairs there in
-              record { note = both.0; there = both.1 });
-          all = λ input recorded. from_in inputs input (all_on page lines read.0 input recorded.note read.1 (to_in lines (line_on page input) (are.all (line_on page input) recorded.there)));
-        };
-        page_is = ap (λ (x : PageTally). x.page) is.2 ∙ read.2.same;
-        total_is = ap (λ (x : PageTally). x.total) is.2 ∙ total_stays lines (untallied page total) last is.1;
-        tally = subst (IsRangeOf inputs) (sym is.2) read.2.tally;
-      }, all_of IsKept (all_lines files) (λ l there. of_all IsKept lines l (kept_lines lines read.0 read.1) (to_in lines l (are.all l (from_in (all_lines files) l there)))))
+      let pairs = each_on (Contains (all_lines files)) page lines read.0 (λ l there. are.each l (from_in lines l there)) read.1 in (
+        record {
+          inputs = inputs;
+          recorded = record {
+            once = of_lines page last inputs read.2.same read.2.tally;
+            each = all_of (IsRecorded files page) inputs (λ input there.
+                let both = of_all (λ (x : List ℕ). IsNote (noted_on page x) × Contains (all_lines files) (line_on page x)) inputs input pairs there in
+                record { note = both.0; there = both.1 });
+            all = λ input recorded. from_in inputs input (all_on page lines read.0 input recorded.note read.1 (to_in lines (line_on page input) (are.all (line_on page input) recorded.there)));
+          };
+          page_is = ap (λ (x : PageTally). x.page) is.2 ∙ read.2.same;
+          total_is = ap (λ (x : PageTally). x.total) is.2 ∙ total_stays lines (untallied page total) last is.1;
+          tally = subst (IsRangeOf inputs) (sym is.2) read.2.tally;
+        },
+        all_of IsKept (all_lines files) (λ l there. of_all IsKept lines l (kept_lines lines read.0 read.1) (to_in lines l (are.all l (from_in (all_lines files) l there)))),
+      )

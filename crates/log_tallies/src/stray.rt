@@ -10,10 +10,7 @@ use note_lines::read_note;
 use std::alloc::{AllocError, Global};
 
 /// The file, from 0, and the line, from 1, of the first stray line. The condition is that there is one.
-pub(crate) fn first_stray(
-    alloc: Global,
-    files: &[LogFile<'_>],
-) -> Result<(usize, u64), AllocError>
+pub(crate) fn first_stray(alloc: Global, files: &[LogFile<'_>]) -> Result<(usize, u64), AllocError>
     requires { HasStray (files_view files.now) }
     ensures { IfOk result (λ r. IsFirstStray (files_view files.now) r.0 r.1) }
 {
