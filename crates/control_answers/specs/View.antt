@@ -13,6 +13,7 @@ told_view t = record {
   switches = rows_view t.effect.switches.items;
   by_hand = t.effect.by_hand;
   document = option_map string_bytes t.document;
+  explained = string_bytes t.explained;
   token = t.token.items;
 }
 

@@ -24,6 +24,8 @@ pub(crate) struct Told {
     pub(crate) effect: Effect,
     /// The new document.
     pub(crate) document: Option<String>,
+    /// What a person is told of the plan.
+    pub(crate) explained: String,
     /// The token by which the plan is applied.
     pub(crate) token: Vec<u8>,
 }
@@ -38,6 +40,8 @@ pub(crate) fn told_text(alloc: Global, told: &Told) -> Result<Vec<u8>, AllocErro
     push_rows(alloc, &mut text, told.effect.switches.as_slice())?;
     text.push_str("],\"document\":")?;
     push_text_or_null(alloc, &mut text, &told.document)?;
+    text.push_str(",\"explained\":")?;
+    push_string(alloc, &mut text, told.explained.as_str())?;
     text.push_str(",\"plan\":")?;
     let mut body = text.into_bytes();
     body.extend_from_slice(told.plan.as_slice())?;

@@ -24,6 +24,7 @@ use plan_effects::{document_with, effect_of, posed};
 use plan_text::{Planned, print_planned};
 use rollout::plan_file_on_tally;
 use rollout_checks::RequestFile;
+use rollout_diagnostics::of_planned;
 use std::alloc::{AllocError, Global};
 use tally_core::PageTally;
 
@@ -102,6 +103,8 @@ fn told(
     };
     let token = token_text(alloc, document, request.bytes(), plan.as_slice())?;
     let document = document_with(alloc, document, flags, asked.flag(), asked.site(), planned)?;
+    let counts = tally.counts.as_slice();
+    let explained = of_planned(alloc, "request", flags, request, 1, counts, planned)?;
     let problem = posed(alloc, flags, request, tally, planned)?;
     let effect = effect_of(alloc, &problem, planned)?;
     Ok(Told {
@@ -110,6 +113,7 @@ fn told(
         plan,
         effect,
         document,
+        explained,
         token,
     })
 }
