@@ -12,7 +12,7 @@
 //! let body = plan_answer(alloc, &snapshot, request, files)?;
 //! ```
 //!
-//! Proved, over the definitions of `specs/`: each body is the text of what the same snapshot, request and files stand for (`Record`,
+//! Stated, over the definitions of `specs/` (the proofs are not checked yet): each body is the text of what the same snapshot, request and files stand for (`Record`,
 //! `Check`, `Plan`), or the first refusal, by the number and the name of the command that refuses so (`Refusal`). A plan is one on
 //! just the inputs whose note lines stand in the files, each counted once, and costs these the least of all that fit, or none fits
 //! ([`answers_plan_the_record`], `Law`).
