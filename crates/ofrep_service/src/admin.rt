@@ -3,6 +3,7 @@ ghost use denote.Param.Send.{IsSend, IsSync};
 ghost use Rattle.std.specs.Prelude.{◌≡◌, List, IfOk, false};
 ghost use Rattle.http_server.specs.Exchange.{Call};
 ghost use Rattle.recorded_answers.specs.Stand.{Works};
+ghost use Rattle.ofrep_service.specs.Limits.{HasUsualLimits};
 
 use crate::board::Board;
 use crate::workers::worker_of;
@@ -11,7 +12,7 @@ use dated_answers::Dated;
 use http_server::{Config, Service};
 use limits::STACK_BYTES;
 use log_file::LogPaths;
-use ofrep_connections::{Load, Patience, answer_connections_with};
+use ofrep_connections::{Load, Patience, Served, answer_connections_with};
 use ofrep_guards::{AdminGuard, AdminRules, CountsStatus, OwnHosts};
 use recorded_answers::Recording;
 use snap_share::{ReadSeat, ShareName};
@@ -129,7 +130,7 @@ fn answer_operations<J: ShareName, R: Net + LogPaths + Clock>(
     let guard = AdminGuard::new(rules, &board.is_stopping, worker);
     let logged = LoggedService::new(rt, alloc, board.lines.as_ref(), guard);
     let mut dated = Dated::new(rt, alloc, board.counts.traffic(), logged)?;
-    serve_operations(rt, alloc, keys, board, listener, &mut dated)
+    serve_operations(rt, alloc, keys, board, listener, &mut dated).into_outcome()
 }
 
 /// Has a worker behind a guard, which was not asked to stop yet, answer the connections of a listener until all threads are to end or
@@ -141,9 +142,10 @@ fn serve_operations<'a, S: Recording + CountsStatus, R: Net + Clock>(
     board: &Board,
     listener: TcpListener,
     dated: &mut Dated<'a, R, LoggedService<'a, R, AdminGuard<'a, S>>>,
-) -> io::Result<()>
+) -> Served
     requires { dated.old.service.service.is_stopping ≡ false }
-    ensures { (turns : List (List Call)) × Works ⟦<Dated<'a, R, LoggedService<'a, R, AdminGuard<'a, S>>> as Service>⟧.answers ⟦<Dated<'a, R, LoggedService<'a, R, AdminGuard<'a, S>>> as Recording>⟧.looked dated.old turns dated.new }
+    ensures turns { (turns : List (List Call)) × Works ⟦<Dated<'a, R, LoggedService<'a, R, AdminGuard<'a, S>>> as Service>⟧.answers ⟦<Dated<'a, R, LoggedService<'a, R, AdminGuard<'a, S>>> as Recording>⟧.looked dated.old turns dated.new }
+    ensures limits { HasUsualLimits result }
 {
     let config = Config {
         max_body_len: MOST_BODY,
