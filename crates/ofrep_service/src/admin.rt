@@ -2,6 +2,7 @@
 ghost use denote.Param.Send.{IsSend, IsSync};
 ghost use Rattle.std.specs.Prelude.{◌≡◌, List, IfOk, false};
 ghost use Rattle.http_server.specs.Exchange.{Call};
+ghost use Rattle.ofrep_guards.specs.Hosts.{hosts_view, named_at};
 ghost use Rattle.recorded_answers.specs.Stand.{Works};
 ghost use Rattle.ofrep_service.specs.Limits.{HasUsualLimits};
 
@@ -27,19 +28,22 @@ use std::time::Clock;
 /// The most bytes of a body there. No path takes one yet.
 const MOST_BODY: usize = 65_536;
 
-/// Where operations are asked for: a listener of their own, the hosts by which it is named, and whether it may be asked to stop the
-/// service.
+/// Where operations are asked for: a listener of their own, its address, the hosts by which it is named, and whether it may be asked
+/// to stop the service.
 #[derive(Drop)]
 pub struct AdminPost {
     listener: TcpListener,
+    address: SocketAddr,
     hosts: OwnHosts,
     pub(crate) may_stop: bool,
 }
 
 impl AdminPost {
     /// The address that it listens on.
-    pub fn address(&self) -> io::Result<SocketAddr> {
-        self.listener.local_addr()
+    pub fn address(&self) -> SocketAddr
+        ensures { result ≡ self.now.address }
+    {
+        self.address
     }
 }
 
@@ -50,13 +54,16 @@ pub fn bind_admin<R: Net<Listener = TcpListener, Stream = TcpStream>>(
     address: SocketAddr,
     may_stop: bool,
 ) -> io::Result<AdminPost>
-    ensures { IfOk result (λ post. post.may_stop ≡ may_stop) }
+    ensures may_stop { IfOk result (λ post. post.may_stop ≡ may_stop) }
+    ensures hosts { IfOk result (λ post. (hosts_view post.hosts).named ≡ named_at post.address) }
 {
     let listener = TcpListener::bind(rt, address)?;
     listener.set_nonblocking(true)?;
-    let hosts = OwnHosts::of(alloc, listener.local_addr()?)?;
+    let address = listener.local_addr()?;
+    let hosts = OwnHosts::of(alloc, address)?;
     Ok(AdminPost {
         listener,
+        address,
         hosts,
         may_stop,
     })
@@ -122,6 +129,7 @@ fn answer_operations<J: ShareName, R: Net + LogPaths + Clock>(
 ) -> io::Result<()> {
     let AdminPost {
         listener,
+        address: _,
         hosts,
         may_stop,
     } = post;
