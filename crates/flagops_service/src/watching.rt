@@ -47,7 +47,7 @@ pub(crate) fn watch<J: ShareName, R: Clock + LogPaths + Wait, F: FileSet, E: Out
         if !rest(rt, watched.alloc, board, err) {
             return;
         }
-        told = tell_news(board, told, err);
+        told = tell_news(rt, board, told, err);
         if !is_turn(turn, poll) {
             continue;
         }

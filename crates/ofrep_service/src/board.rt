@@ -1,16 +1,15 @@
 //! What the threads of a service tell each other.
-ghost use Rattle.std.specs.Prelude.{◌≡◌, option_map};
+ghost use Rattle.std.specs.Prelude.{◌≡◌, is_some, option_map};
 
-use access_lines::AccessLines;
+use access_lines::{AccessLines, WaitingLines};
 use log_file::Loss;
 use note_log::Trouble;
 use ofrep_connections::Load;
 use ofrep_guards::{KeyRing, Keys, Paths};
 use ofrep_worker::{Counts, WithoutRecord};
-use std::alloc::Global;
 use std::num::NonZeroUsize;
-use std::sync::Wait;
 use std::sync::atomic::{AtomicBool, AtomicU64, Ordering};
+use std::sync::{MutexGuard, Wait};
 
 /// How long a worker keeps a connection on which nothing comes, in seconds, and the most bytes of a body that it takes.
 #[derive(Clone, Copy, Debug, PartialEq, Eq)]
@@ -60,6 +59,7 @@ impl Board {
         ensures origins { result.origins ≡ origins }
         ensures keys { option_map (λ ring. ring.first) result.keys ≡ keys }
         ensures paths { result.paths ≡ paths }
+        ensures lines { result.lines ≡ lines }
         ensures limits { result.limits ≡ limits }
     {
         let keys = match keys {
@@ -124,19 +124,13 @@ impl Board {
         }
     }
 
-    /// Takes the lines of requests that wait to be written; none where they are not wanted.
-    pub fn take_lines<R: Wait>(&self, rt: &R, alloc: Global) -> Vec<u8> {
+    /// The lines of requests that wait to be written, where they are wanted.
+    pub fn waiting_lines<R: Wait>(&self, rt: &R) -> Option<MutexGuard<'_, WaitingLines>>
+        ensures { is_some result ≡ is_some self.now.lines }
+    {
         match &self.lines {
-            Some(lines) => lines.take(rt, alloc),
-            None => Vec::new(alloc),
-        }
-    }
-
-    /// How many lines of requests were left out.
-    pub fn lines_left_out(&self) -> u64 {
-        match &self.lines {
-            Some(lines) => lines.left_out(),
-            None => 0,
+            Some(lines) => Some(lines.waiting(rt)),
+            None => None,
         }
     }
 
