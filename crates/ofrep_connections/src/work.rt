@@ -122,8 +122,8 @@ fn answer_made<S: Recording, R: Net + Clock>(
     service: &mut S,
 ) -> Served
     ensures turns { (turns : List (List Call)) × Works S.answers S.looked service.old turns service.new }
-    ensures config { result.config ≡ making.config }
-    ensures patience { result.patience ≡ making.patience }
+    ensures config { result.config ≡ making.entry.config }
+    ensures patience { result.patience ≡ making.entry.patience }
 {
     let outcome = answer_listener(rt, making, listener, load, stop, service);
     Served {
