@@ -1,11 +1,12 @@
 //! What the threads of a service tell each other.
-ghost use Rattle.std.specs.Prelude.{◌≡◌, is_some, option_map};
+ghost use Rattle.std.specs.Prelude.{◌≡◌, IfSome, Some, is_some, option_map};
+ghost use Rattle.std.specs.Sync.Mutex.{mutex_guard_value};
 
 use access_lines::{AccessLines, WaitingLines};
 use log_file::Loss;
 use note_log::Trouble;
 use ofrep_connections::Load;
-use ofrep_guards::{KeyRing, Keys, Paths};
+use ofrep_guards::{KeyRing, Keys, LaterKeys, Paths};
 use ofrep_worker::{Counts, WithoutRecord};
 use std::num::NonZeroUsize;
 use std::sync::atomic::{AtomicBool, AtomicU64, Ordering};
@@ -117,10 +118,14 @@ impl Board {
         self.counts.accept_document(second);
     }
 
-    /// From now on a request shows one of these keys, where one is wanted.
-    pub fn replace_keys<R: Wait>(&self, rt: &R, keys: Keys) {
-        if let Some(ring) = &self.keys {
-            ring.replace(rt, keys);
+    /// Sets other keys, where a request shows one, and returns what holds them then. Once that is let go a request shows one of these.
+    pub fn replace_keys<R: Wait>(&self, rt: &R, keys: Keys) -> Option<MutexGuard<'_, LaterKeys>>
+        ensures wanted { is_some result ≡ is_some self.now.keys }
+        ensures keys { IfSome result (λ held. (mutex_guard_value held).keys ≡ Some keys) }
+    {
+        match &self.keys {
+            Some(ring) => Some(ring.replace(rt, keys)),
+            None => None,
         }
     }
 
