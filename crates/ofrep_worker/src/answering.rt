@@ -2,10 +2,11 @@
 ghost use Rattle.std.specs.Prelude.{◌≡◌, ◌<◌, ◌^◌, true, is_some, IfOk, OnErr, OnOk};
 ghost use Rattle.std.specs.Arc.{arc_value};
 ghost use Rattle.flag_defs.specs.Flags.{flags_view};
-ghost use Rattle.http_server.specs.Response.{IsBlank};
+ghost use Rattle.http_server.specs.Response.{IsBlank, fields_of};
 ghost use Rattle.ofrep_answers.specs.Answer.{answer_of, answer_view};
 ghost use Rattle.ofrep_worker.specs.Answers.{Answers, kept_in, trouble_in};
 ghost use Rattle.ofrep_worker.specs.Asked.{asked_of};
+ghost use Rattle.ofrep_worker.specs.Counted.{EndsWithSizes};
 ghost use Rattle.ofrep_worker.specs.Sent.{GivesIn, Sends, unready};
 
 use crate::asked::tags_named;
@@ -119,14 +120,23 @@ impl<R> Answering<'_, R> {
     {
         fill(self.alloc, answer, response)?;
         if let Content::Counts = answer.content {
-            let number = self.snapshot.number();
-            let flags = self.snapshot.flags();
-            let text = self
-                .counts
-                .text(self.alloc, number, flags.len(), broken_in(flags))?;
-            response.body.put_slice(text.as_bytes())?;
+            self.put_counts(response)?;
         }
         Ok(())
+    }
+
+    /// Adds what is counted to a response.
+    fn put_counts(&self, response: &mut Response) -> Result<(), AllocError>
+        ensures counts { OnOk result (EndsWithSizes response.new.body.items) }
+        ensures status { response.new.status ≡ response.old.status }
+        ensures fields { fields_of response.new ≡ fields_of response.old }
+    {
+        let number = self.snapshot.number();
+        let flags = self.snapshot.flags();
+        let text = self
+            .counts
+            .text(self.alloc, number, flags.len(), broken_in(flags))?;
+        response.body.put_slice(text.as_bytes())
     }
 }
 
