@@ -25,6 +25,7 @@ use crate::preparing::{Prepared, Unready, prepare};
 use crate::reporting::{
     refuse_and_tell, refuse_document, refuse_start, refuse_unloaded, serving_line,
 };
+use crate::sizes::show_sizes;
 use crate::stop::Stop;
 use crate::telling::{
     broken_in, say_broken, say_ended, say_listening, say_operations, say_published,
@@ -336,6 +337,7 @@ where
     say_published(alloc, err, 1, count, broken);
     let status = write_line(out, line.as_str(), 0);
     show_published(rt, &board, 1);
+    show_sizes(rt, alloc, answering, &board, files);
     let was_stopped = attend(
         rt, answering, keys, &board, seats, posts, others, streams, admin, publisher, watched,
         files, err,
@@ -395,7 +397,6 @@ where
     requires clients { HasKeys (F.holding files.old) (answering_view answering.now).keys (option_map (λ ring. ring.first) board.now.keys) }
 {
     let alloc = rt.alloc();
-    let poll = answering.poll;
     let mut watched = watched;
     let mut clients = WatchedKeys::new(alloc, answering.keys);
     let mut others = others;
@@ -420,7 +421,7 @@ where
                 &mut clients,
                 publisher,
                 board,
-                poll,
+                answering,
                 files,
                 err,
             )

@@ -139,6 +139,16 @@ impl Board {
         }
     }
 
+    /// The logs have so many bytes together.
+    pub fn show_log_bytes(&self, bytes: u64) {
+        self.counts.show_log_bytes(bytes);
+    }
+
+    /// So many bytes of the process's memory are resident.
+    pub fn show_memory(&self, bytes: u64) {
+        self.counts.show_memory(bytes);
+    }
+
     /// What becomes of answers that can't be recorded.
     pub fn without_record(&self) -> WithoutRecord
         ensures { result ≡ self.now.without_record }
