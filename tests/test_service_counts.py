@@ -1,7 +1,9 @@
-"""What `/metrics` of `ofrep` counts: each status that left the service, and why."""
+"""What `/metrics` of `ofrep` tells: each status that left the service, how large the logs are, and the memory of the process."""
+import os
 import unittest
 
-from test_service import FLAGS, ServiceTest
+from program import wait_until
+from test_service import FLAGS, ServiceTest, context
 
 APP = "https://app.example.com"
 KEY = "0123456789abcdef"
@@ -59,6 +61,44 @@ class Statuses(ServiceTest):
                 self.assertEqual(self.sent(head), status)
                 before[status] += 1
                 self.assertEqual(self.counts(), before)
+
+
+class Sizes(ServiceTest):
+    """How many bytes the logs have, and how much memory the process."""
+
+    def size(self, name):
+        """The one number of a family."""
+        _, _, body = self.ask("GET", "/metrics")
+        lines = body.decode().splitlines()
+        self.assertEqual(lines.count(f"# TYPE {name} gauge"), 1)
+        return int(next(line for line in lines if line.startswith(f"{name} ")).split(" ")[1])
+
+    def log_bytes(self):
+        """How many bytes the logs have."""
+        folder = os.path.join(self.folder, "log")
+        return sum(os.path.getsize(os.path.join(folder, name)) for name in os.listdir(folder))
+
+    def test_the_bytes_of_the_logs(self):
+        self.start("--workers", "3", "--poll", "0", "--log", "log")
+        self.assertEqual(self.size("ofrep_log_bytes"), 0)
+        for number in range(40):
+            self.flag("color", context(f"user-{number}"))
+        self.assertGreater(self.log_bytes(), 40 * 30)
+        wait_until(lambda: self.size("ofrep_log_bytes") == self.log_bytes(), "the bytes of the logs are not shown")
+        os.remove(os.path.join(self.folder, "log", "worker-1.log"))
+        wait_until(lambda: self.size("ofrep_log_bytes") == self.log_bytes(), "the bytes of the logs are not shown again")
+
+    def test_no_log_has_no_bytes(self):
+        self.start("--workers", "1", "--poll", "0")
+        self.assertEqual(self.size("ofrep_log_bytes"), 0)
+
+    def test_resident_memory(self):
+        child = self.start("--workers", "1", "--poll", "0")
+        wait_until(lambda: self.size("process_resident_memory_bytes") > 0, "no memory is shown")
+        with open(f"/proc/{child.pid}/statm", encoding="ascii") as file:
+            pages = int(file.read().split()[1])
+        ratio = self.size("process_resident_memory_bytes") / (pages * os.sysconf("SC_PAGE_SIZE"))
+        self.assertTrue(0.5 < ratio < 2, ratio)
 
 
 if __name__ == "__main__":

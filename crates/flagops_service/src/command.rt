@@ -25,7 +25,6 @@ use crate::preparing::{Prepared, Unready, prepare};
 use crate::reporting::{
     refuse_and_tell, refuse_document, refuse_start, refuse_unloaded, serving_line,
 };
-use crate::sizes::show_sizes;
 use crate::stop::Stop;
 use crate::telling::{
     broken_in, say_broken, say_ended, say_listening, say_operations, say_published,
@@ -337,7 +336,6 @@ where
     say_published(alloc, err, 1, count, broken);
     let status = write_line(out, line.as_str(), 0);
     show_published(rt, &board, 1);
-    show_sizes(rt, alloc, answering, &board, files);
     let was_stopped = attend(
         rt, answering, keys, &board, seats, posts, others, streams, admin, publisher, watched,
         files, err,

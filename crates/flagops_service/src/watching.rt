@@ -46,11 +46,11 @@ pub(crate) fn watch<J: ShareName, R: Clock + LogPaths + Wait, F: FileSet, E: Out
     let mut waits = false;
     let mut told = LogNews::none();
     for turn in 0..u64::MAX {
+        show_sizes(rt, watched.alloc, answering, board, files);
         if !rest(rt, watched.alloc, board, err) {
             return;
         }
         told = tell_news(rt, board, told, err);
-        show_sizes(rt, watched.alloc, answering, board, files);
         if !is_turn(turn, answering.poll) {
             continue;
         }
