@@ -77,8 +77,8 @@ pub fn log_bytes<P: LogPaths>(
     workers: usize,
 ) -> Result<u64, AllocError> {
     let mut bytes: u64 = 0;
-    for worker in 0..workers {
-        let path = log_path(alloc, folder, worker + 1)?;
+    for place in 0..workers {
+        let path = log_path(alloc, folder, place + 1)?;
         if let Ok(found) = paths.metadata_at(path.as_str()) {
             bytes = bytes.saturating_add(found.len());
         }
