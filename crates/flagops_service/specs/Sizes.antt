@@ -1,5 +1,6 @@
 -- The resident memory of a process, by what the system says of it (Linux: proc(5), /proc/pid/status, the line VmRSS, in kB).
-use Rattle.std.specs.Prelude.{ℕ, ◌+◌, ◌-◌, ◌*◌, ◌^◌, Bool, ◌&&◌, List, codes, take, nat_le, min, Option, option_map, if◌then◌else◌}
+use Rattle.std.specs.Prelude.{ℕ, ◌+◌, ◌-◌, ◌*◌, ◌^◌, Bool, List, codes, take, min, Option, option_map, if◌then◌else◌}
+use Rattle.std.specs.Char.{is_ascii_digit}
 use Rattle.std.specs.List.{find, fold}
 use Rattle.std.specs.Str.{bytes_eq}
 
@@ -7,12 +8,9 @@ use Rattle.std.specs.Str.{bytes_eq}
 abbrev pub counted : ℕ → ℕ
 counted n = min n (2 ^ 64 - 1)
 
-abbrev pub is_digit : ℕ → Bool
-is_digit b = nat_le 48 b && nat_le b 57
-
 -- a digit is the last of a number; any other byte is none of it
 abbrev pub digit_after : ℕ → ℕ → ℕ
-digit_after n b = if is_digit b then counted (counted (n * 10) + (b - 48)) else n
+digit_after n b = if is_ascii_digit b then counted (counted (n * 10) + (b - 48)) else n
 
 -- the line of the resident memory
 abbrev pub is_resident : List ℕ → Bool
