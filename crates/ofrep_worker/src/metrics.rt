@@ -158,7 +158,7 @@ fn push_flags(text: &mut String, snapshot: u64, flags: u64, broken: u64) -> Resu
 }
 
 /// Adds how many bytes the logs have, and the memory of the process.
-#[tactic(auto, unfolding(crate::specs::Counted::sizes_text))]
+#[tactic(auto, using(crate::proofs::Parts::two), unfolding(crate::specs::Counted::sizes_text))]
 fn push_sizes(
     alloc: Global,
     text: &mut String,
