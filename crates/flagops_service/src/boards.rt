@@ -1,5 +1,5 @@
 //! The board of a service, for what is asked for.
-ghost use Rattle.std.specs.Prelude.{◌≡◌, IfOk, map, option_copied, option_map, string_bytes};
+ghost use Rattle.std.specs.Prelude.{◌≡◌, IfOk, is_some, map, option_copied, option_map, string_bytes};
 ghost use Rattle.std.specs.NonZero.{non_zero_usize_get};
 ghost use Rattle.flagops_service.specs.Words.{answering_view, form_of, paths_served, share_of};
 
@@ -25,6 +25,7 @@ pub(crate) fn board_of(
     ensures origins { IfOk result (λ board. map string_bytes board.origins.items ≡ (answering_view answering.now).cors) }
     ensures keys { IfOk result (λ board. option_map (λ ring. ring.first) board.keys ≡ clients) }
     ensures paths { IfOk result (λ board. board.paths ≡ paths_served (answering_view answering.now).admin) }
+    ensures lines { IfOk result (λ board. is_some board.lines ≡ answering.now.access_log) }
     ensures idle { IfOk result (λ board. board.limits.idle_seconds ≡ answering.now.idle) }
     ensures max_body { IfOk result (λ board. board.limits.body_bytes ≡ answering.now.max_body) }
 {
@@ -67,7 +68,9 @@ fn second_of<R: Clock>(rt: &R) -> u64 {
 }
 
 /// Where the lines of requests wait, where they are wanted.
-fn lines_of(alloc: Global, access_log: bool) -> Option<AccessLines> {
+fn lines_of(alloc: Global, access_log: bool) -> Option<AccessLines>
+    ensures { is_some result ≡ access_log }
+{
     if access_log {
         Some(AccessLines::new(alloc))
     } else {

@@ -396,7 +396,6 @@ where
     requires clients { HasKeys (F.holding files.old) (answering_view answering.now).keys (option_map (λ ring. ring.first) board.now.keys) }
 {
     let alloc = rt.alloc();
-    let poll = answering.poll;
     let mut watched = watched;
     let mut clients = WatchedKeys::new(alloc, answering.keys);
     let mut others = others;
@@ -421,7 +420,7 @@ where
                 &mut clients,
                 publisher,
                 board,
-                poll,
+                answering,
                 files,
                 err,
             )

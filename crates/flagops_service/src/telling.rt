@@ -56,9 +56,7 @@ pub(crate) fn say_operations<E: Outlet>(
     let Some(post) = admin else {
         return;
     };
-    let Ok(address) = post.address() else {
-        return;
-    };
+    let address = post.address();
     let ends = if allow_stop {
         "; POST /stop there ends it"
     } else {

@@ -1,17 +1,17 @@
 //! What the threads of a service tell each other.
-ghost use Rattle.std.specs.Prelude.{◌≡◌, option_map};
+ghost use Rattle.std.specs.Prelude.{◌≡◌, IfSome, Some, is_some, option_map};
+ghost use Rattle.std.specs.Sync.Mutex.{mutex_guard_value};
 
-use access_lines::AccessLines;
+use access_lines::{AccessLines, WaitingLines};
 use log_file::Loss;
 use note_lines::NoteForm;
 use note_log::Trouble;
 use ofrep_connections::Load;
-use ofrep_guards::{KeyRing, Keys, Paths};
+use ofrep_guards::{KeyRing, Keys, LaterKeys, Paths};
 use ofrep_worker::{Counts, WithoutRecord};
-use std::alloc::Global;
 use std::num::NonZeroUsize;
-use std::sync::Wait;
 use std::sync::atomic::{AtomicBool, AtomicU64, Ordering};
+use std::sync::{MutexGuard, Wait};
 
 /// How long a worker keeps a connection on which nothing comes, in seconds, and the most bytes of a body that it takes.
 #[derive(Clone, Copy, Debug, PartialEq, Eq)]
@@ -65,6 +65,7 @@ impl Board {
         ensures origins { result.origins ≡ origins }
         ensures keys { option_map (λ ring. ring.first) result.keys ≡ keys }
         ensures paths { result.paths ≡ paths }
+        ensures lines { result.lines ≡ lines }
         ensures limits { result.limits ≡ limits }
     {
         let keys = match keys {
@@ -123,27 +124,35 @@ impl Board {
         self.counts.accept_document(second);
     }
 
-    /// From now on a request shows one of these keys, where one is wanted.
-    pub fn replace_keys<R: Wait>(&self, rt: &R, keys: Keys) {
-        if let Some(ring) = &self.keys {
-            ring.replace(rt, keys);
+    /// Sets other keys, where a request shows one, and returns what holds them then. Once that is let go a request shows one of these.
+    pub fn replace_keys<R: Wait>(&self, rt: &R, keys: Keys) -> Option<MutexGuard<'_, LaterKeys>>
+        ensures wanted { is_some result ≡ is_some self.now.keys }
+        ensures keys { IfSome result (λ held. (mutex_guard_value held).keys ≡ Some keys) }
+    {
+        match &self.keys {
+            Some(ring) => Some(ring.replace(rt, keys)),
+            None => None,
         }
     }
 
-    /// Takes the lines of requests that wait to be written; none where they are not wanted.
-    pub fn take_lines<R: Wait>(&self, rt: &R, alloc: Global) -> Vec<u8> {
+    /// The lines of requests that wait to be written, where they are wanted.
+    pub fn waiting_lines<R: Wait>(&self, rt: &R) -> Option<MutexGuard<'_, WaitingLines>>
+        ensures { is_some result ≡ is_some self.now.lines }
+    {
         match &self.lines {
-            Some(lines) => lines.take(rt, alloc),
-            None => Vec::new(alloc),
+            Some(lines) => Some(lines.waiting(rt)),
+            None => None,
         }
     }
 
-    /// How many lines of requests were left out.
-    pub fn lines_left_out(&self) -> u64 {
-        match &self.lines {
-            Some(lines) => lines.left_out(),
-            None => 0,
-        }
+    /// The logs have so many bytes together.
+    pub fn show_log_bytes(&self, bytes: u64) {
+        self.counts.show_log_bytes(bytes);
+    }
+
+    /// So many bytes of the process's memory are resident.
+    pub fn show_memory(&self, bytes: u64) {
+        self.counts.show_memory(bytes);
     }
 
     /// What becomes of answers that can't be recorded.
