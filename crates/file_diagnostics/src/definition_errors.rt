@@ -229,5 +229,6 @@ fn in_words(kind: Kind) -> &'static str {
         Kind::Text => "a text",
         Kind::Whole => "a whole number",
         Kind::Object => "an object",
+        Kind::Float => "a number",
     }
 }

@@ -81,7 +81,7 @@ flags_mean_one : (evaluators : Members) (o : Option Members) (r s : Result Defin
 flags_mean_one evaluators None r s p q = p ∙ sym q
 flags_mean_one evaluators (Some ms) r s p q = p.2 ∙ (ap limited (all_mean_one evaluators ms p.0 q.0 p.1 q.1) ∙ sym q.2)
 
-text_means_one : (x : Result Shape TextFault) (r s : Result Definitions DefFault) → TextMeans x r → TextMeans x s → r ≡ s
+pub text_means_one : (x : Result Shape TextFault) (r s : Result Definitions DefFault) → TextMeans x r → TextMeans x s → r ≡ s
 text_means_one (Ok t) r s p q = flags_mean_one (evaluators_in t) (flags_in t) r s p q
 text_means_one (Err text_fault.WantOfMemory) r s p q = p ∙ sym q
 text_means_one (Err text_fault.TooLarge) r s p q = p ∙ sym q

@@ -12,5 +12,7 @@ pub(crate) struct Rules {
     pub(crate) variants: Vec<(String, Tree)>,
     pub(crate) default_variant: Option<String>,
     pub(crate) targeting: Option<Expr>,
+    /// Whether the values of the variants stand as texts, which are their spelling, since a number among them is not whole.
+    pub(crate) has_floats: bool,
     pub ghost lawful: { are_rules (rules_of enabled variants.items default_variant targeting) ≡ true },
 }

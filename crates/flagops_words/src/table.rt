@@ -118,7 +118,7 @@ const QUESTION: &[Word] = &[
     Word::Text("KEY", "The flag's key"),
     Word::Text(
         "KIND",
-        "bool, text, whole or object, or flagd's boolean, string or integer",
+        "bool, text, whole, object or float, or flagd's boolean, string or integer",
     ),
     Word::Text(
         "DEFAULT",
