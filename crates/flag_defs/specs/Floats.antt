@@ -1,6 +1,6 @@
 -- Which flags have floats: the values of their variants stand as texts, which are their spelling (`float_variants`).
 use denote.Ref.{Bor}
-use Rattle.std.specs.Prelude.{ℕ, List, [], map, slice_index, Bool, false, not, ◌&&◌, ◌==◌, if◌then◌else◌, Option, Some, None, option_and_then, unwrap_or, Result, String, string_bytes}
+use Rattle.std.specs.Prelude.{◌≡◌, ℕ, List, [], map, slice_index, Bool, false, not, ◌&&◌, ◌==◌, if◌then◌else◌, Option, Some, None, option_and_then, unwrap_or, Result, Ok, String, string_bytes}
 use Rattle.std.specs.BTreeMap.{insert_entry}
 use Rattle.std.specs.Cmp.Lexicographic.{slice_cmp}
 use Rattle.std.specs.List.{fold, list_all}
@@ -9,6 +9,7 @@ use Rattle.std.specs.Ordering.{nat_cmp}
 use Rattle.std.specs.Str.{bytes_eq}
 use Rattle.std.specs.declared.alloc.Global.{Global}
 use Rattle.flag_text.specs.Shape.{Shape, text, Members, no_members, member}
+use Rattle.float_variants.specs.Marks.{marks_of_text}
 use Rattle.float_variants.specs.Reading.{doc_with_floats}
 use Rattle.flag_defs.specs.Definition.{Definition}
 use Rattle.flag_defs.specs.Document.{Definitions, TextMeans, max_bytes}
@@ -52,6 +53,10 @@ are_unmarked ms = list_all (λ m. not m.1) ms
 -- the map of a list, in the order of its keys: of one key the last mark counts
 abbrev pub marks_by_key : Marks → Marks
 marks_by_key ms = fold (λ found m. insert_entry (slice_cmp nat_cmp) found m.0 m.1) [] ms
+
+-- the document means these flags, of which these have floats
+abbrev pub MeansFlags : List ℕ → Definitions → Marks → Type 0
+MeansFlags bytes fs ms = MeansWithFloats bytes (Ok fs) × (marked (marks_of_text bytes) fs ≡ ms)
 
 -- ---- kinds
 
