@@ -1,7 +1,7 @@
 -- A piece of a stream comes to a seat.
 use Rattle.std.specs.Prelude.{◌≡◌, ℕ, List, [], ◌++◌, Bool, true, false, Option, Some, None, Result, Ok, Err}
 use Rattle.std.specs.List.{last_or}
-use Rattle.snap_core.specs.Hub.{Numbered}
+use Rattle.sync_frames.specs.Snapshots.{Numbered}
 use Rattle.sync_frames.specs.Feed.{is_failed}
 use Rattle.sync_frames.specs.Frames.{Gains, ShowsFault, ShowsNothing}
 use Rattle.sync_frames.specs.declared.fault.FrameFault.{FrameFault}

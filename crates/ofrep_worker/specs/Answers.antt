@@ -18,7 +18,7 @@ use Rattle.ofrep_worker.specs.Notes.{notes_of}
 use Rattle.ofrep_worker.specs.Sent.{Fails, GivesIn, Sends, TellsUnready, unready}
 use Rattle.ofrep_worker.specs.declared.unrecorded.WithoutRecord.{WithoutRecord}
 use Rattle.ofrep_worker.specs.declared.unrecorded.WithoutRecord.TheVariants.{Answer, Refuse}
-use Rattle.snap_core.specs.Hub.{Numbered}
+use Rattle.sync_frames.specs.Snapshots.{Numbered}
 use Rattle.snap_share.specs.Known.{IsReadOnce, Seat, WasRead, snapshots_of}
 
 -- what a log was given, what its file shows, whether that stood at its path when it was last looked for, whether it is lost, and how many writes have failed

@@ -13,7 +13,7 @@ use Rattle.log_file.specs.declared.journal.Look.TheVariants.{Stands as Still, Re
 use Rattle.note_log.specs.Log.{Logged, Records, files_of, logged_after}
 use Rattle.note_log.proofs.Lines.{has_more, not_in}
 use Rattle.ofrep_answers.specs.Answer.{Answered, answer_of}
-use Rattle.snap_core.specs.Hub.{Numbered}
+use Rattle.sync_frames.specs.Snapshots.{Numbered}
 use Rattle.snap_share.specs.Known.{IsLastOf, Seat, snapshots_of}
 use Rattle.snap_share.proofs.Numbers.{is_known, starts}
 use Rattle.note_log.specs.declared.trouble.Trouble.{Trouble}
