@@ -7,10 +7,10 @@ use Rattle.logic_eval.specs.Scope.{Situation}
 use Rattle.flag_defs.specs.declared.kind.Kind.{Kind}
 use Rattle.flag_resolve.specs.Floats.{resolved_with_floats}
 use Rattle.flag_resolve.specs.Resolution.{Asked, resolution_of}
-use Rattle.sync_frames.specs.Snapshots.{Numbered}
+use Rattle.sync_frames.specs.Snapshots.{Numbered, marked_flags}
 use Rattle.sync_frames.specs.Sent.{IsFirstSent, first_sent}
 use Rattle.sync_frames.proofs.Sent.{gives}
-use Rattle.stream_laws.specs.Resolves.{OfEachSent, ResolvesAsSent, ResolvesFloatsAsSent, marked_flags}
+use Rattle.stream_laws.specs.Resolves.{OfEachSent, ResolvesAsSent, ResolvesFloatsAsSent}
 
 of_each : (Is : Numbered → List Numbered → Type 0) → ((s : Numbered) (sent : List Numbered) → IsFirstSent sent s → Is s sent) → OfEachSent Is
 of_each Is follows sent stream later framed ss rest reading =

@@ -4,9 +4,9 @@ use Rattle.std.specs.List.{All}
 use Rattle.flag_text.specs.Shape.{Shape}
 use Rattle.logic_eval.specs.Scope.{Situation}
 use Rattle.flag_defs.specs.declared.kind.Kind.{Kind}
-use Rattle.flag_resolve.specs.Floats.{Marked, resolved_with_floats}
+use Rattle.flag_resolve.specs.Floats.{resolved_with_floats}
 use Rattle.flag_resolve.specs.Resolution.{Asked, resolution_of}
-use Rattle.sync_frames.specs.Snapshots.{Numbered}
+use Rattle.sync_frames.specs.Snapshots.{Numbered, marked_flags}
 use Rattle.sync_frames.specs.Frames.{Reads}
 use Rattle.sync_frames.specs.Sent.{AreFramesOf, first_sent}
 
@@ -19,10 +19,6 @@ OfEachSent Is =
 -- each key, kind, default, context and moment is resolved as by those flags
 abbrev pub ResolvesAsSent : Type 0
 ResolvesAsSent = OfEachSent (λ s sent. (a : Asked) (situation : Situation) → resolution_of (Some s.flags) a situation ≡ resolution_of (option_map (λ t. t.flags) (first_sent s.number sent)) a situation)
-
--- flags, and which of them have floats
-abbrev pub marked_flags : Numbered → Marked
-marked_flags s = (s.flags, s.floats)
 
 -- the same where flags may have floats
 abbrev pub ResolvesFloatsAsSent : Type 0

@@ -11,6 +11,10 @@ pub record Numbered : Type 0 where
   pub flags : Definitions
   pub floats : Marks
 
+-- the flags, and which of them have floats
+abbrev pub marked_flags : Numbered → Definitions × Marks
+marked_flags s = (s.flags, s.floats)
+
 -- ---- of the program
 
 abbrev pub snapshot_view : Snapshot → Numbered

@@ -3,7 +3,7 @@ use Rattle.flag_text.specs.Printing.{text_of}
 use Rattle.flag_text.specs.View.{view}
 use Rattle.flag_text.specs.declared.tree.Tree.{Tree, Bool as Truth}
 use Rattle.library_seat.proofs.Values.{pushed, says_false, says_true}
-use Rattle.library_seat.proofs.answer.push_value.Goals as goal
+use Rattle.library_seat.proofs.answer.push_plain.Goals as goal
 
 pub returns-in-Bool-true : goal.returns-in-Bool-true
 returns-in-Bool-true c =
