@@ -39,10 +39,7 @@ pub fn print_flags_with_floats(alloc: Global, flags: &Flags) -> Result<Vec<u8>, 
     Ok(text.into_bytes())
 }
 
-fn print_entries_with_floats(
-    alloc: Global,
-    flags: &[(String, Flag)],
-) -> Result<String, AllocError>
+fn print_entries_with_floats(alloc: Global, flags: &[(String, Flag)]) -> Result<String, AllocError>
     requires { IsStrictlySortedBy (slice_cmp nat_cmp) (keys_of (entries_view flags.now)) }
     ensures { IfOk result (λ s. string_bytes s ≡ printed_with_floats (entries_view flags.now) (entries_floats flags.now)) }
 {

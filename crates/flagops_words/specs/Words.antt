@@ -44,6 +44,10 @@ price_app =
 abbrev pub strict_flag : Rule
 strict_flag = flag (codes "strict")
 
+-- `--floats`: documents may have floats
+abbrev pub floats_flag : Rule
+floats_flag = flag (codes "floats")
+
 -- `--doubted`: what is doubted is written all the same
 abbrev pub doubted_flag : Rule
 doubted_flag = flag (codes "doubted")

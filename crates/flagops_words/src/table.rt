@@ -33,6 +33,10 @@ const BOOK: Word = Word::Text("BOOK", "The book of the hash inputs that were rec
 pub const STRICT_HELP: &str =
     "End with status 1 where something is else only told: docs/REFUSALS.md has the table";
 
+/// What `--floats` does to a command that reads a document.
+pub const FLOATS_HELP: &str =
+    "Take any numbers as variants: a flag with one that is not whole is of the kind float";
+
 const STRICT: Word = Word::Flag("strict", STRICT_HELP);
 
 const JSON: Word = Word::Flag("json", "Print the answer as JSON, a text a line");
