@@ -14,6 +14,7 @@ use Rattle.float_variants.specs.Reading.{doc_with_floats}
 use Rattle.flag_defs.specs.Definition.{Definition}
 use Rattle.flag_defs.specs.Document.{Definitions, DocumentMeans, TextMeans, max_bytes}
 use Rattle.flag_defs.specs.Flag.{is_broken, variants_in}
+use Rattle.flag_defs.specs.Flags.{flags_view}
 use Rattle.flag_defs.specs.declared.fault.DefFault.{DefFault}
 use Rattle.flag_defs.specs.declared.flag.Flag.{Flag}
 use Rattle.flag_defs.specs.declared.flags.Flags.{Flags}
@@ -110,3 +111,7 @@ lent_floats es = map (λ e. (e.0.now, floats_of e.1.now)) es
 
 abbrev pub floats_view : Flags → Marks
 floats_view fs = entries_floats fs.flags.items
+
+-- flags, and which of them have floats
+abbrev pub marked_view : Flags → Definitions × Marks
+marked_view fs = (flags_view fs, floats_view fs)

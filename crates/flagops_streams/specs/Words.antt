@@ -5,7 +5,7 @@ use Rattle.clap.specs.Simple.{App, new_app, with_rule}
 use Rattle.clap.specs.Walk.{Row, Rule, Text, first_of}
 use Rattle.flagops_words.specs.Alone.{asked_in, faults_in}
 use Rattle.flagops_words.specs.Numbers.{max_port}
-use Rattle.flagops_words.specs.Words.{◌>>=◌, flag_in, floats_flag, number_at, number_or, number_within, option_number, some_words, texts_at}
+use Rattle.flagops_words.specs.Words.{◌>>=◌, floats_flag, has_floats, number_at, number_or, number_within, option_number, some_words, texts_at}
 use Rattle.flagops_streams.specs.declared.asked.Following as code_follow
 use Rattle.flagops_streams.specs.declared.asked.Serving as code_serve
 
@@ -70,7 +70,7 @@ serving_in rows = do
   subscribers ← number_at (codes "SUBSCRIBERS") 1 max_subscribers rows
   wait ← wait_in rows
   documents ← texts_at (codes "DOC") rows
-  Some (record { port = port; subscribers = subscribers; wait = wait; documents = documents; floats = flag_in (codes "floats") rows })
+  Some (record { port = port; subscribers = subscribers; wait = wait; documents = documents; floats = has_floats rows })
 
 abbrev pub following_in : List Row → Option Following
 following_in rows = do

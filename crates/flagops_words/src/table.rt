@@ -37,6 +37,8 @@ pub const STRICT_HELP: &str =
 pub const FLOATS_HELP: &str =
     "Take any numbers as variants: a flag with one that is not whole is of the kind float";
 
+const FLOATS: Word = Word::Flag("floats", FLOATS_HELP);
+
 const STRICT: Word = Word::Flag("strict", STRICT_HELP);
 
 const JSON: Word = Word::Flag("json", "Print the answer as JSON, a text a line");
@@ -134,6 +136,7 @@ const QUESTION: &[Word] = &[
         "The time of the evaluation, in seconds since 1970",
         LATEST_MOMENT,
     ),
+    FLOATS,
 ];
 
 const PLAN: Usage = Usage {

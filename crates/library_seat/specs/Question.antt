@@ -1,12 +1,12 @@
 -- What is asked of a seat, as bytes and numbers, and the first refusal of it.
-use Rattle.std.specs.Prelude.{ℕ, List, Bool, ◌&&◌, nat_eq, nat_lt, is_some, if◌then◌else◌, Option, Some, None, Result, Ok, Err}
+use Rattle.std.specs.Prelude.{ℕ, List, Bool, nat_eq, nat_lt, if◌then◌else◌, Option, Some, None, Result, Ok, Err}
 use Rattle.std.specs.Str.{is_utf8}
 use Rattle.flag_text.specs.Reading.{tree_of}
 use Rattle.flag_text.specs.Shape.{Shape}
 use Rattle.flag_text.specs.declared.fault.TextFault.{TextFault}
 use Rattle.flag_defs.specs.declared.kind.Kind.{Kind}
 use Rattle.flag_defs.specs.declared.kind.Kind.TheVariants as kind
-use Rattle.flag_resolve.specs.Floats.{Marked, floats_in, resolved_with_floats}
+use Rattle.flag_resolve.specs.Floats.{Marked, is_spelled, resolved_with_floats}
 use Rattle.flag_resolve.specs.Resolved.{Resolved}
 use Rattle.library_seat.specs.Refusal.{of_default, of_context}
 use Rattle.library_seat.specs.declared.refusal.Refusal.{Refusal}
@@ -76,10 +76,6 @@ question_of asked = do
 pub record Spelled : Type 0 where
   pub resolved : Resolved
   pub spelled : Bool
-
--- the value of a variant of a flag with floats does
-abbrev pub is_spelled : Option Marked → List ℕ → Resolved → Bool
-is_spelled flags key r = is_some r.variant && is_some (floats_in flags key)
 
 -- what a question resolves to in a context
 abbrev pub resolved_in : Option Marked → Question → Shape → Resolved

@@ -3,10 +3,8 @@ use Rattle.std.specs.Prelude.{option_map}
 use Rattle.std.specs.Arc.{arc_value}
 use Rattle.flag_text.specs.Shape.{Shape}
 use Rattle.flag_text.specs.View.{view}
-use Rattle.flag_defs.specs.Flags.{flags_view}
-use Rattle.flag_defs.specs.Floats.{floats_view}
+use Rattle.flag_defs.specs.Floats.{marked_view}
 use Rattle.kept_lines.specs.View.{kept_view}
-use Rattle.flag_defs.specs.declared.flags.Flags.{Flags}
 use Rattle.flag_resolve.specs.Floats.{Marked}
 use Rattle.sync_frames.specs.declared.feed.Feed.{Feed}
 use Rattle.library_seat.specs.Connection.{Connection}
@@ -27,10 +25,6 @@ question_view q = record { key = q.key.now; kind = q.kind; default = view q.defa
 
 abbrev pub context_view : ReadContext → Shape
 context_view c = view c.tree
-
--- flags, and which of them have floats
-abbrev pub marked_view : Flags → Marked
-marked_view flags = (flags_view flags, floats_view flags)
 
 abbrev pub held_view : HeldFlags → Marked
 held_view (Own flags) = marked_view flags

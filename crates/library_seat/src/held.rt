@@ -1,7 +1,8 @@
 //! Flags that a seat has.
 ghost use Rattle.std.specs.Prelude.{◌≡◌, None, Some, IfOk, IsOk, option_map};
 ghost use Rattle.std.specs.Arc.{arc_value};
-ghost use Rattle.library_seat.specs.View.{held_view, marked_view};
+ghost use Rattle.flag_defs.specs.Floats.{marked_view};
+ghost use Rattle.library_seat.specs.View.{held_view};
 
 use flag_defs::Flags;
 use std::alloc::{AllocError, AllocFailed, Global};

@@ -1,14 +1,15 @@
 //! Resolutions, the notes of what they reach, and keys.
 ghost use Rattle.std.specs.Prelude.{◌≡◌, ◌≢◌, [], None, IfOk, IsErrOf, IsOk, OnOk, OnErr, IfSome, map, option_map, string_bytes};
+ghost use Rattle.flag_defs.specs.Floats.{marked_view};
 ghost use Rattle.flag_resolve.specs.Views.{resolution_view};
 ghost use Rattle.logic_eval.specs.Views.{reach_view};
 ghost use Rattle.library_seat.specs.Early.{early_refusal};
 ghost use Rattle.library_seat.specs.Keys.{keys_text};
-ghost use Rattle.library_seat.specs.Question.{is_spelled, resolve_kept_of, resolve_of, resolved_in};
+ghost use Rattle.library_seat.specs.Question.{resolve_kept_of, resolve_of, resolved_in};
 ghost use Rattle.library_seat.specs.Room.{Writes};
 ghost use Rattle.library_seat.specs.Seat.{definitions_in, noted};
 ghost use Rattle.library_seat.specs.Told.{Answers, Gives, Takes};
-ghost use Rattle.library_seat.specs.View.{asked_view, context_view, marked_view, question_view, seat_view};
+ghost use Rattle.library_seat.specs.View.{asked_view, context_view, question_view, seat_view};
 ghost use Rattle.library_seat.specs.declared.refusal.Refusal.TheVariants as refusal;
 
 use crate::answer::{Details, write_answer};
@@ -20,7 +21,7 @@ use crate::refusal::Refusal;
 use crate::room::{put, write};
 use crate::seat::Seat;
 use flag_defs::Flags;
-use flag_resolve::{Resolution, floats_in, resolve_with_floats};
+use flag_resolve::{Resolution, is_spelled, resolve_with_floats};
 use logic_eval::Reached;
 use std::alloc::{AllocError, Global};
 
@@ -174,11 +175,4 @@ fn resolution_of(
         &context.tree,
         question.moment,
     )
-}
-
-/// Whether the value of a resolution stands as a text that is its spelling: that of a variant of a flag with floats.
-fn is_spelled(flags: Option<&Flags>, key: &str, resolution: &Resolution) -> bool
-    ensures { result ≡ is_spelled (option_map (λ f. marked_view f.now) flags.entry) key.now (resolution_view resolution.now) }
-{
-    resolution.variant.is_some() && floats_in(flags, key).is_some()
 }

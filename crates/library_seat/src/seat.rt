@@ -2,11 +2,12 @@
 ghost use Rattle.std.specs.Prelude.{◌≡◌, ◌<◌, ◌≤◌, false, length, option_map, None, IfErr, IsErrOf, IsOk, OnOk, IfSome};
 ghost use Rattle.std.specs.Str.{is_utf8};
 ghost use Rattle.flag_defs.specs.Document.{max_bytes};
+ghost use Rattle.flag_defs.specs.Floats.{marked_view};
 ghost use Rattle.flag_defs.specs.declared.fault.DefFault.TheVariants as fault;
 ghost use Rattle.library_seat.specs.Early.{text_refusal};
 ghost use Rattle.library_seat.specs.Seat.{fresh, sharing, with_most};
 ghost use Rattle.library_seat.specs.Told.{Opening, Reading};
-ghost use Rattle.library_seat.specs.View.{marked_view, seat_view};
+ghost use Rattle.library_seat.specs.View.{seat_view};
 ghost use Rattle.library_seat.specs.declared.refusal.Refusal.TheVariants as refusal;
 
 use crate::asked::ReadContext;
