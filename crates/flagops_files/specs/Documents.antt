@@ -41,3 +41,14 @@ AreFlagsOf floats (Ok bytes) r = AreFlagsIn floats bytes r
 -- the flags of the document at a path, which may have floats or may not, or why there are none
 unfoldable pub AreFlagsAt : Bool → Holding → List ℕ → Result Marked Refusal → Type 0
 AreFlagsAt floats at path r = AreFlagsOf floats (refused_by Load (load_of at path max_text)) r
+
+-- what the bytes mean, whatever floats the flags have
+abbrev pub IsDocumentInAs : Bool → List ℕ → Result Definitions Refusal → Type 0
+IsDocumentInAs floats bytes r = (meaning : Result Definitions DefFault) × MeansAs floats bytes meaning × (r ≡ refused_by ReadFlags meaning)
+
+abbrev pub IsDocumentOfAs : Bool → Result (List ℕ) Refusal → Result Definitions Refusal → Type 0
+IsDocumentOfAs floats (Err e) r = r ≡ Err e
+IsDocumentOfAs floats (Ok bytes) r = IsDocumentInAs floats bytes r
+
+unfoldable pub IsDocumentAs : Bool → Holding → List ℕ → Result Definitions Refusal → Type 0
+IsDocumentAs floats at path r = IsDocumentOfAs floats (refused_by Load (load_of at path max_text)) r
