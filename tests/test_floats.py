@@ -1,4 +1,4 @@
-"""Flags with floats: `--floats` at `check`, `resolve` and `serve`, and `ofrep`, which always takes them."""
+"""Flags with floats: `--floats` at `check`, `resolve`, `record`, `tally` and `serve`, and `ofrep`, which always takes them."""
 import json
 import unittest
 
@@ -115,6 +115,33 @@ class Commands(ProgramTest):
             for kind, default in (("bool", "true"), ("text", '"d"'), ("whole", "7"), ("object", "{}"), ("float", "7")):
                 words = ["resolve", "d", key, kind, default, "c", "0"]
                 self.assertEqual(run(words, files), run([*words, "--floats"], files))
+
+
+class Filters(ProgramTest):
+    """`record` and `tally` with `--floats`: a rollout is of names, whatever their values are."""
+
+    SHARED = '{"flags":{"f":{"state":"ENABLED","variants":{"a":%s,"b":2},"defaultVariant":"b","targeting":{"fractional":[["a",1],["b",3]]}}}}'
+    USERS = '{"targetingKey":"ann"}\n{"targetingKey":"bob","cart":1.5}\n'
+
+    def filtered(self, words, value, given):
+        ran = run(words, {"d": self.SHARED % value}, input=given)
+        self.assertEqual((ran.status, ran.err), (0, ""))
+        return ran.out
+
+    def test_record_and_tally(self):
+        notes = self.filtered(["record", "d", "f"], "1", self.USERS)
+        self.assertEqual(len(notes.splitlines()), 2)
+        self.assertEqual(self.filtered(["record", "--floats", "d", "f"], "1.5", self.USERS), notes)
+        lines = "".join(sorted(notes.splitlines(keepends=True)))
+        self.assertEqual(
+            self.filtered(["tally", "d", "f", "0", "--floats"], "1.5", lines), self.filtered(["tally", "d", "f", "0"], "1", lines)
+        )
+
+    def test_without_the_word_such_a_flag_is_broken(self):
+        for words, given in ((["record", "d", "f"], self.USERS), (["tally", "d", "f", "0"], "")):
+            ran = run(words, {"d": self.SHARED % "1.5"}, input=given)
+            self.assertEqual(ran.status, 1)
+            self.assertIn("NoSite", ran.out)
 
 
 class Service(ServiceTest):

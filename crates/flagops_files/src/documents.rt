@@ -2,7 +2,7 @@
 ghost use Rattle.std.specs.Prelude.{◌≡◌, ◌||◌, IfOk, IfSome, Ok};
 ghost use Rattle.flag_defs.specs.Flags.{flags_view};
 ghost use Rattle.flag_defs.specs.Floats.{marked_view};
-ghost use Rattle.flagops_files.specs.Documents.{AreFlagsAt, IsDocumentAt};
+ghost use Rattle.flagops_files.specs.Documents.{AreFlagsAt, IsDocumentAs, IsDocumentAt};
 ghost use Rattle.flagops_shell.specs.Files.{load_of};
 ghost use Rattle.flagops_files.specs.Loading.{max_text};
 ghost use Rattle.flagops_files.specs.Refusal.{ComesFrom, GivesOne, is_file_fault, loads_flags, TellsOf};
@@ -61,7 +61,7 @@ pub fn load_document<F: FileSet>(
 }
 
 /// The flags of the document at a path, which may have floats or may not.
-#[tactic(auto, using(crate::proofs::Told::says), unfolding(crate::specs::Documents::AreFlagsAt))]
+#[tactic(auto, using(crate::proofs::Told::says), unfolding(crate::specs::Documents::AreFlagsAt, crate::specs::Documents::IsDocumentAs))]
 pub fn load_flags_as<F: FileSet>(
     alloc: Global,
     files: &mut F,
@@ -69,6 +69,7 @@ pub fn load_flags_as<F: FileSet>(
     floats: bool,
 ) -> Result<Flags, Refused>
     ensures exact { IfSome (F.holding files.old) (λ at. GivesOne marked_view result (AreFlagsAt floats at path.now)) }
+    ensures document { IfSome (F.holding files.old) (λ at. GivesOne flags_view result (IsDocumentAs floats at path.now)) }
     ensures calls { ComesFrom loads_flags result }
     ensures failed { F.has_failed files.new ≡ (F.has_failed files.old || is_file_fault result) }
     ensures kept { F.holding files.new ≡ F.holding files.old }
