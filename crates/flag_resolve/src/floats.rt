@@ -82,5 +82,8 @@ fn object_asked(want: Kind) -> Kind
 pub fn is_spelled(flags: Option<&Flags>, key: &str, resolution: &Resolution) -> bool
     ensures { result ≡ is_spelled (option_map (λ f. (flags_view f.now, floats_view f.now)) flags.entry) key.now (resolution_view resolution.now) }
 {
-    resolution.variant.is_some() && floats_in(flags, key).is_some()
+    match &resolution.variant {
+        Some(_) => floats_in(flags, key).is_some(),
+        None => false,
+    }
 }
