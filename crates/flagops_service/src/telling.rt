@@ -140,7 +140,7 @@ pub(crate) fn say_published<E: Outlet>(
 
 /// The broken flags of a document, a line for each.
 pub(crate) fn say_broken<E: Outlet>(alloc: Global, err: &mut E, path: &str, text: &[u8]) {
-    let Ok(lines) = of_definition_errors(alloc, text) else {
+    let Ok(lines) = of_definition_errors(alloc, text, true) else {
         return;
     };
     if lines.is_empty() {
@@ -249,7 +249,7 @@ fn of_harm(
     match regression {
         Regression::Broken(key) => {
             let key = quoted_name(alloc, key.as_str())?;
-            let lines = of_definition_errors(alloc, text)?;
+            let lines = of_definition_errors(alloc, text, true)?;
             format!(in alloc;
                 "ofrep: \"{path}\" is refused: it breaks the flag {key}, which is good now\n{lines}"
             )

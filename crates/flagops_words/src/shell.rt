@@ -64,7 +64,7 @@ _flagops() {
         help:*) COMPREPLY=($(compgen -W "bucket price check compare resolve plan verify apply drive book ramp verify-ramp picture record tally join ofrep serve follow completions" -- "$word")) ;;
         resolve:*)
             if [ "$COMP_CWORD" -eq 4 ]; then
-                COMPREPLY=($(compgen -W "bool text whole object boolean string integer" -- "$word"))
+                COMPREPLY=($(compgen -W "bool text whole object float boolean string integer" -- "$word"))
             else
                 COMPREPLY=($(compgen -f -- "$word"))
             fi

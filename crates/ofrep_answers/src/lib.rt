@@ -5,7 +5,8 @@
 //!
 //! Proved, over the definitions of `specs/`: the answer is what `Answer` says, over what a flag resolves to (`Evaluation`) for
 //! a caller who takes the kind of its variants (`Kind`), unless memory runs out. What evaluates no flag takes no
-//! memory. No flag is evaluated for another kind than that of its variants (`Law`). Of the reasons' numbers nothing is said.
+//! memory. No flag is evaluated for another kind than that of its variants, and the value of a flag with floats is printed by its
+//! spelling (`Law`). Of the reasons' numbers nothing is said.
 #![tactic(auto)]
 
 mod answer;
@@ -20,6 +21,6 @@ mod request;
 
 pub use answer::{Answer, Content, FlagReached};
 pub use answers::{answer_to, answer_to_with};
-pub use laws::no_evaluation_mismatches;
+pub use laws::{floats_are_spelled, no_evaluation_mismatches};
 pub use reasons::Reasons;
 pub use request::Request;

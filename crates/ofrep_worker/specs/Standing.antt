@@ -15,7 +15,7 @@ use Rattle.log_file.specs.declared.journal.Look.TheVariants.{Stands as Still, Re
 use Rattle.note_log.specs.Log.{Logged, Records, files_of, logged_after}
 use Rattle.note_log.proofs.Lines.{has_more, not_in}
 use Rattle.ofrep_answers.specs.Answer.{Answered, answer_of}
-use Rattle.snap_core.specs.Hub.{Numbered}
+use Rattle.sync_frames.specs.Snapshots.{Numbered, marked_flags}
 use Rattle.snap_share.specs.Known.{IsLastOf, Seat, snapshots_of}
 use Rattle.snap_share.proofs.Numbers.{is_known, starts}
 use Rattle.note_log.specs.declared.trouble.Trouble.{Trouble}
@@ -39,7 +39,7 @@ all_stand_in notes None None r = ∣ tt ∣₁
 
 module _ (known : List Flags) (request : Request (List ℕ)) (response : Response) (old new : Option Kept) (s : Numbered) (last : IsLastOf known s) (moment : ℕ) (small : moment < 2 ^ 53) where
   abbrev a : Answered
-  a = answer_of s.flags moment (asked_of request)
+  a = answer_of (marked_flags s) moment (asked_of request)
 
   abbrev given : Sends a response → IsAnswer known request response
   given sends = record { s = s; is_known = is_known known s last; moment = moment; is_moment = small; sends = sends }
@@ -58,7 +58,7 @@ responded_so : (without : WithoutRecord) (seat seat' : Seat) (request : Request 
     → Responds without seat seat' request response old new → Stands without seat'.known (files new) request response
 responded_so without seat seat' request response old new (inl r) =
     let b = r.2 in
-    answered_in seat'.known request response old new r.0 r.1.1 b.0 b.1 without b.2 (unready b.3 (asked_of request) (answer_of r.0.flags b.0 (asked_of request))) b.5 b.6
+    answered_in seat'.known request response old new r.0 r.1.1 b.0 b.1 without b.2 (unready b.3 (asked_of request) (answer_of (marked_flags r.0) b.0 (asked_of request))) b.5 b.6
 responded_so without seat seat' request response old new (inr r) = inl (inl (inr r.1))
 
 pub responded : (without without' : WithoutRecord) (seat seat' : Seat) (request : Request (List ℕ)) (response : Response) (old new : Option Kept)
@@ -114,7 +114,7 @@ further : (without : WithoutRecord) (seat seat' : Seat) (request : Request (List
     → Responds without seat seat' request response old new → IsPrefix seat.known seat'.known × (∥ GrowsIn (files old) (files new) ∥₁)
 further without seat seat' request response old new (inl r) =
     let a = r.2 in
-    (r.1.0.forward, grown_in (notes_of r.0.flags (answer_of r.0.flags a.0 (asked_of request))) old new a.2 a.6)
+    (r.1.0.forward, grown_in (notes_of r.0.flags (answer_of (marked_flags r.0) a.0 (asked_of request))) old new a.2 a.6)
 further without seat seat' request response old new (inr r) = (r.0.forward, ∣ (subst (λ (k : Option Kept). GrowsIn (files old) (files k)) (sym r.2) (same_in (files old))) ∣₁)
 
 more_lines : (notes : List Noted) (old new : Option Handed) → GrowsIn old new → IfSome old (HaveLines notes) → IfSome new (HaveLines notes)
@@ -142,7 +142,7 @@ rests_still : (known known' : List Flags) (handed handed' : Option Handed) (requ
     → IsPrefix known known' → GrowsIn handed handed' → RestsOn known handed request response → RestsOn known' handed' request response
 rests_still known known' handed handed' request response k b r = record {
   answer = answer_still known known' request response k r.answer;
-  lines = more_lines (notes_of r.answer.s.flags (answer_of r.answer.s.flags r.answer.moment (asked_of request))) handed handed' b r.lines;
+  lines = more_lines (notes_of r.answer.s.flags (answer_of (marked_flags r.answer.s) r.answer.moment (asked_of request))) handed handed' b r.lines;
 }
 
 stands_still : (without without' : WithoutRecord) (known known' : List Flags) (handed handed' : Option Handed) (request : Request (List ℕ)) (response : Response)

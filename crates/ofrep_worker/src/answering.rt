@@ -2,6 +2,7 @@
 ghost use Rattle.std.specs.Prelude.{◌≡◌, ◌<◌, ◌^◌, true, is_some, IfOk, OnErr, OnOk};
 ghost use Rattle.std.specs.Arc.{arc_value};
 ghost use Rattle.flag_defs.specs.Flags.{flags_view};
+ghost use Rattle.flag_defs.specs.Floats.{floats_view};
 ghost use Rattle.http_server.specs.Response.{IsBlank, fields_of};
 ghost use Rattle.ofrep_answers.specs.Answer.{answer_of, answer_view};
 ghost use Rattle.ofrep_worker.specs.Answers.{Answers, kept_in, trouble_in};
@@ -50,7 +51,7 @@ pub(crate) fn answer_from<R: Clock, F: LogFile>(
     response: &mut Response,
 ) -> Result<(), AllocError>
     requires { IsBlank response.old }
-    ensures ok { OnOk result (Answers with.now.without_record (flags_view (arc_value with.now.snapshot.now).flags) request.now response.new (kept_in log.old) (kept_in log.new)) }
+    ensures ok { OnOk result (Answers with.now.without_record (flags_view (arc_value with.now.snapshot.now).flags, floats_view (arc_value with.now.snapshot.now).flags) request.now response.new (kept_in log.old) (kept_in log.new)) }
     ensures err { OnErr result (log.new ≡ log.old) }
 {
     let moment = moment_of(with.rt);
@@ -75,7 +76,7 @@ impl<R> Answering<'_, R> {
         scratch: &mut Scratch,
     ) -> Result<Answer, AllocError>
         requires { moment < 2 ^ 53 }
-        ensures { IfOk result (λ answer. answer_view answer ≡ answer_of (flags_view (arc_value self.now.snapshot.now).flags) moment (asked_of request.now)) }
+        ensures { IfOk result (λ answer. answer_view answer ≡ answer_of (flags_view (arc_value self.now.snapshot.now).flags, floats_view (arc_value self.now.snapshot.now).flags) moment (asked_of request.now)) }
     {
         let tags = tags_named(self.alloc, request)?;
         let asked = ofrep_answers::Request {
