@@ -26,6 +26,7 @@ mod SortedTexts
 mod Spelling
 mod SpellingPrinted
 mod SpellingRead
+mod Spellings
 pub mod Targetings
 pub mod Trees
 pub mod Unreferred

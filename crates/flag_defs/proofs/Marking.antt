@@ -25,8 +25,9 @@ use Rattle.float_variants.specs.Marks.{are_floats_in, if_flags, if_floats, marks
 use Rattle.float_variants.specs.Reading.{doc_with_floats, if_tree, text_with_floats}
 use Rattle.flag_defs.specs.Definition.{Definition, IsGood, Means, Rules, are_variants, broken, good, variants_of}
 use Rattle.flag_defs.specs.Document.{AllMean, Definitions, FlagsMean, TextMeans, evaluators_in, flags_in, max_bytes, max_flags, printed}
+use Rattle.flag_defs.specs.Entries.{AreMeant}
 use Rattle.flag_defs.specs.Floats.{Marks, mark_of, marked, marked_with}
-use Rattle.flag_defs.specs.SpelledLaw.{AreMarked, AreSpelled, DocumentsAreMarked, IsSpelled, as_texts}
+use Rattle.flag_defs.specs.SpelledLaw.{AreMarked, AreSpelled, DocumentsAreMarked, IsMarked, IsSpelled, MayBeMarked, as_texts}
 use Rattle.flag_defs.specs.declared.fault.DefFault.{DefFault}
 use Rattle.flag_defs.specs.declared.fault.DefFault.TheVariants as def_fault
 use Rattle.flag_defs.proofs.Lasts.{is_less, member_read, members_rise, object_read, one_name, same_name}
@@ -163,10 +164,6 @@ spelled_flags evaluators js all (member k t rest) (f ∷ fs) n e within r m =
 
 -- ---- the document
 
--- a tree that a document with floats is read as, and the marks of its flags
-abbrev IsMarked : Shape → Marks → Type 0
-IsMarked t ms = (j : json.Json) × HasNumbers j × (tree_from (with_texts j) ≡ Some t) × (ms ≡ marks_in j)
-
 object_in : (o : Option Shape) (ms : Members) → option_and_then as_object o ≡ Some ms → o ≡ Some (object ms)
 object_in None ms e = cc
 object_in (Some null) ms e = cc
@@ -199,13 +196,20 @@ spelled_document evaluators t marks ms fs is e m =
     subst (λ (x : Marks). AllByRecursion (λ f. IsSpelled f.1 (marked_with f.1 (mark_of f.0 x))) fs) (sym same)
     (spelled_flags evaluators inner.0 ms ms fs (subst HasNumbers inner.1 numbers) inner.2 (λ name u found. found) rise m)
 
+pub flags_may_be_marked : (t : Shape) (marks : Marks) (fs : Definitions) → IsMarked t marks → AreMeant (evaluators_in t) (flags_in t) fs → MayBeMarked marks fs
+flags_may_be_marked t marks fs is m = by (flags_in t) refl m
+  where
+    by : (o : Option Members) → flags_in t ≡ o → AreMeant (evaluators_in t) o fs → MayBeMarked marks fs
+    by None e h = absurd h
+    by (Some ms) e h = spelled_document (evaluators_in t) t marks ms fs is e h
+
 -- ---- what the bytes of a document are read as
 
 one_value : (i j : json.Json) (rest : List Token) → json.if_last i rest ≡ Some j → i ≡ j
 one_value i j [] e = cc
 one_value i j (x ∷ rest) e = cc
 
-numbers_in : (bytes : List ℕ) (j : json.Json) → value_in bytes ≡ Some j → HasNumbers j
+pub numbers_in : (bytes : List ℕ) (j : json.Json) → value_in bytes ≡ Some j → HasNumbers j
 numbers_in bytes j e = by (json.value json_levels (tokens bytes)) refl e
   where
     by : (o : Option (json.Json × List Token)) → json.value json_levels (tokens bytes) ≡ o → option_and_then (λ p. json.if_last p.0 p.1) o ≡ Some j → HasNumbers j
@@ -221,7 +225,7 @@ text_is true is_text r t e = cc
 text_is false true r t e = e
 text_is false false r t e = cc
 
-read_marked : (bytes : List ℕ) (limit : ℕ) (t : Shape) → doc_with_floats bytes limit ≡ Ok t → (j : json.Json) × (value_in bytes ≡ Some j) × HasNumbers j × (tree_from (with_texts j) ≡ Some t)
+pub read_marked : (bytes : List ℕ) (limit : ℕ) (t : Shape) → doc_with_floats bytes limit ≡ Ok t → (j : json.Json) × (value_in bytes ≡ Some j) × HasNumbers j × (tree_from (with_texts j) ≡ Some t)
 read_marked bytes limit t e = by (value_in bytes) refl (text_is (nat_lt limit (length bytes)) (is_utf8 bytes) (text_with_floats bytes) t e)
   where
     by : (o : Option json.Json) → value_in bytes ≡ o → if_tree (option_and_then (λ j. tree_from (with_texts j)) o) ≡ Ok t

@@ -81,7 +81,7 @@ flags_numbers (f ∷ fs) (m ∷ ms) h l = (flag_numbers f.1 m.1 h.1 l.0, flags_n
 test_le : (n k : ℕ) → nat_le n k ≡ true → n ≤ k
 test_le n k h = grind (arith, common_steps, h)
 
-test_lt : (n k : ℕ) → nat_lt n k ≡ true → suc n ≤ k
+pub test_lt : (n k : ℕ) → nat_lt n k ≡ true → suc n ≤ k
 test_lt n k h = grind (arith, common_steps, h)
 
 plain_depth : (r : Rules) → are_rules r ≡ true → members_depth (members_written r.variants) ≤ 100
@@ -130,7 +130,7 @@ document_deep fs ms h l = omega (arith, flags_deep fs ms h l)
 
 -- ---- it is the value of what is printed
 
-value_back : (j : json.Json) → HasNumbers j → depth j ≤ json_levels → value_in (print (json_tokens j)) ≡ Some j
+pub value_back : (j : json.Json) → HasNumbers j → depth j ≤ json_levels → value_in (print (json_tokens j)) ≡ Some j
 value_back j numbers deep =
     ap (option_and_then (λ p. json.if_last p.0 p.1))
     (ap (json.value json_levels) (tokens-print (json_tokens j) (ArePrintable-json_tokens j numbers) ∙ sym (append-nil (json_tokens j))) ∙ value-json_tokens j json_levels [] deep)
@@ -231,3 +231,6 @@ module _ (fs : Definitions) (ms : Marks) (flags : AreFlags fs) (h : AreMarked fs
 
 pub printed_reads_back : PrintedWithFloatsReadsBack
 printed_reads_back fs ms flags h utf8 = (reads_back fs ms flags h utf8, marks_back fs ms flags h)
+
+pub printed_short : (fs : Definitions) (ms : Marks) → AreFlags fs → AreMarked fs ms → length (printed_with_floats fs ms) ≤ max_bytes
+printed_short fs ms flags h = short fs ms flags h

@@ -1,6 +1,6 @@
 -- Which flags have floats: the values of their variants stand as texts, which are their spelling (`float_variants`).
 use denote.Ref.{Bor}
-use Rattle.std.specs.Prelude.{ℕ, List, [], map, slice_index, Bool, false, not, ◌&&◌, ◌==◌, if◌then◌else◌, Option, Some, None, option_and_then, unwrap_or, Result, String, string_bytes}
+use Rattle.std.specs.Prelude.{◌≡◌, ℕ, List, [], map, slice_index, Bool, true, false, not, ◌&&◌, ◌==◌, if◌then◌else◌, Option, Some, None, option_and_then, unwrap_or, Result, Ok, String, string_bytes}
 use Rattle.std.specs.BTreeMap.{insert_entry}
 use Rattle.std.specs.Cmp.Lexicographic.{slice_cmp}
 use Rattle.std.specs.List.{fold, list_all}
@@ -9,10 +9,12 @@ use Rattle.std.specs.Ordering.{nat_cmp}
 use Rattle.std.specs.Str.{bytes_eq}
 use Rattle.std.specs.declared.alloc.Global.{Global}
 use Rattle.flag_text.specs.Shape.{Shape, text, Members, no_members, member}
+use Rattle.float_variants.specs.Marks.{marks_of_text}
 use Rattle.float_variants.specs.Reading.{doc_with_floats}
 use Rattle.flag_defs.specs.Definition.{Definition}
-use Rattle.flag_defs.specs.Document.{Definitions, TextMeans, max_bytes}
+use Rattle.flag_defs.specs.Document.{Definitions, DocumentMeans, TextMeans, max_bytes}
 use Rattle.flag_defs.specs.Flag.{is_broken, variants_in}
+use Rattle.flag_defs.specs.Flags.{flags_view}
 use Rattle.flag_defs.specs.declared.fault.DefFault.{DefFault}
 use Rattle.flag_defs.specs.declared.flag.Flag.{Flag}
 use Rattle.flag_defs.specs.declared.flags.Flags.{Flags}
@@ -23,6 +25,11 @@ use Rattle.flag_defs.specs.declared.rules.Rules as program
 -- the flags of a document with floats, or its refusal
 abbrev pub MeansWithFloats : List ℕ → Result Definitions DefFault → Type 0
 MeansWithFloats bytes r = TextMeans (doc_with_floats bytes max_bytes) r
+
+-- the same of a document that may have floats, or may not
+abbrev pub MeansAs : Bool → List ℕ → Result Definitions DefFault → Type 0
+MeansAs true bytes r = MeansWithFloats bytes r
+MeansAs false bytes r = DocumentMeans bytes r
 
 -- ---- marks
 
@@ -52,6 +59,15 @@ are_unmarked ms = list_all (λ m. not m.1) ms
 -- the map of a list, in the order of its keys: of one key the last mark counts
 abbrev pub marks_by_key : Marks → Marks
 marks_by_key ms = fold (λ found m. insert_entry (slice_cmp nat_cmp) found m.0 m.1) [] ms
+
+-- the document means these flags, of which these have floats
+abbrev pub MeansFlags : List ℕ → Definitions → Marks → Type 0
+MeansFlags bytes fs ms = MeansWithFloats bytes (Ok fs) × (marked (marks_of_text bytes) fs ≡ ms)
+
+-- which of the flags of a document have floats that may have some, or may not
+abbrev pub AreMarkedAs : Bool → List ℕ → Definitions → Marks → Type 0
+AreMarkedAs true bytes fs ms = ms ≡ marked (marks_of_text bytes) fs
+AreMarkedAs false bytes fs ms = are_unmarked ms ≡ true
 
 -- ---- kinds
 
@@ -95,3 +111,7 @@ lent_floats es = map (λ e. (e.0.now, floats_of e.1.now)) es
 
 abbrev pub floats_view : Flags → Marks
 floats_view fs = entries_floats fs.flags.items
+
+-- flags, and which of them have floats
+abbrev pub marked_view : Flags → Definitions × Marks
+marked_view fs = (flags_view fs, floats_view fs)

@@ -18,5 +18,6 @@ pub mod PrintedBytes
 pub mod Rules
 pub mod Spelled
 pub mod SpelledLaw
+pub mod Spellings
 pub mod Targeting
 pub mod Weighing

@@ -1,16 +1,18 @@
 -- What is printed of flags of which some have floats means these flags, and which of them have floats.
-use Rattle.std.specs.Prelude.{◌≡◌, ℕ, List, [], ◌∷◌, Bool, true, false, Ok}
+use Rattle.std.specs.Prelude.{◌≡◌, ℕ, List, [], ◌∷◌, Bool, true, false, Some, Ok}
+use Rattle.std.specs.List.{AllByRecursion}
 use Rattle.std.specs.Str.{is_utf8}
 use Rattle.json.specs.Json as json
 use Rattle.json.specs.Print.{print}
-use Rattle.json.specs.Tree.{json_tokens, MembersHaveNumbers}
-use Rattle.flag_text.specs.Shape.{text, Members, no_members, member}
-use Rattle.float_variants.specs.Floats.{has_floats}
-use Rattle.float_variants.specs.Marks.{marks_of_text}
+use Rattle.json.specs.Tree.{json_tokens, HasNumbers, MembersHaveNumbers}
+use Rattle.flag_text.specs.Grammar.{tree_from}
+use Rattle.flag_text.specs.Shape.{Shape, text, Members, no_members, member}
+use Rattle.float_variants.specs.Floats.{has_floats, with_texts}
+use Rattle.float_variants.specs.Marks.{marks_in, marks_of_text}
 use Rattle.flag_defs.specs.Definition.{Definition, broken, good}
 use Rattle.flag_defs.specs.Document.{Definitions}
 use Rattle.flag_defs.specs.Flags.{AreFlags}
-use Rattle.flag_defs.specs.Floats.{Marks, MeansWithFloats, marked}
+use Rattle.flag_defs.specs.Floats.{Marks, MeansWithFloats, mark_of, marked, marked_with}
 use Rattle.flag_defs.specs.Spelled.{printed_with_floats}
 
 -- the values as texts, which are their spelling
@@ -35,6 +37,14 @@ AreMarked [] [] = Unit {0}
 AreMarked [] (m ∷ ms) = ⊥
 AreMarked (f ∷ fs) [] = ⊥
 AreMarked (f ∷ fs) (m ∷ ms) = (m.0 ≡ f.0) × IsSpelled f.1 m.1 × AreMarked fs ms
+
+-- a tree that a document with floats is read as, and the marks of its flags
+abbrev pub IsMarked : Shape → Marks → Type 0
+IsMarked t ms = (j : json.Json) × HasNumbers j × (tree_from (with_texts j) ≡ Some t) × (ms ≡ marks_in j)
+
+-- each flag may have what the last mark of its key says
+abbrev pub MayBeMarked : Marks → Definitions → Type 0
+MayBeMarked ms fs = AllByRecursion (λ f. IsSpelled f.1 (marked_with f.1 (mark_of f.0 ms))) fs
 
 -- What is printed for flags and their marks is a document with floats that means these flags, and gives them these marks.
 abbrev pub PrintedWithFloatsReadsBack : Type 0

@@ -4,7 +4,7 @@ ghost use Rattle.std.specs.Str.{is_utf8};
 ghost use Rattle.float_variants.specs.Marks.{marks_of_text};
 ghost use Rattle.flag_defs.specs.Document.{DocumentMeans, max_bytes};
 ghost use Rattle.flag_defs.specs.Flags.{HoldsUnless, flags_view};
-ghost use Rattle.flag_defs.specs.Floats.{MeansWithFloats, are_unmarked, floats_view, marked};
+ghost use Rattle.flag_defs.specs.Floats.{AreMarkedAs, MeansAs, MeansWithFloats, are_unmarked, floats_view, marked};
 
 use crate::bounded::limited;
 use crate::entries::read_entries;
@@ -45,4 +45,18 @@ pub fn read_flags_with_floats(alloc: Global, bytes: &[u8]) -> Result<Flags, DefF
 {
     let flags = read_entries_with_floats(alloc, bytes)?;
     limited(alloc, flags)
+}
+
+/// The flags of a document as [`read_flags_with_floats`] reads it, where it may have floats, and else as [`read_flags`] does.
+pub fn read_flags_as(alloc: Global, bytes: &[u8], floats: bool) -> Result<Flags, DefFault>
+    ensures means { HoldsUnless (MeansAs floats bytes.now) result }
+    ensures floats { IfOk result (λ fs. AreMarkedAs floats bytes.now (flags_view fs) (floats_view fs)) }
+    ensures large { max_bytes < length bytes.now → IsErrOf result DefFault.TooLarge }
+    ensures no_text { length bytes.now ≤ max_bytes → is_utf8 bytes.now ≡ false → IsErrOf result DefFault.NotJson }
+{
+    if floats {
+        read_flags_with_floats(alloc, bytes)
+    } else {
+        read_flags(alloc, bytes)
+    }
 }

@@ -8,7 +8,7 @@ ghost use Rattle.std.specs.Str.{is_utf8};
 ghost use Rattle.flag_text.specs.Shape.{is_tidy, members_are_tidy};
 ghost use Rattle.flag_text.specs.View.{view, members_view};
 ghost use Rattle.flag_defs.specs.Document.{AllMean, DocumentMeans, FlagsMean, evaluators_in, flags_in, max_bytes};
-ghost use Rattle.flag_defs.specs.Entries.{HoldsLimited};
+ghost use Rattle.flag_defs.specs.Entries.{AreMeant, HoldsLimited};
 ghost use Rattle.flag_defs.specs.Fault.{of_text};
 ghost use Rattle.flag_defs.specs.Flag.{entries_view};
 ghost use Rattle.flag_defs.specs.Floats.{are_unmarked, entries_floats};
@@ -61,6 +61,7 @@ pub(crate) fn of_text(fault: TextFault) -> DefFault
 pub(crate) fn read_document(alloc: Global, document: Tree) -> Result<Vec<(String, Flag)>, DefFault>
     requires { is_tidy (view document) ≡ true }
     ensures means { HoldsLimited (FlagsMean (evaluators_in (view document)) (flags_in (view document))) result }
+    ensures each { IfOk result (λ v. AreMeant (evaluators_in (view document)) (flags_in (view document)) (entries_view v.items)) }
     ensures rising { IfOk result (λ v. IsStrictlySortedBy (slice_cmp nat_cmp) (keys_of (entries_view v.items))) }
     ensures floats { IfOk result (λ v. are_unmarked (entries_floats v.items) ≡ true) }
 {
@@ -82,6 +83,7 @@ fn read_definitions(
 ) -> Result<Vec<(String, Flag)>, DefFault>
     requires { members_are_tidy (members_view definitions.items) ≡ true }
     ensures means { HoldsLimited (FlagsMean (members_view evaluators.now) (Some (members_view definitions.items))) result }
+    ensures each { IfOk result (λ v. AllMean (members_view evaluators.now) (members_view definitions.items) (entries_view v.items)) }
     ensures rising { IfOk result (λ v. IsStrictlySortedBy (slice_cmp nat_cmp) (keys_of (entries_view v.items))) }
     ensures floats { IfOk result (λ v. are_unmarked (entries_floats v.items) ≡ true) }
 {

@@ -23,11 +23,13 @@ pub struct Flags {
 impl Flags {
     ghost use Rattle.flag_defs.specs.Flags.{flags_view, AreFlags};
     ghost use Rattle.flag_defs.specs.Floats.{floats_of, floats_view};
+    ghost use Rattle.flag_defs.specs.SpelledLaw.{AreMarked};
 
     /// How many flags there are.
     pub fn len(&self) -> usize
         ensures value { result ≡ length (flags_view self.now) }
         ensures lawful { AreFlags (flags_view self.now) }
+        ensures spelled { AreMarked (flags_view self.now) (floats_view self.now) }
     {
         self.flags.len()
     }

@@ -61,7 +61,7 @@ mod write;
 mod written_bytes;
 
 pub use definition_error::{DefinitionError, definition_errors};
-pub use document::{read_flags, read_flags_with_floats};
+pub use document::{read_flags, read_flags_as, read_flags_with_floats};
 pub use fault::DefFault;
 pub use flag::Flag;
 pub use flags::Flags;

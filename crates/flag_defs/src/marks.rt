@@ -14,6 +14,8 @@ ghost use Rattle.flag_defs.specs.Document.{FlagsMean, evaluators_in, flags_in, m
 ghost use Rattle.flag_defs.specs.Entries.{HoldsLimited};
 ghost use Rattle.flag_defs.specs.Flag.{entries_view, flag_view, rules_view};
 ghost use Rattle.flag_defs.specs.Floats.{MeansWithFloats, entries_floats, floats_of, mark_of, marked, marked_with};
+ghost use Rattle.flag_defs.specs.SpelledLaw.{IsMarked, IsSpelled, MayBeMarked};
+ghost use Rattle.flag_defs.specs.Spellings.{keep_spelling};
 
 use crate::entries::{of_text, read_document};
 use crate::fault::DefFault;
@@ -43,7 +45,8 @@ pub(crate) fn read_entries_with_floats(
 }
 
 fn entries_of(alloc: Global, document: Document) -> Result<Vec<(String, Flag)>, DefFault>
-    requires { is_tidy (view document.tree) ≡ true }
+    requires tidy { is_tidy (view document.tree) ≡ true }
+    requires marks { IsMarked (view document.tree) (map mark_view document.marks.items) }
     ensures means { HoldsLimited (FlagsMean (evaluators_in (view document.tree)) (flags_in (view document.tree))) result }
     ensures floats { IfOk result (λ v. entries_floats v.items ≡ marked (map mark_view document.marks.items) (entries_view v.items)) }
     ensures rising { IfOk result (λ v. IsStrictlySortedBy (slice_cmp nat_cmp) (keys_of (entries_view v.items))) }
@@ -54,12 +57,14 @@ fn entries_of(alloc: Global, document: Document) -> Result<Vec<(String, Flag)>, 
     Ok(marked)
 }
 
-/// The same flags, each with what the last mark of its key says.
+/// The same flags, each with what the last mark of its key says. The condition is that the variants of those which get a mark are the
+/// spelling of floats.
 fn mark_all(
     alloc: Global,
     flags: Vec<(String, Flag)>,
     marks: Vec<Mark>,
 ) -> Result<Vec<(String, Flag)>, AllocError>
+    requires { MayBeMarked (map mark_view marks.items) (entries_view flags.items) }
     ensures value { IfOk result (λ v. entries_view v.items ≡ entries_view flags.items) }
     ensures floats { IfOk result (λ v. entries_floats v.items ≡ marked (map mark_view marks.items) (entries_view flags.items)) }
 {
@@ -99,6 +104,7 @@ fn mark_of(last: &BTreeMap<String, bool>, key: &str) -> bool
 
 /// The same flag, which has floats where this says so and it is not broken.
 fn with_mark(flag: Flag, has_floats: bool) -> Flag
+    requires { IsSpelled (flag_view flag) (marked_with (flag_view flag) has_floats) }
     ensures value { flag_view result ≡ flag_view flag }
     ensures floats { floats_of result ≡ marked_with (flag_view flag) has_floats }
 {
@@ -112,6 +118,7 @@ fn with_mark(flag: Flag, has_floats: bool) -> Flag
 }
 
 fn marked_rules(rules: Rules, has_floats: bool) -> Rules
+    requires { keep_spelling has_floats (rules_view rules).variants ≡ true }
     ensures value { rules_view result ≡ rules_view rules }
     ensures floats { result.has_floats ≡ has_floats }
 {

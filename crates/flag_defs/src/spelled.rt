@@ -1,20 +1,25 @@
 //! From flags of which some have floats to the bytes of a document.
-ghost use Rattle.std.specs.Prelude.{◌≡◌, ◌++◌, true, None, codes, if◌then◌else◌, option_copied, option_map, string_bytes, IfOk, OnOk};
+ghost use Rattle.std.specs.Prelude.{◌≡◌, ◌≤◌, ◌++◌, true, None, codes, if◌then◌else◌, length, option_copied, option_map, string_bytes, IfOk, OnOk};
+ghost use Rattle.std.specs.Cmp.Lexicographic.{slice_cmp};
 ghost use Rattle.std.specs.List.{zip};
+ghost use Rattle.std.specs.List.Sorted.{IsStrictlySortedBy};
+ghost use Rattle.std.specs.Map.{keys_of};
+ghost use Rattle.std.specs.Ordering.{nat_cmp};
 ghost use Rattle.flag_text.specs.Printing.{text_of};
 ghost use Rattle.flag_text.specs.Readers.{as_text};
 ghost use Rattle.flag_text.specs.Shape.{is_whole, members_are_whole, text};
 ghost use Rattle.flag_text.specs.View.{view as tree_view, members_view};
 ghost use Rattle.logic_ast.specs.Expr.{view};
+ghost use Rattle.flag_defs.specs.Document.{max_bytes};
 ghost use Rattle.flag_defs.specs.Flag.{entries_view, entry_view, flag_view, rules_view};
 ghost use Rattle.flag_defs.specs.Flags.{flags_view};
-ghost use Rattle.flag_defs.specs.Floats.{are_unmarked, entries_floats, entry_floats, floats_of, floats_view};
+ghost use Rattle.flag_defs.specs.Floats.{MeansFlags, are_unmarked, entries_floats, entry_floats, floats_of, floats_view};
 ghost use Rattle.flag_defs.specs.Rules.{are_targetings};
 ghost use Rattle.flag_defs.specs.Spelled.{default_spelled, entries_spelled, entry_spelled, flags_spelled, head_spelled, member_spelled, members_spelled, other_entries_spelled, others_spelled, printed_with_floats, rules_spelled, tail_spelled, targeting_spelled, value_spelled, variants_spelled};
 
 use crate::flag::Flag;
 use crate::flags::Flags;
-use crate::print::print_flags;
+use crate::print::print_entries;
 use crate::rules::Rules;
 use flag_text::{Tree, push_string, push_tree};
 use logic_ast::{Expr, write_expr};
@@ -22,16 +27,27 @@ use std::alloc::{AllocError, Global};
 
 /// The document of flags as [`print_flags`] writes it, where some of them have floats ([`Flag::has_floats`]): the texts of their
 /// values, which are their spelling, stand for these values as they are. Where none has it is what [`print_flags`] writes. It fails only where memory runs out.
+/// It is a document with floats of at most 4,194,304 bytes, and reads back as these flags, with the same of them marked.
 ///
 /// [`print_flags`]: crate::print_flags
 pub fn print_flags_with_floats(alloc: Global, flags: &Flags) -> Result<Vec<u8>, AllocError>
-    ensures { IfOk result (λ v. v.items ≡ printed_with_floats (flags_view flags.now) (floats_view flags.now)) }
+    ensures text { IfOk result (λ v. v.items ≡ printed_with_floats (flags_view flags.now) (floats_view flags.now)) }
+    ensures reads_back { IfOk result (λ v. MeansFlags v.items (flags_view flags.now) (floats_view flags.now)) }
+    ensures small { IfOk result (λ v. length v.items ≤ max_bytes) }
 {
-    if are_unmarked(flags.flags.as_slice()) {
-        return print_flags(alloc, flags);
-    }
-    let text = print_spelled(alloc, flags.flags.as_slice())?;
+    let text = print_entries_with_floats(alloc, flags.flags.as_slice())?;
     Ok(text.into_bytes())
+}
+
+fn print_entries_with_floats(alloc: Global, flags: &[(String, Flag)]) -> Result<String, AllocError>
+    requires { IsStrictlySortedBy (slice_cmp nat_cmp) (keys_of (entries_view flags.now)) }
+    ensures { IfOk result (λ s. string_bytes s ≡ printed_with_floats (entries_view flags.now) (entries_floats flags.now)) }
+{
+    if are_unmarked(flags) {
+        print_entries(alloc, flags)
+    } else {
+        print_spelled(alloc, flags)
+    }
 }
 
 /// Whether no flag has floats.

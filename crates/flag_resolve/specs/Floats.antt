@@ -1,11 +1,12 @@
 -- What a flag resolves to where flags may have floats: the values of these stand as texts, which are their spelling.
-use Rattle.std.specs.Prelude.{◌≡◌, ◌↔◌, ◌⊎◌, ℕ, List, true, Option, Some, None, option_map}
+use Rattle.std.specs.Prelude.{◌≡◌, ◌↔◌, ◌⊎◌, ◌&&◌, ℕ, Bool, List, true, false, is_some, Option, Some, None, option_map}
 use Rattle.flag_text.specs.Shape.{Shape, text}
 use Rattle.flag_defs.specs.Document.{Definitions}
 use Rattle.flag_defs.specs.Floats.{Marks, are_unmarked, floats_at}
 use Rattle.flag_defs.specs.Kind.{is_of_kind}
 use Rattle.flag_defs.specs.declared.kind.Kind.{Kind}
 use Rattle.flag_defs.specs.declared.kind.Kind.TheVariants as kind
+use Rattle.flag_resolve.specs.Printing.{resolution_spelled, resolution_text}
 use Rattle.flag_resolve.specs.Resolution.{resolved_by}
 use Rattle.flag_resolve.specs.Resolved.{Resolved}
 
@@ -31,6 +32,10 @@ abbrev pub resolved_with_floats : Option Marked → Kind → Shape → Shape →
 resolved_with_floats flags want default context key moment =
     resolved_by (option_map (λ f. f.0) flags) (kind_asked (floats_in flags key) want) default context key moment
 
+-- the value of a resolution stands as a text that is its spelling: it is that of a variant of a flag with floats
+abbrev pub is_spelled : Option Marked → List ℕ → Resolved → Bool
+is_spelled flags key r = is_some r.variant && is_some (floats_in flags key)
+
 -- ---- laws
 
 -- Flags of which none has floats resolve as they do without floats.
@@ -45,3 +50,11 @@ FloatsAreOfTheirKind = (k want : Kind) (s : List ℕ) → (k ≡ kind.Float) ⊎
 -- Who wants a float has the value of a flag of whole numbers, too.
 abbrev pub WholeNumbersAreFloats : Type 0
 WholeNumbersAreFloats = (t : Shape) → is_of_kind (kind_asked None kind.Float) t ≡ is_of_kind kind.Whole t
+
+-- A resolution whose value stands as it is has its own text.
+abbrev pub PlainTextsStay : Type 0
+PlainTextsStay = (r : Resolved) → resolution_spelled false r ≡ resolution_text r
+
+-- No value of flags without floats stands as its spelling.
+abbrev pub NothingIsSpelled : Type 0
+NothingIsSpelled = (flags : Definitions) (marks : Marks) (key : List ℕ) (r : Resolved) → are_unmarked marks ≡ true → is_spelled (Some (flags, marks)) key r ≡ false

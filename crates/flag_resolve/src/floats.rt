@@ -4,7 +4,7 @@ ghost use Rattle.flag_text.specs.Shape.{is_tidy, is_whole};
 ghost use Rattle.flag_text.specs.View.{view};
 ghost use Rattle.flag_defs.specs.Flags.{flags_view};
 ghost use Rattle.flag_defs.specs.Floats.{floats_view};
-ghost use Rattle.flag_resolve.specs.Floats.{floats_in, kind_asked, resolved_with_floats};
+ghost use Rattle.flag_resolve.specs.Floats.{floats_in, is_spelled, kind_asked, resolved_with_floats};
 ghost use Rattle.flag_resolve.specs.Views.{resolution_view};
 
 use crate::cases::resolve;
@@ -74,5 +74,16 @@ fn object_asked(want: Kind) -> Kind
     match want {
         Kind::Object => Kind::Text,
         Kind::Bool | Kind::Text | Kind::Whole | Kind::Float => Kind::Whole,
+    }
+}
+
+/// Whether the value of a resolution of the flag of this key stands as a text that is its spelling: it is that of a variant of a
+/// flag with floats, and not the caller's default.
+pub fn is_spelled(flags: Option<&Flags>, key: &str, resolution: &Resolution) -> bool
+    ensures { result ≡ is_spelled (option_map (λ f. (flags_view f.now, floats_view f.now)) flags.entry) key.now (resolution_view resolution.now) }
+{
+    match &resolution.variant {
+        Some(_) => floats_in(flags, key).is_some(),
+        None => false,
     }
 }

@@ -49,14 +49,14 @@ set_value-absent {K} {X} test (e ∷ es) x h = by (set_value-absent test es x) (
 
 -- a new name goes to the end
 pub pushed : {W : Type 0} (h : Flags → W) (k : String Global) (es : List Entry) → is_source (string_bytes k) (entries_view es) ≡ false → map (seen_by h) (insert_entry string_eq es k None) ≡ map (seen_by h) es ++ (string_bytes k, None) ∷ []
-pushed h k [] no = refl
-pushed {W} h k (e ∷ es) no = by (pushed h k es) (bytes_eq (string_bytes k) (string_bytes e.0)) no
+pushed h k [] new = refl
+pushed {W} h k (e ∷ es) new = by (pushed h k es) (bytes_eq (string_bytes k) (string_bytes e.0)) new
   where
     by : (is_source (string_bytes k) (entries_view es) ≡ false → map (seen_by h) (insert_entry string_eq es k None) ≡ map (seen_by h) es ++ (string_bytes k, None) ∷ [])
         → (b : Bool) → is_some (cond b (Some (option_map flags_view e.1)) (lookup (bytes_eq (string_bytes k)) (entries_view es))) ≡ false
         → map (seen_by h) (if b then (e.0, None) ∷ es else e ∷ insert_entry string_eq es k None) ≡ map (seen_by h) (e ∷ es) ++ (string_bytes k, None) ∷ []
-    by later true no = absurd (cc)
-    by later false no = ap (λ (ss : List (List ℕ × Option W)). (string_bytes e.0, option_map h e.1) ∷ ss) (later no)
+    by later true new = absurd (cc)
+    by later false new = ap (λ (ss : List (List ℕ × Option W)). (string_bytes e.0, option_map h e.1) ∷ ss) (later new)
 
 -- where no source has the name, nothing is set
 pub absent : {W : Type 0} (h : Flags → W) (name : List ℕ) (es : List Entry) (d : Option Flags) → lookup (λ (k : String Global). bytes_eq name (string_bytes k)) es ≡ None → map (seen_by h) es ≡ set_value (bytes_eq name) (map (seen_by h) es) (option_map h d)

@@ -1,5 +1,5 @@
 -- Which flags of a merge have floats: those whose entry of the latest added source has them.
-use Rattle.std.specs.Prelude.{◌≡◌, ℕ, List, [], ◌∷◌, ◌++◌, map, Bool, true, Option, Some, Ok, option_map, unwrap_or, String, string_bytes}
+use Rattle.std.specs.Prelude.{◌≡◌, ℕ, List, [], ◌∷◌, ◌++◌, map, Bool, true, false, Option, Some, Ok, option_map, unwrap_or, String, string_bytes}
 use Rattle.std.specs.BTreeMap.{insert_entry}
 use Rattle.std.specs.Cmp.Lexicographic.{slice_cmp}
 use Rattle.std.specs.Map.{set_value}
@@ -32,6 +32,11 @@ IsMarkedBy name bytes before after = (fs : Definitions) × MeansWithFloats bytes
 -- a source has flags without floats
 abbrev pub IsUnmarked : List ℕ → List MarkedSource → List MarkedSource → Type 0
 IsUnmarked name before after = (ms : Marks) × (are_unmarked ms ≡ true) × (after ≡ with_marks name (Some ms) before)
+
+-- a source has the flags of a document that may have floats, or may not
+abbrev pub IsMarkedAs : Bool → List ℕ → List ℕ → List MarkedSource → List MarkedSource → Type 0
+IsMarkedAs true name bytes before after = IsMarkedBy name bytes before after
+IsMarkedAs false name bytes before after = IsUnmarked name before after
 
 -- the marks with one more: of a key that is there already the new one counts
 abbrev pub with_mark : Marks → List ℕ × Bool → Marks

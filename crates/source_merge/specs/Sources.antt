@@ -6,7 +6,7 @@ use Rattle.std.specs.declared.alloc.Global.{Global}
 use Rattle.limits.specs.Limits as limit
 use Rattle.flag_defs.specs.Document.{Definitions, DocumentMeans}
 use Rattle.flag_defs.specs.Flags.{flags_view}
-use Rattle.flag_defs.specs.Floats.{MeansWithFloats}
+use Rattle.flag_defs.specs.Floats.{MeansAs, MeansWithFloats}
 use Rattle.flag_defs.specs.declared.fault.DefFault.{DefFault}
 use Rattle.flag_defs.specs.declared.flags.Flags.{Flags}
 use Rattle.source_merge.specs.declared.fault.SourceFault.{SourceFault}
@@ -56,6 +56,10 @@ Sets sources name bytes after = SetsBy (DocumentMeans bytes) sources name after
 -- the same of a document with floats
 abbrev pub SetsWithFloats : SourceList → List ℕ → List ℕ → Result SourceList SourceFault → Type 0
 SetsWithFloats sources name bytes after = SetsBy (MeansWithFloats bytes) sources name after
+
+-- the same of a document that may have floats, or may not
+abbrev pub SetsAs : Bool → SourceList → List ℕ → List ℕ → Result SourceList SourceFault → Type 0
+SetsAs floats sources name bytes after = SetsBy (MeansAs floats bytes) sources name after
 
 -- ---- of the program
 

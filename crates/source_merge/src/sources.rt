@@ -5,10 +5,10 @@ ghost use Rattle.flag_defs.specs.Document.{limited, max_bytes};
 ghost use Rattle.flag_defs.specs.Flags.{flags_view};
 ghost use Rattle.flag_defs.specs.Floats.{floats_view, lent_floats};
 ghost use Rattle.flag_defs.specs.Lent.{lent_view};
-ghost use Rattle.source_merge.specs.Floats.{IsMarkedBy, IsUnmarked, entries_floats, merged_marks, sources_floats, with_marks};
+ghost use Rattle.source_merge.specs.Floats.{IsMarkedAs, IsMarkedBy, IsUnmarked, entries_floats, merged_marks, sources_floats, with_marks};
 ghost use Rattle.source_merge.specs.Merge.{IsMerge, Rise, flags_or_fault, merged_of};
 ghost use Rattle.source_merge.specs.Outcome.{Unless, outcome};
-ghost use Rattle.source_merge.specs.Sources.{Sets, SetsWithFloats, added, cleared, entries_view, is_source, most_sources, with_document};
+ghost use Rattle.source_merge.specs.Sources.{Sets, SetsAs, SetsWithFloats, added, cleared, entries_view, is_source, most_sources, with_document};
 
 use crate::choice::chosen;
 use crate::fault::SourceFault;
@@ -96,6 +96,29 @@ impl Sources {
         let flags = read_flags_with_floats(alloc, bytes)?;
         put(&mut self.documents, name, Some(flags));
         Ok(())
+    }
+
+    /// The same as [`Sources::set_with_floats`], where the document may have floats, and else as [`Sources::set`].
+    pub fn set_as(
+        &mut self,
+        alloc: Global,
+        name: &str,
+        bytes: &[u8],
+        floats: bool,
+    ) -> Result<(), SourceFault>
+        ensures exact { Unless SourceFault.WantOfMemory (SetsAs floats (sources_view self.old) name.now bytes.now) (outcome (sources_view self.new) result) }
+        ensures floats { OnOk result (IsMarkedAs floats name.now bytes.now (sources_floats self.old) (sources_floats self.new)) }
+        ensures refused { OnErr result (sources_view self.new ≡ sources_view self.old) }
+        ensures stay { OnErr result (sources_floats self.new ≡ sources_floats self.old) }
+        ensures unknown { is_source name.now (sources_view self.old) ≡ false → IsErrOf result SourceFault.Unknown }
+        ensures large { is_source name.now (sources_view self.old) ≡ true → max_bytes < length bytes.now → IsErrOf result (SourceFault.Refused DefFault.TooLarge) }
+        ensures no_text { is_source name.now (sources_view self.old) ≡ true → length bytes.now ≤ max_bytes → is_utf8 bytes.now ≡ false → IsErrOf result (SourceFault.Refused DefFault.NotJson) }
+    {
+        if floats {
+            self.set_with_floats(alloc, name, bytes)
+        } else {
+            self.set(alloc, name, bytes)
+        }
     }
 
     /// Drops the document of a source, which keeps its place in the order. `Unknown` where there is no source of this name.

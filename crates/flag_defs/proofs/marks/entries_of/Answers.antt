@@ -6,8 +6,14 @@ use Rattle.std.specs.Ordering.{nat_cmp}
 use Rattle.flag_text.specs.View.{view}
 use Rattle.float_variants.specs.View.{mark_view}
 use Rattle.flag_defs.specs.Document.{Definitions, FlagsMean, evaluators_in, flags_in, limited}
+use Rattle.flag_defs.specs.Flag.{entries_view}
 use Rattle.flag_defs.specs.Floats.{marked}
+use Rattle.flag_defs.proofs.Marking.{flags_may_be_marked}
 use Rattle.flag_defs.proofs.marks.entries_of.Goals as goal
+
+pub mark_all-requires : goal.mark_all-requires
+mark_all-requires c =
+    flags_may_be_marked (view c.args.document.tree) (map mark_view c.args.document.marks.items) (entries_view c.in_ok-flags.flags.items) c.requires.marks c.in_ok-flags.ensures.each
 
 pub returns-clause-means : goal.returns-clause-means
 returns-clause-means c =

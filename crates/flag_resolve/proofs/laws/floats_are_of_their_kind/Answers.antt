@@ -1,11 +1,12 @@
-use Rattle.std.proofs.Common.{◌≡◌, List, ℕ, Option, Some, true, refl, sym, ap, subst, inl, inr, ◌∙◌}
+use Rattle.std.proofs.Common.{◌≡◌, ◌&&◌, List, ℕ, Bool, Option, Some, true, false, is_some, refl, sym, ap, subst, inl, inr, ◌∙◌}
 use Rattle.std.specs.Prelude.{◌↔◌}
 use Rattle.flag_text.specs.Shape.{text}
 use Rattle.flag_defs.specs.Kind.{is_of_kind}
 use Rattle.flag_defs.specs.declared.kind.Kind.{Kind}
 use Rattle.flag_defs.specs.declared.kind.Kind.TheVariants as kind
-use Rattle.flag_resolve.specs.Floats.{kind_asked}
+use Rattle.flag_resolve.specs.Floats.{floats_in, kind_asked}
 use Rattle.flag_resolve.specs.Resolution.{resolved_by}
+use Rattle.flag_resolve.proofs.Items.{around_value}
 use Rattle.flag_resolve.proofs.Unmarked.{no_floats, float_asked, object_asked}
 use Rattle.flag_resolve.proofs.laws.floats_are_of_their_kind.Goals as goal
 
@@ -31,3 +32,13 @@ returns-clause-given c = λ k want s is.
 
 pub returns-clause-whole : goal.returns-clause-whole
 returns-clause-whole c = λ t. refl
+
+no_both : (a b : Bool) → b ≡ false → (a && b) ≡ false
+no_both true b e = e
+no_both false b e = refl
+
+pub returns-clause-plain : goal.returns-clause-plain
+returns-clause-plain c = λ flags marks key r h. no_both (is_some r.variant) (is_some (floats_in (Some (flags, marks)) key)) (ap (λ (o : Option Kind). is_some o) (no_floats key flags marks h))
+
+pub returns-clause-printed : goal.returns-clause-printed
+returns-clause-printed c = around_value
