@@ -25,6 +25,9 @@ from typing import NamedTuple
 
 from forks import PROGRAM
 
+sys.path.append(os.path.join(os.path.dirname(os.path.dirname(os.path.abspath(__file__))), "service"))
+from measured import Measured
+
 MOST_BYTES = 1_048_576
 SECONDS, SECONDS_A_MEGABYTE = 0.1, 0.2
 MEGABYTES, BYTES_A_BYTE = 64, 40
@@ -60,7 +63,7 @@ class Find(NamedTuple):
     status: int
 
 
-class Service:
+class Service(Measured):
     """A service over a document, with one worker that remembers nothing, and what it has taken."""
 
     def __init__(self, document, folder):
@@ -70,27 +73,6 @@ class Service:
         words = ["ofrep", "--listen", f"127.0.0.1:{self.port}", "--workers", "1", "--poll", "0", "--log", os.path.join(folder, "log"), "--remember", "0", document]
         self.child = subprocess.Popen([PROGRAM, *words], stdout=subprocess.PIPE, stderr=subprocess.DEVNULL, text=True)
         assert select.select([self.child.stdout], [], [], 60)[0] and self.child.stdout.readline() == "serving 1\n"
-
-    def __enter__(self):
-        return self
-
-    def __exit__(self, *_):
-        self.child.kill()
-        self.child.wait()
-        self.child.stdout.close()
-
-    def seconds(self):
-        """The seconds of a processor that it has taken."""
-        spent, tasks = 0, f"/proc/{self.child.pid}/task"
-        for task in os.listdir(tasks):
-            with open(f"{tasks}/{task}/schedstat", encoding="utf-8") as file:
-                spent += int(file.read().split()[0])
-        return spent / 1e9
-
-    def megabytes(self, name):
-        """What it holds (`VmRSS`), or held at most (`VmHWM`)."""
-        with open(f"/proc/{self.child.pid}/status", encoding="utf-8") as file:
-            return next(int(line.split()[1]) for line in file if line.startswith(f"{name}:")) / 1024
 
     def ask(self, body):
         """The status of the answer for the flag; 0 where there is none within a minute."""
@@ -341,7 +323,7 @@ def measured(case, folder):
     with open(os.path.join(folder, "doc"), "wb") as file:
         file.write(texts[0])
     with Service(os.path.join(folder, "doc"), folder) as service:
-        seconds, held = service.seconds(), service.megabytes("VmRSS")
+        seconds, held = service.seconds(), service.megabytes()
         status = service.ask(texts[1])
         if status:
             seconds, held = service.seconds() - seconds, service.megabytes("VmHWM") - held

@@ -11,7 +11,9 @@ import subprocess
 import sys
 import tempfile
 
+from measured import Measured
 from service import PROGRAM as PROVED
+from service import free_port
 
 HERE = os.path.dirname(os.path.abspath(__file__))
 ROOT = os.path.dirname(os.path.dirname(HERE))
@@ -39,13 +41,7 @@ def built(folder):
     return os.path.join(target, "release", "plain")
 
 
-def free_port():
-    with socket.socket() as probe:
-        probe.bind(("127.0.0.1", 0))
-        return probe.getsockname()[1]
-
-
-class Server:
+class Server(Measured):
     """One of the two, listening; ended as it leaves its `with`."""
 
     def __init__(self, program, document, workers, log):
@@ -57,26 +53,6 @@ class Server:
             words = ["ofrep", address, str(workers), document, *([log] if log else [])]
         self.child = subprocess.Popen([program, *words], stdout=subprocess.PIPE, stderr=subprocess.DEVNULL, text=True)
         assert select.select([self.child.stdout], [], [], 20)[0] and self.child.stdout.readline() == "serving 1\n"
-
-    def __enter__(self):
-        return self
-
-    def __exit__(self, *_):
-        self.child.kill()
-        self.child.wait()
-        self.child.stdout.close()
-
-    def seconds(self):
-        """The seconds of a processor that it has taken."""
-        spent, tasks = 0, f"/proc/{self.child.pid}/task"
-        for task in os.listdir(tasks):
-            with open(f"{tasks}/{task}/schedstat", encoding="utf-8") as file:
-                spent += int(file.read().split()[0])
-        return spent / 1e9
-
-    def resident(self):
-        with open(f"/proc/{self.child.pid}/status", encoding="utf-8") as file:
-            return next(int(line.split()[1]) for line in file if line.startswith("VmRSS:")) / 1024
 
 
 def timed(program, folder, workers, connections, logs, flag):
@@ -119,9 +95,9 @@ def main():
         print(f"lowest ratio {min(ratios):.2f}, by the time of a processor {min(spent_ratios):.2f}")
         for name, program in (("proved", PROVED), ("plain", plain)):
             with Server(program, os.path.join(folder, "flags.json"), 4, None) as server:
-                before = server.resident()
+                before = server.megabytes()
                 idle = [socket.create_connection(("127.0.0.1", server.port)) for _ in range(IDLE)]
-                print(f"{name}: {before:.1f} MB, {server.resident():.1f} MB beside {IDLE:,} idle connections")
+                print(f"{name}: {before:.1f} MB, {server.megabytes():.1f} MB beside {IDLE:,} idle connections")
                 for connection in idle:
                     connection.close()
 
