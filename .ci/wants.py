@@ -48,7 +48,6 @@ TAKEN = {
     ("crates/flagops_files/src/loading.rt", "Err(_) => Remark::Short,"): (1, "the rule was refused, so its text is a tree, and is read again"),
     ("crates/file_diagnostics/src/definition_errors.rt", 'return Err(AllocError);'): (1, "the document was read as flags, so it is a tree, and is read again"),
     ("crates/flagops_checks/src/command.rt", "Some(Remark::Short)"): (1, "`is_short` is set only where there was no memory for lines"),
-    ("crates/flagops_checks/src/names.rt", "Err(_) => Err(AllocError),"): (1, "the document was read as flags, so it is a tree, and is read again"),
     ("crates/flagops_compare/src/command.rt", "refusal: CompareRefusal::WantOfMemory,"): (1, "`out_of_memory` makes it; its calls are looked for"),
     ("crates/flagops_compare/src/command.rt", "remark: Remark::Short,"): (1, "the same"),
     ("crates/flagops/src/main.rt", 'ExitCode::from(want(&mut Console::new(out, err), "flagops"))'): (1, "there is no memory for the stack that the commands run on"),

@@ -6,5 +6,5 @@ ghost use Rattle.flagops_c.specs.About.{about_text};
 pub(crate) fn about() -> &'static str
     ensures { result.now ≡ about_text }
 {
-    "libflagops 0.1.0\nproved with rattle-kit-13f logic dac8208d650f15bf\nsources 72715cbed062371a7663cd77404b15473ae9c14d8c4b9942ccafdc57911b3f27\n"
+    "libflagops 0.1.0\nproved with rattle-kit-13f logic dac8208d650f15bf\nsources 994eaa8dd40b9e831699736b28fceddcd033900577d76d324af79852c64d6406\n"
 }

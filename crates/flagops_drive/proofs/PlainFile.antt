@@ -17,6 +17,7 @@ named_word kind.Bool = refl
 named_word kind.Text = refl
 named_word kind.Whole = refl
 named_word kind.Object = refl
+named_word kind.Float = refl
 
 ask_asked : (a : PlainAsk) → ask_in (ask_shape a) ≡ Some (plain_view a)
 unfolding ask_in

@@ -45,26 +45,28 @@ _flagops() {
         return
     fi
     case ${COMP_WORDS[1]}:$word in
-        check:-*) COMPREPLY=($(compgen -W "--strict --json --help" -- "$word")) ;;
+        check:-*) COMPREPLY=($(compgen -W "--strict --json --floats --help" -- "$word")) ;;
+        resolve:-*) COMPREPLY=($(compgen -W "--floats --help" -- "$word")) ;;
         compare:-*) COMPREPLY=($(compgen -W "--flag --picture --strict --json --help" -- "$word")) ;;
         bucket:-* | price:-*) COMPREPLY=($(compgen -W "--json --help" -- "$word")) ;;
         plan:-*) COMPREPLY=($(compgen -W "--refine --strict --explain --picture --help" -- "$word")) ;;
         picture:-*) COMPREPLY=($(compgen -W "--refine --ramp --help" -- "$word")) ;;
         verify:-*) COMPREPLY=($(compgen -W "--refine --strict --json --help" -- "$word")) ;;
         ramp:-* | verify-ramp:-*) COMPREPLY=($(compgen -W "--refine --strict --help" -- "$word")) ;;
-        tally:-*) COMPREPLY=($(compgen -W "--refine --help" -- "$word")) ;;
-        record:-*) COMPREPLY=($(compgen -W "--moment --workers --help" -- "$word")) ;;
+        tally:-*) COMPREPLY=($(compgen -W "--refine --floats --help" -- "$word")) ;;
+        record:-*) COMPREPLY=($(compgen -W "--moment --workers --floats --help" -- "$word")) ;;
         apply:-*) COMPREPLY=($(compgen -W "--keep --write --refine --strict --doubted --step --help" -- "$word")) ;;
         book:-*) COMPREPLY=($(compgen -W "--torn --replace --help" -- "$word")) ;;
-        ofrep:-*) COMPREPLY=($(compgen -W "--listen --admin --allow-stop --access-log --idle --max-body --cors --keys --log --remember --without-record --stream --workers --poll --broken --help" -- "$word")) ;;
+        ofrep:-*) COMPREPLY=($(compgen -W "--listen --admin --allow-stop --access-log --idle --max-body --cors --keys --log --log-points --remember --without-record --stream --workers --poll --broken --help" -- "$word")) ;;
         drive:-*) COMPREPLY=($(compgen -W "--add --replace --strict --json --help" -- "$word")) ;;
-        serve:-* | follow:-*) COMPREPLY=($(compgen -W "--wait --help" -- "$word")) ;;
+        serve:-*) COMPREPLY=($(compgen -W "--wait --floats --help" -- "$word")) ;;
+        follow:-*) COMPREPLY=($(compgen -W "--wait --help" -- "$word")) ;;
         *:-*) COMPREPLY=($(compgen -W "--help" -- "$word")) ;;
         completions:*) COMPREPLY=($(compgen -W "bash fish zsh" -- "$word")) ;;
         help:*) COMPREPLY=($(compgen -W "bucket price check compare resolve plan verify apply drive book ramp verify-ramp picture record tally join ofrep serve follow completions" -- "$word")) ;;
         resolve:*)
             if [ "$COMP_CWORD" -eq 4 ]; then
-                COMPREPLY=($(compgen -W "bool text whole object boolean string integer" -- "$word"))
+                COMPREPLY=($(compgen -W "bool text whole object float boolean string integer" -- "$word"))
             else
                 COMPREPLY=($(compgen -f -- "$word"))
             fi
@@ -101,6 +103,7 @@ complete -c flagops -n __fish_use_subcommand -f -a completions -d 'Print the com
 complete -c flagops -n __fish_use_subcommand -f -a help -d 'Print the help of a command'
 complete -c flagops -n '__fish_seen_subcommand_from bucket price check compare verify drive' -l json -d 'Print the answer as JSON'
 complete -c flagops -n '__fish_seen_subcommand_from check compare plan verify apply drive ramp verify-ramp' -l strict -d 'Refuse what is else only told'
+complete -c flagops -n '__fish_seen_subcommand_from check resolve record tally serve' -l floats -d 'Take any numbers as variants'
 complete -c flagops -n '__fish_seen_subcommand_from compare' -l flag -x -d 'Only the pages of this flag'
 complete -c flagops -n '__fish_seen_subcommand_from compare' -l picture -r -d 'Write the picture of the pages'
 complete -c flagops -n '__fish_seen_subcommand_from plan' -l explain -d 'Tell the plan in words'
@@ -121,6 +124,7 @@ complete -c flagops -n '__fish_seen_subcommand_from ofrep' -l max-body -x -d 'Th
 complete -c flagops -n '__fish_seen_subcommand_from ofrep' -l cors -x -d 'An origin whose web pages may ask'
 complete -c flagops -n '__fish_seen_subcommand_from ofrep' -l keys -r -d 'The file of keys of which each request shows one'
 complete -c flagops -n '__fish_seen_subcommand_from ofrep' -l log -r -d 'The folder of the logs'
+complete -c flagops -n '__fish_seen_subcommand_from ofrep' -l log-points -d 'Record hashes in the place of hash inputs'
 complete -c flagops -n '__fish_seen_subcommand_from ofrep' -l remember -x -d 'The lines of the logs that are remembered'
 complete -c flagops -n '__fish_seen_subcommand_from ofrep' -l without-record -x -a 'answer refuse' -d 'What becomes of answers that cannot be recorded'
 complete -c flagops -n '__fish_seen_subcommand_from ofrep' -l workers -x -d 'The threads that answer'
@@ -171,8 +175,10 @@ _flagops() {
     case $words[2] in
         bucket | price) _arguments '--json[print the answer as JSON]' '--help[print help]' '*:file:_files' ;;
         check)
-            _arguments '--strict[refuse what is else only told]' '--json[print the answer as JSON]' '--help[print help]' '*:file:_files'
+            _arguments '--strict[refuse what is else only told]' '--json[print the answer as JSON]' \
+                '--floats[take any numbers as variants]' '--help[print help]' '*:file:_files'
             ;;
+        resolve) _arguments '--floats[take any numbers as variants]' '--help[print help]' '*:file:_files' ;;
         compare)
             _arguments '--flag[only the pages of this flag]:KEY:' '--picture[write the picture of the pages]:file:_files' \
                 '--strict[refuse what is else only told]' '--json[print the answer as JSON]' '--help[print help]' '*:file:_files'
@@ -189,10 +195,12 @@ _flagops() {
         ramp | verify-ramp)
             _arguments '--refine[plan in finer points]:M:' '--strict[refuse what is else only told]' '--help[print help]' '*:file:_files'
             ;;
-        tally) _arguments '--refine[plan in finer points]:M:' '--help[print help]' '*:file:_files' ;;
+        tally)
+            _arguments '--refine[plan in finer points]:M:' '--floats[take any numbers as variants]' '--help[print help]' '*:file:_files'
+            ;;
         record)
             _arguments '--moment[the time of the evaluations]:MOMENT:' '--workers[the most threads that evaluate]:WORKERS:' \
-                '--help[print help]' '*:file:_files'
+                '--floats[take any numbers as variants]' '--help[print help]' '*:file:_files'
             ;;
         apply)
             _arguments '--keep[verify the plan and keep the rest of the text]' '--write[with --keep\: write over the document]' \
@@ -208,6 +216,7 @@ _flagops() {
             _arguments '--listen[the address and port of the service]:ADDRESS\:PORT:' '--log[the folder of the logs]:folder:_files -/' \
                 '--admin[the address and port of health and metrics]:ADDRESS\:PORT:' \
                 '--allow-stop[let POST /stop there end the service]' '--access-log[tell a line of each request]' \
+                '--log-points[record hashes in the place of hash inputs]' \
                 '--idle[the seconds for which an idle connection is kept]:S:' '--max-body[the most bytes of a body]:BYTES:' \
                 '*--cors[an origin whose web pages may ask]:ORIGIN:' '--keys[the file of keys of which each request shows one]:file:_files' \
                 '--remember[the lines of the logs that are remembered]:N:' \
@@ -222,7 +231,10 @@ _flagops() {
                 '--strict[refuse what is else only told]' '--json[print the answer as JSON]' \
                 '--help[print help]' '*:file:_files'
             ;;
-        serve | follow) _arguments '--wait[the most seconds to wait]:S:' '--help[print help]' '*:file:_files' ;;
+        serve)
+            _arguments '--wait[the most seconds to wait]:S:' '--floats[take any numbers as variants]' '--help[print help]' '*:file:_files'
+            ;;
+        follow) _arguments '--wait[the most seconds to wait]:S:' '--help[print help]' '*:file:_files' ;;
         completions) _arguments '--help[print help]' '2:shell:(bash fish zsh)' ;;
         *) _arguments '--help[print help]' '*:file:_files' ;;
     esac

@@ -48,7 +48,7 @@ Load-sync = search (sendable, crosses) depth 40
 
 Board-sync : IsSync Board.the_row
 Board-sync =
-    declared_sync Board.the_type (Counts-sync, (Load-sync, (search (sendable, crosses) depth 40, (search (sendable, crosses) depth 40, (search (sendable, crosses) depth 40, (search (sendable, crosses) depth 40, (search (sendable, crosses) depth 40, (search (sendable, crosses) depth 40, (search (sendable, crosses, KeyRing-sync) depth 40, (search (sendable, crosses) depth 40, (search (sendable, crosses, AccessLines-sync) depth 40, (search (sendable, crosses) depth 40, tt))))))))))))
+    declared_sync Board.the_type (Counts-sync, (Load-sync, (search (sendable, crosses) depth 40, (search (sendable, crosses) depth 40, (search (sendable, crosses) depth 40, (search (sendable, crosses) depth 40, (search (sendable, crosses) depth 40, (search (sendable, crosses) depth 40, (search (sendable, crosses) depth 40, (search (sendable, crosses, KeyRing-sync) depth 40, (search (sendable, crosses) depth 40, (search (sendable, crosses, AccessLines-sync) depth 40, (search (sendable, crosses) depth 40, tt)))))))))))))
 
 TcpListener-send : IsSend TcpListener.the_row
 TcpListener-send = search (sendable, crosses) depth 40

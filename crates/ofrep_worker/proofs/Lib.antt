@@ -1,4 +1,5 @@
 pub mod Crossings
+mod Counting
 mod Steps
 mod Sending
 mod Recorded

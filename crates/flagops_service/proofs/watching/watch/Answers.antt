@@ -22,13 +22,14 @@ loop-turn-preserved g c =
       | then-waits w ↦ subst (λ (all : List Flags). Publishes (sources_view now.sources) l.publisher all) (sym w.publisher-is) w.publish-waits.ensures
       | else-waits w ↦ inl w.publisher-is
     ] in
-    let reads = reads_as (g.F.FileSet.holding l.files) holding l.watched.broken old.broken (map (λ (p : Bor (List ℕ)). p.now) l.watched.paths.now) paths (kept_of l.watched) (kept_of now) l.invariant.1 l.invariant.2 (ap (λ ps. map (λ (p : Bor (List ℕ)). p.now) ps.now) l.invariant.3) read.ensures.reads in
+    let held = c.show_sizes.ensures ∙ l.invariant.1 in
+    let reads = reads_as (g.F.FileSet.holding c.show_sizes.new.files) holding l.watched.broken old.broken (map (λ (p : Bor (List ℕ)). p.now) l.watched.paths.now) paths (kept_of l.watched) (kept_of now) held l.invariant.2 (ap (λ ps. map (λ (p : Bor (List ℕ)). p.now) ps.now) l.invariant.3) read.ensures.reads in
     let so_far = l.invariant.0 in (
       (
         so_far.0 ++ state_of now last ∷ [],
         one_turn holding old.broken paths so_far.0 (state_of old c.args.publisher.now) (state_of l.watched l.publisher) (state_of now last) so_far.1 (inl reads, published),
       ),
-      c.renew.ensures.kept ∙ read.ensures.kept ∙ l.invariant.1,
+      c.renew.ensures.kept ∙ read.ensures.kept ∙ held,
       read.ensures.mode ∙ l.invariant.2,
       read.ensures.paths ∙ l.invariant.3,
     )
