@@ -56,7 +56,7 @@ MORE = r"""{"flags":{
 TEST = '{"key":"test","targetingKey":"st"}'
 
 # The default that is given for a kind.
-DEFAULTS = {"bool": "false", "text": '"d"', "whole": "9", "object": '{"d":null}'}
+DEFAULTS = {"bool": "false", "text": '"d"', "whole": "9", "object": '{"d":null}', "float": "8"}
 
 
 def matched(value, variant, reached=""):
@@ -91,6 +91,8 @@ RESOLUTIONS = [
     ("bare", "whole", TEST, given("DEFAULT", "9")),
     ("te", "whole", TEST, matched("2", "blue", '[0,"test",100]')),
     ("te", "whole", "{}", given("DEFAULT", "1", '"red"')),
+    ("te", "float", "{}", given("DEFAULT", "1", '"red"')),
+    ("plain", "float", TEST, failed("TYPE_MISMATCH", "8")),
     ("nope", "bool", TEST, failed("FLAG_NOT_FOUND", "false")),
     ("nope", "bool", "[]", failed("INVALID_CONTEXT", "false")),
 ]
@@ -114,7 +116,7 @@ REFUSALS = [
     ('"d"', '{"a":1.5}', "refused read_tree 2 NotWhole\n"),
 ]
 
-# A kind, a moment and the status: a kind is one of four, a moment a number up to 2^53-1.
+# A kind, a moment and the status: a kind is one of five, a moment a number up to 2^53-1.
 WORDS = [
     ("bool", "0", 0),
     ("object", "+5", 0),

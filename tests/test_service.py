@@ -18,6 +18,7 @@ import threading
 import unittest
 
 from program import PROGRAM, SECONDS, free_port, run, wait_until
+from test_planner import murmur3
 
 FLAGS = "/ofrep/v1/evaluate/flags"
 JSON = "application/json"
@@ -1107,6 +1108,26 @@ class Logs(ServiceTest):
 
     def test_nothing_is_remembered(self):
         self.assertEqual(self.told_again("--remember", "0"), ["a", "b", "c", "a", "b", "c", "c"])
+
+    def test_hashes_in_the_place_of_inputs(self):
+        if "--log-points" not in run(["ofrep", "--help"], {}).out:
+            self.skipTest("waits for a release that writes hashes")
+        child = self.start("--log", "log", "--log-points", "--workers", "1")
+        self.told(child, "the hashes of hash inputs")
+        keys = [f"user-{number}" for number in range(20)]
+        hashes = [compact(["color", 0, None, murmur3(f"color{key}".encode())]) for key in keys]
+        for key in [*keys, *keys]:
+            self.assertEqual(self.flag("color", context(key)), (200, color_of(key)))
+        self.assertEqual(self.notes(), hashes)
+        child.kill()
+        child.communicate()
+        self.start("--log", "log", "--log-points", "--workers", "1", "--remember", "0")
+        self.flag("color", context(keys[0]))
+        self.assertEqual(self.notes(), [*hashes, hashes[0]])
+        with open(os.path.join(self.folder, "log", "worker-1.log"), encoding="utf-8") as file:
+            lines = sorted(set(file), key=str.encode)
+        ran = run(["tally", "d", "color", "0"], {"d": compact(DOCUMENT)}, input="".join(lines))
+        self.assertEqual((json.loads(ran.out.splitlines()[1])["inputs"], ran.status), (len(keys), 0))
 
     def test_without_a_log(self):
         child = self.start()

@@ -45,7 +45,7 @@ type Resolution struct {
 // ErrClosed says that the client is closed.
 var ErrClosed = errors.New("flagops: the client is closed")
 
-var fallbacks = [...][]byte{[]byte("false"), []byte(`""`), []byte("0"), []byte("{}")}
+var fallbacks = [...][]byte{[]byte("false"), []byte(`""`), []byte("0"), []byte("{}"), []byte("0")}
 
 // Client resolves flags for a whole process.
 type Client struct {

@@ -68,9 +68,9 @@ func (p Provider) IntEvaluation(_ context.Context, flag string, fallback int64, 
 	return IntDetail{value, detail}
 }
 
-// FloatEvaluation resolves a flag of whole numbers, each as a float.
+// FloatEvaluation resolves a flag of floats, or of whole numbers, each as a float. One that no float64 can have is GENERAL.
 func (p Provider) FloatEvaluation(_ context.Context, flag string, fallback float64, in map[string]any) FloatDetail {
-	value, detail := resolved(p.Client, flag, Integer, fallback, in)
+	value, detail := resolved(p.Client, flag, Float, fallback, in)
 	return FloatDetail{value, detail}
 }
 

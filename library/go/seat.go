@@ -14,12 +14,13 @@ import (
 // Kind is the kind of value that is asked for.
 type Kind uint32
 
-// The kinds of values. Numbers are whole.
+// The kinds of values. A flag of whole numbers answers Float, too.
 const (
 	Bool    Kind = C.FLAGOPS_BOOL
 	String  Kind = C.FLAGOPS_STRING
 	Integer Kind = C.FLAGOPS_INTEGER
 	Object  Kind = C.FLAGOPS_OBJECT
+	Float   Kind = C.FLAGOPS_FLOAT
 )
 
 // Refused is the number of a refusal, as flagops.h has them.

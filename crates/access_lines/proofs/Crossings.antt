@@ -5,4 +5,4 @@ use Rattle.std.proofs.Crossing.{crosses}
 use Rattle.access_lines.specs.contracts.lines.AccessLines as AccessLines
 
 pub AccessLines-sync : IsSync AccessLines.the_row
-AccessLines-sync = declared_sync AccessLines.the_type (search (sendable, crosses) depth 60, (search (sendable, crosses) depth 40, tt))
+AccessLines-sync = declared_sync AccessLines.the_type (search (sendable, crosses) depth 80, tt)

@@ -24,8 +24,10 @@ pub struct LoggedService<'a, R, S> {
     rt: &'a R,
     alloc: Global,
     lines: Option<&'a AccessLines>,
+    /// Its own lines, how many they are, and how many it has left out since it handed any over.
     own: Vec<u8>,
     count: u64,
+    left_out: u64,
     service: S,
 }
 
@@ -45,6 +47,7 @@ impl<'a, R, S> LoggedService<'a, R, S> {
             lines,
             own: Vec::new(alloc),
             count: 0,
+            left_out: 0,
             service,
         }
     }
@@ -63,7 +66,7 @@ impl<R: Clock, S> LoggedService<'_, R, S> {
     fn keep(&mut self, begun: Option<Instant>, request: &Request<Bytes>, status: StatusCode)
         ensures { self.new.service ≡ self.old.service }
     {
-        let (Some(lines), Some(begun)) = (self.lines, begun) else {
+        let Some(begun) = begun else {
             return;
         };
         let micros = micros_since(self.rt, begun);
@@ -74,7 +77,7 @@ impl<R: Clock, S> LoggedService<'_, R, S> {
             None => false,
         };
         if !is_kept {
-            lines.leave_out();
+            self.left_out = self.left_out.saturating_add(1);
         }
     }
 }
@@ -107,8 +110,12 @@ impl<R, S> LoggedService<'_, R, S> {
         let Some(lines) = self.lines else {
             return;
         };
-        if self.count > 0 && lines.hand_over(&mut self.own, self.count) {
+        if self.count == 0 && self.left_out == 0 {
+            return;
+        }
+        if lines.hand_over(&mut self.own, self.count, self.left_out) {
             self.count = 0;
+            self.left_out = 0;
         }
     }
 }

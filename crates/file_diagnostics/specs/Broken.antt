@@ -1,11 +1,13 @@
 -- Diagnostics of the flags of a document that are broken.
-use Rattle.std.specs.Prelude.{◌≡◌, ◌++◌, ℕ, List, [], ◌∷◌, Option, Some, None, Ok, codes}
+use Rattle.std.specs.Prelude.{◌≡◌, ◌++◌, ℕ, Bool, true, false, List, [], ◌∷◌, Option, Some, None, Result, Ok, codes}
 use Rattle.flag_defs.specs.DefinitionError.{AllTell}
 use Rattle.flag_defs.specs.Document.{evaluators_in, flags_in, or_no_members}
 use Rattle.flag_defs.specs.declared.definition_error.DefinitionError.{DefinitionError}
 use Rattle.flag_defs.specs.declared.definition_error.DefinitionError.TheVariants as definition_error
 use Rattle.flag_text.specs.Reading.{doc_of}
 use Rattle.flag_text.specs.Shape.{Members, Shape, no_members, member}
+use Rattle.flag_text.specs.declared.fault.TextFault.{TextFault}
+use Rattle.float_variants.specs.Reading.{doc_with_floats}
 use Rattle.file_diagnostics.specs.Named.{step}
 
 -- the member of a flag's definition that a rule is about; nothing where it is about the definition
@@ -54,6 +56,11 @@ abbrev pub TellsFlags : Shape → List ℕ → Type 0
 TellsFlags document lines =
     (found : List (Option DefinitionError)) × AllTell (evaluators_in document) (or_no_members (flags_in document)) found × BrokenLines (or_no_members (flags_in document)) found lines
 
--- the same of the bytes of a document
-unfoldable pub TellsBroken : List ℕ → List ℕ → Type 0
-TellsBroken bytes lines = (document : Shape) × (doc_of bytes 4194304 ≡ Ok document) × TellsFlags document lines
+-- the tree of a document that may have floats, or may not
+abbrev pub document_in : Bool → List ℕ → Result Shape TextFault
+document_in true bytes = doc_with_floats bytes 4194304
+document_in false bytes = doc_of bytes 4194304
+
+-- the same of the bytes of such a document
+unfoldable pub TellsBroken : Bool → List ℕ → List ℕ → Type 0
+TellsBroken floats bytes lines = (document : Shape) × (document_in floats bytes ≡ Ok document) × TellsFlags document lines

@@ -1,32 +1,50 @@
 //! Diagnostics of the flags of a document that are broken.
-ghost use Rattle.std.specs.Prelude.{◌≡◌, IfOk, length, option_and_then, string_bytes};
+ghost use Rattle.std.specs.Prelude.{◌≡◌, true, IfOk, length, option_and_then, string_bytes};
+ghost use Rattle.flag_text.specs.Outcome.{GivesUnless};
+ghost use Rattle.flag_text.specs.Shape.{is_tidy};
 ghost use Rattle.flag_defs.specs.Document.{or_no_members};
 ghost use Rattle.flag_text.specs.Readers.{as_object, member_of};
 ghost use Rattle.flag_text.specs.View.{members_view, view};
-ghost use Rattle.file_diagnostics.specs.Broken.{BrokenLines, IsBrokenLine, TellsBroken, rule_member, rule_name};
+ghost use Rattle.file_diagnostics.specs.Broken.{BrokenLines, IsBrokenLine, TellsBroken, document_in, rule_member, rule_name};
 
 use crate::lines::Lines;
 use crate::quoting::quoted_step;
 use crate::referred::Referred;
 use crate::search::Sought;
 use flag_defs::{DefinitionError, Kind, definition_errors};
-use flag_text::{Tree, read_doc};
+use flag_text::{TextFault, Tree, read_doc};
+use float_variants::read_with_floats;
 use limits::TEXT_BYTES;
 use std::alloc::{AllocError, Global};
 
 /// A line for each broken flag of the document that the bytes are, in the order of the keys: the first rule that it
-/// breaks, and where.
+/// breaks, and where. The document may have floats, or may not; of a flag that only lacks that it says so.
 #[tactic(auto, unfolding(crate::specs::Broken::TellsBroken))]
-pub fn of_definition_errors(alloc: Global, bytes: &[u8]) -> Result<String, AllocError>
-    ensures { IfOk result (λ s. TellsBroken bytes.now (string_bytes s)) }
+pub fn of_definition_errors(alloc: Global, bytes: &[u8], floats: bool) -> Result<String, AllocError>
+    ensures { IfOk result (λ s. TellsBroken floats bytes.now (string_bytes s)) }
 {
-    let Ok(document) = read_doc(alloc, bytes, TEXT_BYTES) else {
+    let Ok(document) = document_in(alloc, bytes, floats) else {
         return Err(AllocError);
     };
     let found = definition_errors(alloc, &document)?;
-    let mut causes = Causes::new(alloc, members_in(&document, "$evaluators"));
+    let mut causes = Causes::new(alloc, members_in(&document, "$evaluators"), floats);
     let flags = members_in(&document, "flags");
     lines_of(alloc, flags, &mut causes, found.as_slice())
+}
+
+/// The tree of a document that may have floats, or may not.
+fn document_in(alloc: Global, bytes: &[u8], floats: bool) -> Result<Tree, TextFault>
+    ensures exact { GivesUnless TextFault.WantOfMemory view result (document_in floats bytes.now) }
+    ensures tidy { IfOk result (λ t. is_tidy (view t) ≡ true) }
+{
+    if floats {
+        match read_with_floats(alloc, bytes, TEXT_BYTES) {
+            Ok(document) => Ok(document.tree),
+            Err(fault) => Err(fault),
+        }
+    } else {
+        read_doc(alloc, bytes, TEXT_BYTES)
+    }
 }
 
 /// What is sought where a flag is broken by something that lies deeper, for each rule that speaks of such.
@@ -36,15 +54,18 @@ struct Causes<'a> {
     unknown: Referred<'a>,
     parts: Referred<'a>,
     misuses: Referred<'a>,
+    /// Whether the document may have floats.
+    floats: bool,
 }
 
 impl<'a> Causes<'a> {
-    fn new(alloc: Global, evaluators: &'a [(String, Tree)]) -> Causes<'a> {
+    fn new(alloc: Global, evaluators: &'a [(String, Tree)], floats: bool) -> Causes<'a> {
         Causes {
             numbers: Referred::new(alloc, &[], Sought::NotWhole),
             unknown: Referred::new(alloc, evaluators, Sought::Unknown(evaluators)),
             parts: Referred::new(alloc, evaluators, Sought::NotWhole),
             misuses: Referred::new(alloc, evaluators, Sought::Misuse),
+            floats,
         }
     }
 }
@@ -169,8 +190,15 @@ fn put_definition_error(
             }
             _ => put_other(lines, value, "no object of 1 to 64 variants"),
         },
-        DefinitionError::Kinds => put_kinds(lines, members_in(definition, "variants")),
-        DefinitionError::VariantNumber => causes.numbers.put(lines, value)?,
+        DefinitionError::Kinds => {
+            let variants = members_in(definition, "variants");
+            put_kinds(lines, variants);
+            put_floats(lines, variants, causes.floats);
+        }
+        DefinitionError::VariantNumber => {
+            causes.numbers.put(lines, value)?;
+            put_floats(lines, members_in(definition, "variants"), causes.floats);
+        }
         DefinitionError::VariantLevels => write!(lines, " nests deeper than 100 levels"),
         DefinitionError::DefaultVariant => {
             let variants = lines.listed(members_in(definition, "variants"));
@@ -223,11 +251,25 @@ fn put_kinds(lines: &mut Lines, variants: &[(String, Tree)]) {
     write!(lines, " are not of one kind");
 }
 
+/// That `--floats` reads these variants, where that may be and was not asked for: all are numbers, or all objects.
+fn put_floats(lines: &mut Lines, variants: &[(String, Tree)], floats: bool) {
+    let are_numbers = variants
+        .iter()
+        .all(|(_, value)| matches!(value, Tree::Whole(_) | Tree::Other));
+    let are_objects = variants
+        .iter()
+        .all(|(_, value)| matches!(value, Tree::Object(_)));
+    if !floats && (are_numbers || are_objects) {
+        write!(lines, "; --floats reads it");
+    }
+}
+
 fn in_words(kind: Kind) -> &'static str {
     match kind {
         Kind::Bool => "a boolean",
         Kind::Text => "a text",
         Kind::Whole => "a whole number",
         Kind::Object => "an object",
+        Kind::Float => "a number",
     }
 }

@@ -141,7 +141,7 @@ definition-back : (d : Definition) → is_definition d ≡ true → Means no_mem
 definition-back broken h = λ r g. let none = g.state in cc
 definition-back (good r) h = good-back r h
 
-all-back : (fs : Definitions) → AllByRecursion (λ f. is_definition f.1 ≡ true) fs → AllMean no_members (definitions_written fs) fs
+pub all-back : (fs : Definitions) → AllByRecursion (λ f. is_definition f.1 ≡ true) fs → AllMean no_members (definitions_written fs) fs
 all-back [] h = tt
 all-back (f ∷ fs) h = (refl, definition-back f.1 h.0, all-back fs h.1)
 
@@ -189,7 +189,7 @@ if_whole_is : (r : Result Shape TextFault) (t : Shape) → if_whole r ≡ Ok t �
 if_whole_is (Err e) t h = cc
 if_whole_is (Ok u) t h = ap Ok (whole_at (nat_lt max_levels (levels u)) (has_other u) u t h)
 
-limited-back : (fs : Definitions) → length fs ≤ max_flags → length (printed fs) ≤ max_bytes → limited fs ≡ Ok fs
+pub limited-back : (fs : Definitions) → length fs ≤ max_flags → length (printed fs) ≤ max_bytes → limited fs ≡ Ok fs
 limited-back fs few small = rw (le-ltb max_flags (length fs) few, le-ltb max_bytes (length (printed fs)) small) refl
 
 -- bytes that are printed for flags, and read as what is written, mean these flags

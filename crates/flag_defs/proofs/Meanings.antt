@@ -1,6 +1,8 @@
 -- A document has one meaning at most.
 use Rattle.std.proofs.Common.{◌≡◌, ℕ, List, [], ◌∷◌, Bool, Option, Some, None, Ok, Err, refl, sym, ap, ◌∙◌}
 use Rattle.std.specs.Prelude.{codes, Result}
+use Rattle.float_variants.specs.Marks.{marks_of_text}
+use Rattle.float_variants.specs.Reading.{doc_with_floats}
 use Rattle.flag_text.specs.Reading.{doc_of}
 use Rattle.flag_text.specs.Readers.{find_member}
 use Rattle.flag_text.specs.Shape.{Shape, null, boolean, whole, other, text, list, object, Members, no_members, member}
@@ -9,6 +11,8 @@ use Rattle.flag_text.specs.declared.fault.TextFault.TheVariants as text_fault
 use Rattle.logic_ast.specs.Expression.{Expression}
 use Rattle.flag_defs.specs.Definition.{Rules, Definition, broken, good, targeting_of, HasTargeting, IsGood, Means, state_of, variants_of, default_of, or_null}
 use Rattle.flag_defs.specs.Document.{Definitions, AllMean, FlagsMean, TextMeans, HasOneMeaning, evaluators_in, flags_in, max_bytes, limited}
+use Rattle.flag_defs.specs.Floats.{Marks, MeansFlags, marked}
+use Rattle.flag_defs.specs.FloatsLaw.{HasOneMeaningWithFloats}
 use Rattle.flag_defs.specs.declared.fault.DefFault.{DefFault}
 use Rattle.flag_references.proofs.Inlined.{one_form}
 
@@ -81,7 +85,7 @@ flags_mean_one : (evaluators : Members) (o : Option Members) (r s : Result Defin
 flags_mean_one evaluators None r s p q = p ∙ sym q
 flags_mean_one evaluators (Some ms) r s p q = p.2 ∙ (ap limited (all_mean_one evaluators ms p.0 q.0 p.1 q.1) ∙ sym q.2)
 
-text_means_one : (x : Result Shape TextFault) (r s : Result Definitions DefFault) → TextMeans x r → TextMeans x s → r ≡ s
+pub text_means_one : (x : Result Shape TextFault) (r s : Result Definitions DefFault) → TextMeans x r → TextMeans x s → r ≡ s
 text_means_one (Ok t) r s p q = flags_mean_one (evaluators_in t) (flags_in t) r s p q
 text_means_one (Err text_fault.WantOfMemory) r s p q = p ∙ sym q
 text_means_one (Err text_fault.TooLarge) r s p q = p ∙ sym q
@@ -91,3 +95,14 @@ text_means_one (Err text_fault.NotWhole) r s p q = p ∙ sym q
 
 pub one_meaning : HasOneMeaning
 one_meaning bytes r s p q = text_means_one (doc_of bytes max_bytes) r s p q
+
+pub one_meaning_with_floats : HasOneMeaningWithFloats
+one_meaning_with_floats bytes r s p q = text_means_one (doc_with_floats bytes max_bytes) r s p q
+
+pub same_flags : (bytes : List ℕ) (fs gs : Definitions) (ms ns : Marks) → MeansFlags bytes fs ms → MeansFlags bytes gs ns → (fs ≡ gs) × (ms ≡ ns)
+same_flags bytes fs gs ms ns p q =
+    let same_list : fs ≡ gs = one_ok (one_meaning_with_floats bytes (Ok fs) (Ok gs) p.0 q.0) in
+    (same_list, sym p.1 ∙ (ap (marked (marks_of_text bytes)) same_list ∙ q.1))
+  where
+    one_ok : ◌≡◌ {A = Result Definitions DefFault} (Ok fs) (Ok gs) → fs ≡ gs
+    one_ok e = cc

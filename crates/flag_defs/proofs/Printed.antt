@@ -21,7 +21,7 @@ use Rattle.flag_defs.proofs.Lawful.{whole_rules}
 pub formed_targeting : (e : Expression) → is_targeting e ≡ true → is_well_formed e ≡ true
 formed_targeting e h = left (is_well_formed e) _ h
 
-whole_targeting : (e : Expression) → is_targeting e ≡ true → is_whole (written e) ≡ true
+pub whole_targeting : (e : Expression) → is_targeting e ≡ true → is_whole (written e) ≡ true
 whole_targeting e h = is_whole-written 0 e (left (is_formed 0 e) _ (formed_targeting e h))
 
 pub targetings_of : (r : Rules) → are_rules r ≡ true → are_targetings r.targeting ≡ true

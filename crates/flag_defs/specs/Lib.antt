@@ -6,6 +6,8 @@ pub mod Entries
 pub mod Fault
 pub mod Flag
 pub mod Flags
+pub mod Floats
+pub mod FloatsLaw
 pub mod Foreseen
 pub mod Kind
 pub mod Law
@@ -14,5 +16,8 @@ pub mod Members
 pub mod Outline
 pub mod PrintedBytes
 pub mod Rules
+pub mod Spelled
+pub mod SpelledLaw
+pub mod Spellings
 pub mod Targeting
 pub mod Weighing

@@ -21,6 +21,7 @@ use std::alloc::{AllocError, Global};
 pub(crate) fn limited(alloc: Global, flags: Vec<(String, Flag)>) -> Result<Flags, DefFault>
     requires { IsStrictlySortedBy (slice_cmp nat_cmp) (keys_of (entries_view flags.items)) }
     ensures exact { GivesUnless DefFault.WantOfMemory flags_view result (limited (entries_view flags.items)) }
+    ensures same { IfOk result (λ fs. fs.flags.items ≡ flags.items) }
     ensures many { max_flags < length flags.items → IsErrOf result DefFault.TooLarge }
 {
     if flags.len() > FLAGS {

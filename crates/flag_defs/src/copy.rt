@@ -2,6 +2,7 @@
 ghost use Rattle.std.specs.Prelude.{◌≡◌, true, IfOk, IsOk, option_map, string_bytes};
 ghost use Rattle.logic_ast.specs.Expr.{view};
 ghost use Rattle.flag_defs.specs.Flag.{entries_view, flag_view, is_broken, rules_view};
+ghost use Rattle.flag_defs.specs.Floats.{entries_floats, floats_of};
 
 use crate::flag::Flag;
 use crate::members::copy_members;
@@ -13,6 +14,7 @@ impl Flag {
     /// An equal flag. That of a broken one takes no memory.
     pub fn copy(&self, alloc: Global) -> Result<Flag, AllocError>
         ensures value { IfOk result (λ f. flag_view f ≡ flag_view self.now) }
+        ensures floats { IfOk result (λ f. floats_of f ≡ floats_of self.now) }
         ensures broken { is_broken (flag_view self.now) ≡ true → IsOk result }
     {
         match &self.rules {
@@ -25,7 +27,8 @@ impl Flag {
 }
 
 fn copy_rules(alloc: Global, rules: &Rules) -> Result<Rules, AllocError>
-    ensures { IfOk result (λ r. rules_view r ≡ rules_view rules.now) }
+    ensures value { IfOk result (λ r. rules_view r ≡ rules_view rules.now) }
+    ensures floats { IfOk result (λ r. r.has_floats ≡ rules.now.has_floats) }
 {
     let variants = copy_members(alloc, rules.variants.as_slice())?;
     let default_variant = copy_name(&rules.default_variant)?;
@@ -35,6 +38,7 @@ fn copy_rules(alloc: Global, rules: &Rules) -> Result<Rules, AllocError>
         variants,
         default_variant,
         targeting,
+        has_floats: rules.has_floats,
     })
 }
 
@@ -61,7 +65,8 @@ pub(crate) fn copy_entries(
     alloc: Global,
     flags: &[(String, Flag)],
 ) -> Result<Vec<(String, Flag)>, AllocError>
-    ensures { IfOk result (λ v. entries_view v.items ≡ entries_view flags.now) }
+    ensures value { IfOk result (λ v. entries_view v.items ≡ entries_view flags.now) }
+    ensures floats { IfOk result (λ v. entries_floats v.items ≡ entries_floats flags.now) }
 {
     let mut copies = Vec::with_capacity(alloc, flags.len())?;
     for (key, flag) in flags {

@@ -1,9 +1,10 @@
 //! From a definition to a flag.
-ghost use Rattle.std.specs.Prelude.{◌≡◌, true, Option, Some, option_map, option_copied, string_bytes, IfOk};
+ghost use Rattle.std.specs.Prelude.{◌≡◌, true, false, Option, Some, option_map, option_copied, string_bytes, IfOk};
 ghost use Rattle.flag_text.specs.Shape.{object, is_tidy, members_are_tidy};
 ghost use Rattle.flag_text.specs.View.{view as tree_view, members_view};
 ghost use Rattle.flag_defs.specs.Definition.{Means, good};
 ghost use Rattle.flag_defs.specs.Flag.{flag_view};
+ghost use Rattle.flag_defs.specs.Floats.{floats_of};
 ghost use Rattle.flag_defs.specs.Foreseen.{Foresees};
 ghost use Rattle.flag_defs.specs.Rules.{are_rules, rules_of};
 ghost use Rattle.flag_defs.specs.Weighing.{IsWeighed};
@@ -41,7 +42,7 @@ fn members_forecast(members: &[(String, Tree)], evaluators: &Evaluators<'_>) -> 
     targeting_forecast(member_by_halving(members, "targeting"), evaluators)
 }
 
-/// The flag of a definition of which this is foreseen. The condition is that it was weighed with all others of its document.
+/// The flag of a definition of which this is foreseen, without floats. The condition is that it was weighed with all others of its document.
 /// The definition is consumed: the variants and the targeting are moved out of it, and all else is dropped.
 pub(crate) fn read_flag(
     alloc: Global,
@@ -52,7 +53,8 @@ pub(crate) fn read_flag(
     requires tidy { is_tidy (tree_view definition) ≡ true }
     requires foreseen { Foresees (members_view evaluators.now) (tree_view definition) forecast }
     requires weighed { IsWeighed (members_view evaluators.now) (tree_view definition) }
-    ensures { IfOk result (λ f. Means (members_view evaluators.now) (tree_view definition) (flag_view f)) }
+    ensures means { IfOk result (λ f. Means (members_view evaluators.now) (tree_view definition) (flag_view f)) }
+    ensures floats { IfOk result (λ f. floats_of f ≡ false) }
 {
     match definition {
         Tree::Object(members) => read_members(alloc, members, forecast, evaluators),
@@ -69,7 +71,8 @@ fn read_members(
     requires tidy { members_are_tidy (members_view members.items) ≡ true }
     requires foreseen { Foresees (members_view evaluators.now) (object (members_view members.items)) forecast }
     requires weighed { IsWeighed (members_view evaluators.now) (object (members_view members.items)) }
-    ensures { IfOk result (λ f. Means (members_view evaluators.now) (object (members_view members.items)) (flag_view f)) }
+    ensures means { IfOk result (λ f. Means (members_view evaluators.now) (object (members_view members.items)) (flag_view f)) }
+    ensures floats { IfOk result (λ f. floats_of f ≡ false) }
 {
     let Some(outline) = outline_of(members.as_slice()) else {
         return Ok(Flag { rules: None });
@@ -93,13 +96,15 @@ fn good_flag(
     targeting: Option<Expr>,
 ) -> Flag
     requires { are_rules (rules_of enabled variants.items default_variant targeting) ≡ true }
-    ensures { flag_view result ≡ good (rules_of enabled variants.items default_variant targeting) }
+    ensures value { flag_view result ≡ good (rules_of enabled variants.items default_variant targeting) }
+    ensures floats { floats_of result ≡ false }
 {
     let rules = Rules {
         enabled,
         variants,
         default_variant,
         targeting,
+        has_floats: false,
     };
     Flag { rules: Some(rules) }
 }

@@ -8,9 +8,10 @@ ghost use Rattle.std.specs.Str.{is_utf8};
 ghost use Rattle.flag_text.specs.Shape.{is_tidy, members_are_tidy};
 ghost use Rattle.flag_text.specs.View.{view, members_view};
 ghost use Rattle.flag_defs.specs.Document.{AllMean, DocumentMeans, FlagsMean, evaluators_in, flags_in, max_bytes};
-ghost use Rattle.flag_defs.specs.Entries.{HoldsLimited};
+ghost use Rattle.flag_defs.specs.Entries.{AreMeant, HoldsLimited};
 ghost use Rattle.flag_defs.specs.Fault.{of_text};
 ghost use Rattle.flag_defs.specs.Flag.{entries_view};
+ghost use Rattle.flag_defs.specs.Floats.{are_unmarked, entries_floats};
 ghost use Rattle.flag_defs.specs.Foreseen.{AllForesee, least_sum};
 ghost use Rattle.flag_defs.specs.Weighing.{AreLight};
 
@@ -35,6 +36,7 @@ use std::alloc::{AllocError, Global};
 pub(crate) fn read_entries(alloc: Global, bytes: &[u8]) -> Result<Vec<(String, Flag)>, DefFault>
     ensures means { HoldsLimited (DocumentMeans bytes.now) result }
     ensures rising { IfOk result (λ v. IsStrictlySortedBy (slice_cmp nat_cmp) (keys_of (entries_view v.items))) }
+    ensures floats { IfOk result (λ v. are_unmarked (entries_floats v.items) ≡ true) }
     ensures large { max_bytes < length bytes.now → IsErrOf result DefFault.TooLarge }
     ensures no_text { length bytes.now ≤ max_bytes → is_utf8 bytes.now ≡ false → IsErrOf result DefFault.NotJson }
 {
@@ -45,7 +47,7 @@ pub(crate) fn read_entries(alloc: Global, bytes: &[u8]) -> Result<Vec<(String, F
 }
 
 /// The fault of a document whose text is refused.
-fn of_text(fault: TextFault) -> DefFault
+pub(crate) fn of_text(fault: TextFault) -> DefFault
     ensures { result ≡ of_text fault }
 {
     match fault {
@@ -56,10 +58,12 @@ fn of_text(fault: TextFault) -> DefFault
 }
 
 /// The document is consumed: what is not read of it is dropped at once, and each definition as its flag is made.
-fn read_document(alloc: Global, document: Tree) -> Result<Vec<(String, Flag)>, DefFault>
+pub(crate) fn read_document(alloc: Global, document: Tree) -> Result<Vec<(String, Flag)>, DefFault>
     requires { is_tidy (view document) ≡ true }
     ensures means { HoldsLimited (FlagsMean (evaluators_in (view document)) (flags_in (view document))) result }
+    ensures each { IfOk result (λ v. AreMeant (evaluators_in (view document)) (flags_in (view document)) (entries_view v.items)) }
     ensures rising { IfOk result (λ v. IsStrictlySortedBy (slice_cmp nat_cmp) (keys_of (entries_view v.items))) }
+    ensures floats { IfOk result (λ v. are_unmarked (entries_floats v.items) ≡ true) }
 {
     let Parts {
         definitions,
@@ -79,7 +83,9 @@ fn read_definitions(
 ) -> Result<Vec<(String, Flag)>, DefFault>
     requires { members_are_tidy (members_view definitions.items) ≡ true }
     ensures means { HoldsLimited (FlagsMean (members_view evaluators.now) (Some (members_view definitions.items))) result }
+    ensures each { IfOk result (λ v. AllMean (members_view evaluators.now) (members_view definitions.items) (entries_view v.items)) }
     ensures rising { IfOk result (λ v. IsStrictlySortedBy (slice_cmp nat_cmp) (keys_of (entries_view v.items))) }
+    ensures floats { IfOk result (λ v. are_unmarked (entries_floats v.items) ≡ true) }
 {
     let forecasts = forecasts_of(alloc, definitions.as_slice(), evaluators)?;
     let least = least_of_all(forecasts.as_slice());
@@ -133,7 +139,8 @@ fn read_all(
     requires tidy { members_are_tidy (members_view definitions.items) ≡ true }
     requires foreseen { AllForesee (members_view evaluators.now) (members_view definitions.items) forecasts.items }
     requires light { AreLight (members_view evaluators.now) (members_view definitions.items) }
-    ensures { IfOk result (λ v. AllMean (members_view evaluators.now) (members_view definitions.items) (entries_view v.items)) }
+    ensures means { IfOk result (λ v. AllMean (members_view evaluators.now) (members_view definitions.items) (entries_view v.items)) }
+    ensures floats { IfOk result (λ v. are_unmarked (entries_floats v.items) ≡ true) }
 {
     let mut flags = Vec::with_capacity(alloc, definitions.len())?;
     for ((key, definition), forecast) in definitions.into_iter().zip(forecasts) {

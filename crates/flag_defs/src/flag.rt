@@ -6,7 +6,11 @@ ghost use Rattle.std.specs.Ordering.{nat_cmp};
 ghost use Rattle.flag_text.specs.Shape.{is_whole};
 ghost use Rattle.flag_text.specs.View.{view as tree_view};
 ghost use Rattle.logic_ast.specs.Expr.{view};
+ghost use Rattle.flag_defs.specs.Definition.{good};
+ghost use Rattle.flag_defs.specs.Flag.{rules_view};
+ghost use Rattle.flag_defs.specs.Floats.{floats_kind};
 
+use crate::kind::{Kind, kind_as_spelled};
 use crate::members::names_of;
 use crate::rules::Rules;
 use flag_text::{Tree, member_by_halving};
@@ -21,6 +25,7 @@ pub struct Flag {
 
 impl Flag {
     ghost use Rattle.flag_defs.specs.Flag.{flag_view, is_broken, is_enabled, default_variant_of, variant_of, variant_names, targeting_in};
+    ghost use Rattle.flag_defs.specs.Floats.{floats_of};
 
     /// Whether its definition breaks a rule of flag documents, so that it has no parts.
     pub fn is_broken(&self) -> bool
@@ -63,6 +68,27 @@ impl Flag {
         }
     }
 
+    /// Whether the values of its variants stand as texts, which are their spelling, since a number among them is not whole. Those of
+    /// a broken flag do not.
+    pub fn has_floats(&self) -> bool
+        ensures { result ≡ floats_of self.now }
+    {
+        match &self.rules {
+            Some(rules) => rules.has_floats,
+            None => false,
+        }
+    }
+
+    /// The kind of the values of its variants where these stand as texts: [`Kind::Float`] or [`Kind::Object`].
+    pub fn floats_kind(&self) -> Option<Kind>
+        ensures { result ≡ floats_kind (flag_view self.now) (floats_of self.now) }
+    {
+        match &self.rules {
+            Some(rules) => floats_kind(rules),
+            None => None,
+        }
+    }
+
     /// Its targeting, where it has one. A broken flag has none.
     pub fn targeting(&self) -> Option<&Expr>
         ensures value { option_map (λ e. view e.now) result ≡ targeting_in (flag_view self.now) }
@@ -92,5 +118,15 @@ fn default_name(name: &Option<String>) -> Option<&str>
     match name {
         Some(name) => Some(name.as_str()),
         None => None,
+    }
+}
+
+fn floats_kind(rules: &Rules) -> Option<Kind>
+    ensures { result ≡ floats_kind (good (rules_view rules.now)) rules.now.has_floats }
+{
+    if rules.has_floats {
+        Some(kind_as_spelled(rules.variants.as_slice()))
+    } else {
+        None
     }
 }

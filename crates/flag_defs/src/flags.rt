@@ -22,11 +22,14 @@ pub struct Flags {
 
 impl Flags {
     ghost use Rattle.flag_defs.specs.Flags.{flags_view, AreFlags};
+    ghost use Rattle.flag_defs.specs.Floats.{floats_of, floats_view};
+    ghost use Rattle.flag_defs.specs.SpelledLaw.{AreMarked};
 
     /// How many flags there are.
     pub fn len(&self) -> usize
         ensures value { result ≡ length (flags_view self.now) }
         ensures lawful { AreFlags (flags_view self.now) }
+        ensures spelled { AreMarked (flags_view self.now) (floats_view self.now) }
     {
         self.flags.len()
     }
@@ -42,6 +45,15 @@ impl Flags {
     pub fn at(&self, i: usize) -> (&str, &Flag)
         requires { i < length (flags_view self.now) }
         ensures { slice_get (flags_view self.now) i ≡ Some (result.0.now, flag_view result.1.now) }
+    {
+        self.entry(i)
+    }
+
+    /// The same, of which it is known whether the flag has floats, too.
+    pub fn entry(&self, i: usize) -> (&str, &Flag)
+        requires { i < length (flags_view self.now) }
+        ensures value { slice_get (flags_view self.now) i ≡ Some (result.0.now, flag_view result.1.now) }
+        ensures floats { slice_get (floats_view self.now) i ≡ Some (result.0.now, floats_of result.1.now) }
     {
         let (key, flag) = &self.flags[i];
         (key.as_str(), flag)

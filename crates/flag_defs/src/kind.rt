@@ -1,7 +1,8 @@
 //! The kinds of values.
-ghost use Rattle.std.specs.Prelude.{◌≡◌};
+ghost use Rattle.std.specs.Prelude.{◌≡◌, ◌==◌, if◌then◌else◌, slice_index};
 ghost use Rattle.flag_text.specs.View.{view, members_view};
 ghost use Rattle.flag_defs.specs.Definition.{all_values, are_of_one_kind};
+ghost use Rattle.flag_defs.specs.Floats.{are_of_objects, is_of_object};
 ghost use Rattle.flag_defs.specs.Kind.{is_of_kind, kind_named, kind_of, word_of};
 
 use flag_text::Tree;
@@ -17,10 +18,12 @@ pub enum Kind {
     Whole,
     /// An object.
     Object,
+    /// A number, whole or not. Of the values that a tree has, a whole one is.
+    Float,
 }
 
 impl Kind {
-    /// The kind of this word: `bool`, `text`, `whole` or `object`.
+    /// The kind of this word: `bool`, `text`, `whole`, `object` or `float`.
     pub fn named(word: &str) -> Option<Kind>
         ensures { result ≡ kind_named word.now }
     {
@@ -29,6 +32,7 @@ impl Kind {
             "text" => Some(Kind::Text),
             "whole" => Some(Kind::Whole),
             "object" => Some(Kind::Object),
+            "float" => Some(Kind::Float),
             _ => None,
         }
     }
@@ -42,10 +46,11 @@ impl Kind {
             Kind::Text => "text",
             Kind::Whole => "whole",
             Kind::Object => "object",
+            Kind::Float => "float",
         }
     }
 
-    /// The kind that the value is of, if it is of one.
+    /// The kind that the value is of, if it is of one: a whole number is of the kind `Whole`.
     pub fn of(value: &Tree) -> Option<Kind>
         ensures { result ≡ kind_of (view value.now) }
     {
@@ -62,7 +67,7 @@ impl Kind {
         match self {
             Kind::Bool => value.as_bool().is_some(),
             Kind::Text => value.as_text().is_some(),
-            Kind::Whole => value.as_whole().is_some(),
+            Kind::Whole | Kind::Float => value.as_whole().is_some(),
             Kind::Object => value.as_object().is_some(),
         }
     }
@@ -87,4 +92,40 @@ pub(crate) fn are_of_one_kind(variants: &[(String, Tree)]) -> bool
         || Kind::Text.is_of_all(variants)
         || Kind::Whole.is_of_all(variants)
         || Kind::Object.is_of_all(variants)
+}
+
+/// The kind of variants whose values stand as texts, which are their spelling.
+pub(crate) fn kind_as_spelled(variants: &[(String, Tree)]) -> Kind
+    ensures { result ≡ (if are_of_objects (members_view variants.now) then Kind.Object else Kind.Float) }
+{
+    if are_of_objects(variants) {
+        Kind::Object
+    } else {
+        Kind::Float
+    }
+}
+
+fn are_of_objects(variants: &[(String, Tree)]) -> bool
+    ensures { result ≡ are_of_objects (members_view variants.now) }
+{
+    match variants {
+        [] => false,
+        [first, ..] => is_of_object(&first.1),
+    }
+}
+
+/// Whether the value is the text of an object.
+fn is_of_object(value: &Tree) -> bool
+    ensures { result ≡ is_of_object (view value.now) }
+{
+    match value {
+        Tree::Text(text) => has_brace(text.as_bytes()),
+        _ => false,
+    }
+}
+
+fn has_brace(bytes: &[u8]) -> bool
+    ensures { result ≡ (slice_index bytes.now 0 == 123) }
+{
+    !bytes.is_empty() && bytes[0] == b'{'
 }

@@ -6,6 +6,7 @@ ghost use Rattle.std.specs.Map.{keys_of};
 ghost use Rattle.std.specs.Ordering.{nat_cmp};
 ghost use Rattle.flag_defs.specs.Document.{max_bytes, max_flags, printed};
 ghost use Rattle.flag_defs.specs.Flag.{entries_view, flag_view};
+ghost use Rattle.flag_defs.specs.Floats.{entries_floats, lent_floats};
 ghost use Rattle.flag_defs.specs.Lent.{entry_bytes, lent_view};
 ghost use Rattle.flag_references.specs.Measure.{capped};
 
@@ -50,7 +51,8 @@ pub(crate) fn copy_lent(
 ) -> Result<Vec<(String, Flag)>, AllocError>
     requires few { length entries.now ≤ max_flags }
     requires light { length (printed (lent_view entries.now)) ≤ max_bytes }
-    ensures { IfOk result (λ v. entries_view v.items ≡ lent_view entries.now) }
+    ensures value { IfOk result (λ v. entries_view v.items ≡ lent_view entries.now) }
+    ensures floats { IfOk result (λ v. entries_floats v.items ≡ lent_floats entries.now) }
 {
     let mut copies = Vec::with_capacity(alloc, entries.len())?;
     for (key, flag) in entries {

@@ -9,6 +9,7 @@ ghost use Rattle.flag_defs.specs.Changes.{by_key};
 ghost use Rattle.flag_defs.specs.Document.{limited, max_flags};
 ghost use Rattle.flag_defs.specs.Flag.{entries_view};
 ghost use Rattle.flag_defs.specs.Flags.{flags_view};
+ghost use Rattle.flag_defs.specs.Floats.{entries_floats, floats_view, lent_floats, marks_by_key};
 ghost use Rattle.flag_defs.specs.Lent.{lent_view};
 
 use crate::bounded::limited;
@@ -26,6 +27,7 @@ impl Flags {
     /// flags, and flags that are printed in more than 4,194,304 bytes, with `TooLarge`.
     pub fn make(alloc: Global, entries: Vec<(String, Flag)>) -> Result<Flags, DefFault>
         ensures exact { GivesUnless DefFault.WantOfMemory flags_view result (limited (by_key (entries_view entries.items))) }
+        ensures floats { IfOk result (λ fs. floats_view fs ≡ marks_by_key (entries_floats entries.items)) }
     {
         limited(alloc, sort_entries(alloc, entries)?)
     }
@@ -36,6 +38,7 @@ impl Flags {
     pub fn copied(alloc: Global, entries: &[(&str, &Flag)]) -> Result<Flags, DefFault>
         requires { IsStrictlySortedBy (slice_cmp nat_cmp) (keys_of (lent_view entries.now)) }
         ensures exact { GivesUnless DefFault.WantOfMemory flags_view result (limited (lent_view entries.now)) }
+        ensures floats { IfOk result (λ fs. floats_view fs ≡ lent_floats entries.now) }
         ensures many { max_flags < length entries.now → IsErrOf result DefFault.TooLarge }
     {
         if entries.len() > FLAGS {
@@ -50,7 +53,8 @@ impl Flags {
 
     /// Equal flags.
     pub fn copy(&self, alloc: Global) -> Result<Flags, AllocError>
-        ensures { IfOk result (λ fs. flags_view fs ≡ flags_view self.now) }
+        ensures value { IfOk result (λ fs. flags_view fs ≡ flags_view self.now) }
+        ensures floats { IfOk result (λ fs. floats_view fs ≡ floats_view self.now) }
     {
         let flags = copy_entries(alloc, self.flags.as_slice())?;
         Ok(Flags { flags })

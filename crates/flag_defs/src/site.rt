@@ -4,6 +4,7 @@ ghost use Rattle.flag_text.specs.Outcome.{GivesUnless};
 ghost use Rattle.logic_ast.specs.Expr.{view};
 ghost use Rattle.flag_defs.specs.Changes.{with_site};
 ghost use Rattle.flag_defs.specs.Flag.{flag_view, rules_view};
+ghost use Rattle.flag_defs.specs.Floats.{floats_of};
 ghost use Rattle.flag_defs.specs.Rules.{is_targeting};
 
 use crate::copy::copy_name;
@@ -21,6 +22,7 @@ impl Flag {
     /// bucket of the site is not literal. Neither takes memory.
     pub fn with_site(&self, alloc: Global, n: u32, rule: &Rule) -> Result<Flag, LogicFault>
         ensures exact { GivesUnless LogicFault.WantOfMemory flag_view result (with_site n rule.now (flag_view self.now)) }
+        ensures floats { IfOk result (λ f. floats_of f ≡ floats_of self.now) }
         ensures no_site { with_site n rule.now (flag_view self.now) ≡ Err LogicFault.NoSite → IsErrOf result LogicFault.NoSite }
         ensures computed { with_site n rule.now (flag_view self.now) ≡ Err LogicFault.Computed → IsErrOf result LogicFault.Computed }
     {
@@ -39,7 +41,8 @@ impl Flag {
 /// The same rules with another targeting.
 fn retargeted(alloc: Global, rules: &Rules, targeting: Expr) -> Result<Rules, AllocError>
     requires { is_targeting (view targeting) ≡ true }
-    ensures { IfOk result (λ r. rules_view r ≡ record (rules_view rules.now) { targeting = Some (view targeting) }) }
+    ensures value { IfOk result (λ r. rules_view r ≡ record (rules_view rules.now) { targeting = Some (view targeting) }) }
+    ensures floats { IfOk result (λ r. r.has_floats ≡ rules.now.has_floats) }
 {
     let variants = copy_members(alloc, rules.variants.as_slice())?;
     let default_variant = copy_name(&rules.default_variant)?;
@@ -48,5 +51,6 @@ fn retargeted(alloc: Global, rules: &Rules, targeting: Expr) -> Result<Rules, Al
         variants,
         default_variant,
         targeting: Some(targeting),
+        has_floats: rules.has_floats,
     })
 }

@@ -8,6 +8,7 @@ ghost use Rattle.std.specs.Ordering.{nat_cmp};
 ghost use Rattle.std.specs.String.{string_cmp};
 ghost use Rattle.flag_defs.specs.Changes.{by_key};
 ghost use Rattle.flag_defs.specs.Flag.{entries_view};
+ghost use Rattle.flag_defs.specs.Floats.{entries_floats, marks_by_key};
 
 use crate::flag::Flag;
 use std::alloc::{AllocError, Global};
@@ -20,6 +21,7 @@ pub(crate) fn sort_entries(
     entries: Vec<(String, Flag)>,
 ) -> Result<Vec<(String, Flag)>, AllocError>
     ensures value { IfOk result (λ v. entries_view v.items ≡ by_key (entries_view entries.items)) }
+    ensures floats { IfOk result (λ v. entries_floats v.items ≡ marks_by_key (entries_floats entries.items)) }
     ensures rising { IfOk result (λ v. IsStrictlySortedBy (slice_cmp nat_cmp) (keys_of (entries_view v.items))) }
 {
     let mut by_key = BTreeMap::new(alloc);

@@ -16,7 +16,7 @@
 //! let place = twice.definitions.get("b");          // ".state"
 //! let plain = twice.all_read;                      // true
 //!
-//! let read = read_with_names(&rt, alloc, bytes)?;
+//! let read = read_with_names(&rt, alloc, bytes, false)?;
 //! let judged = (&read.flags, &read.names);
 //! ```
 //!

@@ -1,14 +1,15 @@
 //! The flags of a document, with what is found by the names in it.
 ghost use Rattle.std.specs.Prelude.{◌≡◌, ◌<◌, ◌≤◌, false, length, IfOk, IsErrOf};
 ghost use Rattle.std.specs.Str.{is_utf8};
-ghost use Rattle.flag_defs.specs.Document.{DocumentMeans, max_bytes};
+ghost use Rattle.flag_defs.specs.Document.{max_bytes};
 ghost use Rattle.flag_defs.specs.Flags.{HoldsUnless};
+ghost use Rattle.flag_defs.specs.Floats.{MeansAs};
 ghost use Rattle.repeated_names.specs.Repeated.{json_of};
 ghost use Rattle.flag_doubts.specs.ReadBoth.{flags_of};
 ghost use Rattle.flag_doubts.specs.Repeated.{Finds};
 
 use crate::repeated::{Repeated, repeated_in};
-use flag_defs::{DefFault, Flags, read_flags};
+use flag_defs::{DefFault, Flags, read_flags_as};
 use limits::TEXT_BYTES;
 use simdutf8::basic;
 use std::alloc::{AllocError, Global};
@@ -26,25 +27,26 @@ pub struct ReadDocument {
     pub names: Repeated,
 }
 
-/// The flags of a document, and what stands more than once in it, each found by a processor of its own where there are two and
+/// The flags of a document, which may have floats or may not, and what stands more than once in it, each found by a processor of its own where there are two and
 /// the document is large enough.
 ///
-/// Its refusals are those of `read_flags`, whatever became of the names; want of memory for these comes last. The bytes are
+/// Its refusals are those of `read_flags_as`, whatever became of the names; want of memory for these comes last. The bytes are
 /// walked for them in a thread of its own, and not at all where they are too many or no UTF-8.
 pub fn read_with_names<R: Threads>(
     rt: &R,
     alloc: Global,
     bytes: &[u8],
+    floats: bool,
 ) -> Result<ReadDocument, DefFault>
-    ensures means { HoldsUnless (DocumentMeans bytes.now) (flags_of result) }
+    ensures means { HoldsUnless (MeansAs floats bytes.now) (flags_of result) }
     ensures large { max_bytes < length bytes.now → IsErrOf result DefFault.TooLarge }
     ensures no_text { length bytes.now ≤ max_bytes → is_utf8 bytes.now ≡ false → IsErrOf result DefFault.NotJson }
     ensures names { IfOk result (λ d. Finds (json_of bytes.now) d.names) }
 {
     if has_walk(bytes) && has_another(rt) {
-        at_once(rt, alloc, bytes)
+        at_once(rt, alloc, bytes, floats)
     } else {
-        in_turn(alloc, bytes)
+        in_turn(alloc, bytes, floats)
     }
 }
 
@@ -62,8 +64,13 @@ fn has_another(rt: &impl Threads) -> bool {
 }
 
 /// The flags here, and the names in a thread of their own, or behind the flags where none can be made.
-fn at_once<R: Threads>(rt: &R, alloc: Global, bytes: &[u8]) -> Result<ReadDocument, DefFault>
-    ensures means { HoldsUnless (DocumentMeans bytes.now) (flags_of result) }
+fn at_once<R: Threads>(
+    rt: &R,
+    alloc: Global,
+    bytes: &[u8],
+    floats: bool,
+) -> Result<ReadDocument, DefFault>
+    ensures means { HoldsUnless (MeansAs floats bytes.now) (flags_of result) }
     ensures large { max_bytes < length bytes.now → IsErrOf result DefFault.TooLarge }
     ensures no_text { length bytes.now ≤ max_bytes → is_utf8 bytes.now ≡ false → IsErrOf result DefFault.NotJson }
     ensures names { IfOk result (λ d. Finds (json_of bytes.now) d.names) }
@@ -74,10 +81,10 @@ fn at_once<R: Threads>(rt: &R, alloc: Global, bytes: &[u8]) -> Result<ReadDocume
             ensures { IfOk result (Finds (json_of bytes.entry.now)) }
         { repeated_in(alloc, bytes) },
         || -> Result<Flags, DefFault>
-            ensures means { HoldsUnless (DocumentMeans bytes.entry.now) result }
+            ensures means { HoldsUnless (MeansAs floats bytes.entry.now) result }
             ensures large { max_bytes < length bytes.entry.now → IsErrOf result DefFault.TooLarge }
             ensures no_text { length bytes.entry.now ≤ max_bytes → is_utf8 bytes.entry.now ≡ false → IsErrOf result DefFault.NotJson }
-        { read_flags(alloc, bytes) },
+        { read_flags_as(alloc, bytes, floats) },
     );
     let flags = flags?;
     let names = names?;
@@ -85,13 +92,13 @@ fn at_once<R: Threads>(rt: &R, alloc: Global, bytes: &[u8]) -> Result<ReadDocume
 }
 
 /// The flags, and then the names.
-fn in_turn(alloc: Global, bytes: &[u8]) -> Result<ReadDocument, DefFault>
-    ensures means { HoldsUnless (DocumentMeans bytes.now) (flags_of result) }
+fn in_turn(alloc: Global, bytes: &[u8], floats: bool) -> Result<ReadDocument, DefFault>
+    ensures means { HoldsUnless (MeansAs floats bytes.now) (flags_of result) }
     ensures large { max_bytes < length bytes.now → IsErrOf result DefFault.TooLarge }
     ensures no_text { length bytes.now ≤ max_bytes → is_utf8 bytes.now ≡ false → IsErrOf result DefFault.NotJson }
     ensures names { IfOk result (λ d. Finds (json_of bytes.now) d.names) }
 {
-    let flags = read_flags(alloc, bytes)?;
+    let flags = read_flags_as(alloc, bytes, floats)?;
     let names = repeated_in(alloc, bytes)?;
     Ok(ReadDocument { flags, names })
 }

@@ -7,7 +7,8 @@ use Rattle.flag_text.specs.Shape.{Shape, list, text}
 use Rattle.flag_text.specs.View.{view, items_of}
 use Rattle.logic_eval.specs.Views.{reach_view}
 use Rattle.logic_eval.specs.declared.meter.Reached.{Reached}
-use Rattle.flag_resolve.specs.Printing.{details, list_text, others_text, reach_shape, resolution_text, text_or_null}
+use Rattle.flag_resolve.specs.Printing.{details, list_text, others_text, reach_shape, resolution_around, resolution_text, text_or_null}
+use Rattle.flag_resolve.specs.Resolved.{Resolved}
 use Rattle.flag_resolve.specs.Views.{reached_shape, resolution_view}
 use Rattle.flag_resolve.specs.Words.{code_word, reason_word}
 use Rattle.flag_resolve.specs.declared.resolution.Resolution.{Resolution}
@@ -60,16 +61,18 @@ unfolding text_of escape_byte
 parts code reached reason value variant = refl
 
 -- the pieces that are added are the whole text
-pub resolution_pushed : (old : List ℕ) (r : Resolution) →
-    ((((((((((old ++ code_front) ++ text_of (text_or_null (option_map code_word r.code))) ++ reached_front) ++ list_text (map reached_shape r.reached.items)) ++ reason_front) ++ text_of (text (reason_word r.reason))) ++ value_front) ++ text_of (view r.value)) ++ variant_front) ++ text_of (text_or_null (option_map string_bytes r.variant))) ++ end
-    ≡ old ++ resolution_text (resolution_view r)
-unfolding resolution_text
-resolution_pushed old r =
+pub resolution_pushed : (old value : List ℕ) (r : Resolution) →
+    ((((((((((old ++ code_front) ++ text_of (text_or_null (option_map code_word r.code))) ++ reached_front) ++ list_text (map reached_shape r.reached.items)) ++ reason_front) ++ text_of (text (reason_word r.reason))) ++ value_front) ++ value) ++ variant_front) ++ text_of (text_or_null (option_map string_bytes r.variant))) ++ end
+    ≡ old ++ resolution_around value (resolution_view r)
+resolution_pushed old value r =
     let code = text_or_null (option_map code_word r.code) in
     let reason = text (reason_word r.reason) in
     let variant = text_or_null (option_map string_bytes r.variant) in
-    let reached = list (items_of (map reach_shape (map reach_view r.reached.items))) in
-    joined old code_front (text_of code) reached_front (list_text (map reached_shape r.reached.items)) reason_front (text_of reason) value_front (text_of (view r.value)) variant_front (text_of variant) end
-    ∙ ap (λ l. old ++ (code_front ++ (text_of code ++ (reached_front ++ (l ++ (reason_front ++ (text_of reason ++ (value_front ++ (text_of (view r.value) ++ (variant_front ++ (text_of variant ++ end)))))))))))
+    joined old code_front (text_of code) reached_front (list_text (map reached_shape r.reached.items)) reason_front (text_of reason) value_front value variant_front (text_of variant) end
+    ∙ ap (λ l. old ++ (code_front ++ (text_of code ++ (reached_front ++ (l ++ (reason_front ++ (text_of reason ++ (value_front ++ (value ++ (variant_front ++ (text_of variant ++ end)))))))))))
     (ap list_text (reached_shapes r.reached.items) ∙ list_written (map reach_shape (map reach_view r.reached.items)))
-    ∙ ap (λ l. old ++ l) (parts code reached reason (view r.value) variant)
+
+-- around the text of its value a resolution has its own text
+pub around_value : (r : Resolved) → resolution_around (text_of r.value) r ≡ resolution_text r
+unfolding resolution_text
+around_value r = parts (text_or_null (option_map code_word r.code)) (list (items_of (map reach_shape r.reached))) (text (reason_word r.reason)) r.value (text_or_null r.variant)

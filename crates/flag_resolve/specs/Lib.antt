@@ -1,4 +1,5 @@
 pub mod Alike
+pub mod Floats
 pub mod Lawful
 pub mod Printing
 pub mod Resolution

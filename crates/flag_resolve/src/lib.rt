@@ -29,6 +29,7 @@
 mod asked;
 mod cases;
 mod code;
+mod floats;
 mod laws;
 mod print;
 mod reason;
@@ -37,7 +38,8 @@ mod resolution;
 pub use cases::resolve;
 pub use code::Code;
 pub use flag_defs::Kind;
-pub use laws::the_same_value_resolves_alike;
-pub use print::{print_resolution, push_resolution};
+pub use floats::{floats_in, is_spelled, resolve_with_floats};
+pub use laws::{floats_are_of_their_kind, the_same_value_resolves_alike};
+pub use print::{print_resolution, push_resolution, push_resolution_spelled};
 pub use reason::Reason;
 pub use resolution::Resolution;

@@ -1,13 +1,14 @@
 //! From a resolution to its text.
 ghost use Rattle.std.specs.Prelude.{◌≡◌, ◌++◌, map, option_copied, option_map, string_bytes, IfOk, OnOk};
 ghost use Rattle.flag_text.specs.Printing.{text_of};
-ghost use Rattle.flag_resolve.specs.Printing.{list_text, others_text, resolution_text, text_or_null};
+ghost use Rattle.flag_resolve.specs.Printing.{list_text, others_text, resolution_spelled, resolution_text, text_or_null};
 ghost use Rattle.flag_resolve.specs.Views.{reached_shape, resolution_view};
 ghost use Rattle.flag_resolve.specs.Words.{code_word};
 
 use crate::code::Code;
 use crate::resolution::Resolution;
-use flag_text::{push_string, push_tree};
+use flag_defs::push_spelled;
+use flag_text::push_string;
 use logic_eval::Reached;
 use std::alloc::{AllocError, Global};
 
@@ -33,6 +34,19 @@ pub fn push_resolution(
 ) -> Result<(), AllocError>
     ensures { OnOk result (string_bytes out.new ≡ string_bytes out.old ++ resolution_text (resolution_view resolution.now)) }
 {
+    push_resolution_spelled(alloc, out, resolution, false)
+}
+
+/// The same where the value may stand as a text that is its spelling, as the values of a flag with floats do: that text stands for
+/// the value as it is.
+pub fn push_resolution_spelled(
+    alloc: Global,
+    out: &mut String,
+    resolution: &Resolution,
+    spelled: bool,
+) -> Result<(), AllocError>
+    ensures { OnOk result (string_bytes out.new ≡ string_bytes out.old ++ resolution_spelled spelled (resolution_view resolution.now)) }
+{
     out.push_str("{\"code\":")?;
     push_word(alloc, out, word_of(resolution.code))?;
     out.push_str(",\"reached\":")?;
@@ -40,7 +54,7 @@ pub fn push_resolution(
     out.push_str(",\"reason\":")?;
     push_string(alloc, out, resolution.reason.as_str())?;
     out.push_str(",\"value\":")?;
-    push_tree(alloc, out, &resolution.value)?;
+    push_spelled(alloc, out, &resolution.value, spelled)?;
     out.push_str(",\"variant\":")?;
     push_word(alloc, out, name_of(&resolution.variant))?;
     out.push_str("}")?;

@@ -5,6 +5,7 @@ ghost use Rattle.library_seat.specs.Keys.{keys_text};
 ghost use Rattle.library_seat.specs.Question.{resolve_kept_of, resolve_of};
 ghost use Rattle.library_seat.specs.Refusal.{number_of};
 ghost use Rattle.library_seat.specs.Room.{Writes};
+ghost use Rattle.library_seat.specs.Seat.{definitions_in};
 ghost use Rattle.library_seat.specs.Told.{Answers};
 ghost use Rattle.flagops_c.specs.Calls.{Calls, result_number, standing};
 
@@ -92,11 +93,11 @@ pub extern "C" fn flagops_keys(
     out: &mut [u8],
     written: &mut usize,
 ) -> u32
-    ensures writes { Calls result_number (λ answer old new. (new ≡ old) × Writes (keys_text old.flags) answer
+    ensures writes { Calls result_number (λ answer old new. (new ≡ old) × Writes (keys_text (definitions_in old.flags)) answer
         (record { bytes = out.old; written = written.old }) (record { bytes = out.new; written = written.new }))
         result (standing handle.old.seat) (standing handle.new.seat) }
     // this needs no memory
-    ensures no_keys { IfSome (standing handle.old.seat) (λ s. IfSome s.flags (λ flags. flags ≡ []) → result ≡ 0) }
+    ensures no_keys { IfSome (standing handle.old.seat) (λ s. IfSome s.flags (λ flags. flags.0 ≡ []) → result ≡ 0) }
     ensures empty { handle.old.seat ≡ None → (out.new ≡ out.old) × (written.new ≡ written.old) }
 {
     let Some(seat) = handle.take(alloc) else {

@@ -13,7 +13,7 @@ use Rattle.flagops_checks.specs.declared.form.Form.{Form}
 use Rattle.flagops_checks.specs.declared.gathering.Gathered.{Gathered}
 use Rattle.flagops_checks.specs.declared.remark_lines.RemarkLines.{RemarkLines}
 use Rattle.flagops_files.specs.Documents as files
-use Rattle.flagops_files.specs.Documents.{IsDocumentIn, IsDocumentOf}
+use Rattle.flagops_files.specs.Documents.{IsDocumentInAs, IsDocumentOfAs}
 use Rattle.flagops_files.specs.declared.refusal.Refusal.{Refusal}
 use Rattle.flagops_files.specs.declared.refusal.Refusal.TheVariants as file
 use Rattle.flagops_shell.specs.Files.{Holding, load_of}
@@ -28,22 +28,22 @@ use Rattle.flagops_checks.specs.declared.refusal.CheckRefusal.TheVariants.{Load}
 
 -- ---- one document
 
-refused_of : (path : List ℕ) (o : Result (List ℕ) Refusal) (e : CheckRefusal) → Lifts Load (IsDocumentOf o) (Err e) → IsCheckedOf path o (Err e)
-refused_of path (Err f) e (given, is, same) = ap (λ (r : Result Definitions CheckRefusal). r >>= λ flags. Ok (checked path [] flags)) (same ∙ ap (refused_by Load) is)
-refused_of path (Ok bytes) e (given, is, same) = (given, is, ap (λ (r : Result Definitions CheckRefusal). r >>= λ flags. Ok (checked path bytes flags)) same)
+refused_of : (floats : Bool) (path : List ℕ) (o : Result (List ℕ) Refusal) (e : CheckRefusal) → Lifts Load (IsDocumentOfAs floats o) (Err e) → IsCheckedOf floats path o (Err e)
+refused_of floats path (Err f) e (given, is, same) = ap (λ (r : Result Definitions CheckRefusal). r >>= λ flags. Ok (checked path [] flags)) (same ∙ ap (refused_by Load) is)
+refused_of floats path (Ok bytes) e (given, is, same) = (given, is, ap (λ (r : Result Definitions CheckRefusal). r >>= λ flags. Ok (checked path bytes flags)) same)
 
-module _ (at : Holding) (path : List ℕ) where
-  pub no_document : (e : CheckRefusal) → IsDocumentAt at path (Err e) → IsCheckedAt at path (Err e)
-  unfolding IsDocumentAt files.IsDocumentAt IsCheckedAt
-  no_document e is = refused_of path (refused_by file.Load (load_of at path max_text)) e is
+module _ (floats : Bool) (at : Holding) (path : List ℕ) where
+  pub no_document : (e : CheckRefusal) → IsDocumentAt floats at path (Err e) → IsCheckedAt floats at path (Err e)
+  unfolding IsDocumentAt files.IsDocumentAs IsCheckedAt
+  no_document e is = refused_of floats path (refused_by file.Load (load_of at path max_text)) e is
 
-  pub a_document : (bytes : List ℕ) (flags : Definitions) → load_of at path max_text ≡ Ok bytes → IsDocumentAt at path (Ok flags) → IsCheckedAt at path (Ok (checked path bytes flags))
-  unfolding IsDocumentAt files.IsDocumentAt IsCheckedAt
+  pub a_document : (bytes : List ℕ) (flags : Definitions) → load_of at path max_text ≡ Ok bytes → IsDocumentAt floats at path (Ok flags) → IsCheckedAt floats at path (Ok (checked path bytes flags))
+  unfolding IsDocumentAt files.IsDocumentAs IsCheckedAt
   a_document bytes flags loaded (given, is, same) =
       let known : refused_by file.Load (load_of at path max_text) ≡ Ok bytes = ap (refused_by file.Load) loaded in
-      let found : IsDocumentIn bytes given = subst (λ (o : Result (List ℕ) Refusal). IsDocumentOf o given) known is in
+      let found : IsDocumentInAs floats bytes given = subst (λ (o : Result (List ℕ) Refusal). IsDocumentOfAs floats o given) known is in
       let r : Result Checked CheckRefusal = Ok (checked path bytes flags) in
-      subst (λ (o : Result (List ℕ) Refusal). IsCheckedOf path o r) (sym known)
+      subst (λ (o : Result (List ℕ) Refusal). IsCheckedOf floats path o r) (sym known)
       (given, found, ap (λ (d : Result Definitions CheckRefusal). d >>= λ fs. Ok (checked path bytes fs)) same)
 
 -- ---- along the paths
@@ -62,14 +62,14 @@ longer_front cs c (Err e) = refl
 -- what the paths that are left come to behind what is found so far, all come to; and the first of them that is refused is the first of all
 abbrev pub Goes : Form → Holding → List (List ℕ) → List (List ℕ) → Gathered → Type 0
 Goes form at paths left g =
-    (cs : List Checked) × Holds form cs g × ((r : Result (List Checked) CheckRefusal) → AreChecked at left r → AreChecked at paths (r >>= λ more. Ok (cs ++ more)))
-    × AreLeft (check_attempts at left) (check_attempts at paths)
+    (cs : List Checked) × Holds form cs g × ((r : Result (List Checked) CheckRefusal) → AreChecked form.floats at left r → AreChecked form.floats at paths (r >>= λ more. Ok (cs ++ more)))
+    × AreLeft (check_attempts form.floats at left) (check_attempts form.floats at paths)
 
 pub starts : (form : Form) (at : Holding) (paths : List (List ℕ)) (g : Gathered) → g.text.items ≡ [] → g.is_wrong ≡ false → string_bytes g.told.lines ≡ [] → Goes form at paths paths g
 starts form at paths g empty right silent = (
   [],
   record { text = empty; wrong = right; told = λ whole. silent },
-  λ r is. subst (AreChecked at paths) (sym (no_front r)) is,
+  λ r is. subst (AreChecked form.floats at paths) (sym (no_front r)) is,
   λ e remark names. names,
 )
 
@@ -98,35 +98,35 @@ held_on form cs c before after holds adds = record {
 }
 
 module _ (form : Form) (at : Holding) (paths left rest : List (List ℕ)) (path : List ℕ) (g : Gathered) (goes : Goes form at paths left g) (first : left ≡ path ∷ rest) where
-  along : (r : Result (List Checked) CheckRefusal) → AreChecked at (path ∷ rest) r → AreChecked at paths (with_front goes.0 r)
-  along r came = goes.2 r (subst (λ (ps : List (List ℕ)). AreChecked at ps r) (sym first) came)
+  along : (r : Result (List Checked) CheckRefusal) → AreChecked form.floats at (path ∷ rest) r → AreChecked form.floats at paths (with_front goes.0 r)
+  along r came = goes.2 r (subst (λ (ps : List (List ℕ)). AreChecked form.floats at ps r) (sym first) came)
 
-  named_along : AreLeft (check_attempts at (path ∷ rest)) (check_attempts at paths)
-  named_along e remark names = goes.3 e remark (subst (λ (ps : List (List ℕ)). NamesFirst (check_attempts at ps) e remark) (sym first) names)
+  named_along : AreLeft (check_attempts form.floats at (path ∷ rest)) (check_attempts form.floats at paths)
+  named_along e remark names = goes.3 e remark (subst (λ (ps : List (List ℕ)). NamesFirst (check_attempts form.floats at ps) e remark) (sym first) names)
 
-  pub goes_on : (next : Gathered) → GivesNext form g (Ok next) (IsCheckedAt at path) → Goes form at paths rest next
+  pub goes_on : (next : Gathered) → GivesNext form g (Ok next) (IsCheckedAt form.floats at path) → Goes form at paths rest next
   unfolding AreChecked
   goes_on next gives = (
     goes.0 ++ gives.0 ∷ [],
     held_on form goes.0 gives.0 g next goes.1 gives.2,
-    λ r later. subst (AreChecked at paths) (longer_front goes.0 gives.0 r) (along (r >>= λ more. Ok (gives.0 ∷ more)) (Ok gives.0, gives.1, (r, later, refl))),
-    left_after (attempt (file path) (IsCheckedAt at path)) (check_attempts at rest) (check_attempts at paths) named_along (gives.0, gives.1),
+    λ r later. subst (AreChecked form.floats at paths) (longer_front goes.0 gives.0 r) (along (r >>= λ more. Ok (gives.0 ∷ more)) (Ok gives.0, gives.1, (r, later, refl))),
+    left_after (attempt (file path) (IsCheckedAt form.floats at path)) (check_attempts form.floats at rest) (check_attempts form.floats at paths) named_along (gives.0, gives.1),
   )
 
-  pub goes_refused : (e : Refused) → GivesNext form g (Err e) (IsCheckedAt at path) → GivesAll form (Err e) (AreChecked at paths)
+  pub goes_refused : (e : Refused) → GivesNext form g (Err e) (IsCheckedAt form.floats at path) → GivesAll form (Err e) (AreChecked form.floats at paths)
   unfolding AreChecked
   goes_refused e gives = λ wanted. along (Err e.refusal) (Err e.refusal, gives wanted, refl)
 
-  pub goes_told : (e : Refused) → GivesNext form g (Err e) (IsCheckedAt at path) → (is_want e.refusal ≡ false → Says (NamesSubject (file path)) e.remark) → is_want e.refusal ≡ false
-      → NamesFirst (check_attempts at paths) e.refusal e.remark
+  pub goes_told : (e : Refused) → GivesNext form g (Err e) (IsCheckedAt form.floats at path) → (is_want e.refusal ≡ false → Says (NamesSubject (file path)) e.remark) → is_want e.refusal ≡ false
+      → NamesFirst (check_attempts form.floats at paths) e.refusal e.remark
   goes_told e gives says wanted =
-      first_of_left (attempt (file path) (IsCheckedAt at path)) (check_attempts at rest) (check_attempts at paths) named_along e.refusal e.remark (gives wanted) (says wanted)
+      first_of_left (attempt (file path) (IsCheckedAt form.floats at path)) (check_attempts form.floats at rest) (check_attempts form.floats at paths) named_along e.refusal e.remark (gives wanted) (says wanted)
 
-pub goes_all : (form : Form) (at : Holding) (paths left : List (List ℕ)) (g : Gathered) → Goes form at paths left g → left ≡ [] → GivesAll form (Ok g) (AreChecked at paths)
+pub goes_all : (form : Form) (at : Holding) (paths left : List (List ℕ)) (g : Gathered) → Goes form at paths left g → left ≡ [] → GivesAll form (Ok g) (AreChecked form.floats at paths)
 unfolding AreChecked
 goes_all form at paths left g goes none =
-    let last : AreChecked at paths (Ok (goes.0 ++ [])) = goes.2 (Ok []) (subst (λ (ps : List (List ℕ)). AreChecked at ps (Ok [])) (sym none) refl) in
-    (goes.0, subst (λ (cs : List Checked). AreChecked at paths (Ok cs)) (append-nil goes.0) last, goes.1)
+    let last : AreChecked form.floats at paths (Ok (goes.0 ++ [])) = goes.2 (Ok []) (subst (λ (ps : List (List ℕ)). AreChecked form.floats at ps (Ok [])) (sym none) refl) in
+    (goes.0, subst (λ (cs : List Checked). AreChecked form.floats at paths (Ok cs)) (append-nil goes.0) last, goes.1)
 
 -- the first of those that are left, and those behind it
 pub first_left : {X Y : Type 0} (now : X → Y) (xs : List X) (i : ℕ) (z : X) → i < length xs → map now (drop i xs) ≡ now (get_or xs i z) ∷ map now (drop (i + 1) xs)
@@ -154,11 +154,11 @@ both_known {A} h k P S same p {Q} q f = go h p (subst (λ (o : Option A). IfSome
 
 -- ---- the document at a path
 
-pub next_refused : (form : Form) (g : Gathered) (path : List ℕ) (h : Option Holding) (e : Refused) → IfSome h (λ at. is_want e.refusal ≡ false → IsDocumentAt at path (Err e.refusal)) → IfSome h (λ at. GivesNext form g (Err e) (IsCheckedAt at path))
+pub next_refused : (form : Form) (g : Gathered) (path : List ℕ) (h : Option Holding) (e : Refused) → IfSome h (λ at. is_want e.refusal ≡ false → IsDocumentAt form.floats at path (Err e.refusal)) → IfSome h (λ at. GivesNext form g (Err e) (IsCheckedAt form.floats at path))
 next_refused form g path None e is = tt
-next_refused form g path (Some at) e is = λ wanted. no_document at path e.refusal (is wanted)
+next_refused form g path (Some at) e is = λ wanted. no_document form.floats at path e.refusal (is wanted)
 
-pub next_found : (form : Form) (g : Gathered) (path : List ℕ) (h : Option Holding) (bytes : List ℕ) (flags : Definitions) (next : Gathered) → IfSome h (λ at. IsDocumentAt at path (Ok flags)) → IfSome h (λ at. load_of at path max_text ≡ Ok bytes)
-    → Adds form (checked path bytes flags) g next → IfSome h (λ at. GivesNext form g (Ok next) (IsCheckedAt at path))
+pub next_found : (form : Form) (g : Gathered) (path : List ℕ) (h : Option Holding) (bytes : List ℕ) (flags : Definitions) (next : Gathered) → IfSome h (λ at. IsDocumentAt form.floats at path (Ok flags)) → IfSome h (λ at. load_of at path max_text ≡ Ok bytes)
+    → Adds form (checked path bytes flags) g next → IfSome h (λ at. GivesNext form g (Ok next) (IsCheckedAt form.floats at path))
 next_found form g path None bytes flags next is loaded adds = tt
-next_found form g path (Some at) bytes flags next is loaded adds = (checked path bytes flags, a_document at path bytes flags loaded is, adds)
+next_found form g path (Some at) bytes flags next is loaded adds = (checked path bytes flags, a_document form.floats at path bytes flags loaded is, adds)

@@ -15,14 +15,14 @@ use Rattle.flagops_checks.specs.Refusal.{Refused, call_of, is_unread, is_want, l
 use Rattle.flagops_checks.specs.declared.refusal.CheckRefusal.TheVariants.{Load}
 
 module _ (old : Option Holding) (path : List ℕ) where
-  pub flags_there : (flags : Definitions) → IfSome old (λ at. documents.IsDocumentAt at path (Ok flags)) → IfSome old (λ at. IsDocumentAt at path (Ok flags))
+  pub flags_there : (floats : Bool) (flags : Definitions) → IfSome old (λ at. documents.IsDocumentAs floats at path (Ok flags)) → IfSome old (λ at. IsDocumentAt floats at path (Ok flags))
   unfolding IsDocumentAt
-  flags_there flags loaded = given_one files.is_want is_want Load (λ e. refl) (λ at. documents.IsDocumentAt at path) old flags loaded
+  flags_there floats flags loaded = given_one files.is_want is_want Load (λ e. refl) (λ at. documents.IsDocumentAs floats at path) old flags loaded
 
-  pub no_flags : (e : files.Refused) (t : Refused) → t.refusal ≡ Load e.refusal → IfSome old (λ at. files.is_want e.refusal ≡ false → documents.IsDocumentAt at path (Err e.refusal))
-      → IfSome old (λ at. is_want t.refusal ≡ false → IsDocumentAt at path (Err t.refusal))
+  pub no_flags : (floats : Bool) (e : files.Refused) (t : Refused) → t.refusal ≡ Load e.refusal → IfSome old (λ at. files.is_want e.refusal ≡ false → documents.IsDocumentAs floats at path (Err e.refusal))
+      → IfSome old (λ at. is_want t.refusal ≡ false → IsDocumentAt floats at path (Err t.refusal))
   unfolding IsDocumentAt
-  no_flags e t is loaded = refused_one files.is_want is_want Load (λ e. refl) (λ at. documents.IsDocumentAt at path) old e t is loaded
+  no_flags floats e t is loaded = refused_one files.is_want is_want Load (λ e. refl) (λ at. documents.IsDocumentAs floats at path) old e t is loaded
 
 -- a refusal is told as it was
 pub told : (e : files.Refused) (t : Refused) (subject : Subject) → t.refusal ≡ Load e.refusal → t.remark ≡ e.remark → (files.is_want e.refusal ≡ false → Says (NamesSubject subject) e.remark) → is_want t.refusal ≡ false → Says (NamesSubject subject) t.remark

@@ -9,9 +9,9 @@ use Rattle.flagops_checks.specs.declared.form.Form.{Form}
 use Rattle.flagops_checks.specs.declared.objects.Listed.{Listed}
 use Rattle.flagops_checks.specs.declared.objects.Listed.TheVariants.{Broken, Doubted, Good}
 
--- how documents are printed: as JSON, and whether there is one alone
-abbrev pub form_of : Bool → List (List ℕ) → Form
-form_of json paths = record { is_json = json; is_alone = nat_eq (length paths) 1 }
+-- how documents are read and printed: with floats or without, as JSON or not, and whether there is one alone
+abbrev pub form_of : Bool → Bool → List (List ℕ) → Form
+form_of json floats paths = record { floats = floats; is_json = json; is_alone = nat_eq (length paths) 1 }
 
 abbrev pub good_or_broken : Bool → List ℕ
 good_or_broken is_broken = if is_broken then codes " broken\n" else codes " good\n"

@@ -23,15 +23,15 @@ abbrev pub check_report : Bool → Form → List Checked → Result Report Check
 check_report strict form cs = Ok (record { text = report_text form cs; status = check_status strict (are_wrong cs); is_told = are_wrong cs })
 
 unfoldable pub IsCheckReport : Holding → Checking → Outcomes
-IsCheckReport at c r = (cs : Result (List Checked) CheckRefusal) × AreChecked at c.documents cs × (r ≡ (cs >>= check_report c.strict (form_of c.json c.documents)))
+IsCheckReport at c r = (cs : Result (List Checked) CheckRefusal) × AreChecked c.floats at c.documents cs × (r ≡ (cs >>= check_report c.strict (form_of c.json c.floats c.documents)))
 
 -- ---- what is told
 
 -- of the documents at the paths
 unfoldable pub TellsChecked : Holding → Checking → List ℕ → Type 0
-TellsChecked at c lines = (cs : List Checked) × AreChecked at c.documents (Ok cs) × TellsAll (form_of c.json c.documents) cs lines
+TellsChecked at c lines = (cs : List Checked) × AreChecked c.floats at c.documents (Ok cs) × TellsAll (form_of c.json c.floats c.documents) cs lines
 
 -- of a refusal the name of the first document that is refused, and else what is broken and what is doubted
 abbrev pub remark_of : Holding → Checking → Remarks
 remark_of at c (Ok report) remark = Says (TellsChecked at c) remark
-remark_of at c (Err e) remark = NamesFirst (check_attempts at c.documents) e remark
+remark_of at c (Err e) remark = NamesFirst (check_attempts c.floats at c.documents) e remark

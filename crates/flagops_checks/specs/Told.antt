@@ -41,7 +41,7 @@ abbrev pub head_line : Form → List ℕ → List ℕ
 head_line form path = if form.is_alone then [] else codes "note: " ++ (text_of (text path) ++ codes " has broken flags:\n")
 
 abbrev pub BrokenPart : Bool → Form → List ℕ → List ℕ → List ℕ → Type 0
-BrokenPart true form path bytes lines = (rest : List ℕ) × TellsBroken bytes rest × (lines ≡ head_line form path ++ rest)
+BrokenPart true form path bytes lines = (rest : List ℕ) × TellsBroken form.floats bytes rest × (lines ≡ head_line form path ++ rest)
 BrokenPart false form path bytes lines = lines ≡ []
 
 -- where a member of the document is not read, lines that tell it
@@ -70,5 +70,5 @@ TellsAll form [] lines = lines ≡ []
 TellsAll form (c ∷ cs) lines = (first more : List ℕ) × TellsDocument form c first × TellsAll form cs more × (lines ≡ first ++ more)
 
 -- the documents in the order in which they are checked, each before the next
-abbrev pub check_attempts : Holding → List (List ℕ) → Attempts
-check_attempts at paths = map (λ path. attempt (file path) (IsCheckedAt at path)) paths
+abbrev pub check_attempts : Bool → Holding → List (List ℕ) → Attempts
+check_attempts floats at paths = map (λ path. attempt (file path) (IsCheckedAt floats at path)) paths

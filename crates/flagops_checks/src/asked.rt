@@ -9,4 +9,6 @@ pub struct Checking<'a> {
     pub strict: bool,
     /// Whether the answer is printed as JSON.
     pub json: bool,
+    /// Whether the documents may have floats.
+    pub floats: bool,
 }

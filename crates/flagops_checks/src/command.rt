@@ -61,11 +61,17 @@ fn outcome<R: Threads, F: FileSet>(
     ensures calls { ComesFrom check_calls result }
     ensures failed { F.has_failed files.new ≡ (F.has_failed files.old || is_file_fault result) }
     ensures kept { F.holding files.new ≡ F.holding files.old }
-    ensures names { IfSome (F.holding files.old) (λ at. TellsOfFirst (check_attempts at (checking_view asked.now).documents) result) }
+    ensures names { IfSome (F.holding files.old) (λ at. TellsOfFirst (check_attempts (checking_view asked.now).floats at (checking_view asked.now).documents) result) }
     ensures notes { IfSome (F.holding files.old) (λ at. IfOk result (λ o. IfSome o.remark (Says (TellsChecked at (checking_view asked.now))))) }
 {
     let paths = asked.documents.as_slice();
-    let gathered = gather(rt, alloc, files, Form::of(asked.json, paths), paths)?;
+    let gathered = gather(
+        rt,
+        alloc,
+        files,
+        Form::of(asked.json, asked.floats, paths),
+        paths,
+    )?;
     Ok(ended(gathered, asked.strict))
 }
 

@@ -1,10 +1,12 @@
-//! How documents are printed.
+//! How documents are read and printed.
 ghost use Rattle.std.specs.Prelude.{◌≡◌, map};
 ghost use Rattle.flagops_checks.specs.Printed.{form_of};
 
-/// How a document is printed.
+/// How a document is read and printed.
 #[derive(Clone, Copy, Debug)]
 pub struct Form {
+    /// It may have floats.
+    pub floats: bool,
     /// As JSON.
     pub is_json: bool,
     /// There is no other document.
@@ -13,10 +15,11 @@ pub struct Form {
 
 impl Form {
     /// The form of the documents at these paths.
-    pub(crate) fn of(json: bool, paths: &[&str]) -> Form
-        ensures { result ≡ form_of json (map (λ p. p.now) paths.now) }
+    pub(crate) fn of(json: bool, floats: bool, paths: &[&str]) -> Form
+        ensures { result ≡ form_of json floats (map (λ p. p.now) paths.now) }
     {
         Form {
+            floats,
             is_json: json,
             is_alone: paths.len() == 1,
         }

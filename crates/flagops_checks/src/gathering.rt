@@ -44,11 +44,11 @@ pub(crate) fn gather<R: Threads, F: FileSet>(
     form: Form,
     paths: &[&str],
 ) -> Result<Gathered, Refused>
-    ensures exact { IfSome (F.holding files.old) (λ at. GivesAll form result (AreChecked at (map (λ p. p.now) paths.now))) }
+    ensures exact { IfSome (F.holding files.old) (λ at. GivesAll form result (AreChecked form.floats at (map (λ p. p.now) paths.now))) }
     ensures calls { ComesFrom check_calls result }
     ensures failed { F.has_failed files.new ≡ (F.has_failed files.old || is_file_fault result) }
     ensures kept { F.holding files.new ≡ F.holding files.old }
-    ensures names { IfSome (F.holding files.old) (λ at. TellsOfFirst (check_attempts at (map (λ p. p.now) paths.now)) result) }
+    ensures names { IfSome (F.holding files.old) (λ at. TellsOfFirst (check_attempts form.floats at (map (λ p. p.now) paths.now)) result) }
 {
     let mut all = Gathered {
         text: Vec::new(alloc),
@@ -72,7 +72,7 @@ fn with_document<R: Threads, F: FileSet>(
     path: &str,
     alone: bool,
 ) -> Result<Gathered, Refused>
-    ensures exact { IfSome (F.holding files.old) (λ at. GivesNext form all result (IsCheckedAt at path.now)) }
+    ensures exact { IfSome (F.holding files.old) (λ at. GivesNext form all result (IsCheckedAt form.floats at path.now)) }
     ensures calls { ComesFrom check_calls result }
     ensures failed { F.has_failed files.new ≡ (F.has_failed files.old || is_file_fault result) }
     ensures kept { F.holding files.new ≡ F.holding files.old }
@@ -82,7 +82,7 @@ fn with_document<R: Threads, F: FileSet>(
         bytes,
         flags,
         repeated,
-    } = load_checked(rt, alloc, files, path)?;
+    } = load_checked(rt, alloc, files, path, form.floats)?;
     let next = with_flags(alloc, form, all, path, bytes.as_slice(), &flags, repeated);
     if alone {
         // The program ends soon, and its memory with it.

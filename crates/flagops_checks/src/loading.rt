@@ -4,7 +4,7 @@ ghost use Rattle.flag_defs.specs.Flags.{flags_view};
 ghost use Rattle.repeated_names.specs.Repeated.{json_of};
 ghost use Rattle.flag_doubts.specs.Repeated.{Finds};
 ghost use Rattle.flagops_files.specs.Documents as documents;
-ghost use Rattle.flagops_files.specs.Documents.{IsDocumentIn};
+ghost use Rattle.flagops_files.specs.Documents.{IsDocumentInAs};
 ghost use Rattle.flagops_shell.specs.Files.{load_of};
 ghost use Rattle.flagops_files.specs.Loading.{max_text};
 ghost use Rattle.flagops_files.specs.Refusal.{ComesFrom, GivesOne, TellsOf, is_file_fault, loads_flags, reads_flags};
@@ -35,8 +35,9 @@ pub(crate) fn load_checked<R: Threads, F: FileSet>(
     alloc: Global,
     files: &mut F,
     path: &str,
+    floats: bool,
 ) -> Result<Loaded, crate::refusal::Refused>
-    ensures exact { IfSome (F.holding files.old) (λ at. checks.GivesOne (λ d. flags_view d.flags) result (IsDocumentAt at path.now)) }
+    ensures exact { IfSome (F.holding files.old) (λ at. checks.GivesOne (λ d. flags_view d.flags) result (IsDocumentAt floats at path.now)) }
     ensures bytes { IfSome (F.holding files.old) (λ at. IfOk result (λ d. load_of at path.now max_text ≡ Ok d.bytes.items)) }
     ensures found { IfOk result (λ d. Finds (json_of d.bytes.items) d.repeated) }
     ensures calls { checks.ComesFrom checks.loads_flags result }
@@ -44,21 +45,22 @@ pub(crate) fn load_checked<R: Threads, F: FileSet>(
     ensures kept { F.holding files.new ≡ F.holding files.old }
     ensures names { checks.TellsOf (file path.now) result }
 {
-    match load_with_names(rt, alloc, files, path) {
+    match load_with_names(rt, alloc, files, path, floats) {
         Ok(loaded) => Ok(loaded),
         Err(refused) => Err(flagops_shell::Refused::of(refused)),
     }
 }
 
 /// The document at a path, refused as `flagops_files::load_document` refuses it.
-#[tactic(auto, unfolding(flagops_files::specs::Documents::IsDocumentAt))]
+#[tactic(auto, unfolding(flagops_files::specs::Documents::IsDocumentAs))]
 fn load_with_names<R: Threads, F: FileSet>(
     rt: &R,
     alloc: Global,
     files: &mut F,
     path: &str,
+    floats: bool,
 ) -> Result<Loaded, Refused>
-    ensures exact { IfSome (F.holding files.old) (λ at. GivesOne (λ d. flags_view d.flags) result (documents.IsDocumentAt at path.now)) }
+    ensures exact { IfSome (F.holding files.old) (λ at. GivesOne (λ d. flags_view d.flags) result (documents.IsDocumentAs floats at path.now)) }
     ensures bytes { IfSome (F.holding files.old) (λ at. IfOk result (λ d. load_of at path.now max_text ≡ Ok d.bytes.items)) }
     ensures found { IfOk result (λ d. Finds (json_of d.bytes.items) d.repeated) }
     ensures calls { ComesFrom loads_flags result }
@@ -67,7 +69,7 @@ fn load_with_names<R: Threads, F: FileSet>(
     ensures names { TellsOf (file path.now) result }
 {
     let bytes = load(alloc, files, path, u64::from(TEXT_LIMIT))?;
-    let ReadDocument { flags, names } = read_in(rt, alloc, path, bytes.as_slice())?;
+    let ReadDocument { flags, names } = read_in(rt, alloc, path, bytes.as_slice(), floats)?;
     Ok(Loaded {
         bytes,
         flags,
@@ -82,15 +84,16 @@ fn read_in<R: Threads>(
     alloc: Global,
     path: &str,
     bytes: &[u8],
+    floats: bool,
 ) -> Result<ReadDocument, Refused>
-    ensures exact { GivesOne (λ d. flags_view d.flags) result (IsDocumentIn bytes.now) }
+    ensures exact { GivesOne (λ d. flags_view d.flags) result (IsDocumentInAs floats bytes.now) }
     ensures found { IfOk result (λ d. Finds (json_of bytes.now) d.names) }
     ensures calls { ComesFrom reads_flags result }
     ensures read { is_file_fault result ≡ false }
     ensures names { TellsOf (file path.now) result }
 {
     make_room_for(alloc, bytes.len());
-    match read_with_names(rt, alloc, bytes) {
+    match read_with_names(rt, alloc, bytes, floats) {
         Ok(read) => Ok(read),
         Err(fault) => Err(Refused {
             refusal: Refusal::ReadFlags(fault),

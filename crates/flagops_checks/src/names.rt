@@ -9,7 +9,7 @@ ghost use Rattle.flagops_checks.specs.Judged.{tree_in};
 ghost use Rattle.flagops_checks.specs.Names.{AreKnown, HasUnread};
 
 use flag_doubts::Repeated;
-use flag_text::{Tree, read_doc};
+use flag_text::{TextFault, Tree, read_doc};
 use limits::TEXT_BYTES;
 use std::alloc::{AllocError, Global};
 
@@ -85,6 +85,8 @@ fn tree_of(alloc: Global, bytes: &[u8]) -> Result<Tree, AllocError>
 {
     match read_doc(alloc, bytes, TEXT_BYTES) {
         Ok(tree) => Ok(tree),
-        Err(_) => Err(AllocError),
+        Err(TextFault::WantOfMemory) => Err(AllocError),
+        // It has a number that only a document with floats may have.
+        Err(_) => Ok(Tree::Null),
     }
 }

@@ -50,7 +50,7 @@ fn broken_lines(
         return Ok(String::new(alloc));
     }
     let head = head_line(alloc, form, path)?;
-    let lines = of_definition_errors(alloc, bytes)?;
+    let lines = of_definition_errors(alloc, bytes, form.floats)?;
     format!(in alloc; "{head}{lines}")
 }
 

@@ -5,7 +5,7 @@ ghost use Rattle.flagops_checks.specs.Words.{check_app};
 
 use clap::Command;
 use flagops_words::about;
-use flagops_words::arguments::{flag, some_words};
+use flagops_words::arguments::{flag, floats, some_words};
 use std::alloc::{AllocError, Global};
 
 /// The command `check`. The first of its words is its own name.
@@ -27,5 +27,9 @@ pub fn usage<'a>(alloc: Global) -> Result<Command<'a>, AllocError>
         "json",
         "Print a JSON text for each document, in a line",
     );
-    command.arg(documents)?.arg(strict)?.arg(json)
+    command
+        .arg(documents)?
+        .arg(strict)?
+        .arg(json)?
+        .arg(floats(alloc))
 }

@@ -8,7 +8,7 @@ use crate::asked::Checking;
 use crate::usage::usage;
 use clap::{ArgMatches, Error};
 use flagops_words::arguments::missing_value;
-use flagops_words::matches::{is_json, is_strict, texts_at};
+use flagops_words::matches::{has_floats, is_json, is_strict, texts_at};
 use std::alloc::{AllocError, Global};
 use std::convert::AsStr;
 
@@ -44,5 +44,6 @@ fn checking_in<'a>(
         documents: documents.to_vec(alloc)?,
         strict: is_strict(matches),
         json: is_json(matches),
+        floats: has_floats(matches),
     }))
 }

@@ -24,7 +24,7 @@ use Rattle.flagops_rollouts.specs.Attempts as rolling
 use Rattle.flagops_rollouts.specs.Refusal as rollouts
 use Rattle.flagops_rollouts.specs.declared.refusal.RolloutCall.{RolloutCall}
 use Rattle.flagops_rollouts.specs.declared.refusal.RolloutRefusal.{RolloutRefusal}
-use Rattle.flagops_commands.specs.Loaded.{IsDocumentAt, book_at, bytes_at, choice_at, replaceable_at, rule_at, tree_at}
+use Rattle.flagops_commands.specs.Loaded.{AreFlagsAt, IsDocumentAt, book_at, bytes_at, choice_at, replaceable_at, rule_at, tree_at}
 use Rattle.flagops_commands.specs.Attempts.{rolled}
 use Rattle.flagops_commands.specs.Refusal.{Refused, call_of, is_unread, is_want, loads, rolls, unwritable}
 use Rattle.flagops_commands.specs.declared.refusal.ListedRefusal.TheVariants.{Load, Rollout}
@@ -90,6 +90,15 @@ module _ (old : Option Holding) (path : List ℕ) where
       → IfSome old (λ at. is_want t.refusal ≡ false → IsDocumentAt at path (Err t.refusal))
   unfolding IsDocumentAt
   no_flags e t is loaded = refused_one files.is_want is_want Load (λ e. refl) (λ at. documents.IsDocumentAt at path) old e t is loaded
+
+  pub marked_there : (floats : Bool) (flags : documents.Marked) → IfSome old (λ at. documents.AreFlagsAt floats at path (Ok flags)) → IfSome old (λ at. AreFlagsAt floats at path (Ok flags))
+  unfolding AreFlagsAt
+  marked_there floats flags loaded = given_one files.is_want is_want Load (λ e. refl) (λ at. documents.AreFlagsAt floats at path) old flags loaded
+
+  pub no_marked : (floats : Bool) (e : files.Refused) (t : Refused) → t.refusal ≡ Load e.refusal → IfSome old (λ at. files.is_want e.refusal ≡ false → documents.AreFlagsAt floats at path (Err e.refusal))
+      → IfSome old (λ at. is_want t.refusal ≡ false → AreFlagsAt floats at path (Err t.refusal))
+  unfolding AreFlagsAt
+  no_marked floats e t is loaded = refused_one files.is_want is_want Load (λ e. refl) (λ at. documents.AreFlagsAt floats at path) old e t is loaded
 
 -- ---- a refusal is told as it was
 

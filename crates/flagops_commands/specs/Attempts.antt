@@ -2,7 +2,7 @@
 use Rattle.std.specs.Prelude.{ℕ, Bool, List, [], ◌∷◌, ◌++◌, codes, map, Some, Result, Ok, Err}
 use Rattle.flag_text.specs.Reading.{tree_of}
 use Rattle.flagops_commands.specs.Drive.{before_at}
-use Rattle.flagops_commands.specs.Loaded.{IsDocumentAt, choice_at, rule_at, tree_at}
+use Rattle.flagops_commands.specs.Loaded.{AreFlagsAt, IsDocumentAt, choice_at, rule_at, tree_at}
 use Rattle.flagops_commands.specs.Price.{request_at}
 use Rattle.flagops_commands.specs.Refusal.{Refused, Remarks, is_want, no_tree}
 use Rattle.flagops_commands.specs.Subjects.{driven_subjects, is_of_keys, is_of_rules, notes_of, numbers_of, old_weights, parts_of, written_subjects}
@@ -35,9 +35,9 @@ price_attempts at old new request keys =
     ∷ by_kind ((file keys, is_of_keys) ∷ (word old_weights, is_of_rules) ∷ [])
 
 -- a document, the default, which is read as a file's text is, and the context
-abbrev pub resolve_attempts : Holding → List ℕ → List ℕ → List ℕ → Attempts
-resolve_attempts at document default context =
-    attempt (file document) (IsDocumentAt at document) ∷ attempt_of (word (codes "DEFAULT")) (refused_by no_tree (tree_of default max_text)) ∷ attempt_of (file context) (tree_at at context max_text) ∷ []
+abbrev pub resolve_attempts : Bool → Holding → List ℕ → List ℕ → List ℕ → Attempts
+resolve_attempts floats at document default context =
+    attempt (file document) (AreFlagsAt floats at document) ∷ attempt_of (word (codes "DEFAULT")) (refused_by no_tree (tree_of default max_text)) ∷ attempt_of (file context) (tree_at at context max_text) ∷ []
 
 -- a document, the asks and the book before, and then what the asks come to, and the book that is written
 abbrev pub drive_attempts : Holding → List ℕ → List ℕ → List ℕ → Bool → Attempts
@@ -52,7 +52,7 @@ rolled attempts = map (within Rollout) attempts
 abbrev pub attempts_of : Asked → Holding → Attempts
 attempts_of (bucket rule key json) at = bucket_attempts at rule key
 attempts_of (price old new request keys json) at = price_attempts at old new request keys
-attempts_of (resolve document key kind default context moment) at = resolve_attempts at document default context
+attempts_of (resolve document key kind default context moment floats) at = resolve_attempts floats at document default context
 attempts_of (verify document request book answer refine strict json) at = rolled (verify_attempts at document request book answer)
 attempts_of (plan document request book refine strict explain) at = rolled (plan_attempts at document request book)
 attempts_of (apply document answer key site strict) at = rolled (apply_attempts at document answer)

@@ -27,7 +27,7 @@ use Rattle.flagops_words.specs.Asked.{Asked, bucket, price, resolve, verify, app
 abbrev pub IsOutcome : Holding → Option Holding → Asked → Outcomes
 IsOutcome at after (bucket rule key json) r = bucket_report at rule key json ≡ r
 IsOutcome at after (price old new request keys json) r = price_report at old new request keys json ≡ r
-IsOutcome at after (resolve document key kind default context moment) r = IsResolveReport at document key kind default context moment r
+IsOutcome at after (resolve document key kind default context moment floats) r = IsResolveReport at document key kind default context moment floats r
 IsOutcome at after (verify document request book file refine strict json) r = Lifts Rollout (IsVerifyReport at document request book file refine strict json) r
 IsOutcome at after (apply document file key site strict) r = Lifts Rollout (IsApplyReport at document file key site strict) r
 IsOutcome at after (keep document file request book write refine strict) r = Lifts Rollout (IsKeepReport at after document file request book write refine strict) r
@@ -45,7 +45,7 @@ Leaves asked old new = new ≡ old
 abbrev pub calls_of : Asked → ListedCall → Bool
 calls_of (bucket rule key json) c = bucket_calls c
 calls_of (price old new request keys json) c = price_calls c
-calls_of (resolve document key kind default context moment) c = resolve_calls c
+calls_of (resolve document key kind default context moment floats) c = resolve_calls c
 calls_of (verify document request book file refine strict json) c = rolls verify_calls c
 calls_of (apply document file key site strict) c = rolls apply_calls c
 calls_of (keep document file request book write refine strict) c = rolls keep_calls c

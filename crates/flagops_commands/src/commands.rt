@@ -57,8 +57,9 @@ pub fn outcome<R: Threads + Wait + Sync, F: FileSet>(
             default,
             context,
             moment,
+            floats,
         } => resolve(
-            alloc, files, document, key, *kind, default, context, *moment,
+            alloc, files, document, key, *kind, default, context, *moment, *floats,
         ),
         Asked::Verify {
             document,

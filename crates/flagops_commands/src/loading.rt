@@ -2,11 +2,12 @@
 ghost use Rattle.std.specs.Prelude.{◌≡◌, ◌||◌, false, true, IfErr, IfOk, IfSome, OnErr, OnOk};
 ghost use Rattle.book_losses.specs.Losses.{losses_at};
 ghost use Rattle.flag_defs.specs.Flags.{flags_view};
+ghost use Rattle.flag_defs.specs.Floats.{marked_view};
 ghost use Rattle.flag_text.specs.Shape.{is_whole};
 ghost use Rattle.flag_text.specs.View.{view};
 ghost use Rattle.flagops_files.specs.Told.{file};
 ghost use Rattle.flagops_shell.specs.Files.{KeepsOthers, Stores};
-ghost use Rattle.flagops_commands.specs.Loaded.{IsDocumentAt, book_at, bytes_at, choice_at, replaceable_at, rule_at, tree_at};
+ghost use Rattle.flagops_commands.specs.Loaded.{AreFlagsAt, IsDocumentAt, book_at, bytes_at, choice_at, replaceable_at, rule_at, tree_at};
 ghost use Rattle.flagops_commands.specs.Refusal.{ComesFrom, GivesOne, GivesUnlessWant, TellsOf, is_file_fault, is_want, loads_book, loads_file, loads_flags, loads_rule, loads_tree, stores_file, unwritable};
 ghost use Rattle.flagops_commands.specs.declared.refusal.ListedRefusal.TheVariants.{Load};
 ghost use Rattle.flagops_shell.specs.Outcomes.{refused_by};
@@ -18,7 +19,7 @@ use book_losses::losses_at;
 use bucket_core::Rule;
 use flag_defs::Flags;
 use flag_text::Tree;
-use flagops_files::{TEXT_LIMIT, load, load_document};
+use flagops_files::{TEXT_LIMIT, load, load_document, load_flags_as};
 use flagops_shell::FileSet;
 use rule_text::Choice;
 use std::alloc::Global;
@@ -117,6 +118,26 @@ pub(crate) fn load_flags<F: FileSet>(
 {
     match load_document(alloc, files, path) {
         Ok(document) => Ok(document.flags),
+        Err(refused) => Err(Refused::of(refused)),
+    }
+}
+
+/// The flags of the document at a path, which may have floats or may not.
+#[tactic(auto, using(crate::proofs::Loaded::told, crate::proofs::Loaded::comes, crate::proofs::Loaded::failed_load))]
+pub(crate) fn load_marked<F: FileSet>(
+    alloc: Global,
+    files: &mut F,
+    path: &str,
+    floats: bool,
+) -> Result<Flags, Refused>
+    ensures exact { IfSome (F.holding files.old) (λ at. GivesOne marked_view result (AreFlagsAt floats at path.now)) }
+    ensures calls { ComesFrom loads_flags result }
+    ensures failed { F.has_failed files.new ≡ (F.has_failed files.old || is_file_fault result) }
+    ensures kept { F.holding files.new ≡ F.holding files.old }
+    ensures names { TellsOf (file path.now) result }
+{
+    match load_flags_as(alloc, files, path, floats) {
+        Ok(flags) => Ok(flags),
         Err(refused) => Err(Refused::of(refused)),
     }
 }

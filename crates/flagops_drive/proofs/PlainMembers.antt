@@ -21,18 +21,19 @@ use Rattle.flag_text.proofs.Turns.{converted-object, member_read, members_over}
 
 -- the word that names a kind is the kind's word
 pub word_named : (s : List ℕ) (k : Kind) → kind_named s ≡ Some k → word_of k ≡ s
-word_named s k e = go (bytes_eq s (codes "bool")) (bytes_eq s (codes "text")) (bytes_eq s (codes "whole")) (bytes_eq s (codes "object")) refl refl refl refl e
+word_named s k e = go (bytes_eq s (codes "bool")) (bytes_eq s (codes "text")) (bytes_eq s (codes "whole")) (bytes_eq s (codes "object")) (bytes_eq s (codes "float")) refl refl refl refl refl e
   where
     same : (word : List ℕ) (j : Kind) → bytes_eq s word ≡ true → word_of j ≡ word → Some j ≡ Some k → word_of k ≡ s
     same word j is of e = let named : j ≡ k = cc in ap word_of (sym named) ∙ of ∙ sym ((bytes_eq-Decides s word).0 is)
 
-    go : (a b c d : Bool) → bytes_eq s (codes "bool") ≡ a → bytes_eq s (codes "text") ≡ b → bytes_eq s (codes "whole") ≡ c → bytes_eq s (codes "object") ≡ d
-        → cond a (Some kind.Bool) (cond b (Some kind.Text) (cond c (Some kind.Whole) (cond d (Some kind.Object) None))) ≡ Some k → word_of k ≡ s
-    go true b c d p q r t e = same (codes "bool") kind.Bool p refl e
-    go false true c d p q r t e = same (codes "text") kind.Text q refl e
-    go false false true d p q r t e = same (codes "whole") kind.Whole r refl e
-    go false false false true p q r t e = same (codes "object") kind.Object t refl e
-    go false false false false p q r t e = cc
+    go : (a b c d f : Bool) → bytes_eq s (codes "bool") ≡ a → bytes_eq s (codes "text") ≡ b → bytes_eq s (codes "whole") ≡ c → bytes_eq s (codes "object") ≡ d → bytes_eq s (codes "float") ≡ f
+        → cond a (Some kind.Bool) (cond b (Some kind.Text) (cond c (Some kind.Whole) (cond d (Some kind.Object) (cond f (Some kind.Float) None)))) ≡ Some k → word_of k ≡ s
+    go true b c d f p q r t u e = same (codes "bool") kind.Bool p refl e
+    go false true c d f p q r t u e = same (codes "text") kind.Text q refl e
+    go false false true d f p q r t u e = same (codes "whole") kind.Whole r refl e
+    go false false false true f p q r t u e = same (codes "object") kind.Object t refl e
+    go false false false false true p q r t u e = same (codes "float") kind.Float u refl e
+    go false false false false false p q r t u e = cc
 
 in_time : (b : Bool) (m n : ℕ) → cond b (Some m) None ≡ Some n → m ≡ n
 in_time true m n e = cc

@@ -7,7 +7,7 @@ use Rattle.std.specs.Str.{bytes_eq}
 use Rattle.flag_text.specs.Outlet.{AppendsPart}
 use Rattle.flag_defs.specs.Document.{Definitions}
 use Rattle.flag_defs.specs.Flags.{flags_view}
-use Rattle.flagops_files.specs.Documents.{IsDocumentAt}
+use Rattle.flagops_files.specs.Documents.{IsDocumentAs}
 use Rattle.flagops_files.specs.Refusal as files
 use Rattle.flagops_files.specs.Refusal.{Refused}
 use Rattle.file_diagnostics.specs.Named.{Names}
@@ -142,18 +142,18 @@ module _ (old new : Shown) (status : ℕ) where
     abbrev Answer : Option Holding → Option (List ℕ) → Type 0
     Answer holding given = IfSome holding (λ at. IfSome given (λ bytes. RecordAnswers old new status at has_failed a now bytes is_cut))
 
-    pub over_document : (holding : Option Holding) (given : Option (List ℕ)) (flags : Definitions) → IfSome holding (λ at. IsDocumentAt at a.document (Ok flags))
+    pub over_document : (holding : Option Holding) (given : Option (List ℕ)) (flags : Definitions) → IfSome holding (λ at. IsDocumentAs a.floats at a.document (Ok flags))
         → IfSome given (λ bytes. RecordOver old new status a.document flags a.key a.moment now bytes is_cut) → Answer holding given
     over_document None given flags document over = tt
     over_document (Some at) None flags document over = tt
     over_document (Some at) (Some bytes) flags document over = inl (Ok flags, document, over)
 
-    no_document : (at : Holding) (bytes : List ℕ) (e : Refused) → files.GivesOne flags_view (Err e) (IsDocumentAt at a.document) → (is_unread (Load e.refusal) ≡ true → has_failed ≡ true)
+    no_document : (at : Holding) (bytes : List ℕ) (e : Refused) → files.GivesOne flags_view (Err e) (IsDocumentAs a.floats at a.document) → (is_unread (Load e.refusal) ≡ true → has_failed ≡ true)
         → RefusesOrWants old new status record_call (NamesPath a.document) (Load e.refusal) → RecordAnswers old new status at has_failed a now bytes is_cut
     no_document at bytes e document fails (inl ends) = inl (Err e.refusal, document ends.0, (ends.1, fails))
     no_document at bytes e document fails (inr ends) = inr ends
 
-    pub unloaded : (holding : Option Holding) (given : Option (List ℕ)) (e : Refused) (t : Told) → IfSome holding (λ at. files.GivesOne flags_view (Err e) (IsDocumentAt at a.document)) → t.refusal ≡ Load e.refusal → t.remark ≡ e.remark
+    pub unloaded : (holding : Option Holding) (given : Option (List ℕ)) (e : Refused) (t : Told) → IfSome holding (λ at. files.GivesOne flags_view (Err e) (IsDocumentAs a.floats at a.document)) → t.refusal ≡ Load e.refusal → t.remark ≡ e.remark
         → (files.is_want e.refusal ≡ false → Says (Names a.document) e.remark) → (files.is_unread e.refusal ≡ true → has_failed ≡ true)
         → ShowsRefusal old new status is_want line_of record_call t.refusal t.remark → Answer holding given
     unloaded None given e t document is same names fails shows = tt

@@ -5,7 +5,7 @@ use Rattle.std.specs.Map.{lookup}
 use Rattle.std.specs.Str.{bytes_eq}
 use Rattle.flag_text.specs.Outlet.{AppendsPart}
 use Rattle.flag_defs.specs.Document.{Definitions}
-use Rattle.flagops_files.specs.Documents.{IsDocumentAt}
+use Rattle.flagops_files.specs.Documents.{IsDocumentAs}
 use Rattle.flagops_shell.specs.Console.{Shown}
 use Rattle.flagops_shell.specs.Files.{Holding}
 use Rattle.flagops_files.specs.declared.refusal.Refusal.{Refusal}
@@ -74,5 +74,5 @@ module _ (old new : Shown) (status : ℕ) where
   -- of the document at a path
   abbrev pub RecordAnswers : Holding → Bool → Recording → ℕ → List ℕ → Bool → Type 0
   RecordAnswers at has_failed a now bytes is_cut =
-      ((document : Result Definitions Refusal) × IsDocumentAt at a.document document × RecordIn has_failed a.document document a.key a.moment now bytes is_cut)
+      ((document : Result Definitions Refusal) × IsDocumentAs a.floats at a.document document × RecordIn has_failed a.document document a.key a.moment now bytes is_cut)
       ⊎ Wants old new status record_call

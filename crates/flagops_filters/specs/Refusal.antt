@@ -53,10 +53,12 @@ filter_name filter.WantOfMemory = codes "WantOfMemory"
 filter_name (filter.Line n) = codes "Line"
 filter_name (filter.Order n) = codes "Order"
 filter_name filter.TooMany = codes "TooMany"
+filter_name (filter.Mixed n) = codes "Mixed"
 
 abbrev pub filter_items : FilterFault → List ℕ
 filter_items (filter.Line n) = number_item n
 filter_items (filter.Order n) = number_item n
+filter_items (filter.Mixed n) = number_item n
 filter_items e = []
 
 abbrev pub tally_name : TallyStop → List ℕ

@@ -3,7 +3,7 @@ use Rattle.std.specs.Prelude.{◌≡◌, ◌≢◌, ◌<◌, ◌⊎◌, ℕ, ◌
 use Rattle.bucket_core.specs.Rule.{Entries, total_weight}
 use Rattle.book_core.specs.Page.{PageName}
 use Rattle.flag_defs.specs.Document.{Definitions}
-use Rattle.flagops_files.specs.Documents.{IsDocumentAt}
+use Rattle.flagops_files.specs.Documents.{IsDocumentAs}
 use Rattle.flagops_shell.specs.Files.{Holding}
 use Rattle.flagops_files.specs.declared.refusal.Refusal.{Refusal}
 use Rattle.line_batches.specs.Lines.{parts_of}
@@ -65,4 +65,4 @@ IsTallyIn (Ok flags) a bytes is_cut r = IsTallyAt (target_of flags a.key a.site 
 
 -- what the document at a path and the bytes of the standard input make
 unfoldable pub IsTallyReport : Holding → Tallying → List ℕ → Bool → Came → Type 0
-IsTallyReport at a bytes is_cut r = (document : Result Definitions Refusal) × IsDocumentAt at a.document document × IsTallyIn document a bytes is_cut r
+IsTallyReport at a bytes is_cut r = (document : Result Definitions Refusal) × IsDocumentAs a.floats at a.document document × IsTallyIn document a bytes is_cut r

@@ -9,6 +9,8 @@ pub struct Recording<'a> {
     pub key: &'a str,
     pub moment: Option<Moment>,
     pub workers: usize,
+    /// Whether the document may have floats.
+    pub floats: bool,
 }
 
 /// What `tally` is asked for: the tally of the note lines of the standard input, at a site of a flag.
@@ -18,6 +20,8 @@ pub struct Tallying<'a> {
     pub key: &'a str,
     pub site: u32,
     pub refine: Option<Factor>,
+    /// Whether the document may have floats.
+    pub floats: bool,
 }
 
 /// What `join` is asked for: the tally of the lines of one and of others, which follow it.

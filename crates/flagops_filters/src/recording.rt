@@ -25,7 +25,7 @@ use crate::words::read_record;
 use file_diagnostics::Ends as FileEnds;
 use flag_defs::Flags;
 use flag_text::Outlet;
-use flagops_files::load_flags;
+use flagops_files::load_flags_as;
 use flagops_shell::{Console, FileSet, Refused, Remark, refuse, report_usage, tell};
 use line_batches::Inlet;
 use note_streams::{Counted, RecordStop, record_stream};
@@ -91,7 +91,7 @@ fn recorded<R: Threads + Sync, I: Inlet + Opening, F: FileSet, O: Outlet, E: Out
     ensures unread { F.has_failed files.old ≡ false → F.has_failed files.new ≡ true → ShowsUnread console.old console.new result (λ name. name ≡ record_call) }
     ensures kept { F.holding files.new ≡ F.holding files.old }
 {
-    match load_flags(alloc, files, asked.document) {
+    match load_flags_as(alloc, files, asked.document, asked.floats) {
         Ok(flags) => over(rt, alloc, asked, &flags, now, input, console),
         Err(unread) => refuse(alloc, Refused::<FilterRefusal>::of(unread), RECORD, console),
     }

@@ -128,6 +128,10 @@ fn filter_line(alloc: Global, fault: &FilterFault) -> Result<String, AllocError>
             let item = number_item(alloc, *n)?;
             fault_line(alloc, "tally", 2, name, item.as_str())
         }
+        FilterFault::Mixed(n) => {
+            let item = number_item(alloc, *n)?;
+            fault_line(alloc, "tally", 6, name, item.as_str())
+        }
         _ => fault_line(alloc, "tally", fault.number(), name, ""),
     }
 }
@@ -140,6 +144,7 @@ fn filter_name(fault: &FilterFault) -> &'static str
         FilterFault::Line(_) => "Line",
         FilterFault::Order(_) => "Order",
         FilterFault::TooMany => "TooMany",
+        FilterFault::Mixed(_) => "Mixed",
     }
 }
 

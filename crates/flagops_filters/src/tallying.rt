@@ -30,7 +30,7 @@ use bucket_core::total_weight;
 use file_diagnostics::Ends as FileEnds;
 use flag_defs::Flags;
 use flag_text::Outlet;
-use flagops_files::load_flags;
+use flagops_files::load_flags_as;
 use flagops_shell::{
     Console, FileSet, Outcome, Refused, Remark, Status, refuse, report, report_usage,
 };
@@ -114,7 +114,7 @@ fn tallied<I: Inlet + Opening, F: FileSet>(
     ensures names { RemarksBy (NamesRefused asked.now.document.now) result }
     ensures notes { IfOk result (λ o. IfSome (I.bytes input.old) (λ bytes. IfSome o.remark (Says (Reads (tally_beside bytes))))) }
 {
-    match load_flags(alloc, files, asked.document) {
+    match load_flags_as(alloc, files, asked.document, asked.floats) {
         Ok(flags) => within(alloc, asked, &flags, input),
         Err(refused) => Err(Refused::of(refused)),
     }

@@ -8,7 +8,7 @@ ghost use Rattle.flagops_filters.specs.Words.{join_app, max_workers, record_app,
 
 use clap::{Arg, Command};
 use flagops_words::about;
-use flagops_words::arguments::{option_number, refine, required, site, some_words};
+use flagops_words::arguments::{floats, option_number, refine, required, site, some_words};
 use limits::LATEST_MOMENT;
 use std::alloc::{AllocError, Global};
 
@@ -22,7 +22,10 @@ pub fn record<'a>(alloc: Global) -> Result<Command<'a>, AllocError>
 {
     let moment = moment(alloc);
     let workers = workers(alloc);
-    record_begun(alloc)?.arg(moment)?.arg(workers)
+    record_begun(alloc)?
+        .arg(moment)?
+        .arg(workers)?
+        .arg(floats(alloc))
 }
 
 /// The words that `record` begins with.
@@ -48,7 +51,10 @@ pub fn tally<'a>(alloc: Global) -> Result<Command<'a>, AllocError>
         alloc,
         "Tally in finer points: multiply each weight of the rule by M first",
     );
-    tally_begun(alloc)?.arg(site)?.arg(factor)
+    tally_begun(alloc)?
+        .arg(site)?
+        .arg(factor)?
+        .arg(floats(alloc))
 }
 
 /// The words that `tally` begins with.

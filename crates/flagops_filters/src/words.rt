@@ -11,7 +11,7 @@ use crate::usage::{MOST_WORKERS, join, record, tally};
 use clap::{ArgMatches, Error};
 use flagops_words::Moment;
 use flagops_words::arguments::missing_value;
-use flagops_words::matches::{number_or, refine_in, site_in, texts_at};
+use flagops_words::matches::{has_floats, number_or, refine_in, site_in, texts_at};
 use std::alloc::{AllocError, Global};
 use std::convert::AsStr;
 
@@ -58,6 +58,7 @@ fn recording_in<'a>(matches: &ArgMatches<'a>) -> Option<Recording<'a>>
         key,
         moment,
         workers: workers as usize,
+        floats: has_floats(matches),
     })
 }
 
@@ -85,6 +86,7 @@ fn tallying_in<'a>(matches: &ArgMatches<'a>) -> Option<Tallying<'a>>
         key,
         site,
         refine,
+        floats: has_floats(matches),
     })
 }
 

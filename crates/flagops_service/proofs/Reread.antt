@@ -1,6 +1,6 @@
 -- Documents that are read again, one after the other and turn by turn.
 use Rattle.std.proofs.Common.{Bor, ◌≡◌, ◌≢◌, ◌+◌, ◌<◌, ◌⊎◌, ℕ, true, suc, List, [], ◌∷◌, ◌++◌, add-one, ap, decimal, drop, drop-cons, get_or, length, map, Option, Some, None, Err, IfSome, Vec, Global, inl, inr, is_some, refl, slice_get, subst, sym}
-use Rattle.source_merge.specs.Sources.{Sets, SourceList}
+use Rattle.source_merge.specs.Sources.{SetsWithFloats, SourceList}
 use Rattle.source_merge.specs.declared.fault.SourceFault.{SourceFault}
 use Rattle.flagops_service.specs.Rereading.{IsUnfit, Kept, MayBeRefused, ReadsFrom, ReadsOne, State, Turns, Watches}
 use Rattle.flagops_service.specs.declared.taking.Unfit.{Unfit}
@@ -25,7 +25,7 @@ known_refused refused place None text here same some = absurd (cc some)
 
 -- why a text is not set, where memory was there
 pub why_unfit : (mode : OnBroken) (number : ℕ) (sources : SourceList) (accepted text : List ℕ) (why : Unfit) → IsUnfit mode number sources accepted text why → why ≢ unfit.WantOfMemory
-    → ((fault : SourceFault) × Sets sources (decimal number) text (Err fault)) ⊎ MayBeRefused mode accepted text
+    → ((fault : SourceFault) × SetsWithFloats sources (decimal number) text (Err fault)) ⊎ MayBeRefused mode accepted text
 why_unfit mode number sources accepted text unfit.WantOfMemory is other = absurd (other refl)
 why_unfit mode number sources accepted text (unfit.Refused fault) is other = inl (fault, is)
 why_unfit mode number sources accepted text (unfit.Harms regression) is other = inr is

@@ -23,7 +23,7 @@ use Rattle.flagops_service.specs.declared.stop.Stop.TheVariants.{BrokenFlags}
 
 -- the first document is merged, and those behind it give the rest
 pub first_merged : (sources next last : SourceList) (flags : Definitions) (text : List ℕ) (texts : List (List ℕ)) (r : Result Flags Refusal)
-    → Merges 1 sources text next flags → GivesMore next last texts (flags ∷ []) r → GivesMore sources last (text ∷ texts) [] r
+    → Merges true 1 sources text next flags → GivesMore next last texts (flags ∷ []) r → GivesMore sources last (text ∷ texts) [] r
 first_merged sources next last flags text texts (Ok f) merges gives = (gives.0, inr (next, flags, merges, gives.1), gives.2)
 first_merged sources next last flags text texts (Err refusal) merges gives = inr (next, flags, merges, gives)
 
@@ -52,7 +52,7 @@ module _ (mode : OnBroken) (Reported : Bool → Result ℕ Refusal → Type 0) w
   pub serves_as : (seats : ℕ) (d : Loaded) (answer : Answer) → StartsOn seats d answer → Reported (stops_in mode answer) (count_of answer) → Counted (length d.texts) ⊎ IsRefused
   serves_as seats d (Ok all) (inl fails) p = absurd (cc (fails.1))
   serves_as seats d (Ok all) (inr gives) p =
-      let count : length all ≡ length d.texts = omega (arith, counted d.sources d.texts [] all gives) in
+      let count : length all ≡ length d.texts = omega (arith, counted true d.sources d.texts [] all gives) in
       inl (stops_on mode (last_of all), stopped mode (last_of all), subst (λ (k : ℕ). Reported (stops_on mode (last_of all)) (Ok k)) count p)
   serves_as seats d (Err refusal) starts p = inr (refusal, p)
 
@@ -61,12 +61,12 @@ module _ (mode : OnBroken) (Reported : Bool → Result ℕ Refusal → Type 0) w
   served a d answer n count starts report = subst (λ (k : ℕ). Counted k ⊎ IsRefused) count (serves_as (seats_of a) d answer starts report)
 
   -- documents that were merged are answered from, or not
-  pub begun : (seats n : ℕ) (d : Loaded) (front : List Definitions) (flags : Definitions) → n ≡ length d.texts → Gives d.sources d.texts [] (Ok (front ++ flags ∷ []))
+  pub begun : (seats n : ℕ) (d : Loaded) (front : List Definitions) (flags : Definitions) → n ≡ length d.texts → Gives true d.sources d.texts [] (Ok (front ++ flags ∷ []))
       → Reported (stops_on mode flags) (Ok n) ⊎ ((refusal : Refusal) × MayNotStart seats refusal × Reported false (Err refusal))
       → (answer : Answer) × StartsOn seats d answer × Reported (stops_in mode answer) (count_of answer)
   begun seats n d front flags same gives (inl p) =
       let all = front ++ flags ∷ [] in
-      let count : n ≡ length all = omega (arith, same, counted d.sources d.texts [] all gives) in
+      let count : n ≡ length all = omega (arith, same, counted true d.sources d.texts [] all gives) in
       let here = subst (λ (k : ℕ). Reported (stops_on mode flags) (Ok k)) count p in
       (Ok all, inr gives, subst (λ (fs : Definitions). Reported (stops_on mode fs) (Ok (length all))) (sym (last_is front flags)) here)
   begun seats n d front flags same gives (inr fails) = (Err fails.0, inl (fails.0, refl, fails.1), fails.2)

@@ -4,3 +4,4 @@ pub mod Starting
 pub mod Ended
 pub mod Unready
 pub mod Rereading
+pub mod Sizes

@@ -1,5 +1,5 @@
 -- What setting all documents gives, in private contracts alone.
-use Rattle.std.specs.Prelude.{◌≡◌, ◌⊎◌, [], ◌∷◌, ◌++◌, List, ℕ, Result, Ok, Err}
+use Rattle.std.specs.Prelude.{◌≡◌, ◌⊎◌, [], ◌∷◌, ◌++◌, List, ℕ, true, Result, Ok, Err}
 use Rattle.flag_defs.specs.Flags.{flags_view}
 use Rattle.flag_defs.specs.declared.flags.Flags.{Flags}
 use Rattle.flag_defs.specs.Document.{Definitions}
@@ -20,7 +20,7 @@ ArePublished sources published = (front : List Flags) × (flags : Flags) × (pub
 abbrev pub Publishes : SourceList → List Flags → List Flags → Type 0
 Publishes sources old new = (new ≡ old) ⊎ ((flags : Flags) × (new ≡ old ++ flags ∷ []) × AreMerged sources flags)
 
--- some merges behind these, the last of which is given, and is that of the sources as they then are; or the refusal of one
+-- some merges behind these, of documents that may have floats, the last of which is given, and is that of the sources as they then are; or the refusal of one
 abbrev pub GivesMore : SourceList → SourceList → List (List ℕ) → List Definitions → Result Flags Refusal → Type 0
-GivesMore sources next texts merges (Ok flags) = (front : List Definitions) × Gives sources texts merges (Ok (front ++ flags_view flags ∷ [])) × AreMerged next flags
-GivesMore sources next texts merges (Err refusal) = Gives sources texts merges (Err refusal)
+GivesMore sources next texts merges (Ok flags) = (front : List Definitions) × Gives true sources texts merges (Ok (front ++ flags_view flags ∷ [])) × AreMerged next flags
+GivesMore sources next texts merges (Err refusal) = Gives true sources texts merges (Err refusal)

@@ -1,13 +1,14 @@
 -- What reading documents again does, in private contracts alone.
 use Rattle.std.specs.Prelude.{◌≡◌, ◌⊎◌, ℕ, ◌+◌, List, [], ◌∷◌, true, decimal, is_some, slice_get, slice_set, Option, Some, None, IfSome, Result, Ok, Err, Vec}
 use Rattle.std.specs.declared.alloc.Global.{Global}
-use Rattle.flag_defs.specs.Document.{Definitions, DocumentMeans}
+use Rattle.flag_defs.specs.Document.{Definitions}
+use Rattle.flag_defs.specs.Floats.{MeansWithFloats}
 use Rattle.flag_defs.specs.declared.fault.DefFault.{DefFault}
 use Rattle.flag_defs.specs.declared.flags.Flags.{Flags}
 use Rattle.flag_regressions.specs.Regression.{names_in, regression_of}
 use Rattle.flagops_shell.specs.Files.{Holding, load_of}
 use Rattle.limits.specs.Limits.{text_bytes}
-use Rattle.source_merge.specs.Sources.{Sets, SourceList}
+use Rattle.source_merge.specs.Sources.{SetsWithFloats, SourceList}
 use Rattle.source_merge.specs.View.{sources_view}
 use Rattle.source_merge.specs.declared.fault.SourceFault.{SourceFault}
 use Rattle.flagops_service.specs.Merging.{Publishes}
@@ -24,13 +25,13 @@ use Rattle.flagops_service.specs.declared.taking.Unfit.TheVariants as unfit
 -- a later text breaks a flag that is good now, or loses one whose key it has
 abbrev pub Harms : List ℕ → List ℕ → Type 0
 Harms accepted text =
-    (now : Definitions) × (later : Definitions) × DocumentMeans accepted (Ok now) × DocumentMeans text (Ok later) × (is_some (regression_of now later (names_in text)) ≡ true)
+    (now : Definitions) × (later : Definitions) × MeansWithFloats accepted (Ok now) × MeansWithFloats text (Ok later) × (is_some (regression_of now later (names_in text)) ≡ true)
 
 -- it does neither; or one of the two is no document
 abbrev pub Spares : List ℕ → List ℕ → Type 0
 Spares accepted text =
-    ((fault : DefFault) × DocumentMeans accepted (Err fault)) ⊎ ((fault : DefFault) × DocumentMeans text (Err fault))
-    ⊎ ((now : Definitions) × (later : Definitions) × DocumentMeans accepted (Ok now) × DocumentMeans text (Ok later) × (regression_of now later (names_in text) ≡ None))
+    ((fault : DefFault) × MeansWithFloats accepted (Err fault)) ⊎ ((fault : DefFault) × MeansWithFloats text (Err fault))
+    ⊎ ((now : Definitions) × (later : Definitions) × MeansWithFloats accepted (Ok now) × MeansWithFloats text (Ok later) × (regression_of now later (names_in text) ≡ None))
 
 -- what may be set behind the text that was accepted last
 abbrev pub MayFollow : OnBroken → List ℕ → List ℕ → Type 0
@@ -47,12 +48,12 @@ MayBeRefused Serve accepted text = ⊥
 -- why the text of a document of this number is not set
 abbrev pub IsUnfit : OnBroken → ℕ → SourceList → List ℕ → List ℕ → Unfit → Type 0
 IsUnfit mode number sources accepted text unfit.WantOfMemory = Unit {0}
-IsUnfit mode number sources accepted text (unfit.Refused fault) = Sets sources (decimal number) text (Err fault)
+IsUnfit mode number sources accepted text (unfit.Refused fault) = SetsWithFloats sources (decimal number) text (Err fault)
 IsUnfit mode number sources accepted text (unfit.Harms regression) = MayBeRefused mode accepted text
 
 -- the text was set, and harms nothing that must not be harmed; or all stays
 abbrev pub SetsFit : OnBroken → ℕ → List ℕ → List ℕ → SourceList → SourceList → Result (Unit {0}) Unfit → Type 0
-SetsFit mode number accepted text old new (Ok done) = Sets old (decimal number) text (Ok new) × MayFollow mode accepted text
+SetsFit mode number accepted text old new (Ok done) = SetsWithFloats old (decimal number) text (Ok new) × MayFollow mode accepted text
 SetsFit mode number accepted text old new (Err why) = (new ≡ old) × IsUnfit mode number old accepted text why
 
 -- ---- all documents
@@ -75,11 +76,11 @@ IsKnown place text old new =
 -- what becomes of the text of the document at a place, whose source has the number behind it
 abbrev pub Takes : OnBroken → ℕ → Vec ℕ Global → Kept → Kept → Taken → Type 0
 Takes mode place text old new Accepted =
-    (last : Vec ℕ Global) × (slice_get old.accepted place ≡ Some last) × Sets old.sources (decimal (place + 1)) text.items (Ok new.sources) × MayFollow mode last.items text.items
+    (last : Vec ℕ Global) × (slice_get old.accepted place ≡ Some last) × SetsWithFloats old.sources (decimal (place + 1)) text.items (Ok new.sources) × MayFollow mode last.items text.items
     × (new.accepted ≡ slice_set old.accepted place text) × (new.refused ≡ slice_set old.refused place None)
 Takes mode place text old new Refused =
     (last : Vec ℕ Global) × (slice_get old.accepted place ≡ Some last)
-    × (((fault : SourceFault) × Sets old.sources (decimal (place + 1)) text.items (Err fault)) ⊎ MayBeRefused mode last.items text.items)
+    × (((fault : SourceFault) × SetsWithFloats old.sources (decimal (place + 1)) text.items (Err fault)) ⊎ MayBeRefused mode last.items text.items)
     × (new.sources ≡ old.sources) × (new.accepted ≡ old.accepted) × (new.refused ≡ slice_set old.refused place (Some text))
 Takes mode place text old new Unchanged = IsKnown place text old new × (new.sources ≡ old.sources) × (new.accepted ≡ old.accepted)
 Takes mode place text old new Unread = new ≡ old

@@ -1,5 +1,5 @@
 -- What starting on documents gives, from the files at their paths.
-use Rattle.std.specs.Prelude.{◌≡◌, ◌⊎◌, Bool, false, ℕ, List, [], ◌∷◌, Result, Ok, Err}
+use Rattle.std.specs.Prelude.{◌≡◌, ◌⊎◌, Bool, true, false, ℕ, List, [], ◌∷◌, Result, Ok, Err}
 use Rattle.std.specs.List.{list_any}
 use Rattle.flag_defs.specs.Definition.{Definition}
 use Rattle.flag_defs.specs.Document.{Definitions}
@@ -39,7 +39,7 @@ MayNotStart seats refusal = ⊥
 
 -- Each document is merged over those before it, and the last merge is answered from; or one refuses; or the address, so many seats or memory.
 abbrev pub StartsOn : ℕ → Loaded → Answer → Type 0
-StartsOn seats d answer = ((refusal : Refusal) × (answer ≡ Err refusal) × MayNotStart seats refusal) ⊎ Gives d.sources d.texts [] answer
+StartsOn seats d answer = ((refusal : Refusal) × (answer ≡ Err refusal) × MayNotStart seats refusal) ⊎ Gives true d.sources d.texts [] answer
 
 -- the same, or why they were not loaded
 abbrev pub StartsLoaded : ℕ → Result Loaded Refusal → Answer → Type 0

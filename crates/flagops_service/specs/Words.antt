@@ -1,5 +1,5 @@
 -- What the words of `ofrep` ask for, by what `clap` reads of them.
-use Rattle.std.specs.Prelude.{ℕ, zero, suc, ◌+◌, ◌-◌, ◌/◌, Bool, max, List, [], codes, map, Option, Some, None, option_copied, option_map, unwrap_or, if◌then◌else◌}
+use Rattle.std.specs.Prelude.{ℕ, zero, suc, ◌+◌, ◌-◌, ◌/◌, Bool, true, false, max, List, [], codes, map, Option, Some, None, option_copied, option_map, unwrap_or, if◌then◌else◌}
 use Rattle.std.specs.Str.{bytes_eq}
 use Rattle.clap.specs.Kinds.{Kinds}
 use Rattle.clap.specs.Simple.{App, new_app, new_rule, with_rule}
@@ -11,12 +11,14 @@ use Rattle.flagops_words.specs.Words.{◌>>=◌, flag, flag_in, number_or, optio
 use Rattle.flagops_service.specs.declared.asked.Answering as code
 use Rattle.flagops_service.specs.declared.asked.OnBroken.{OnBroken}
 use Rattle.flagops_service.specs.declared.asked.OnBroken.TheVariants.{Keep, Refuse, Serve}
+use Rattle.note_lines.specs.declared.form.NoteForm.{NoteForm}
+use Rattle.note_lines.specs.declared.form.NoteForm.TheVariants.{Hash, Input}
 use Rattle.ofrep_guards.specs.declared.rules.Paths.{Paths}
 use Rattle.ofrep_guards.specs.declared.rules.Paths.TheVariants.{All, Evaluations}
 use Rattle.ofrep_worker.specs.declared.unrecorded.WithoutRecord.{WithoutRecord}
 use Rattle.ofrep_worker.specs.declared.unrecorded.WithoutRecord.TheVariants as unrecorded
 
--- Documents, by their paths, answered at an address, also to the web pages of these origins, to whoever shows a key of a file where one is named, operations at another address where one is given, which may be asked to stop it, with a line told of each request or none, by so many workers that keep notes in a folder and remember so many of them together, and streamed on a port; read again after so many seconds, 0 for never; idle connections are kept for so many seconds, and bodies taken of so many bytes at most. And what becomes of answers that can't be recorded, and of flags that are broken.
+-- Documents, by their paths, answered at an address, also to the web pages of these origins, to whoever shows a key of a file where one is named, operations at another address where one is given, which may be asked to stop it, with a line told of each request or none, by so many workers that keep notes in a folder, with the inputs or with their hashes alone, and remember so many of them together, and streamed on a port; read again after so many seconds, 0 for never; idle connections are kept for so many seconds, and bodies taken of so many bytes at most. And what becomes of answers that can't be recorded, and of flags that are broken.
 pub record Answering : Type 0 where
   pub listen : Option Text
   pub cors : List Text
@@ -25,6 +27,7 @@ pub record Answering : Type 0 where
   pub allow_stop : Bool
   pub access_log : Bool
   pub log : Option Text
+  pub log_points : Bool
   pub remember : ℕ
   pub without_record : WithoutRecord
   pub stream : Option ℕ
@@ -44,6 +47,7 @@ answering_view a = record {
   allow_stop = a.allow_stop;
   access_log = a.access_log;
   log = option_copied a.log;
+  log_points = a.log_points;
   remember = a.remember;
   without_record = a.without_record;
   stream = a.stream;
@@ -77,6 +81,11 @@ seats_of a = a.workers + (operators_of a.admin + subscribers_of a.stream (operat
 abbrev pub paths_served : Option Text → Paths
 paths_served None = All
 paths_served (Some address) = Evaluations
+
+-- what the lines of the logs have of the inputs
+abbrev pub form_of : Bool → NoteForm
+form_of true = Hash
+form_of false = Input
 
 -- a number, where it is one at least
 abbrev pub some_of : ℕ → Option ℕ
@@ -121,9 +130,13 @@ unfoldable pub ofrep_begun : App
 ofrep_begun =
     with_rule (with_rule (with_rule (new_app (codes "ofrep")) (some_words (codes "DOC"))) (option_text (codes "ADDRESS:PORT") (codes "listen"))) (option_text (codes "FOLDER") (codes "log"))
 
+-- the same with `--log-points`
+unfoldable pub ofrep_logged : App
+ofrep_logged = with_rule ofrep_begun (flag (codes "log-points"))
+
 -- the same with `--cors ORIGIN` and `--keys FILE`
 unfoldable pub ofrep_guarded : App
-ofrep_guarded = with_rule (with_rule ofrep_begun (option_texts (codes "ORIGIN") (codes "cors"))) (option_text (codes "FILE") (codes "keys"))
+ofrep_guarded = with_rule (with_rule ofrep_logged (option_texts (codes "ORIGIN") (codes "cors"))) (option_text (codes "FILE") (codes "keys"))
 
 -- the same with `--admin ADDRESS:PORT`, `--allow-stop` and `--access-log`
 unfoldable pub ofrep_operated : App
@@ -201,6 +214,7 @@ answering_in rows = do
     allow_stop = flag_in (codes "allow-stop") rows;
     access_log = flag_in (codes "access-log") rows;
     log = first_of (codes "FOLDER") rows;
+    log_points = flag_in (codes "log-points") rows;
     remember = remember;
     without_record = without;
     stream = stream;

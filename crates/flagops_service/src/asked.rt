@@ -16,10 +16,10 @@ pub enum OnBroken {
 
 /// What `ofrep` is asked for: to answer from documents, by their paths, at an address, also the web pages of these origins, whoever
 /// shows a key of a file where one is named, operations at another address where one is given, which may be asked to stop it, with a line
-/// told of each request or none, by so many workers that keep their notes in a folder and remember so many of them together, to serve the stream on a port, and to read
-/// the documents again after so many seconds, 0 for never, with idle connections kept for so many seconds and bodies of so many bytes
-/// at most; and what becomes of answers that can't be recorded, and of flags that are
-/// broken.
+/// told of each request or none, by so many workers that keep their notes in a folder, with the inputs or with their hashes alone,
+/// and remember so many of them together, to serve the stream on a port, and to read the documents again after so many seconds, 0 for
+/// never, with idle connections kept for so many seconds and bodies of so many bytes at most; and what becomes of answers that can't
+/// be recorded, and of flags that are broken.
 #[derive(Debug, Drop)]
 pub struct Answering<'a> {
     pub listen: Option<&'a str>,
@@ -29,6 +29,7 @@ pub struct Answering<'a> {
     pub allow_stop: bool,
     pub access_log: bool,
     pub log: Option<&'a str>,
+    pub log_points: bool,
     pub remember: u64,
     pub without_record: WithoutRecord,
     pub stream: Option<u16>,

@@ -1,18 +1,19 @@
 //! The board of a service, for what is asked for.
-ghost use Rattle.std.specs.Prelude.{◌≡◌, IfOk, map, option_copied, option_map, string_bytes};
+ghost use Rattle.std.specs.Prelude.{◌≡◌, IfOk, is_some, map, option_copied, option_map, string_bytes};
 ghost use Rattle.std.specs.NonZero.{non_zero_usize_get};
-ghost use Rattle.flagops_service.specs.Words.{answering_view, paths_served, share_of};
+ghost use Rattle.flagops_service.specs.Words.{answering_view, form_of, paths_served, share_of};
 
 use crate::asked::Answering;
 use crate::remembering::share_of;
 use access_lines::AccessLines;
+use note_lines::NoteForm;
 use ofrep_guards::{Keys, Paths};
 use ofrep_service::{Board, ConnectionLimits};
 use std::alloc::{AllocError, Global};
 use std::time::{Clock, SystemTime, UNIX_EPOCH};
 
-/// A board for what is asked for: the workers share the notes that are remembered, want a key of these where a file is named, and serve
-/// the evaluations alone where operations have an address of their own. Their connections have the limits that are asked for.
+/// A board for what is asked for: the workers share the notes that are remembered, write them with the inputs or with their hashes alone,
+/// want a key of these where a file is named, and serve the evaluations alone where operations have an address of their own. Their connections have the limits that are asked for.
 pub(crate) fn board_of(
     alloc: Global,
     answering: &Answering<'_>,
@@ -20,9 +21,11 @@ pub(crate) fn board_of(
 ) -> Result<Board, AllocError>
     ensures without { IfOk result (λ board. board.without_record ≡ answering.now.without_record) }
     ensures remember { IfOk result (λ board. option_map non_zero_usize_get board.remember ≡ share_of answering.now.remember answering.now.workers) }
+    ensures form { IfOk result (λ board. board.form ≡ form_of answering.now.log_points) }
     ensures origins { IfOk result (λ board. map string_bytes board.origins.items ≡ (answering_view answering.now).cors) }
     ensures keys { IfOk result (λ board. option_map (λ ring. ring.first) board.keys ≡ clients) }
     ensures paths { IfOk result (λ board. board.paths ≡ paths_served (answering_view answering.now).admin) }
+    ensures lines { IfOk result (λ board. is_some board.lines ≡ answering.now.access_log) }
     ensures idle { IfOk result (λ board. board.limits.idle_seconds ≡ answering.now.idle) }
     ensures max_body { IfOk result (λ board. board.limits.body_bytes ≡ answering.now.max_body) }
 {
@@ -33,6 +36,7 @@ pub(crate) fn board_of(
     let board = Board::new(
         answering.without_record,
         share,
+        form_of(answering.log_points),
         origins,
         clients,
         paths,
@@ -64,11 +68,24 @@ fn second_of<R: Clock>(rt: &R) -> u64 {
 }
 
 /// Where the lines of requests wait, where they are wanted.
-fn lines_of(alloc: Global, access_log: bool) -> Option<AccessLines> {
+fn lines_of(alloc: Global, access_log: bool) -> Option<AccessLines>
+    ensures { is_some result ≡ access_log }
+{
     if access_log {
         Some(AccessLines::new(alloc))
     } else {
         None
+    }
+}
+
+/// What the lines of the logs have of the inputs.
+fn form_of(log_points: bool) -> NoteForm
+    ensures { result ≡ form_of log_points }
+{
+    if log_points {
+        NoteForm::Hash
+    } else {
+        NoteForm::Input
     }
 }
 

@@ -12,7 +12,7 @@ ghost use Rattle.flagops_service.specs.Merging.{AreMerged, ArePublished};
 ghost use Rattle.flagops_service.specs.Starting.{StartsOn, StartsTo, stops_in, stops_on};
 ghost use Rattle.flagops_shell.specs.Console.{IsOpen};
 ghost use Rattle.flagops_service.specs.Unready.{HasKeys};
-ghost use Rattle.flagops_service.specs.Words.{answering_view, operators_of, paths_served, seats_of, share_of, subscribers_of};
+ghost use Rattle.flagops_service.specs.Words.{answering_view, form_of, operators_of, paths_served, seats_of, share_of, subscribers_of};
 ghost use Rattle.ofrep_service.specs.Logs.{path_in, paths_of};
 
 use crate::asked::{Answering, OnBroken};
@@ -389,13 +389,13 @@ where
     requires logs { map (λ post. path_in post.journal) posts.items ≡ paths_of (answering_view answering.now).log answering.now.workers }
     requires without { board.now.without_record ≡ answering.now.without_record }
     requires remember { option_map non_zero_usize_get board.now.remember ≡ share_of answering.now.remember answering.now.workers }
+    requires form { board.now.form ≡ form_of answering.now.log_points }
     requires paths { board.now.paths ≡ paths_served (answering_view answering.now).admin }
     requires may_stop { IfSome admin (λ post. post.may_stop ≡ answering.now.allow_stop) }
     requires origins { map string_bytes board.now.origins.items ≡ (answering_view answering.now).cors }
     requires clients { HasKeys (F.holding files.old) (answering_view answering.now).keys (option_map (λ ring. ring.first) board.now.keys) }
 {
     let alloc = rt.alloc();
-    let poll = answering.poll;
     let mut watched = watched;
     let mut clients = WatchedKeys::new(alloc, answering.keys);
     let mut others = others;
@@ -420,7 +420,7 @@ where
                 &mut clients,
                 publisher,
                 board,
-                poll,
+                answering,
                 files,
                 err,
             )

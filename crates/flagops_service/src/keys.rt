@@ -134,7 +134,7 @@ impl<'a> WatchedKeys<'a> {
         }
         match Keys::read(self.alloc, bytes.as_slice()) {
             Ok(keys) => {
-                board.replace_keys(rt, keys);
+                let _ = board.replace_keys(rt, keys);
                 if self.last.is_some() {
                     say_keys_changed(self.alloc, err, path);
                 }

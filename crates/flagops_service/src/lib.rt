@@ -31,6 +31,8 @@ mod preparing;
 mod remembering;
 mod reporting;
 mod rereading;
+mod resident;
+mod sizes;
 mod stop;
 mod taking;
 mod telling;

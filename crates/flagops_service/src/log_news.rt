@@ -37,7 +37,7 @@ impl LogNews {
     }
 
     /// What the board tells now.
-    fn now(board: &Board) -> LogNews {
+    fn now<R: Wait>(rt: &R, board: &Board) -> LogNews {
         LogNews {
             missing: board.logs_reopened(Loss::Missing),
             replaced: board.logs_reopened(Loss::Replaced),
@@ -45,14 +45,27 @@ impl LogNews {
             unseen: board.logs_reopened(Loss::Unseen),
             failures: board.log_failures(),
             trouble: board.log_trouble(),
-            left_out: board.lines_left_out(),
+            left_out: left_out(rt, board),
         }
     }
 }
 
+/// How many lines of requests were left out.
+fn left_out<R: Wait>(rt: &R, board: &Board) -> u64 {
+    match board.waiting_lines(rt) {
+        Some(waiting) => waiting.left_out(),
+        None => 0,
+    }
+}
+
 /// Tells what has happened to logs since it was last told, a line for each kind.
-pub(crate) fn tell_news<E: Outlet>(board: &Board, told: LogNews, err: &mut E) -> LogNews {
-    let news = LogNews::now(board);
+pub(crate) fn tell_news<R: Wait, E: Outlet>(
+    rt: &R,
+    board: &Board,
+    told: LogNews,
+    err: &mut E,
+) -> LogNews {
+    let news = LogNews::now(rt, board);
     if news.missing != told.missing {
         say(
             err,
@@ -89,7 +102,12 @@ pub(crate) fn tell_news<E: Outlet>(board: &Board, told: LogNews, err: &mut E) ->
 
 /// Tells the lines of requests that wait.
 pub(crate) fn tell_lines<R: Wait, E: Outlet>(rt: &R, alloc: Global, board: &Board, err: &mut E) {
-    let lines = board.take_lines(rt, alloc);
+    let Some(waiting) = board.waiting_lines(rt) else {
+        return;
+    };
+    let mut waiting = waiting;
+    let lines = waiting.take(alloc);
+    drop(waiting);
     if !lines.is_empty() {
         write_whole(err, lines.as_slice());
     }

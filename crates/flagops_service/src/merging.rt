@@ -23,7 +23,7 @@ pub(crate) fn merge_all(
     let [first, others @ ..] = texts else {
         unreachable!()
     };
-    let flags = merge_next(alloc, sources, 1, first.as_slice())?;
+    let flags = merge_next(alloc, sources, 1, first.as_slice(), true)?;
     merge_others(alloc, sources, others, flags)
 }
 
@@ -40,7 +40,7 @@ fn merge_others(
     let mut flags = first;
     let mut number = 1;
     for text in texts {
-        flags = merge_next(alloc, sources, number + 1, text.as_slice())?;
+        flags = merge_next(alloc, sources, number + 1, text.as_slice(), true)?;
         number += 1;
     }
     Ok(flags)

@@ -1,14 +1,14 @@
 //! What becomes of the text of a document that is read again.
 ghost use Rattle.std.specs.Prelude.{◌≡◌, ◌⊎◌, ◌+◌, IfOk, MatchOption, MatchResult, Err, Ok, decimal, string_bytes};
-ghost use Rattle.flag_defs.specs.Document.{DocumentMeans};
 ghost use Rattle.flag_defs.specs.Flags.{flags_view};
+ghost use Rattle.flag_defs.specs.Floats.{MeansWithFloats};
 ghost use Rattle.flag_defs.specs.declared.fault.DefFault.{DefFault as Fault};
 ghost use Rattle.source_merge.specs.View.{sources_view};
 ghost use Rattle.flagops_service.specs.declared.taking.Unfit.TheVariants.{WantOfMemory};
 ghost use Rattle.flagops_service.specs.Rereading.{Harms, IsUnfit, MayBeRefused, MayFollow, SetsFit, Spares};
 
 use crate::asked::OnBroken;
-use flag_defs::{DefFault, Flags, read_flags};
+use flag_defs::{DefFault, Flags, read_flags_with_floats};
 use flag_regressions::{Regression, regression_in};
 use source_merge::{SourceFault, Sources};
 use std::alloc::{AllocError, Global};
@@ -44,7 +44,7 @@ impl From<AllocError> for Unfit {
     }
 }
 
-/// Sets the document of a number, unless it harms a flag of the text that was accepted last.
+/// Sets the document of a number, which may have floats, unless it harms a flag of the text that was accepted last.
 pub(crate) fn set_fit(
     alloc: Global,
     mode: OnBroken,
@@ -57,7 +57,7 @@ pub(crate) fn set_fit(
 {
     let name = name_of(alloc, number)?;
     spare(alloc, mode, accepted, text)?;
-    match sources.set(alloc, name.as_str(), text) {
+    match sources.set_with_floats(alloc, name.as_str(), text) {
         Ok(()) => Ok(()),
         Err(SourceFault::WantOfMemory) => Err(Unfit::WantOfMemory),
         Err(fault) => Err(Unfit::Refused(fault)),
@@ -92,9 +92,9 @@ fn harm_in(alloc: Global, accepted: &[u8], text: &[u8]) -> Result<Option<Regress
 
 /// The flags of a document; none where the bytes are none.
 fn flags_or_none(alloc: Global, bytes: &[u8]) -> Result<Option<Flags>, AllocError>
-    ensures { IfOk result (λ o. MatchOption o ((fault : Fault) × DocumentMeans bytes.now (Err fault)) (λ flags. DocumentMeans bytes.now (Ok (flags_view flags)))) }
+    ensures { IfOk result (λ o. MatchOption o ((fault : Fault) × MeansWithFloats bytes.now (Err fault)) (λ flags. MeansWithFloats bytes.now (Ok (flags_view flags)))) }
 {
-    match read_flags(alloc, bytes) {
+    match read_flags_with_floats(alloc, bytes) {
         Ok(flags) => Ok(Some(flags)),
         Err(DefFault::WantOfMemory) => Err(AllocError),
         Err(_) => Ok(None),

@@ -56,9 +56,7 @@ pub(crate) fn say_operations<E: Outlet>(
     let Some(post) = admin else {
         return;
     };
-    let Ok(address) = post.address() else {
-        return;
-    };
+    let address = post.address();
     let ends = if allow_stop {
         "; POST /stop there ends it"
     } else {
@@ -74,9 +72,14 @@ pub(crate) fn say_operations<E: Outlet>(
 fn say_recording<E: Outlet>(alloc: Global, err: &mut E, answering: &Answering<'_>) {
     match answering.log {
         Some(folder) => {
+            let what = if answering.log_points {
+                "the hashes of hash inputs, and no input,"
+            } else {
+                "hash inputs"
+            };
             say_made(
                 err,
-                format!(in alloc; "ofrep: records hash inputs in the folder \"{folder}\"\n"),
+                format!(in alloc; "ofrep: records {what} in the folder \"{folder}\"\n"),
             );
             if let WithoutRecord::Answer = answering.without_record {
                 say(
@@ -137,7 +140,7 @@ pub(crate) fn say_published<E: Outlet>(
 
 /// The broken flags of a document, a line for each.
 pub(crate) fn say_broken<E: Outlet>(alloc: Global, err: &mut E, path: &str, text: &[u8]) {
-    let Ok(lines) = of_definition_errors(alloc, text) else {
+    let Ok(lines) = of_definition_errors(alloc, text, true) else {
         return;
     };
     if lines.is_empty() {
@@ -246,7 +249,7 @@ fn of_harm(
     match regression {
         Regression::Broken(key) => {
             let key = quoted_name(alloc, key.as_str())?;
-            let lines = of_definition_errors(alloc, text)?;
+            let lines = of_definition_errors(alloc, text, true)?;
             format!(in alloc;
                 "ofrep: \"{path}\" is refused: it breaks the flag {key}, which is good now\n{lines}"
             )

@@ -1,7 +1,7 @@
 //! What `ofrep` takes, in the terms of `clap`.
 ghost use Rattle.std.specs.Prelude.{◌≡◌, IfOk, false};
 ghost use Rattle.clap.specs.Words.{app_of, rule_of};
-ghost use Rattle.flagops_service.specs.Words.{ofrep_app, ofrep_begun, ofrep_chosen, ofrep_guarded, ofrep_limited, ofrep_operated, option_text, option_texts};
+ghost use Rattle.flagops_service.specs.Words.{ofrep_app, ofrep_begun, ofrep_chosen, ofrep_guarded, ofrep_limited, ofrep_logged, ofrep_operated, option_text, option_texts};
 
 use clap::{Arg, ArgAction, Command};
 use flagops_words::arguments::{flag, option_number, some_words};
@@ -151,7 +151,20 @@ fn guarded<'a>(alloc: Global) -> Result<Command<'a>, AllocError>
         "keys",
         "A file of keys, a line for each, of which a request for an evaluation has to show one",
     );
-    begun(alloc)?.arg(origins)?.arg(keys)
+    logged(alloc)?.arg(origins)?.arg(keys)
+}
+
+/// The command `ofrep` with the words that are texts, and what is recorded.
+#[tactic(auto, unfolding(crate::specs::Words::ofrep_logged))]
+fn logged<'a>(alloc: Global) -> Result<Command<'a>, AllocError>
+    ensures { IfOk result (λ c. app_of c ≡ ofrep_logged) }
+{
+    let points = flag(
+        alloc,
+        "log-points",
+        "Record the 32-bit hash of each hash input in its place: lines that no book takes, and that tally counts by their hashes",
+    );
+    begun(alloc)?.arg(points)
 }
 
 /// The command `ofrep` with the words that are texts.

@@ -4,9 +4,11 @@ ghost use Rattle.source_merge.specs.View.{sources_view};
 ghost use Rattle.flagops_service.specs.Merging.{Publishes};
 ghost use Rattle.flagops_service.specs.Rereading.{State, Watches, state_of};
 
+use crate::asked::Answering;
 use crate::boards::show_published;
 use crate::keys::WatchedKeys;
 use crate::log_news::{LogNews, tell_lines, tell_news};
+use crate::sizes::show_sizes;
 use crate::telling::{broken_in, say_made, say_published};
 use crate::watched::Watched;
 use flag_text::Outlet;
@@ -26,15 +28,15 @@ const PARTS: u32 = 20;
 
 const PART_MILLIS: u64 = 50;
 
-/// Reads documents again after each pause of so many seconds, 0 for never, and publishes what they have become; and the file of keys.
-/// Each second it tells what has happened to logs. It ends once the service is to stop.
+/// Reads documents again after each pause of the seconds that are asked for, 0 for never, and publishes what they have become; and the
+/// file of keys. Each second it tells what has happened to logs, and shows how large they are. It ends once the service is to stop.
 pub(crate) fn watch<J: ShareName, R: Clock + LogPaths + Wait, F: FileSet, E: Outlet>(
     rt: &R,
     watched: &mut Watched<'_>,
     clients: &mut WatchedKeys<'_>,
     publisher: &mut Publisher<J>,
     board: &Board,
-    poll: u64,
+    answering: &Answering<'_>,
     files: &mut F,
     err: &mut E,
 )
@@ -44,11 +46,12 @@ pub(crate) fn watch<J: ShareName, R: Clock + LogPaths + Wait, F: FileSet, E: Out
     let mut waits = false;
     let mut told = LogNews::none();
     for turn in 0..u64::MAX {
+        show_sizes(rt, watched.alloc, answering, board, files);
         if !rest(rt, watched.alloc, board, err) {
             return;
         }
-        told = tell_news(board, told, err);
-        if !is_turn(turn, poll) {
+        told = tell_news(rt, board, told, err);
+        if !is_turn(turn, answering.poll) {
             continue;
         }
         waits |= watched.read_again(rt, files, err);

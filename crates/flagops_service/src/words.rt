@@ -89,6 +89,7 @@ fn answering_in<'a>(
         allow_stop: flag_in(matches, "allow-stop"),
         access_log: flag_in(matches, "access-log"),
         log: text_at(matches, "FOLDER"),
+        log_points: flag_in(matches, "log-points"),
         remember,
         without_record,
         stream,

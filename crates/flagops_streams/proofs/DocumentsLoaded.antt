@@ -35,13 +35,13 @@ refused_next at d path paths rest all refusal so_far next first =
     sym so_far ∙ ap (loaded_from at d) first ∙ ap (λ (r : Result Loaded Refusal). r >>= λ more. loaded_from at more rest) next
 
 -- what serving the documents that were loaded gives is what the words and the files give
-pub loaded_served : (at : Holding) (s : Serving) (d : Loaded) (answer : Answer) → loaded_at at s.documents ≡ Ok d → ServesTo s.subscribers d.sources d.texts [] answer → AnswersTo at s answer
-loaded_served at s d (Ok published) loaded served = subst (λ (r : Result Loaded Refusal). ServesLoaded s.subscribers r (Ok published)) (sym loaded) served
-loaded_served at s d (Err refusal) loaded served = λ _. subst (λ (r : Result Loaded Refusal). ServesLoaded s.subscribers r (Err refusal)) (sym loaded) served
+pub loaded_served : (at : Holding) (s : Serving) (d : Loaded) (answer : Answer) → loaded_at at s.documents ≡ Ok d → ServesTo s.floats s.subscribers d.sources d.texts [] answer → AnswersTo at s answer
+loaded_served at s d (Ok published) loaded served = subst (λ (r : Result Loaded Refusal). ServesLoaded s.floats s.subscribers r (Ok published)) (sym loaded) served
+loaded_served at s d (Err refusal) loaded served = λ _. subst (λ (r : Result Loaded Refusal). ServesLoaded s.floats s.subscribers r (Err refusal)) (sym loaded) served
 
 -- and so is why they were not loaded
 pub not_loaded : (at : Holding) (s : Serving) (refusal : Refusal) → (is_want refusal ≡ false → loaded_at at s.documents ≡ Err refusal) → AnswersTo at s (Err refusal)
-not_loaded at s refusal loaded = λ other. subst (λ (r : Result Loaded Refusal). ServesLoaded s.subscribers r (Err refusal)) (sym (loaded other)) refl
+not_loaded at s refusal loaded = λ other. subst (λ (r : Result Loaded Refusal). ServesLoaded s.floats s.subscribers r (Err refusal)) (sym (loaded other)) refl
 
 -- an answer to what is asked, and its report
 pub answered : (holding : Option Holding) (s : Serving) (answer : Answer) (Reported : Answer → Type 0)
@@ -55,7 +55,7 @@ module _ {X : Type 0} (now : X → List ℕ) (slice items : List X) (same : slic
   named : map now slice ≡ s.documents
   named = ap (map now) same ∙ sym paths
 
-  pub all_served : (d : Loaded) (answer : Answer) → IfSome holding (λ at. loaded_at at (map now slice) ≡ Ok d) → ServesTo s.subscribers d.sources d.texts [] answer → IfSome holding (λ at. AnswersTo at s answer)
+  pub all_served : (d : Loaded) (answer : Answer) → IfSome holding (λ at. loaded_at at (map now slice) ≡ Ok d) → ServesTo s.floats s.subscribers d.sources d.texts [] answer → IfSome holding (λ at. AnswersTo at s answer)
   all_served d answer loaded served =
       where_known holding (λ at. loaded_at at (map now slice) ≡ Ok d) (λ at. AnswersTo at s answer) (λ at e. loaded_served at s d answer (ap (loaded_at at) (sym named) ∙ e) served) loaded
 

@@ -15,42 +15,42 @@ use Rattle.flagops_streams.specs.declared.disconnected.Disconnected.{Disconnecte
 use Rattle.flagops_streams.specs.declared.refusal.Refusal.{Refusal}
 use Rattle.flagops_streams.specs.declared.refusal.Refusal.TheVariants.{NoThread, Publish, Share, Unserved, WantOfMemory}
 
-module _ {X : Type 0} (bytes : X → List ℕ) (xs : List X) (i : ℕ) (x : X) (inside : i < length xs) (is : x ≡ get_or xs i x) (sources : SourceList) (published : List Definitions) where
+module _ {X : Type 0} (bytes : X → List ℕ) (xs : List X) (i : ℕ) (x : X) (inside : i < length xs) (is : x ≡ get_or xs i x) (floats : Bool) (sources : SourceList) (published : List Definitions) where
   from_here : drop i xs ≡ x ∷ drop (i + 1) xs
   from_here = rw add-one (drop-cons xs i x inside ∙ ap (λ y. y ∷ drop (suc i) xs) (sym is))
 
   -- the document at a place is published, and those behind it give the answer
   pub one_more : (number : ℕ) (next : SourceList) (flags : Definitions) (answer : Answer)
-      → number ≡ length published + 1 → Merges number sources (bytes x) next flags → Gives next (map bytes (drop (i + 1) xs)) (published ++ flags ∷ []) answer
-      → Gives sources (map bytes (drop i xs)) published answer
+      → number ≡ length published + 1 → Merges floats number sources (bytes x) next flags → Gives floats next (map bytes (drop (i + 1) xs)) (published ++ flags ∷ []) answer
+      → Gives floats sources (map bytes (drop i xs)) published answer
   one_more number next flags answer same merges rest =
-      subst (λ (ys : List X). Gives sources (map bytes ys) published answer) (sym from_here)
-      (inr (next, flags, subst (λ (n : ℕ). Merges n sources (bytes x) next flags) same merges, rest))
+      subst (λ (ys : List X). Gives floats sources (map bytes ys) published answer) (sym from_here)
+      (inr (next, flags, subst (λ (n : ℕ). Merges floats n sources (bytes x) next flags) same merges, rest))
 
   -- it is refused
-  pub refused_here : (number : ℕ) (refusal : Refusal) → number ≡ length published + 1 → MayRefuse number sources (bytes x) refusal → Gives sources (map bytes (drop i xs)) published (Err refusal)
+  pub refused_here : (number : ℕ) (refusal : Refusal) → number ≡ length published + 1 → MayRefuse floats number sources (bytes x) refusal → Gives floats sources (map bytes (drop i xs)) published (Err refusal)
   refused_here number refusal same may =
-      subst (λ (ys : List X). Gives sources (map bytes ys) published (Err refusal)) (sym from_here)
-      (inl (refusal, refl, subst (λ (n : ℕ). MayRefuse n sources (bytes x) refusal) same may))
+      subst (λ (ys : List X). Gives floats sources (map bytes ys) published (Err refusal)) (sym from_here)
+      (inl (refusal, refl, subst (λ (n : ℕ). MayRefuse floats n sources (bytes x) refusal) same may))
 
 -- a list that is not empty is its first item and the rest, as a slice pattern cuts it
 pub first_of : {X : Type 0} (xs : List X) (x : X) → 0 < length xs → x ≡ get_or xs 0 x → xs ≡ x ∷ take (length xs - 1) (drop 1 xs)
 first_of xs x inside is = drop-cons xs 0 x inside ∙ ap (λ y. y ∷ drop 1 xs) (sym is) ∙ ap (λ ys. x ∷ ys) (sym (take_all (length xs - 1) (drop 1 xs) (omega (arith, length-drop 1 xs))))
 
 -- the merge of a document was not published, where a number is left
-pub not_published : (number : ℕ) (sources : SourceList) (text : List ℕ) (fault : ShareFault) → is_of_publish fault ≡ true → fault ≢ share.LastNumber → IsAccepted number sources text → MayRefuse number sources text (Publish fault)
-not_published number sources text share.WantOfMemory is other accepted = accepted
-not_published number sources text share.Closed is other accepted = accepted
-not_published number sources text share.LastNumber is other accepted = absurd (other refl)
-not_published number sources text share.NoSeats is other accepted = absurd (cc (is))
-not_published number sources text share.TooManySeats is other accepted = absurd (cc (is))
-not_published number sources text share.NoReader is other accepted = absurd (cc (is))
+pub not_published : (floats : Bool) (number : ℕ) (sources : SourceList) (text : List ℕ) (fault : ShareFault) → is_of_publish fault ≡ true → fault ≢ share.LastNumber → IsAccepted floats number sources text → MayRefuse floats number sources text (Publish fault)
+not_published floats number sources text share.WantOfMemory is other accepted = accepted
+not_published floats number sources text share.Closed is other accepted = accepted
+not_published floats number sources text share.LastNumber is other accepted = absurd (other refl)
+not_published floats number sources text share.NoSeats is other accepted = absurd (cc (is))
+not_published floats number sources text share.TooManySeats is other accepted = absurd (cc (is))
+not_published floats number sources text share.NoReader is other accepted = absurd (cc (is))
 
 -- the first document is published, and serving those behind it gives the answer
-pub first_served : (subscribers : ℕ) (sources next : SourceList) (flags : Definitions) (text : List ℕ) (texts : List (List ℕ)) (answer : Answer)
-    → Merges 1 sources text next flags → ServesTo subscribers next texts (flags ∷ []) answer → ServesTo subscribers sources (text ∷ texts) [] answer
-first_served subscribers sources next flags text texts answer merges (inl fails) = inl fails
-first_served subscribers sources next flags text texts answer merges (inr (ends, absent, whole, all, gives, is)) = inr (ends, absent, whole, all, inr (next, flags, merges, gives), is)
+pub first_served : (floats : Bool) (subscribers : ℕ) (sources next : SourceList) (flags : Definitions) (text : List ℕ) (texts : List (List ℕ)) (answer : Answer)
+    → Merges floats 1 sources text next flags → ServesTo floats subscribers next texts (flags ∷ []) answer → ServesTo floats subscribers sources (text ∷ texts) [] answer
+first_served floats subscribers sources next flags text texts answer merges (inl fails) = inl fails
+first_served floats subscribers sources next flags text texts answer merges (inr (ends, absent, whole, all, gives, is)) = inr (ends, absent, whole, all, inr (next, flags, merges, gives), is)
 
 -- why flags were not shared among so many seats
 pub not_shared : {X : Type 0} (seats : ℕ) (fault : ShareFault) (result : Result X ShareFault) → result ≡ Err fault
@@ -72,10 +72,10 @@ more_fail came absent share.LastNumber some may = absurd may
 more_fail came absent share.Closed some may = absurd may
 
 -- what is served beside threads
-pub beside_served : (subscribers : ℕ) (sources : SourceList) (texts : List (List ℕ)) (published : List Definitions) (result : Result (List Flags) Refusal)
-    → (result ≡ Err NoThread) ⊎ GivesSome subscribers (Gives sources texts published) (told_view result) → ServesTo subscribers sources texts published (told_view result)
-beside_served subscribers sources texts published result (inl is) = inl (NoThread, ap told_view is, tt)
-beside_served subscribers sources texts published result (inr gives) = inr gives
+pub beside_served : (floats : Bool) (subscribers : ℕ) (sources : SourceList) (texts : List (List ℕ)) (published : List Definitions) (result : Result (List Flags) Refusal)
+    → (result ≡ Err NoThread) ⊎ GivesSome subscribers (Gives floats sources texts published) (told_view result) → ServesTo floats subscribers sources texts published (told_view result)
+beside_served floats subscribers sources texts published result (inl is) = inl (NoThread, ap told_view is, tt)
+beside_served floats subscribers sources texts published result (inr gives) = inr gives
 
 no_thread : (missed : ℕ) (result : Result (List Flags) Refusal) → told_view result ≡ less_missed missed (Err NoThread) → result ≡ Err NoThread
 no_thread missed (Ok told) is = absurd (cc (is))
@@ -90,13 +90,13 @@ unless_beside subscribers absent unserved ends IsAnswer outcome result all count
     inr (ends, absent, told_view outcome, all, gives, less ∙ ap (λ (n : ℕ). less_missed (n + absent) (told_view outcome)) counts)
 
 -- what is published behind some flags are as many as there are documents
-pub counted : (sources : SourceList) (texts : List (List ℕ)) (published all : List Definitions) → Gives sources texts published (Ok all) → length all ≡ length published + length texts
-counted sources [] published all is =
+pub counted : (floats : Bool) (sources : SourceList) (texts : List (List ℕ)) (published all : List Definitions) → Gives floats sources texts published (Ok all) → length all ≡ length published + length texts
+counted floats sources [] published all is =
     let same : all ≡ published = cc (is) in
     omega (arith, ap length same)
-counted sources (text ∷ texts) published all (inl (refusal, is, may)) = absurd (cc (is))
-counted sources (text ∷ texts) published all (inr (next, flags, merges, rest)) =
-    omega (arith, counted next texts (published ++ flags ∷ []) all rest, length-append published (flags ∷ []))
+counted floats sources (text ∷ texts) published all (inl (refusal, is, may)) = absurd (cc (is))
+counted floats sources (text ∷ texts) published all (inr (next, flags, merges, rest)) =
+    omega (arith, counted floats next texts (published ++ flags ∷ []) all rest, length-append published (flags ∷ []))
 
 -- what is answered as published was published, and every subscriber served
 pub all_sent : (missed : ℕ) (whole : Answer) (all : List Definitions) → Ok all ≡ less_missed missed whole → whole ≡ Ok all
@@ -126,15 +126,15 @@ pub refused_alone : (subscribers : ℕ) (IsAnswer : Answer → Type 0) (refusal 
 refused_alone subscribers IsAnswer refusal gives = ([], subscribers, Err refusal, zero-add subscribers, gives, refl)
 
 -- where documents were served, there are as many of what was published
-pub count_served : (subscribers : ℕ) (sources : SourceList) (texts : List (List ℕ)) (all : List Definitions) → ServesTo subscribers sources texts [] (Ok all) → length all ≡ length texts
-count_served subscribers sources texts all (inl (refusal, is, may)) = absurd (cc (is))
-count_served subscribers sources texts all (inr (ends, absent, whole, some, gives, is)) =
-    omega (arith, counted sources texts [] all (subst (Gives sources texts []) (all_sent (missed_of (published_in whole) ends + absent) whole all is) gives))
+pub count_served : (floats : Bool) (subscribers : ℕ) (sources : SourceList) (texts : List (List ℕ)) (all : List Definitions) → ServesTo floats subscribers sources texts [] (Ok all) → length all ≡ length texts
+count_served floats subscribers sources texts all (inl (refusal, is, may)) = absurd (cc (is))
+count_served floats subscribers sources texts all (inr (ends, absent, whole, some, gives, is)) =
+    omega (arith, counted floats sources texts [] all (subst (Gives floats sources texts []) (all_sent (missed_of (published_in whole) ends + absent) whole all is) gives))
 
 -- what is reported of an answer is one line: the number of the documents, or a refusal
-pub reported : (Is : Bool → List ℕ → Type 0) (subscribers : ℕ) (sources : SourceList) (texts : List (List ℕ)) (answer : Answer) (old new : Option (List ℕ)) (broken : Bool) (err err_after : Option (List ℕ)) (is_mute : Bool) (status count : ℕ)
-    → length texts ≡ count → ServesTo subscribers sources texts [] answer → Reports Is (count_of answer) old new broken err err_after is_mute status → Serves Is count old new broken err err_after is_mute status
-reported Is subscribers sources texts (Ok all) old new broken err err_after is_mute status count is served (inl line) =
-    inl (subst (λ (m : ℕ). Publishes (Is true) m old new broken err err_after is_mute status) (count_served subscribers sources texts all served ∙ is) line)
-reported Is subscribers sources texts (Ok all) old new broken err err_after is_mute status count is served (inr want) = inr (WantOfMemory, want)
-reported Is subscribers sources texts (Err refusal) old new broken err err_after is_mute status count is served line = inr (refusal, line)
+pub reported : (Is : Bool → List ℕ → Type 0) (floats : Bool) (subscribers : ℕ) (sources : SourceList) (texts : List (List ℕ)) (answer : Answer) (old new : Option (List ℕ)) (broken : Bool) (err err_after : Option (List ℕ)) (is_mute : Bool) (status count : ℕ)
+    → length texts ≡ count → ServesTo floats subscribers sources texts [] answer → Reports Is (count_of answer) old new broken err err_after is_mute status → Serves Is count old new broken err err_after is_mute status
+reported Is floats subscribers sources texts (Ok all) old new broken err err_after is_mute status count is served (inl line) =
+    inl (subst (λ (m : ℕ). Publishes (Is true) m old new broken err err_after is_mute status) (count_served floats subscribers sources texts all served ∙ is) line)
+reported Is floats subscribers sources texts (Ok all) old new broken err err_after is_mute status count is served (inr want) = inr (WantOfMemory, want)
+reported Is floats subscribers sources texts (Err refusal) old new broken err err_after is_mute status count is served line = inr (refusal, line)

@@ -1,7 +1,7 @@
 -- What a seat knows only grows.
 use Rattle.std.proofs.Common.{◌≡◌, ◌∙◌, ◌+◌, ℕ, None, Some, Result, Ok, Err, MatchResult, ap}
 use mathlib.Core.List.{IsPrefix}
-use Rattle.snap_core.specs.HubView.{snapshot_view}
+use Rattle.sync_frames.specs.Snapshots.{snapshot_view}
 use Rattle.snap_core.specs.declared.snapshot.Snapshot.{Snapshot}
 use Rattle.snap_share.specs.Known.{IsReadOnce, Seat, WasRead}
 use Rattle.snap_share.specs.declared.fault.ShareFault.{ShareFault}

@@ -1,6 +1,6 @@
 -- A stream that is served by the numbers of a board, from a seat that learns.
 use Rattle.std.proofs.Common.{◌≡◌, ℕ, List, [], ◌∷◌, Option, ap, inl, inr, refl, subst, sym}
-use Rattle.snap_core.specs.Hub.{Numbered}
+use Rattle.sync_frames.specs.Snapshots.{Numbered}
 use Rattle.snap_share.specs.Known.{Seat, WasRead}
 use Rattle.sync_server.specs.Served.{Serves, TurnedTo}
 use Rattle.sync_server.specs.Turns.{Turned, raised}

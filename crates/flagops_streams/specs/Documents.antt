@@ -6,7 +6,7 @@ use Rattle.flag_defs.specs.declared.flags.Flags.{Flags}
 use Rattle.flag_defs.specs.Document.{Definitions}
 use Rattle.snap_share.specs.declared.fault.ShareFault.TheVariants as share
 use Rattle.source_merge.specs.Merge.{merged_of}
-use Rattle.source_merge.specs.Sources.{Sets, SourceList, added, most_sources}
+use Rattle.source_merge.specs.Sources.{SetsAs, SourceList, added, most_sources}
 use Rattle.source_merge.specs.View.{sources_view}
 use Rattle.source_merge.specs.declared.fault.SourceFault.{SourceFault}
 use Rattle.source_merge.specs.declared.fault.SourceFault.TheVariants as source
@@ -33,29 +33,29 @@ by_add (Err fault) = Err (Add fault)
 abbrev pub source_added : SourceList → ℕ → Result SourceList Refusal
 source_added sources number = if nat_lt most_sources number then Err (Add source.TooMany) else by_add (added sources (decimal number))
 
--- The document of a number is accepted by its source, and these flags are the merge of it and those before it.
-abbrev pub Merges : ℕ → SourceList → List ℕ → SourceList → Definitions → Type 0
-Merges number sources text next flags = Sets sources (decimal number) text (Ok next) × (merged_of next ≡ Ok flags)
+-- The document of a number, which may have floats or may not, is accepted by its source, and these flags are the merge of it and those before it.
+abbrev pub Merges : Bool → ℕ → SourceList → List ℕ → SourceList → Definitions → Type 0
+Merges floats number sources text next flags = SetsAs floats sources (decimal number) text (Ok next) × (merged_of next ≡ Ok flags)
 
 -- the same of some flags
-abbrev pub IsAccepted : ℕ → SourceList → List ℕ → Type 0
-IsAccepted number sources text = (next : SourceList) × (flags : Definitions) × Merges number sources text next flags
+abbrev pub IsAccepted : Bool → ℕ → SourceList → List ℕ → Type 0
+IsAccepted floats number sources text = (next : SourceList) × (flags : Definitions) × Merges floats number sources text next flags
 
 -- Why the document of a number is not published: it is not accepted, its merge is too large; or there is no memory for it,
 -- or its merge can't be put behind those before it. Numbers are not used up by the documents that there are sources for.
-abbrev pub MayRefuse : ℕ → SourceList → List ℕ → Refusal → Type 0
-MayRefuse number sources text (Set fault place) = (place ≡ number) × (fault ≢ source.WantOfMemory → Sets sources (decimal number) text (Err fault))
-MayRefuse number sources text (Merged fault) =
-    fault ≢ source.WantOfMemory → (next : SourceList) × Sets sources (decimal number) text (Ok next) × (merged_of next ≡ Err fault)
-MayRefuse number sources text (Publish share.WantOfMemory) = IsAccepted number sources text
-MayRefuse number sources text (Publish share.Closed) = IsAccepted number sources text
-MayRefuse number sources text WantOfMemory = Unit {0}
-MayRefuse number sources text refusal = ⊥
+abbrev pub MayRefuse : Bool → ℕ → SourceList → List ℕ → Refusal → Type 0
+MayRefuse floats number sources text (Set fault place) = (place ≡ number) × (fault ≢ source.WantOfMemory → SetsAs floats sources (decimal number) text (Err fault))
+MayRefuse floats number sources text (Merged fault) =
+    fault ≢ source.WantOfMemory → (next : SourceList) × SetsAs floats sources (decimal number) text (Ok next) × (merged_of next ≡ Err fault)
+MayRefuse floats number sources text (Publish share.WantOfMemory) = IsAccepted floats number sources text
+MayRefuse floats number sources text (Publish share.Closed) = IsAccepted floats number sources text
+MayRefuse floats number sources text WantOfMemory = Unit {0}
+MayRefuse floats number sources text refusal = ⊥
 
 -- What is left of the sources then: where the merge was refused, the document is set; else they are as they were.
-abbrev pub LeavesSources : ℕ → SourceList → List ℕ → SourceList → Refusal → Type 0
-LeavesSources number before text after (Merged fault) = Sets before (decimal number) text (Ok after)
-LeavesSources number before text after refusal = after ≡ before
+abbrev pub LeavesSources : Bool → ℕ → SourceList → List ℕ → SourceList → Refusal → Type 0
+LeavesSources floats number before text after (Merged fault) = SetsAs floats before (decimal number) text (Ok after)
+LeavesSources floats number before text after refusal = after ≡ before
 
 -- the merges that were published, in order, or why not all documents were
 abbrev pub Answer : Type 0
@@ -63,11 +63,11 @@ Answer = Result (List Definitions) Refusal
 
 -- What publishing documents behind these flags gives: each document is accepted by the source of its number and its merge
 -- published behind all others, and all that were published are the answer; or one refuses, and none behind it counts.
-abbrev pub Gives : SourceList → List (List ℕ) → List Definitions → Answer → Type 0
-Gives sources [] published answer = answer ≡ Ok published
-Gives sources (text ∷ texts) published answer =
-    ((refusal : Refusal) × (answer ≡ Err refusal) × MayRefuse (length published + 1) sources text refusal)
-    ⊎ ((next : SourceList) × (flags : Definitions) × Merges (length published + 1) sources text next flags × Gives next texts (published ++ flags ∷ []) answer)
+abbrev pub Gives : Bool → SourceList → List (List ℕ) → List Definitions → Answer → Type 0
+Gives floats sources [] published answer = answer ≡ Ok published
+Gives floats sources (text ∷ texts) published answer =
+    ((refusal : Refusal) × (answer ≡ Err refusal) × MayRefuse floats (length published + 1) sources text refusal)
+    ⊎ ((next : SourceList) × (flags : Definitions) × Merges floats (length published + 1) sources text next flags × Gives floats next texts (published ++ flags ∷ []) answer)
 
 -- why so many subscribers are not served: the network, the threads, the seats or memory
 abbrev pub MayFail : ℕ → Refusal → Type 0
@@ -109,13 +109,13 @@ GivesSome subscribers IsAnswer answer =
     × (answer ≡ less_missed (missed_of (published_in whole) ends + absent) whole)
 
 -- what serving documents behind these flags gives: one of these refusals, or what publishing them gives
-abbrev pub ServesTo : ℕ → SourceList → List (List ℕ) → List Definitions → Answer → Type 0
-ServesTo subscribers sources texts published answer =
-    ((refusal : Refusal) × (answer ≡ Err refusal) × MayFail subscribers refusal) ⊎ GivesSome subscribers (Gives sources texts published) answer
+abbrev pub ServesTo : Bool → ℕ → SourceList → List (List ℕ) → List Definitions → Answer → Type 0
+ServesTo floats subscribers sources texts published answer =
+    ((refusal : Refusal) × (answer ≡ Err refusal) × MayFail subscribers refusal) ⊎ GivesSome subscribers (Gives floats sources texts published) answer
 
 -- the same of documents that were loaded, with their sources, from the first on
-abbrev pub ServesAll : ℕ → Documents → Answer → Type 0
-ServesAll subscribers d answer = ServesTo subscribers (sources_view d.sources) (texts_of d.texts.items) [] answer
+abbrev pub ServesAll : Bool → ℕ → Documents → Answer → Type 0
+ServesAll floats subscribers d answer = ServesTo floats subscribers (sources_view d.sources) (texts_of d.texts.items) [] answer
 
 -- what was published, as a publisher told it, or why not all was
 abbrev pub told_view : Result (List Flags) Refusal → Answer

@@ -53,15 +53,15 @@ LoadsTo (Ok d) wanted = wanted ≡ Ok (documents_view d)
 LoadsTo (Err u) wanted = is_want u.refusal ≡ false → wanted ≡ Err u.refusal
 
 -- what serving them gives, or why they were not loaded
-abbrev pub ServesLoaded : ℕ → Result Loaded Refusal → Answer → Type 0
-ServesLoaded subscribers (Err refusal) answer = answer ≡ Err refusal
-ServesLoaded subscribers (Ok d) answer = ServesTo subscribers d.sources d.texts [] answer
+abbrev pub ServesLoaded : Bool → ℕ → Result Loaded Refusal → Answer → Type 0
+ServesLoaded floats subscribers (Err refusal) answer = answer ≡ Err refusal
+ServesLoaded floats subscribers (Ok d) answer = ServesTo floats subscribers d.sources d.texts [] answer
 
 -- What `serve` answers: what serving the documents at the paths of its words gives, to as many subscribers as they say,
 -- unless memory ran out.
 abbrev pub AnswersTo : Holding → Serving → Answer → Type 0
-AnswersTo at s (Ok published) = ServesLoaded s.subscribers (loaded_at at s.documents) (Ok published)
-AnswersTo at s (Err r) = is_want r ≡ false → ServesLoaded s.subscribers (loaded_at at s.documents) (Err r)
+AnswersTo at s (Ok published) = ServesLoaded s.floats s.subscribers (loaded_at at s.documents) (Ok published)
+AnswersTo at s (Err r) = is_want r ≡ false → ServesLoaded s.floats s.subscribers (loaded_at at s.documents) (Err r)
 
 -- a file could not be read
 abbrev pub is_unread : {X : Type 0} → Result X code.Unloaded → Bool

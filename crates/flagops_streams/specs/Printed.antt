@@ -2,7 +2,7 @@
 use Rattle.std.specs.Prelude.{◌≡◌, ◌⊎◌, ℕ, Bool, true, false, List, [], ◌∷◌, ◌++◌, codes, decimal, length, Option}
 use Rattle.std.specs.Io.KnownBytes.{Appends, Consumes}
 use Rattle.flag_text.specs.Outlet.{AppendsPart}
-use Rattle.snap_core.specs.Hub.{Numbered}
+use Rattle.sync_frames.specs.Snapshots.{Numbered}
 use Rattle.sync_server.specs.End as ends
 use Rattle.sync_server.specs.Ends.{Ends, FirstOf}
 use Rattle.sync_server.specs.declared.end.ReadEnd.{ReadEnd}

@@ -9,6 +9,8 @@ pub struct Serving<'a> {
     pub subscribers: usize,
     pub wait: u64,
     pub documents: Vec<&'a str>,
+    /// Whether the documents may have floats.
+    pub floats: bool,
     ghost some: { 0 < length documents.items },
 }
 

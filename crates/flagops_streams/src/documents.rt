@@ -1,8 +1,10 @@
 //! The documents that are published one after the other.
 ghost use Rattle.std.specs.Prelude.{◌≡◌, ◌≤◌, ◌+◌, ◌++◌, ◌∷◌, [], decimal, length, string_bytes, false, Ok, Err, IfErr, IfOk, OnErr, OnOk};
 ghost use Rattle.flag_defs.specs.Flags.{flags_view};
+ghost use Rattle.flag_defs.specs.Floats.{floats_view};
+ghost use Rattle.source_merge.specs.Floats.{IsMarkedAs, merged_marks, sources_floats};
 ghost use Rattle.source_merge.specs.Merge.{merged_of};
-ghost use Rattle.source_merge.specs.Sources.{Sets, most_sources};
+ghost use Rattle.source_merge.specs.Sources.{SetsAs, most_sources};
 ghost use Rattle.source_merge.specs.View.{sources_view};
 ghost use Rattle.flagops_streams.specs.Documents.{LeavesSources, MayRefuse, documents_in, source_added, texts_of};
 ghost use Rattle.flagops_streams.specs.Refusal.{GivesUnlessWant, is_unreadable};
@@ -76,20 +78,23 @@ impl Documents {
     }
 }
 
-/// Sets the document of the source of a number, and merges all that were set. Where the merge is refused the document stays set;
+/// Sets the document of the source of a number, which may have floats or may not, and merges all that were set. Where the merge is refused the document stays set;
 /// any other refusal leaves the sources as they were.
 pub fn merge_next(
     alloc: Global,
     sources: &mut Sources,
     number: u64,
     text: &[u8],
+    floats: bool,
 ) -> Result<Flags, Refusal>
-    ensures merged { IfOk result (λ flags. Sets (sources_view sources.old) (decimal number) text.now (Ok (sources_view sources.new)) × (merged_of (sources_view sources.new) ≡ Ok (flags_view flags))) }
-    ensures refused { IfErr result (λ refusal. MayRefuse number (sources_view sources.old) text.now refusal) }
-    ensures left { IfErr result (λ refusal. LeavesSources number (sources_view sources.old) text.now (sources_view sources.new) refusal) }
+    ensures merged { IfOk result (λ flags. SetsAs floats (sources_view sources.old) (decimal number) text.now (Ok (sources_view sources.new)) × (merged_of (sources_view sources.new) ≡ Ok (flags_view flags))) }
+    ensures floats { IfOk result (λ flags. floats_view flags ≡ merged_marks (sources_floats sources.new)) }
+    ensures marks { IfOk result (λ flags. IsMarkedAs floats (decimal number) text.now (sources_floats sources.old) (sources_floats sources.new)) }
+    ensures refused { IfErr result (λ refusal. MayRefuse floats number (sources_view sources.old) text.now refusal) }
+    ensures left { IfErr result (λ refusal. LeavesSources floats number (sources_view sources.old) text.now (sources_view sources.new) refusal) }
 {
     let name = name_of(alloc, number)?;
-    if let Err(fault) = sources.set(alloc, name.as_str(), text) {
+    if let Err(fault) = sources.set_as(alloc, name.as_str(), text, floats) {
         return Err(Refusal::Set(fault, number));
     }
     match sources.merged(alloc) {

@@ -3,7 +3,7 @@ ghost use Rattle.std.specs.Prelude.{◌≡◌, ◌⊎◌, false, not, IfOk, Some
 ghost use Rattle.flag_text.specs.Outlet.{AppendsPart};
 ghost use Rattle.std.specs.Bool.{MatchBool};
 ghost use Rattle.std.specs.Io.KnownBytes.{Appends};
-ghost use Rattle.snap_core.specs.HubView.{snapshot_view};
+ghost use Rattle.sync_frames.specs.Snapshots.{snapshot_view};
 ghost use Rattle.sync_server.specs.Reads.{ReadUpTo, ReadWithin};
 ghost use Rattle.flagops_streams.specs.Printed.{Follows, Printed, PrintedWithin, last_line, snapshot_line, start_of, status_of, word_of};
 ghost use Rattle.flagops_streams.specs.Report.{FindsNobody, Writes};

@@ -93,6 +93,7 @@ where
             serving.port,
             serving.subscribers,
             serving.wait,
+            serving.floats,
             documents,
             &AtPaths { paths },
             out,

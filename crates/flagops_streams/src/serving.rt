@@ -17,7 +17,7 @@ use crate::remark::{Remarks, say_forewarning, say_gone};
 use crate::report::report_answer;
 use crate::subscriber::attend;
 use core::mem::replace_with;
-use flag_defs::{DefFault, Flags, read_flags};
+use flag_defs::{DefFault, Flags, read_flags_as};
 use flag_text::Outlet;
 use snap_share::{History, Publisher, ReadSeat, ShareName, Told, share};
 use source_merge::Sources;
@@ -32,13 +32,14 @@ use sync_server::StreamEnd;
 
 /// Publishes documents to so many subscribers, which it first waits for on a port of this host, and writes what came of it.
 /// `wait` seconds are given to the subscribers to come, and to each to be served; 0 is for ever.
-/// `remarks` has the words for a person where a document is refused.
+/// `floats` says whether the documents may have floats. `remarks` has the words for a person where a document is refused.
 /// The conditions are an output that is not broken and one document at least.
 pub fn serve_documents<R, D, O, E>(
     rt: &R,
     port: u16,
     subscribers: usize,
     wait: u64,
+    floats: bool,
     documents: Documents,
     remarks: &D,
     out: &mut O,
@@ -57,23 +58,29 @@ where
     requires whole { O.is_broken out.old ≡ false }
     requires some { 0 < documents_in documents }
     ensures serves { Serves (IsServeLine port subscribers) (documents_in documents) (O.bytes out.old) (O.bytes out.new) (O.is_broken out.new) (E.bytes err.old) (E.bytes err.new) (E.is_broken err.new) result }
-    ensures documents { (answer : Answer) × ServesAll subscribers documents answer × Reports (IsServeLine port subscribers) (count_of answer) (O.bytes out.old) (O.bytes out.new) (O.is_broken out.new) (E.bytes err.old) (E.bytes err.new) (E.is_broken err.new) result }
+    ensures documents { (answer : Answer) × ServesAll floats subscribers documents answer × Reports (IsServeLine port subscribers) (count_of answer) (O.bytes out.old) (O.bytes out.new) (O.is_broken out.new) (E.bytes err.old) (E.bytes err.new) (E.is_broken err.new) result }
 {
     let alloc = rt.alloc();
     let Documents { sources, texts } = documents;
     let texts = texts.as_slice();
-    forewarn(alloc, remarks, texts, err);
-    let answer = publish_in_turn(rt, port, subscribers, wait, sources, texts, err);
+    forewarn(alloc, remarks, floats, texts, err);
+    let answer = publish_in_turn(rt, port, subscribers, wait, floats, sources, texts, err);
     report_answer(alloc, out, err, remarks, texts, answer)
 }
 
 /// Tells of each document behind the first that will be refused once its turn comes, and why.
-fn forewarn<D: Remarks, E: Outlet>(alloc: Global, remarks: &D, texts: &[Vec<u8>], err: &mut E)
+fn forewarn<D: Remarks, E: Outlet>(
+    alloc: Global,
+    remarks: &D,
+    floats: bool,
+    texts: &[Vec<u8>],
+    err: &mut E,
+)
     ensures lines { TellsLines IsForewarning (E.bytes err.old) (E.bytes err.new) (E.is_broken err.new) }
     ensures stays { E.is_broken err.new ≡ false → E.is_broken err.old ≡ false }
 {
     for place in 1..texts.len() {
-        forewarn_of(alloc, remarks, place, texts[place].as_slice(), err);
+        forewarn_of(alloc, remarks, floats, place, texts[place].as_slice(), err);
     }
 }
 
@@ -81,6 +88,7 @@ fn forewarn<D: Remarks, E: Outlet>(alloc: Global, remarks: &D, texts: &[Vec<u8>]
 fn forewarn_of<D: Remarks, E: Outlet>(
     alloc: Global,
     remarks: &D,
+    floats: bool,
     before: usize,
     text: &[u8],
     err: &mut E,
@@ -88,7 +96,7 @@ fn forewarn_of<D: Remarks, E: Outlet>(
     ensures lines { TellsLines IsForewarning (E.bytes err.old) (E.bytes err.new) (E.is_broken err.new) }
     ensures stays { E.is_broken err.new ≡ false → E.is_broken err.old ≡ false }
 {
-    match read_flags(alloc, text) {
+    match read_flags_as(alloc, text, floats) {
         Ok(_) | Err(DefFault::WantOfMemory) => {}
         Err(fault) => {
             let place = (before as u64).saturating_add(1);
@@ -109,6 +117,7 @@ fn publish_in_turn<R, E>(
     port: u16,
     subscribers: usize,
     wait: u64,
+    floats: bool,
     sources: Sources,
     texts: &[Vec<u8>],
     err: &mut E,
@@ -122,7 +131,7 @@ where
         + Sync,
     E: Outlet + Drop,
     requires { 0 < length texts.now }
-    ensures serves { Counts (ServesTo subscribers (sources_view sources) (texts_of texts.now) []) result }
+    ensures serves { Counts (ServesTo floats subscribers (sources_view sources) (texts_of texts.now) []) result }
     ensures lines { TellsLines (IsServeLine port subscribers (is_ok result)) (E.bytes err.old) (E.bytes err.new) (E.is_broken err.new) }
     ensures stays { E.is_broken err.new ≡ false → E.is_broken err.old ≡ false }
 {
@@ -131,10 +140,12 @@ where
         unreachable!()
     };
     let mut sources = sources;
-    let flags = merge_next(alloc, &mut sources, 1, first.as_slice())?;
+    let flags = merge_next(alloc, &mut sources, 1, first.as_slice(), floats)?;
     let arrived = arrivals(rt, alloc, port, subscribers, wait, err)?;
     let history = History::new();
-    publish_to::<Brand, R, E>(rt, alloc, history, flags, sources, others, arrived, err)
+    publish_to::<Brand, R, E>(
+        rt, alloc, history, flags, floats, sources, others, arrived, err,
+    )
 }
 
 /// Shares flags, and publishes the other documents to a thread for each connection. It answers how many were published with
@@ -144,13 +155,14 @@ fn publish_to<J: ShareName + Send + Sync, R: Clock + Threads + Wait + Sync, E: O
     alloc: Global,
     history: History,
     flags: Flags,
+    floats: bool,
     sources: Sources,
     texts: &[Vec<u8>],
     arrived: Arrived,
     err: &mut E,
 ) -> Result<u64, Refusal>
     requires { history.seen.book ≡ J.book }
-    ensures serves { Counts (ServesTo (vec_len arrived.streams + arrived.absent) (sources_view sources) (texts_of texts.now) (flags_view flags ∷ [])) result }
+    ensures serves { Counts (ServesTo floats (vec_len arrived.streams + arrived.absent) (sources_view sources) (texts_of texts.now) (flags_view flags ∷ [])) result }
     ensures lines { TellsLines (IsGone (is_ok result)) (E.bytes err.old) (E.bytes err.new) (E.is_broken err.new) }
     ensures stays { E.is_broken err.new ≡ false → E.is_broken err.old ≡ false }
 {
@@ -169,6 +181,7 @@ fn publish_to<J: ShareName + Send + Sync, R: Clock + Threads + Wait + Sync, E: O
         alloc,
         &mut publisher,
         seats,
+        floats,
         sources,
         texts,
         arrived,
@@ -188,13 +201,14 @@ fn publish_shared<J: ShareName + Send + Sync, R: Clock + Threads + Wait + Sync, 
     alloc: Global,
     publisher: &mut Publisher<J>,
     seats: Vec<ReadSeat<J>>,
+    floats: bool,
     sources: Sources,
     texts: &[Vec<u8>],
     arrived: Arrived,
     err: &mut E,
 ) -> Result<Told<J>, Refusal>
     requires { length publisher.old ≡ 1 }
-    ensures serves { ServesTo (vec_len arrived.streams + arrived.absent) (sources_view sources) (texts_of texts.now) (map flags_view publisher.old) (told_view result) }
+    ensures serves { ServesTo floats (vec_len arrived.streams + arrived.absent) (sources_view sources) (texts_of texts.now) (map flags_view publisher.old) (told_view result) }
     ensures lines { TellsLines (IsGone (is_ok result)) (E.bytes err.old) (E.bytes err.new) (E.is_broken err.new) }
     ensures stays { E.is_broken err.new ≡ false → E.is_broken err.old ≡ false }
 {
@@ -205,6 +219,7 @@ fn publish_shared<J: ShareName + Send + Sync, R: Clock + Threads + Wait + Sync, 
         alloc,
         board: &board,
         publisher,
+        floats,
         sources,
         texts,
     };
@@ -230,6 +245,7 @@ struct Others<'a, J: ShareName, R: Wait> {
     alloc: Global,
     board: &'a Board<J>,
     publisher: &'a mut Publisher<J>,
+    floats: bool,
     sources: Sources,
     texts: &'a [Vec<u8>],
     ghost shared: { length publisher.now ≡ 1 },
@@ -241,7 +257,7 @@ impl<J: ShareName, R: Wait> Publishing<J> for Others<'_, J, R> {
     ghost use Rattle.source_merge.specs.View.{sources_view};
     ghost use Rattle.flagops_streams.specs.Documents.{Gives, texts_of};
 
-    ghost gives = { λ o answer. Gives (sources_view o.sources) (texts_of o.texts.now) (map flags_view o.publisher.now) answer };
+    ghost gives = { λ o answer. Gives o.floats (sources_view o.sources) (texts_of o.texts.now) (map flags_view o.publisher.now) answer };
 
     fn publish(self) -> Result<Told<J>, Refusal> {
         let Others {
@@ -249,10 +265,11 @@ impl<J: ShareName, R: Wait> Publishing<J> for Others<'_, J, R> {
             alloc,
             board,
             publisher,
+            floats,
             sources,
             texts,
         } = self;
-        publish_others(rt, alloc, board, publisher, sources, texts)
+        publish_others(rt, alloc, board, publisher, floats, sources, texts)
     }
 }
 
@@ -263,17 +280,18 @@ fn publish_others<J: ShareName, R: Wait>(
     alloc: Global,
     board: &Board<J>,
     publisher: &mut Publisher<J>,
+    floats: bool,
     sources: Sources,
     texts: &[Vec<u8>],
 ) -> Result<Told<J>, Refusal>
     requires { length publisher.old ≡ 1 }
-    ensures gives { Gives (sources_view sources) (texts_of texts.now) (map flags_view publisher.old) (told_view result) }
+    ensures gives { Gives floats (sources_view sources) (texts_of texts.now) (map flags_view publisher.old) (told_view result) }
     ensures published { IfOk result (λ told. told ≡ publisher.new) }
 {
     let mut sources = sources;
     let mut number = 1;
     for text in texts {
-        let flags = merge_next(alloc, &mut sources, number + 1, text.as_slice())?;
+        let flags = merge_next(alloc, &mut sources, number + 1, text.as_slice(), floats)?;
         number = match publisher.publish(rt, alloc, flags) {
             Ok(number) => number,
             Err(fault) => return Err(Refusal::Publish(fault)),

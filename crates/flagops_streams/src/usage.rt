@@ -4,7 +4,7 @@ ghost use Rattle.clap.specs.Words.{app_of, rule_of};
 ghost use Rattle.flagops_streams.specs.Words.{follow_app, serve_app, serve_begun, wait_option};
 
 use clap::{Arg, Command};
-use flagops_words::arguments::{number, option_number, some_words};
+use flagops_words::arguments::{floats, number, option_number, some_words};
 use flagops_words::{LARGEST_PORT, about};
 use std::alloc::{AllocError, Global};
 
@@ -22,10 +22,12 @@ pub const LONGEST_WAIT: u64 = 86_400;
 pub fn serve<'a>(alloc: Global) -> Result<Command<'a>, AllocError>
     ensures { IfOk result (λ c. app_of c ≡ serve_app) }
 {
-    serve_begun(alloc)?.arg(wait(
-        alloc,
-        "How many seconds are given to the subscribers to come, and to each to be served, at most 86400; 0 is for ever",
-    ))
+    serve_begun(alloc)?
+        .arg(wait(
+            alloc,
+            "How many seconds are given to the subscribers to come, and to each to be served, at most 86400; 0 is for ever",
+        ))?
+        .arg(floats(alloc))
 }
 
 /// The command `serve` with the words that have to be there.

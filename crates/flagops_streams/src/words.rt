@@ -9,7 +9,7 @@ use crate::usage::{LONGEST_WAIT, MOST_SUBSCRIBERS, MOST_TURNS, follow, serve};
 use clap::{ArgMatches, Error};
 use flagops_words::LARGEST_PORT;
 use flagops_words::arguments::missing_value;
-use flagops_words::matches::{number_at, number_or, texts_at};
+use flagops_words::matches::{has_floats, number_at, number_or, texts_at};
 use std::alloc::{AllocError, Global};
 use std::convert::AsStr;
 
@@ -64,6 +64,7 @@ fn serving_in<'a>(
         subscribers: subscribers as usize,
         wait,
         documents: documents.to_vec(alloc)?,
+        floats: has_floats(matches),
     }))
 }
 

@@ -21,7 +21,7 @@ use Rattle.flagops_words.specs.Kinds.{kind_spelled}
 use Rattle.flagops_words.specs.Shell.{shell_named}
 use Rattle.flagops_words.specs.declared.shell.Shell.{Shell}
 use Rattle.flagops_words.specs.Numbers.{max_16, max_32, max_moment, number_in}
-use Rattle.flagops_words.specs.Words.{apply_app, asked_in, asked_of, bucket_app, completions_app, drive_app, flag_in, flagops_app, is_json, is_stray, is_strict, kind_fault, mistake_of, plan_app, price_app, refine_in, refuses_doubts, resolve_app, verify_app}
+use Rattle.flagops_words.specs.Words.{apply_app, asked_in, asked_of, bucket_app, completions_app, drive_app, flag_in, flagops_app, has_floats, is_json, is_stray, is_strict, kind_fault, mistake_of, plan_app, price_app, refine_in, refuses_doubts, resolve_app, verify_app}
 use Rattle.flagops_words.proofs.Filled.{Each, Filled, IsFull, Stores, filled_level, none_both, stores}
 use Rattle.flagops_words.proofs.Unhelped.{IsNoHelp, no_help}
 
@@ -140,7 +140,7 @@ resolve_read : (name : Text) (rows : List Row) (document key word default contex
     → first_of (codes "DOC") rows ≡ Some document → first_of (codes "KEY") rows ≡ Some key → first_of (codes "KIND") rows ≡ Some word → first_of (codes "DEFAULT") rows ≡ Some default
     → first_of (codes "CONTEXT") rows ≡ Some context → first_of (codes "MOMENT") rows ≡ Some number → number_in 0 max_moment number ≡ Some moment → kind_spelled word ≡ kind → IsRead (Some (name, rows))
 resolve_read name rows document key word default context number moment (Some kind) is document_is key_is word_is default_is context_is number_is moment_is kind_is =
-    inl (resolve document key kind default context moment, rw (is, document_is, key_is, word_is, kind_is, default_is, context_is, number_is, moment_is) refl)
+    inl (resolve document key kind default context moment (has_floats rows), rw (is, document_is, key_is, word_is, kind_is, default_is, context_is, number_is, moment_is) refl)
 resolve_read name rows document key word default context number moment None is document_is key_is word_is default_is context_is number_is moment_is kind_is =
     inr (rw (is, word_is, kind_is) refl)
 

@@ -10,8 +10,8 @@ pub data Asked : Type 0 where
   bucket : List ℕ → List ℕ → Bool → Asked
   -- the old and the new rule file, a request and a key file, and whether the answer is printed as JSON
   price : List ℕ → List ℕ → List ℕ → List ℕ → Bool → Asked
-  -- a document, a key, a kind of value, a default, a context and a moment
-  resolve : List ℕ → List ℕ → Kind → List ℕ → List ℕ → ℕ → Asked
+  -- a document, a key, a kind of value, a default, a context and a moment, and whether the document may have floats
+  resolve : List ℕ → List ℕ → Kind → List ℕ → List ℕ → ℕ → Bool → Asked
   -- a document, a request, a book and a plan, the factor of a refinement if there is one, whether what is doubted is refused, and
   -- whether the answer is printed as JSON
   verify : List ℕ → List ℕ → List ℕ → List ℕ → Option ℕ → Bool → Bool → Asked
@@ -33,7 +33,7 @@ pub data Asked : Type 0 where
 abbrev pub asked_view : declared.Asked → Asked
 asked_view (code.Bucket rule key json) = bucket rule.now key.now json
 asked_view (code.Price old new request keys json) = price old.now new.now request.now keys.now json
-asked_view (code.Resolve document key kind default context moment) = resolve document.now key.now kind default.now context.now moment.number
+asked_view (code.Resolve document key kind default context moment floats) = resolve document.now key.now kind default.now context.now moment.number floats
 asked_view (code.Verify document request book file refine strict json) = verify document.now request.now book.now file.now (option_map (λ m. m.number) refine) strict json
 asked_view (code.Apply document file key site strict) = apply document.now file.now key.now site strict
 asked_view (code.Keep document file request book write refine strict) = keep document.now file.now request.now book.now write (option_map (λ m. m.number) refine) strict

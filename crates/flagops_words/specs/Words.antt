@@ -44,6 +44,10 @@ price_app =
 abbrev pub strict_flag : Rule
 strict_flag = flag (codes "strict")
 
+-- `--floats`: documents may have floats
+abbrev pub floats_flag : Rule
+floats_flag = flag (codes "floats")
+
 -- `--doubted`: what is doubted is written all the same
 abbrev pub doubted_flag : Rule
 doubted_flag = flag (codes "doubted")
@@ -60,9 +64,9 @@ number id most = number_within id 0 most
 abbrev pub resolve_begun : App
 resolve_begun = with_rule (with_rule (with_rule (new_app (codes "resolve")) (required (codes "DOC"))) (required (codes "KEY"))) (required (codes "KIND"))
 
--- `resolve DOC KEY KIND DEFAULT CONTEXT MOMENT`
+-- `resolve DOC KEY KIND DEFAULT CONTEXT MOMENT`, with `--floats`
 unfoldable pub resolve_app : App
-resolve_app = with_rule (with_rule (with_rule resolve_begun (required (codes "DEFAULT"))) (required (codes "CONTEXT"))) (number (codes "MOMENT") max_moment)
+resolve_app = with_rule (with_rule (with_rule (with_rule resolve_begun (required (codes "DEFAULT"))) (required (codes "CONTEXT"))) (number (codes "MOMENT") max_moment)) floats_flag
 
 -- an option with a number within bounds, which may be left out
 abbrev pub option_number : Text → Text → ℕ → ℕ → Rule
@@ -150,6 +154,10 @@ flag_in id rows = is_true (first_of id rows)
 abbrev pub is_strict : List Row → Bool
 is_strict rows = flag_in (codes "strict") rows
 
+-- documents may have floats
+abbrev pub has_floats : List Row → Bool
+has_floats rows = flag_in (codes "floats") rows
+
 -- What is doubted is refused: where that is asked for, and where a file is written over, unless it is to be written all the same.
 abbrev pub refuses_doubts : List Row → Bool
 refuses_doubts rows = is_strict rows || (flag_in (codes "write") rows && not (flag_in (codes "doubted") rows))
@@ -186,7 +194,7 @@ resolve_in rows = do
   context ← first_of (codes "CONTEXT") rows
   word ← first_of (codes "MOMENT") rows
   moment ← moment_in word
-  Some (resolve document key kind default context moment)
+  Some (resolve document key kind default context moment (has_floats rows))
 
 -- a factor, where one is given
 abbrev pub if_given : Option Text → Option (Option ℕ)

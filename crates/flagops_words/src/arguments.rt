@@ -3,10 +3,10 @@ ghost use Rattle.std.specs.Prelude.{◌≡◌, IfOk, codes, false};
 ghost use Rattle.clap.specs.Words.{kind_of, rule_of};
 ghost use Rattle.clap.specs.declared.error.kind.ErrorKind.TheVariants.{InvalidValue};
 ghost use Rattle.flagops_words.specs.Numbers.{max_32};
-ghost use Rattle.flagops_words.specs.Words.{flag, number, number_within, option_number, refine_option, required, some_words, strict_flag};
+ghost use Rattle.flagops_words.specs.Words.{flag, floats_flag, number, number_within, option_number, refine_option, required, some_words, strict_flag};
 
 use crate::numbers::LARGEST_32;
-use crate::table::STRICT_HELP;
+use crate::table::{FLOATS_HELP, STRICT_HELP};
 use clap::builder::ValueParser;
 use clap::error::ErrorKind;
 use clap::{Arg, ArgAction, Command, Error};
@@ -74,6 +74,14 @@ pub fn strict<'a>(alloc: Global) -> Arg<'a>
     ensures local { result.global ≡ false }
 {
     flag(alloc, "strict", STRICT_HELP)
+}
+
+/// `--floats`: the variants of flags may be any numbers.
+pub fn floats<'a>(alloc: Global) -> Arg<'a>
+    ensures rule { rule_of result ≡ floats_flag }
+    ensures local { result.global ≡ false }
+{
+    flag(alloc, "floats", FLOATS_HELP)
 }
 
 /// `--refine M`: what the weights of a site's rule are multiplied by.

@@ -29,6 +29,8 @@ pub enum Asked<'a> {
         default: &'a str,
         context: &'a str,
         moment: Moment,
+        /// Whether the document may have floats.
+        floats: bool,
     },
     /// Whether the answer of a plan file is right.
     Verify {

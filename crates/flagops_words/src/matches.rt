@@ -3,7 +3,7 @@ ghost use Rattle.std.specs.Prelude.{◌≡◌, ◌≤◌, ◌<◌, IfSome, codes
 ghost use Rattle.clap.specs.Walk.{first_of};
 ghost use Rattle.clap.specs.Words.{found_of, rows_of};
 ghost use Rattle.flagops_words.specs.Numbers.{max_32};
-ghost use Rattle.flagops_words.specs.Words.{flag_in, is_json, is_strict, number_at, number_or, refine_in, refuses_doubts, texts_at};
+ghost use Rattle.flagops_words.specs.Words.{flag_in, has_floats, is_json, is_strict, number_at, number_or, refine_in, refuses_doubts, texts_at};
 
 use crate::numbers::{Factor, LARGEST_32, spelled};
 use clap::ArgMatches;
@@ -38,6 +38,13 @@ pub fn is_json(words: &ArgMatches<'_>) -> bool
     ensures { result ≡ is_json (rows_of (found_of words.now)) }
 {
     flag_in(words, "json")
+}
+
+/// Whether documents may have floats.
+pub fn has_floats(words: &ArgMatches<'_>) -> bool
+    ensures { result ≡ has_floats (rows_of (found_of words.now)) }
+{
+    flag_in(words, "floats")
 }
 
 /// The factor of a refinement, if one is given; `None` where the word is no factor.

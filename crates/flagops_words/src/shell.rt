@@ -56,7 +56,7 @@ _flagops() {
         record:-*) COMPREPLY=($(compgen -W "--moment --workers --help" -- "$word")) ;;
         apply:-*) COMPREPLY=($(compgen -W "--keep --write --refine --strict --doubted --step --help" -- "$word")) ;;
         book:-*) COMPREPLY=($(compgen -W "--torn --replace --help" -- "$word")) ;;
-        ofrep:-*) COMPREPLY=($(compgen -W "--listen --admin --allow-stop --access-log --idle --max-body --cors --keys --log --remember --without-record --stream --workers --poll --broken --help" -- "$word")) ;;
+        ofrep:-*) COMPREPLY=($(compgen -W "--listen --admin --allow-stop --access-log --idle --max-body --cors --keys --log --log-points --remember --without-record --stream --workers --poll --broken --help" -- "$word")) ;;
         drive:-*) COMPREPLY=($(compgen -W "--add --replace --strict --json --help" -- "$word")) ;;
         serve:-* | follow:-*) COMPREPLY=($(compgen -W "--wait --help" -- "$word")) ;;
         *:-*) COMPREPLY=($(compgen -W "--help" -- "$word")) ;;
@@ -64,7 +64,7 @@ _flagops() {
         help:*) COMPREPLY=($(compgen -W "bucket price check compare resolve plan verify apply drive book ramp verify-ramp picture record tally join ofrep serve follow completions" -- "$word")) ;;
         resolve:*)
             if [ "$COMP_CWORD" -eq 4 ]; then
-                COMPREPLY=($(compgen -W "bool text whole object boolean string integer" -- "$word"))
+                COMPREPLY=($(compgen -W "bool text whole object float boolean string integer" -- "$word"))
             else
                 COMPREPLY=($(compgen -f -- "$word"))
             fi
@@ -121,6 +121,7 @@ complete -c flagops -n '__fish_seen_subcommand_from ofrep' -l max-body -x -d 'Th
 complete -c flagops -n '__fish_seen_subcommand_from ofrep' -l cors -x -d 'An origin whose web pages may ask'
 complete -c flagops -n '__fish_seen_subcommand_from ofrep' -l keys -r -d 'The file of keys of which each request shows one'
 complete -c flagops -n '__fish_seen_subcommand_from ofrep' -l log -r -d 'The folder of the logs'
+complete -c flagops -n '__fish_seen_subcommand_from ofrep' -l log-points -d 'Record hashes in the place of hash inputs'
 complete -c flagops -n '__fish_seen_subcommand_from ofrep' -l remember -x -d 'The lines of the logs that are remembered'
 complete -c flagops -n '__fish_seen_subcommand_from ofrep' -l without-record -x -a 'answer refuse' -d 'What becomes of answers that cannot be recorded'
 complete -c flagops -n '__fish_seen_subcommand_from ofrep' -l workers -x -d 'The threads that answer'
@@ -208,6 +209,7 @@ _flagops() {
             _arguments '--listen[the address and port of the service]:ADDRESS\:PORT:' '--log[the folder of the logs]:folder:_files -/' \
                 '--admin[the address and port of health and metrics]:ADDRESS\:PORT:' \
                 '--allow-stop[let POST /stop there end the service]' '--access-log[tell a line of each request]' \
+                '--log-points[record hashes in the place of hash inputs]' \
                 '--idle[the seconds for which an idle connection is kept]:S:' '--max-body[the most bytes of a body]:BYTES:' \
                 '*--cors[an origin whose web pages may ask]:ORIGIN:' '--keys[the file of keys of which each request shows one]:file:_files' \
                 '--remember[the lines of the logs that are remembered]:N:' \

@@ -33,6 +33,12 @@ const BOOK: Word = Word::Text("BOOK", "The book of the hash inputs that were rec
 pub const STRICT_HELP: &str =
     "End with status 1 where something is else only told: docs/REFUSALS.md has the table";
 
+/// What `--floats` does to a command that reads a document.
+pub const FLOATS_HELP: &str =
+    "Take any numbers as variants: a flag with one that is not whole is of the kind float";
+
+const FLOATS: Word = Word::Flag("floats", FLOATS_HELP);
+
 const STRICT: Word = Word::Flag("strict", STRICT_HELP);
 
 const JSON: Word = Word::Flag("json", "Print the answer as JSON, a text a line");
@@ -118,7 +124,7 @@ const QUESTION: &[Word] = &[
     Word::Text("KEY", "The flag's key"),
     Word::Text(
         "KIND",
-        "bool, text, whole or object, or flagd's boolean, string or integer",
+        "bool, text, whole, object or float, or flagd's boolean, string or integer",
     ),
     Word::Text(
         "DEFAULT",
@@ -130,6 +136,7 @@ const QUESTION: &[Word] = &[
         "The time of the evaluation, in seconds since 1970",
         LATEST_MOMENT,
     ),
+    FLOATS,
 ];
 
 const PLAN: Usage = Usage {

@@ -26,7 +26,7 @@ pub fn unknown_kind(alloc: Global) -> Result<Error, AllocError>
 {
     command(alloc, &RESOLVE_ALONE)?.error(
         ErrorKind::InvalidValue,
-        "invalid value for '<KIND>': it is bool, text, whole or object, or flagd's boolean, string or integer",
+        "invalid value for '<KIND>': it is bool, text, whole, object or float, or flagd's boolean, string or integer",
     )
 }
 

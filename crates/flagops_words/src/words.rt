@@ -6,7 +6,7 @@ ghost use Rattle.flagops_words.specs.Words.{IsToldBy, applied_in, apply_in, aske
 
 use crate::asked::Asked;
 use crate::kinds::kind_spelled;
-use crate::matches::{flag_in, is_json, is_strict, refine_in, refuses_doubts};
+use crate::matches::{flag_in, has_floats, is_json, is_strict, refine_in, refuses_doubts};
 use crate::numbers::{Moment, spelled_16, spelled_32};
 use crate::shell::Shell;
 use crate::usage::{
@@ -109,6 +109,7 @@ fn resolve_in<'a>(words: &ArgMatches<'a>) -> Option<Asked<'a>>
         default,
         context,
         moment,
+        floats: has_floats(words),
     })
 }
 

@@ -54,6 +54,7 @@ notes_roomy notes_fault.WantOfMemory = λ e. cc
 notes_roomy (notes_fault.Line n) = λ e. cc
 notes_roomy (notes_fault.Order n) = λ e. cc
 notes_roomy notes_fault.TooMany = λ e. cc
+notes_roomy (notes_fault.Mixed n) = λ e. cc
 
 pub rollout_roomy : (f : RolloutFault) → of_rollout f ≢ NoRoom
 rollout_roomy rollout_fault.WantOfMemory = λ e. cc

@@ -4,7 +4,7 @@ use Rattle.std.specs.Prelude.{option_map}
 use Rattle.std.specs.Option.{option_to_list}
 use Rattle.std.specs.List.{last_or}
 use Rattle.std.proofs.lemmas.List.{map-append}
-use Rattle.snap_core.specs.HubView.{snapshot_view}
+use Rattle.sync_frames.specs.Snapshots.{snapshot_view}
 use Rattle.snap_core.specs.declared.snapshot.Snapshot.{Snapshot}
 use Rattle.sync_frames.specs.Feed.{Faults, Gives, HasBeenFed, IsSame, Stands, has_failed, snapshots_view, waiting_in}
 use Rattle.sync_frames.specs.Feed as feeds

@@ -2,8 +2,7 @@
 use Rattle.std.proofs.Common.{◌≡◌, ◌≢◌, ℕ, ◌+◌, ◌<◌, ◌≤◌, List, [], ◌∷◌, ◌++◌, length, drop, refl, sym, ap, ap₂, subst, ◌∙◌, arith, true, true≢false, append-nil, Option, Some, None, Result, Ok, Err, IfOk, IfErr, IsErrOf, IsOk}
 use Rattle.std.specs.Prelude.{option_map}
 use Rattle.std.specs.List.{last_or}
-use Rattle.snap_core.specs.Hub.{Numbered}
-use Rattle.snap_core.specs.HubView.{snapshot_view}
+use Rattle.sync_frames.specs.Snapshots.{Numbered, snapshot_view}
 use Rattle.snap_core.specs.declared.snapshot.Snapshot.{Snapshot}
 use Rattle.sync_frames.specs.Feed.{FaultWith, IsSame, Stands, has_failed, is_failed, waiting_in}
 use Rattle.sync_frames.specs.Feed as feeds

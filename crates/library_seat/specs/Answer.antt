@@ -1,11 +1,11 @@
 -- What a resolution is answered with: bytes, and what they are made of.
 use Rattle.std.specs.Prelude.{ℕ, List, [], ◌++◌, length, is_some, Option, Some, None}
-use Rattle.flag_text.specs.Printing.{text_of}
-use Rattle.flag_resolve.specs.Resolved.{Resolved}
+use Rattle.flag_defs.specs.Spelled.{value_spelled}
 use Rattle.flag_resolve.specs.declared.code.Code.{Code}
 use Rattle.flag_resolve.specs.declared.code.Code.TheVariants.{ProviderNotReady, InvalidContext, FlagNotFound, ParseError, General, TypeMismatch}
 use Rattle.flag_resolve.specs.declared.reason.Reason.{Reason}
 use Rattle.flag_resolve.specs.declared.reason.Reason.TheVariants.{Error, Disabled, Static, Default, TargetingMatch}
+use Rattle.library_seat.specs.Question.{Spelled}
 use Rattle.library_seat.specs.declared.answer.Details.{Details}
 
 abbrev pub reason_number : Reason → ℕ
@@ -29,9 +29,18 @@ abbrev pub variant_bytes : Option (List ℕ) → List ℕ
 variant_bytes None = []
 variant_bytes (Some name) = name
 
--- the value as JSON, and then the variant's name, if there is one
-abbrev pub answer_text : Resolved → List ℕ
-answer_text r = text_of r.value ++ variant_bytes r.variant
+-- the value as JSON
+abbrev pub value_text : Spelled → List ℕ
+value_text s = value_spelled s.spelled s.resolved.value
 
-abbrev pub details_of : Resolved → Details
-details_of r = record { reason = reason_number r.reason; code = code_number r.code; value = length (text_of r.value); has_variant = is_some r.variant }
+-- the same, and then the variant's name, if there is one
+abbrev pub answer_text : Spelled → List ℕ
+answer_text s = value_text s ++ variant_bytes s.resolved.variant
+
+abbrev pub details_of : Spelled → Details
+details_of s = record {
+  reason = reason_number s.resolved.reason;
+  code = code_number s.resolved.code;
+  value = length (value_text s);
+  has_variant = is_some s.resolved.variant;
+}

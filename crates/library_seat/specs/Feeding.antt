@@ -1,7 +1,7 @@
 -- A piece of a stream comes to a seat.
 use Rattle.std.specs.Prelude.{◌≡◌, ℕ, List, [], ◌++◌, Bool, true, false, Option, Some, None, Result, Ok, Err}
 use Rattle.std.specs.List.{last_or}
-use Rattle.snap_core.specs.Hub.{Numbered}
+use Rattle.sync_frames.specs.Snapshots.{Numbered, marked_flags}
 use Rattle.sync_frames.specs.Feed.{is_failed}
 use Rattle.sync_frames.specs.Frames.{Gains, ShowsFault, ShowsNothing}
 use Rattle.sync_frames.specs.declared.fault.FrameFault.{FrameFault}
@@ -20,7 +20,7 @@ pub record Heard : Type 0 where
 -- the newest snapshot, where one came: the seat has its flags, and its number is told
 abbrev pub hearing : Option Numbered → Heard → Heard
 hearing None h = record h { came = false }
-hearing (Some s) h = record { seat = with_flags s.flags h.seat; number = s.number; came = true }
+hearing (Some s) h = record { seat = with_flags (marked_flags s) h.seat; number = s.number; came = true }
 
 -- The piece makes the frames of these snapshots whole. Where it makes none whole, the stream shows no fault.
 pub record Brings (piece : List ℕ) (snapshots : List Numbered) (old new : Connection) : Type 0 where

@@ -1,13 +1,12 @@
 -- What is asked of a seat, as bytes and numbers, and the first refusal of it.
-use Rattle.std.specs.Prelude.{ℕ, List, nat_eq, nat_lt, if◌then◌else◌, Option, Some, None, Result, Ok, Err}
+use Rattle.std.specs.Prelude.{ℕ, List, Bool, nat_eq, nat_lt, if◌then◌else◌, Option, Some, None, Result, Ok, Err}
 use Rattle.std.specs.Str.{is_utf8}
 use Rattle.flag_text.specs.Reading.{tree_of}
 use Rattle.flag_text.specs.Shape.{Shape}
 use Rattle.flag_text.specs.declared.fault.TextFault.{TextFault}
-use Rattle.flag_defs.specs.Document.{Definitions}
 use Rattle.flag_defs.specs.declared.kind.Kind.{Kind}
 use Rattle.flag_defs.specs.declared.kind.Kind.TheVariants as kind
-use Rattle.flag_resolve.specs.Resolution.{resolved_by}
+use Rattle.flag_resolve.specs.Floats.{Marked, is_spelled, resolved_with_floats}
 use Rattle.flag_resolve.specs.Resolved.{Resolved}
 use Rattle.library_seat.specs.Refusal.{of_default, of_context}
 use Rattle.library_seat.specs.declared.refusal.Refusal.{Refusal}
@@ -35,7 +34,7 @@ max_text = 4194304
 -- the kind of a number
 abbrev pub kind_of : ℕ → Option Kind
 kind_of n =
-    if nat_eq n 0 then Some kind.Bool else (if nat_eq n 1 then Some kind.Text else (if nat_eq n 2 then Some kind.Whole else (if nat_eq n 3 then Some kind.Object else None)))
+    if nat_eq n 0 then Some kind.Bool else (if nat_eq n 1 then Some kind.Text else (if nat_eq n 2 then Some kind.Whole else (if nat_eq n 3 then Some kind.Object else (if nat_eq n 4 then Some kind.Float else None))))
 
 -- a key is a text in UTF-8
 abbrev pub key_of : List ℕ → Option (List ℕ)
@@ -73,24 +72,32 @@ question_of asked = do
   default ← default_of asked.default
   Ok (record { key = key; kind = kind; default = default; moment = moment })
 
+-- a resolution, and whether its value stands as a text that is its spelling, as the values of a flag with floats do
+pub record Spelled : Type 0 where
+  pub resolved : Resolved
+  pub spelled : Bool
+
 -- what a question resolves to in a context
-abbrev pub resolved_in : Option Definitions → Question → Shape → Resolved
-resolved_in flags q context = resolved_by flags q.kind q.default context q.key q.moment
+abbrev pub resolved_in : Option Marked → Question → Shape → Resolved
+resolved_in flags q context = resolved_with_floats flags q.kind q.default context q.key q.moment
+
+abbrev pub spelled_in : Option Marked → Question → Shape → Spelled
+spelled_in flags q context = record { resolved = resolved_in flags q context; spelled = is_spelled flags q.key (resolved_in flags q context) }
 
 -- a context that was read, where one was
 abbrev pub kept_context : Option Shape → Result Shape Refusal
 kept_context context = or_refused refusal.NoContext context
 
 -- after the refusals of what is asked come those of the context
-abbrev pub resolve_of : Option Definitions → AskedBytes → List ℕ → Result Resolved Refusal
+abbrev pub resolve_of : Option Marked → AskedBytes → List ℕ → Result Spelled Refusal
 resolve_of flags asked bytes = do
   q ← question_of asked
   context ← context_of bytes
-  Ok (resolved_in flags q context)
+  Ok (spelled_in flags q context)
 
 -- where there is no context nothing else is looked at
-abbrev pub resolve_kept_of : Option Definitions → Option Shape → AskedBytes → Result Resolved Refusal
+abbrev pub resolve_kept_of : Option Marked → Option Shape → AskedBytes → Result Spelled Refusal
 resolve_kept_of flags kept asked = do
   context ← kept_context kept
   q ← question_of asked
-  Ok (resolved_in flags q context)
+  Ok (spelled_in flags q context)

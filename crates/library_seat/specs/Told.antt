@@ -1,12 +1,12 @@
 -- What a call comes to: all that it gives, the length that it wants, or a refusal that leaves everything as it was.
-use Rattle.std.specs.Prelude.{◌≡◌, ◌≢◌, ℕ, List, Bool, Result, Ok, Err}
+use Rattle.std.specs.Prelude.{◌≡◌, ◌≢◌, ℕ, List, Bool, true, Result, Ok, Err}
 use Rattle.std.specs.List.{concat}
 use Rattle.flag_text.specs.Shape.{Shape}
 use Rattle.flag_defs.specs.Document.{Definitions, DocumentMeans}
+use Rattle.flag_defs.specs.Floats.{Marks, are_unmarked}
 use Rattle.flag_defs.specs.declared.fault.DefFault.{DefFault}
-use Rattle.flag_resolve.specs.Resolved.{Resolved}
 use Rattle.library_seat.specs.Answer.{answer_text, details_of}
-use Rattle.library_seat.specs.Question.{context_of}
+use Rattle.library_seat.specs.Question.{Spelled, context_of}
 use Rattle.library_seat.specs.Refusal.{of_document}
 use Rattle.library_seat.specs.Room.{Room, IsPut, IsTooSmall}
 use Rattle.library_seat.specs.Seat.{Standing, emptied, noted, with_context, with_flags}
@@ -16,11 +16,13 @@ use Rattle.library_seat.specs.declared.refusal.Refusal.TheVariants.{WantOfMemory
 
 -- ---- documents and contexts
 
--- the document has flags, which are now the seat's
+-- the document has flags, none with floats, which are now the seat's
 pub record Opens (document : List ℕ) (old new : Standing) : Type 0 where
   pub flags : Definitions
+  pub marks : Marks
   pub means : DocumentMeans document (Ok flags)
-  pub now : new ≡ with_flags flags old
+  pub plain : are_unmarked marks ≡ true
+  pub now : new ≡ with_flags (flags, marks) old
 
 -- the document has a fault, and the refusal says which
 pub record IsRefused (document : List ℕ) (e : Refusal) : Type 0 where
@@ -51,26 +53,26 @@ pub record Passed : Type 0 where
   pub details : Details
 
 -- the answer is written, its details are told, and what was reached is noted
-pub record IsTold (r : Resolved) (key : List ℕ) (old new : Passed) : Type 0 where
+pub record IsTold (r : Spelled) (key : List ℕ) (old new : Passed) : Type 0 where
   pub put : IsPut (answer_text r) old.room new.room
   pub told : new.details ≡ details_of r
-  pub noted_now : new.seat ≡ noted key r.reached old.seat
+  pub noted_now : new.seat ≡ noted key r.resolved.reached old.seat
 
 -- the room is too small: the length that is wanted is told, and nothing else has changed
-pub record HasNoRoom (r : Resolved) (old new : Passed) : Type 0 where
+pub record HasNoRoom (r : Spelled) (old new : Passed) : Type 0 where
   pub small : IsTooSmall (answer_text r) old.room new.room
   pub details_left : new.details ≡ old.details
   pub seat_left : new.seat ≡ old.seat
 
 -- a resolution is told, unless the room is too small or memory runs out
-abbrev pub Gives : Resolved → List ℕ → Result (Unit {0}) Refusal → Passed → Passed → Type 0
+abbrev pub Gives : Spelled → List ℕ → Result (Unit {0}) Refusal → Passed → Passed → Type 0
 Gives r key (Ok done) old new = IsTold r key old new
 Gives r key (Err NoRoom) old new = HasNoRoom r old new
 Gives r key (Err WantOfMemory) old new = new ≡ old
 Gives r key (Err e) old new = ⊥
 
 -- the same where what is asked may be refused
-abbrev pub Answers : Result Resolved Refusal → List ℕ → Result (Unit {0}) Refusal → Passed → Passed → Type 0
+abbrev pub Answers : Result Spelled Refusal → List ℕ → Result (Unit {0}) Refusal → Passed → Passed → Type 0
 Answers (Ok r) key result old new = Gives r key result old new
 Answers (Err wanted) key (Ok done) old new = ⊥
 Answers (Err wanted) key (Err e) old new = (new ≡ old) × (e ≢ WantOfMemory → e ≡ wanted)

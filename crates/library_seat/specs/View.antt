@@ -3,9 +3,9 @@ use Rattle.std.specs.Prelude.{option_map}
 use Rattle.std.specs.Arc.{arc_value}
 use Rattle.flag_text.specs.Shape.{Shape}
 use Rattle.flag_text.specs.View.{view}
-use Rattle.flag_defs.specs.Flags.{flags_view}
+use Rattle.flag_defs.specs.Floats.{marked_view}
 use Rattle.kept_lines.specs.View.{kept_view}
-use Rattle.flag_defs.specs.Document.{Definitions}
+use Rattle.flag_resolve.specs.Floats.{Marked}
 use Rattle.sync_frames.specs.declared.feed.Feed.{Feed}
 use Rattle.library_seat.specs.Connection.{Connection}
 use Rattle.library_seat.specs.Question as asking
@@ -26,9 +26,9 @@ question_view q = record { key = q.key.now; kind = q.kind; default = view q.defa
 abbrev pub context_view : ReadContext → Shape
 context_view c = view c.tree
 
-abbrev pub held_view : HeldFlags → Definitions
-held_view (Own flags) = flags_view flags
-held_view (Shared flags) = flags_view (arc_value flags)
+abbrev pub held_view : HeldFlags → Marked
+held_view (Own flags) = marked_view flags
+held_view (Shared flags) = marked_view (arc_value flags)
 
 abbrev pub connection_view : Feed → Connection
 connection_view feed = record { last = feed.last; kept = feed.kept.items; stage = feed.stage }

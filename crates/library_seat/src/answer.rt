@@ -1,11 +1,13 @@
 //! What a resolution is answered with.
 ghost use Rattle.std.specs.Prelude.{◌≡◌, ◌++◌, true, IfOk, OnOk, length, is_some, option_map, string_bytes};
+ghost use Rattle.flag_defs.specs.Spelled.{value_spelled};
 ghost use Rattle.flag_text.specs.Printing.{text_of};
 ghost use Rattle.flag_text.specs.Shape.{is_whole};
 ghost use Rattle.flag_text.specs.View.{view};
 ghost use Rattle.flag_resolve.specs.Views.{resolution_view};
 ghost use Rattle.library_seat.specs.Answer.{answer_text, code_number, details_of, reason_number, variant_bytes};
 
+use flag_defs::push_spelled;
 use flag_resolve::{Code, Reason, Resolution};
 use flag_text::{Tree, push_tree};
 use std::alloc::{AllocError, Global};
@@ -25,17 +27,19 @@ pub struct Details {
     pub has_variant: bool,
 }
 
-/// Writes the answer of a resolution into a text, in the place of what the text had.
+/// Writes the answer of a resolution into a text, in the place of what the text had. The value may stand as a text that is its
+/// spelling, and is written as it is then.
 pub(crate) fn write_answer(
     alloc: Global,
     text: &mut String,
     resolution: &Resolution,
+    spelled: bool,
 ) -> Result<Details, AllocError>
-    ensures text { OnOk result (string_bytes text.new ≡ answer_text (resolution_view resolution.now)) }
-    ensures details { IfOk result (λ details. details ≡ details_of (resolution_view resolution.now)) }
+    ensures text { OnOk result (string_bytes text.new ≡ answer_text (record { resolved = resolution_view resolution.now; spelled = spelled })) }
+    ensures details { IfOk result (λ details. details ≡ details_of (record { resolved = resolution_view resolution.now; spelled = spelled })) }
 {
     text.clear();
-    push_value(alloc, text, &resolution.value)?;
+    push_value(alloc, text, &resolution.value, spelled)?;
     let value = text.len();
     push_name(text, &resolution.variant)?;
     Ok(Details {
@@ -46,8 +50,24 @@ pub(crate) fn write_answer(
     })
 }
 
-/// Adds a value as JSON. A truth value, as most are, is no more than its name.
-fn push_value(alloc: Global, text: &mut String, value: &Tree) -> Result<(), AllocError>
+/// Adds a value as JSON, where it may stand as a text that is its spelling. A truth value, as most are, is no more than its name.
+fn push_value(
+    alloc: Global,
+    text: &mut String,
+    value: &Tree,
+    spelled: bool,
+) -> Result<(), AllocError>
+    requires { is_whole (view value.now) ≡ true }
+    ensures { OnOk result (string_bytes text.new ≡ string_bytes text.old ++ value_spelled spelled (view value.now)) }
+{
+    if spelled {
+        push_spelled(alloc, text, value, true)
+    } else {
+        push_plain(alloc, text, value)
+    }
+}
+
+fn push_plain(alloc: Global, text: &mut String, value: &Tree) -> Result<(), AllocError>
     requires { is_whole (view value.now) ≡ true }
     ensures { OnOk result (string_bytes text.new ≡ string_bytes text.old ++ text_of (view value.now)) }
 {

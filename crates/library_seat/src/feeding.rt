@@ -1,8 +1,7 @@
 //! Streams of snapshots, in pieces.
 ghost use Rattle.std.specs.Prelude.{◌≡◌, ◌≢◌, ℕ, List, [], Some, None, IfErr, IfOk, IsErrOf, IsOk, option_map, true, ◌↔◌};
 ghost use Rattle.std.specs.List.{last_or};
-ghost use Rattle.snap_core.specs.Hub.{Numbered};
-ghost use Rattle.snap_core.specs.HubView.{snapshot_view};
+ghost use Rattle.sync_frames.specs.Snapshots.{Numbered, snapshot_view};
 ghost use Rattle.sync_frames.specs.Feed.{snapshots_view, waiting_in};
 ghost use Rattle.sync_frames.specs.Frames.{IsDone};
 ghost use Rattle.sync_frames.specs.declared.fault.FrameFault.{FrameFault as Fault};

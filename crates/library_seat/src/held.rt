@@ -1,7 +1,7 @@
 //! Flags that a seat has.
 ghost use Rattle.std.specs.Prelude.{◌≡◌, None, Some, IfOk, IsOk, option_map};
 ghost use Rattle.std.specs.Arc.{arc_value};
-ghost use Rattle.flag_defs.specs.Flags.{flags_view};
+ghost use Rattle.flag_defs.specs.Floats.{marked_view};
 ghost use Rattle.library_seat.specs.View.{held_view};
 
 use flag_defs::Flags;
@@ -20,7 +20,7 @@ pub(crate) enum HeldFlags {
 impl HeldFlags {
     /// The flags.
     pub(crate) fn get(&self) -> &Flags
-        ensures { flags_view result.now ≡ held_view self.now }
+        ensures { marked_view result.now ≡ held_view self.now }
     {
         match self {
             HeldFlags::Own(flags) => flags,
@@ -52,8 +52,8 @@ fn share_first(
     held: &mut Option<HeldFlags>,
     flags: Flags,
 ) -> Result<Option<HeldFlags>, AllocError>
-    ensures same { option_map held_view held.new ≡ Some (flags_view flags) }
-    ensures shared { IfOk result (λ other. option_map held_view other ≡ Some (flags_view flags)) }
+    ensures same { option_map held_view held.new ≡ Some (marked_view flags) }
+    ensures shared { IfOk result (λ other. option_map held_view other ≡ Some (marked_view flags)) }
 {
     match Arc::new(alloc, flags) {
         Ok(flags) => share_again(held, flags),
@@ -69,8 +69,8 @@ fn share_again(
     held: &mut Option<HeldFlags>,
     flags: Arc<Flags, Global>,
 ) -> Result<Option<HeldFlags>, AllocError>
-    ensures same { option_map held_view held.new ≡ Some (flags_view (arc_value flags)) }
-    ensures shared { IfOk result (λ other. option_map held_view other ≡ Some (flags_view (arc_value flags))) }
+    ensures same { option_map held_view held.new ≡ Some (marked_view (arc_value flags)) }
+    ensures shared { IfOk result (λ other. option_map held_view other ≡ Some (marked_view (arc_value flags))) }
 {
     let other = Arc::try_clone(&flags);
     *held = Some(HeldFlags::Shared(flags));

@@ -56,6 +56,7 @@ fn kind_of(number: u32) -> Option<Kind>
         1 => Some(Kind::Text),
         2 => Some(Kind::Whole),
         3 => Some(Kind::Object),
+        4 => Some(Kind::Float),
         _ => None,
     }
 }

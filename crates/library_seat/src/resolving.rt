@@ -1,13 +1,13 @@
 //! Resolutions, the notes of what they reach, and keys.
 ghost use Rattle.std.specs.Prelude.{◌≡◌, ◌≢◌, [], None, IfOk, IsErrOf, IsOk, OnOk, OnErr, IfSome, map, option_map, string_bytes};
-ghost use Rattle.flag_defs.specs.Flags.{flags_view};
+ghost use Rattle.flag_defs.specs.Floats.{marked_view};
 ghost use Rattle.flag_resolve.specs.Views.{resolution_view};
 ghost use Rattle.logic_eval.specs.Views.{reach_view};
 ghost use Rattle.library_seat.specs.Early.{early_refusal};
 ghost use Rattle.library_seat.specs.Keys.{keys_text};
 ghost use Rattle.library_seat.specs.Question.{resolve_kept_of, resolve_of, resolved_in};
 ghost use Rattle.library_seat.specs.Room.{Writes};
-ghost use Rattle.library_seat.specs.Seat.{noted};
+ghost use Rattle.library_seat.specs.Seat.{definitions_in, noted};
 ghost use Rattle.library_seat.specs.Told.{Answers, Gives, Takes};
 ghost use Rattle.library_seat.specs.View.{asked_view, context_view, question_view, seat_view};
 ghost use Rattle.library_seat.specs.declared.refusal.Refusal.TheVariants as refusal;
@@ -21,7 +21,7 @@ use crate::refusal::Refusal;
 use crate::room::{put, write};
 use crate::seat::Seat;
 use flag_defs::Flags;
-use flag_resolve::{Resolution, resolve};
+use flag_resolve::{Resolution, is_spelled, resolve_with_floats};
 use logic_eval::Reached;
 use std::alloc::{AllocError, Global};
 
@@ -45,7 +45,16 @@ impl Seat {
         let question = question_of(alloc, asked, &mut self.workspace)?;
         let context = context_of(alloc, context, &mut self.workspace)?;
         let resolution = resolution_of(alloc, self.flags(), &question, &context)?;
-        self.give(alloc, question.key, &resolution, out, written, details)
+        let spelled = is_spelled(self.flags(), question.key, &resolution);
+        self.give(
+            alloc,
+            question.key,
+            &resolution,
+            spelled,
+            out,
+            written,
+            details,
+        )
     }
 
     /// The same in the context that was read last.
@@ -71,14 +80,23 @@ impl Seat {
             return Err(Refusal::NoContext);
         };
         let resolution = resolution_of(alloc, self.flags(), &question, context)?;
-        self.give(alloc, question.key, &resolution, out, written, details)
+        let spelled = is_spelled(self.flags(), question.key, &resolution);
+        self.give(
+            alloc,
+            question.key,
+            &resolution,
+            spelled,
+            out,
+            written,
+            details,
+        )
     }
 
     /// Writes the lines of the flags' keys.
     pub fn keys(&self, alloc: Global, out: &mut [u8], written: &mut usize) -> Result<(), Refusal>
-        ensures writes { Writes (keys_text (seat_view self.now).flags) result (record { bytes = out.old; written = written.old }) (record { bytes = out.new; written = written.new }) }
+        ensures writes { Writes (keys_text (definitions_in (seat_view self.now).flags)) result (record { bytes = out.old; written = written.old }) (record { bytes = out.new; written = written.new }) }
         // this needs no memory
-        ensures no_keys { IfSome (seat_view self.now).flags (λ flags. flags ≡ []) → IsOk result }
+        ensures no_keys { IfSome (seat_view self.now).flags (λ flags. flags.0 ≡ []) → IsOk result }
     {
         let text = keys_text(alloc, self.flags())?;
         put(text.as_bytes(), out, written)
@@ -97,21 +115,22 @@ impl Seat {
         Ok(full)
     }
 
-    /// Writes a resolution, and notes what it reached.
+    /// Writes a resolution, the value of which may stand as a text that is its spelling, and notes what it reached.
     fn give(
         &mut self,
         alloc: Global,
         key: &str,
         resolution: &Resolution,
+        spelled: bool,
         out: &mut [u8],
         written: &mut usize,
         details: &mut Details,
     ) -> Result<(), Refusal>
-        ensures { Gives (resolution_view resolution.now) key.now result
+        ensures { Gives (record { resolved = resolution_view resolution.now; spelled = spelled }) key.now result
             (record { seat = seat_view self.old; room = record { bytes = out.old; written = written.old }; details = details.old })
             (record { seat = seat_view self.new; room = record { bytes = out.new; written = written.new }; details = details.new }) }
     {
-        let told = write_answer(alloc, &mut self.workspace.answer, resolution)?;
+        let told = write_answer(alloc, &mut self.workspace.answer, resolution, spelled)?;
         let wanted = self.workspace.answer.len();
         if wanted > out.len() {
             *written = wanted;
@@ -145,9 +164,9 @@ fn resolution_of(
     question: &Question<'_>,
     context: &ReadContext,
 ) -> Result<Resolution, AllocError>
-    ensures { IfOk result (λ r. resolution_view r ≡ resolved_in (option_map (λ f. flags_view f.now) flags.entry) (question_view question.now) (context_view context.now)) }
+    ensures { IfOk result (λ r. resolution_view r ≡ resolved_in (option_map (λ f. marked_view f.now) flags.entry) (question_view question.now) (context_view context.now)) }
 {
-    resolve(
+    resolve_with_floats(
         alloc,
         flags,
         question.key,

@@ -2,7 +2,7 @@
 ghost use Rattle.std.specs.Prelude.{◌≡◌, ◌<◌, ◌≤◌, false, length, option_map, None, IfErr, IsErrOf, IsOk, OnOk, IfSome};
 ghost use Rattle.std.specs.Str.{is_utf8};
 ghost use Rattle.flag_defs.specs.Document.{max_bytes};
-ghost use Rattle.flag_defs.specs.Flags.{flags_view};
+ghost use Rattle.flag_defs.specs.Floats.{marked_view};
 ghost use Rattle.flag_defs.specs.declared.fault.DefFault.TheVariants as fault;
 ghost use Rattle.library_seat.specs.Early.{text_refusal};
 ghost use Rattle.library_seat.specs.Seat.{fresh, sharing, with_most};
@@ -91,7 +91,7 @@ impl Seat {
 
     /// Its flags.
     pub(crate) fn flags(&self) -> Option<&Flags>
-        ensures { option_map (λ f. flags_view f.now) result ≡ (seat_view self.now).flags }
+        ensures { option_map (λ f. marked_view f.now) result ≡ (seat_view self.now).flags }
     {
         match &self.flags {
             Some(flags) => Some(flags.get()),

@@ -1,102 +1,187 @@
--- A note of the page is refused only where there is no room for its input.
-use Rattle.std.proofs.Common.{◌≡◌, ◌≢◌, Bool, true, false, if◌then◌else◌, List, [], ◌∷◌, ◌++◌, ℕ, Result, Ok, Err, OnOk, IfErr, refl, sym, ap, ◌∙◌, subst}
-use Rattle.std.specs.Cmp.{tied_itself}
-use Rattle.std.specs.Ordering.{is_eq}
+-- What a line changes, or why it is refused.
+use Rattle.std.proofs.Common.{◌≡◌, ◌≢◌, ◌<◌, Bool, true, false, if◌then◌else◌, List, [], ◌∷◌, ◌++◌, ℕ, Result, Ok, Err, IfOk, OnOk, IfErr, Option, Some, None, MatchOption, refl, sym, ap, ◌∙◌, subst, inl, inr, arith}
+use Rattle.bucket_core.specs.Point.{point_of, scale}
 use Rattle.book_core.specs.Page.{PageName, page_eq}
-use Rattle.book_core.specs.PageOrder.{pages_total}
+use Rattle.book_core.specs.PageOrder.{pages_equal}
 use Rattle.page_tally.specs.Folding.{is_above_last}
 use Rattle.flag_text.specs.Printing.{text_of}
+use Rattle.note_lines.specs.Hashed.{Hashed, IsHashed, has_hash, hashed_line}
 use Rattle.note_lines.specs.Note.{Noted, IsNote, note_line, note_shape}
-use Rattle.tally_core.specs.Tally.{line_on, noted_on}
-use Rattle.line_tally.specs.Lines.{Tallied, passed, tallied, has_room, with_input, with_note}
-use Rattle.line_tally.specs.Refusals.{Refuses}
+use Rattle.note_lines.proofs.OneKind.{hash_kind, input_kind}
+use Rattle.tally_core.specs.Tally.{IsLineOn, hash_line_on, hashed_on, line_on, noted_on}
+use Rattle.tally_core.proofs.Pages.{same_page}
+use Rattle.line_tally.specs.Lines.{IsSaid, Said, Tallied, has_room, is_alike, of_hash, of_input, passed, said_line, said_page, said_point, tallied, with_point, with_said}
+use Rattle.line_tally.specs.Place.{IsPlace}
+use Rattle.line_tally.specs.Refusals.{Refuses, RefusesSaid, SaysNothing, TakesSaid}
 use Rattle.line_tally.specs.declared.fault.LineTallyFault.{LineTallyFault}
-use Rattle.line_tally.specs.declared.fault.LineTallyFault.TheVariants.{WantOfMemory, Line, Order, TooMany}
+use Rattle.line_tally.specs.declared.fault.LineTallyFault.TheVariants.{WantOfMemory, Line, Order, TooMany, Mixed}
+use Rattle.line_tally.specs.declared.place.Place.{Place}
+use Rattle.line_tally.specs.declared.place.Place.TheVariants.{Own, Other}
 
-on_page : (above same : Bool) (counted other : Result Tallied LineTallyFault) → above ≡ true → same ≡ true → (if above then (if same then counted else other) else Err Order) ≡ counted
-on_page true true counted other a s = refl
-on_page true false counted other a s = cc
-on_page false same counted other a s = cc
+-- ---- what a line that says something changes
 
--- what the line of a note of the page changes
-pub with_note-page : (t : Tallied) (note : Noted) → is_above_last t.before (note_line note) ≡ true → page_eq note.page t.page ≡ true → with_note t note ≡ with_input t (note_line note) note.input
-with_note-page t note above same = on_page (is_above_last t.before (note_line note)) (page_eq note.page t.page) (with_input t (note_line note) note.input) (Ok (passed t (note_line note))) above same
+abbrev Answer : Type 0
+Answer = Result Tallied LineTallyFault
 
-never_line : (room : Bool) (t : Tallied) → (let r : Result Tallied LineTallyFault = if room then Ok t else Err TooMany in r) ≡ Err Line → ⊥
-never_line true t e = cc
-never_line false t e = cc
+told : (above alike same : Bool) (counted other : Answer) → above ≡ true → alike ≡ true → (if above then (if alike then (if same then counted else other) else Err Mixed) else Err Order) ≡ (if same then counted else other)
+told true true same counted other a k = refl
+told true false same counted other a k = cc
+told false alike same counted other a k = cc
 
-refused_for : (t : Tallied) (line : List ℕ) (note : Noted) (fault : LineTallyFault) → IsNote note → line ≡ note_line note → is_above_last t.before line ≡ true → page_eq note.page t.page ≡ true → (fault ≢ WantOfMemory → with_input t line note.input ≡ Err fault) → Refuses t line fault
-refused_for t line note WantOfMemory is same above page why = tt
-refused_for t line note Line is same above page why = absurd (never_line (has_room t note.input) (tallied t line note.input) (why (λ e. cc)))
-refused_for t line note Order is same above page why = (note, is, same, with_note-page t note (subst (λ l. is_above_last t.before l ≡ true) same above) page ∙ ap (λ l. with_input t l note.input) (sym same) ∙ why (λ e. cc))
-refused_for t line note TooMany is same above page why = (note, is, same, with_note-page t note (subst (λ l. is_above_last t.before l ≡ true) same above) page ∙ ap (λ l. with_input t l note.input) (sym same) ∙ why (λ e. cc))
+told_order : (above alike same : Bool) (counted other : Answer) → above ≡ false → (if above then (if alike then (if same then counted else other) else Err Mixed) else Err Order) ≡ Err Order
+told_order true alike same counted other a = cc
+told_order false alike same counted other a = refl
 
-pub refused_note : {X : Type 0} (t : Tallied) (line : List ℕ) (note : Noted) (r : Result X LineTallyFault) → IsNote note → line ≡ note_line note → is_above_last t.before line ≡ true → page_eq note.page t.page ≡ true
-    → IfErr r (λ fault. fault ≢ WantOfMemory → with_input t line note.input ≡ Err fault) → IfErr r (λ fault. Refuses t line fault)
-refused_note t line note (Ok x) is same above page why = tt
-refused_note t line note (Err fault) is same above page why = refused_for t line note fault is same above page why
+told_mixed : (above alike same : Bool) (counted other : Answer) → above ≡ true → alike ≡ false → (if above then (if alike then (if same then counted else other) else Err Mixed) else Err Order) ≡ Err Mixed
+told_mixed true true same counted other a k = cc
+told_mixed true false same counted other a k = refl
+told_mixed false alike same counted other a k = cc
 
--- a note of the page was taken
-pub taken_note : (t new : Tallied) (line input : List ℕ) (note : Noted) → IsNote note → line ≡ note_line note → is_above_last t.before line ≡ true → page_eq note.page t.page ≡ true → input ≡ note.input → with_input t line input ≡ Ok new
-    → (n : Noted) × IsNote n × (line ≡ note_line n) × (with_note t n ≡ Ok new)
-taken_note t new line input note is same above page inputs taken =
-    (note, is, same, with_note-page t note (subst (λ (l : List ℕ). is_above_last t.before l ≡ true) same above) page ∙ ap (λ (l : List ℕ). with_input t l note.input) (sym same) ∙ ap (with_input t line) (sym inputs) ∙ taken)
+module _ (t : Tallied) (said : Said) where
+  abbrev its_line : List ℕ
+  its_line = said_line said
 
--- ---- the line of an input of the page
+  abbrev counted : Answer
+  counted = with_point t its_line (said_point t.total said)
 
-page_itself : (page : PageName) → page_eq page page ≡ true
-page_itself page = ap is_eq (tied_itself pages_total page)
+  abbrev other : Answer
+  other = Ok (passed t its_line)
 
-own_note : (t : Tallied) (line input : List ℕ) → line ≡ line_on t.page input → is_above_last t.before line ≡ true → with_note t (noted_on t.page input) ≡ with_input t line input
-own_note t line input spelled above =
-    with_note-page t (noted_on t.page input) (subst (λ (l : List ℕ). is_above_last t.before l ≡ true) spelled above) (page_itself t.page) ∙ ap (λ (l : List ℕ). with_input t l input) (sym spelled)
+  pub said_own : is_above_last t.before its_line ≡ true → is_alike t.before its_line ≡ true → page_eq (said_page said) t.page ≡ true → with_said t said ≡ counted
+  said_own above alike same =
+      told (is_above_last t.before its_line) (is_alike t.before its_line) (page_eq (said_page said) t.page) counted other above alike ∙ ap (λ (b : Bool). if b then counted else other) same
 
-pub own_taken : {X : Type 0} (t : Tallied) (line input : List ℕ) (r : Result X LineTallyFault) (new : Tallied) → line ≡ line_on t.page input → is_above_last t.before line ≡ true → OnOk r (with_input t line input ≡ Ok new) → OnOk r (with_note t (noted_on t.page input) ≡ Ok new)
-own_taken t line input (Ok x) new spelled above taken = own_note t line input spelled above ∙ taken
-own_taken t line input (Err e) new spelled above taken = tt
+  pub said_other : is_above_last t.before its_line ≡ true → is_alike t.before its_line ≡ true → page_eq (said_page said) t.page ≡ false → with_said t said ≡ other
+  said_other above alike apart =
+      told (is_above_last t.before its_line) (is_alike t.before its_line) (page_eq (said_page said) t.page) counted other above alike ∙ ap (λ (b : Bool). if b then counted else other) apart
 
-pub own_refused : {X : Type 0} (t : Tallied) (line input : List ℕ) (r : Result X LineTallyFault) → line ≡ line_on t.page input → is_above_last t.before line ≡ true → IfErr r (λ fault. fault ≢ WantOfMemory → with_input t line input ≡ Err fault) → IfErr r (λ fault. fault ≢ WantOfMemory → with_note t (noted_on t.page input) ≡ Err fault)
-own_refused t line input (Ok x) spelled above why = tt
-own_refused t line input (Err e) spelled above why = λ other. own_note t line input spelled above ∙ why other
+  said_low : is_above_last t.before its_line ≡ false → with_said t said ≡ Err Order
+  said_low low = told_order (is_above_last t.before its_line) (is_alike t.before its_line) (page_eq (said_page said) t.page) counted other low
 
--- what a line of the page changes, as what the line of a note does
-pub taken_own : {X E : Type 0} (t new : Tallied) (line input : List ℕ) (r : Result X E) → IsNote (noted_on t.page input) → line ≡ line_on t.page input → OnOk r (with_note t (noted_on t.page input) ≡ Ok new)
-    → OnOk r ((n : Noted) × IsNote n × (line ≡ note_line n) × (with_note t n ≡ Ok new))
-taken_own t new line input (Ok x) is spelled taken = (noted_on t.page input, is, spelled, taken)
-taken_own t new line input (Err e) is spelled taken = tt
+  said_mixed : is_above_last t.before its_line ≡ true → is_alike t.before its_line ≡ false → with_said t said ≡ Err Mixed
+  said_mixed above unlike = told_mixed (is_above_last t.before its_line) (is_alike t.before its_line) (page_eq (said_page said) t.page) counted other above unlike
 
-never_refused : (above same room : Bool) (t : Tallied) (line input : List ℕ) → (let r : Result Tallied LineTallyFault = if above then (if same then (if room then Ok (tallied t line input) else Err TooMany) else Ok (passed t line)) else Err Order in r) ≡ Err Line → ⊥
-never_refused true true true t line input e = cc
-never_refused true true false t line input e = cc
-never_refused true false room t line input e = cc
-never_refused false same room t line input e = cc
+-- ---- what it says
 
-fault_own : (t : Tallied) (line input : List ℕ) (fault : LineTallyFault) → IsNote (noted_on t.page input) → line ≡ line_on t.page input → (fault ≢ WantOfMemory → with_note t (noted_on t.page input) ≡ Err fault) → Refuses t line fault
-fault_own t line input WantOfMemory is spelled why = tt
-fault_own t line input Line is spelled why = absurd (never_refused (is_above_last t.before (line_on t.page input)) (page_eq t.page t.page) (has_room t input) t (line_on t.page input) input (why (λ e. cc)))
-fault_own t line input Order is spelled why = (noted_on t.page input, is, spelled, why (λ e. cc))
-fault_own t line input TooMany is spelled why = (noted_on t.page input, is, spelled, why (λ e. cc))
+-- it says something, whatever place it has
+says : (t : Tallied) (line : List ℕ) (place : Place) → IsPlace t line place → (said : Said) × IsSaid said × (line ≡ said_line said)
+says t line (Own at) is = (is.0, is.1, is.2)
+says t line Other is = (is.0, is.1, is.2)
 
-pub refused_own : {X : Type 0} (t : Tallied) (line input : List ℕ) (r : Result X LineTallyFault) → IsNote (noted_on t.page input) → line ≡ line_on t.page input → IfErr r (λ fault. fault ≢ WantOfMemory → with_note t (noted_on t.page input) ≡ Err fault)
-    → IfErr r (λ fault. Refuses t line fault)
-refused_own t line input (Ok x) is spelled why = tt
-refused_own t line input (Err fault) is spelled why = fault_own t line input fault is spelled why
+pub order_refused : (t : Tallied) (line : List ℕ) (place : Place) → IsPlace t line place → is_above_last t.before line ≡ false → Refuses t line Order
+order_refused t line place is low =
+    let s = says t line place is in
+    (s.0, s.1, s.2, said_low t s.0 (subst (λ (l : List ℕ). is_above_last t.before l ≡ false) s.2 low))
+
+pub mixed_refused : (t : Tallied) (line : List ℕ) (place : Place) → IsPlace t line place → is_above_last t.before line ≡ true → is_alike t.before line ≡ false → Refuses t line Mixed
+mixed_refused t line place is above unlike =
+    let s = says t line place is in
+    (s.0, s.1, s.2, said_mixed t s.0 (subst (λ (l : List ℕ). is_above_last t.before l ≡ true) s.2 above) (subst (λ (l : List ℕ). is_alike t.before l ≡ false) s.2 unlike))
+
+-- ---- a line of the page
+
+module _ (t : Tallied) (line : List ℕ) (at : ℕ) (is : IsPlace t line (Own at)) (above : is_above_last t.before line ≡ true) (alike : is_alike t.before line ≡ true) where
+  own_is : with_said t is.0 ≡ with_point t line at
+  own_is =
+      said_own t is.0 (subst (λ (l : List ℕ). is_above_last t.before l ≡ true) is.2 above) (subst (λ (l : List ℕ). is_alike t.before l ≡ true) is.2 alike) is.3
+      ∙ ap (λ (l : List ℕ). with_point t l (said_point t.total is.0)) (sym is.2) ∙ ap (with_point t line) (sym is.4)
+
+  pub own_taken : {X : Type 0} (r : Result X LineTallyFault) (new : Tallied) → OnOk r (with_point t line at ≡ Ok new) → OnOk r (TakesSaid t line new)
+  own_taken (Ok x) new taken = (is.0, is.1, is.2, own_is ∙ taken)
+  own_taken (Err e) new taken = tt
+
+  never_line : (room : Bool) → (let r : Answer = if room then Ok (tallied t line at) else Err TooMany in r) ≡ Err Line → ⊥
+  never_line true e = cc
+  never_line false e = cc
+
+  own_fault : (fault : LineTallyFault) → (fault ≢ WantOfMemory → with_point t line at ≡ Err fault) → Refuses t line fault
+  own_fault WantOfMemory why = tt
+  own_fault Line why = absurd (never_line (has_room t at) (why (λ e. cc)))
+  own_fault Order why = (is.0, is.1, is.2, own_is ∙ why (λ e. cc))
+  own_fault TooMany why = (is.0, is.1, is.2, own_is ∙ why (λ e. cc))
+  own_fault Mixed why = (is.0, is.1, is.2, own_is ∙ why (λ e. cc))
+
+  pub own_refused : {X : Type 0} (r : Result X LineTallyFault) → IfErr r (λ fault. fault ≢ WantOfMemory → with_point t line at ≡ Err fault) → IfErr r (λ fault. Refuses t line fault)
+  own_refused (Ok x) why = tt
+  own_refused (Err fault) why = own_fault fault why
+
+-- its line is one of the page
+on_page : (said : Said) (page : PageName) → IsSaid said → page_eq (said_page said) page ≡ true → IsLineOn page (said_line said)
+on_page (of_input note) page is same =
+    let p : note.page ≡ page = same_page note.page page same in
+    inl (note.input, subst (λ (q : PageName). IsNote (noted_on q note.input)) p is, ap (λ (q : PageName). line_on q note.input) p)
+on_page (of_hash note) page is same =
+    let p : note.page ≡ page = same_page note.page page same in
+    inr (note.hash, subst (λ (q : PageName). IsHashed (hashed_on q note.hash)) p is, ap (λ (q : PageName). hash_line_on q note.hash) p)
+
+pub own_line : (t : Tallied) (line : List ℕ) (at : ℕ) → IsPlace t line (Own at) → IsLineOn t.page line
+own_line t line at is = subst (IsLineOn t.page) (sym is.2) (on_page is.0 t.page is.1 is.3)
+
+pub own_below : (t : Tallied) (line : List ℕ) (at : ℕ) → IsPlace t line (Own at) → at < t.total
+own_below t line at is = is.5
+
+-- ---- a line of another page
+
+pub other_taken : {X : Type 0} (t new : Tallied) (line : List ℕ) (r : Result X LineTallyFault) → IsPlace t line Other → is_above_last t.before line ≡ true → is_alike t.before line ≡ true → OnOk r (new ≡ passed t line) → OnOk r (TakesSaid t line new)
+other_taken t new line (Ok x) is above alike done = (
+  is.0,
+  is.1,
+  is.2,
+  said_other t is.0 (subst (λ (l : List ℕ). is_above_last t.before l ≡ true) is.2 above) (subst (λ (l : List ℕ). is_alike t.before l ≡ true) is.2 alike) is.3
+      ∙ ap (λ (l : List ℕ). Ok (passed t l)) (sym is.2) ∙ ap (λ (u : Tallied). Ok u) (sym done),
+)
+other_taken t new line (Err e) is above alike done = tt
+
+pub other_refused : {X : Type 0} (t : Tallied) (line : List ℕ) (r : Result X LineTallyFault) → IfErr r (λ fault. fault ≡ WantOfMemory) → IfErr r (λ fault. Refuses t line fault)
+other_refused t line (Ok x) want = tt
+other_refused t line (Err fault) want = subst (Refuses t line) (sym want) tt
+
+-- ---- what is read of a line
+
+-- of a line of the kind without inputs, and of one of the other kind
+module _ (line : List ℕ) where
+  pub no_hash : has_hash line ≡ true → ((note : Hashed) → IsHashed note → line ≢ hashed_line note) → SaysNothing line
+  no_hash kind none (of_hash note) is same = none note is same
+  no_hash kind none (of_input note) is same = let input : has_hash line ≡ false = ap has_hash same ∙ input_kind note in cc
+
+  pub no_input : has_hash line ≡ false → ((note : Noted) → IsNote note → line ≢ note_line note) → SaysNothing line
+  no_input kind none (of_input note) is same = none note is same
+  no_input kind none (of_hash note) is same = let hash : has_hash line ≡ true = ap has_hash same ∙ hash_kind note is in cc
+
+abbrev Told : {X : Type 0} → Tallied → List ℕ → (X → Type 0) → (X → List ℕ) → Option Place → Type 0
+Told {X} t line is spelled o = MatchOption o ((x : X) → is x → line ≢ spelled x) (IsPlace t line)
+
+pub matched_hash : {E : Type 0} (t : Tallied) (line : List ℕ) (r : Result (Option Place) E) → has_hash line ≡ true → IfOk r (Told t line IsHashed hashed_line) → IfOk r (Told t line IsSaid said_line)
+matched_hash t line (Ok None) kind none = no_hash line kind none
+matched_hash t line (Ok (Some place)) kind is = is
+matched_hash t line (Err e) kind none = tt
+
+pub matched_input : {E : Type 0} (t : Tallied) (line : List ℕ) (r : Result (Option Place) E) → has_hash line ≡ false → IfOk r (Told t line IsNote note_line) → IfOk r (Told t line IsSaid said_line)
+matched_input t line (Ok None) kind none = no_input line kind none
+matched_input t line (Ok (Some place)) kind is = is
+matched_input t line (Err e) kind none = tt
+
+-- where a line has a place
+pub has_place : (t : Tallied) (line : List ℕ) (o : Option Place) (place : Place) → o ≡ Some place → Told t line IsSaid said_line o → IsPlace t line place
+has_place t line o place is told = subst (Told t line IsSaid said_line) is told
+
+-- a note of the page, and one of another
+pub note_own : (t : Tallied) (line : List ℕ) (note : Noted) (at : ℕ) → IsNote note → line ≡ note_line note → page_eq note.page t.page ≡ true → at ≡ point_of t.total note.input → at < t.total → IsPlace t line (Own at)
+note_own t line note at is same page here below = (of_input note, is, same, page, here, below)
+
+pub own_input : (t : Tallied) (line input : List ℕ) (at : ℕ) → IsNote (noted_on t.page input) × (line ≡ line_on t.page input) → at ≡ point_of t.total input → at < t.total → IsPlace t line (Own at)
+own_input t line input at is here below = note_own t line (noted_on t.page input) at is.0 is.1 (pages_equal.refl t.page) here below
+
+pub note_other : (t : Tallied) (line : List ℕ) (note : Noted) → IsNote note → line ≡ note_line note → page_eq note.page t.page ≡ false → IsPlace t line Other
+note_other t line note is same page = (of_input note, is, same, page)
+
+pub hash_own : (t : Tallied) (line : List ℕ) (note : Hashed) (at : ℕ) → IsHashed note → line ≡ hashed_line note → page_eq note.page t.page ≡ true → at ≡ scale t.total note.hash → at < t.total → IsPlace t line (Own at)
+hash_own t line note at is same page here below = (of_hash note, is, same, page, here, below)
+
+pub hash_other : (t : Tallied) (line : List ℕ) (note : Hashed) → IsHashed note → line ≡ hashed_line note → page_eq note.page t.page ≡ false → IsPlace t line Other
+hash_other t line note is same page = (of_hash note, is, same, page)
 
 -- the line of a note ends with a line feed
 pub ends_so : (line : List ℕ) (note : Noted) → line ≡ note_line note → ((text : List ℕ) → line ≢ text ++ 10 ∷ []) → ⊥
 unfolding note_line
 ends_so line note same none = none (text_of (note_shape note)) same
-
-off_page : (above same : Bool) (counted other : Result Tallied LineTallyFault) → above ≡ true → same ≡ false → (if above then (if same then counted else other) else Err Order) ≡ other
-off_page true true counted other a s = cc
-off_page true false counted other a s = refl
-off_page false same counted other a s = cc
-
--- the line of a note of another page was passed over
-pub passed_note : {X E : Type 0} (t new : Tallied) (line : List ℕ) (note : Noted) (r : Result X E) → IsNote note → line ≡ note_line note → is_above_last t.before line ≡ true → page_eq note.page t.page ≡ false → OnOk r (new ≡ passed t line)
-    → OnOk r ((n : Noted) × IsNote n × (line ≡ note_line n) × (with_note t n ≡ Ok new))
-passed_note t new line note (Ok x) is spelled above other done =
-    let same : with_note t note ≡ Ok (passed t (note_line note)) = off_page (is_above_last t.before (note_line note)) (page_eq note.page t.page) (with_input t (note_line note) note.input) (Ok (passed t (note_line note))) (subst (λ (l : List ℕ). is_above_last t.before l ≡ true) spelled above) other in
-    (note, is, spelled, same ∙ ap (λ (l : List ℕ). Ok (passed t l)) (sym spelled) ∙ ap (λ (u : Tallied). Ok u) (sym done))
-passed_note t new line note (Err e) is spelled above other done = tt

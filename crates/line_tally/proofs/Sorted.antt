@@ -1,5 +1,5 @@
 -- Notes whose lines rise are all tallied, and the lines of a page of a book can be put so.
-use Rattle.std.proofs.Common.{◌≡◌, ◌≢◌, ◌<◌, ◌≤◌, ◌+◌, ℕ, Bool, true, false, if◌then◌else◌, eqb, List, [], ◌∷◌, map, length, get_or, Some, None, Result, Ok, refl, sym, ap, ◌∙◌, subst, ⊎_elim, arith, length-set}
+use Rattle.std.proofs.Common.{◌≡◌, ◌≢◌, ◌<◌, ◌≤◌, ◌+◌, ℕ, Bool, true, false, if◌then◌else◌, eqb, List, [], ◌∷◌, map, length, get_or, Option, Some, None, IfSome, Result, Ok, refl, sym, ap, ◌∙◌, subst, ⊎_elim, arith, length-set}
 use Rattle.std.specs.Cmp.Lexicographic.{nat_list_cmp_total}
 use Rattle.std.specs.List.{AllByRecursion}
 use Rattle.std.specs.List.Sorted.{IsStrictlySortedBy}
@@ -22,12 +22,14 @@ use Rattle.book_core.proofs.Ordered.{All-weaker}
 use Rattle.book_core.proofs.Taken.{is_less}
 use Rattle.page_tally.specs.Folding.{is_above_last}
 use Rattle.note_lines.specs.Note.{IsNote, Noted, note_line}
+use Rattle.note_lines.specs.Hashed.{has_hash}
+use Rattle.note_lines.proofs.OneKind.{input_kind}
 use Rattle.note_lines.proofs.Lines.{one_note}
 use Rattle.tally_core.specs.Law.{TalliesInAnyOrder, lines_on}
 use Rattle.tally_core.specs.Tally.{line_on, most_at_point, noted_on}
 use Rattle.tally_core.proofs.Zeros.{zero_all}
 use Rattle.line_tally.specs.Law.{BookPagesAreTallied, SortedNotesAreTallied, inputs_of, with_notes}
-use Rattle.line_tally.specs.Lines.{Tallied, finished, has_room, passed, tallied, untallied, with_note}
+use Rattle.line_tally.specs.Lines.{Tallied, finished, has_room, is_alike, of_input, passed, tallied, untallied, with_said}
 use Rattle.line_tally.specs.declared.fault.LineTallyFault.{LineTallyFault}
 use Rattle.line_tally.proofs.Counted.{one_at}
 use Rattle.line_tally.proofs.Kept.{room_is}
@@ -45,14 +47,14 @@ at_most_one : (b : Bool) → (if b then 1 else 0) ≤ 1
 at_most_one true = omega arith
 at_most_one false = omega arith
 
-fits_next : (t : Tallied) (line input : List ℕ) → Fits t → Fits (tallied t line input)
+fits_next : (t : Tallied) (line input : List ℕ) → Fits t → Fits (tallied t line (point_of t.total input))
 fits_next t line input fits =
     let q = point_of t.total input in
     let inside : q < length t.counts = omega (arith, fits.whole, point_of-below t.total input fits.some) in
     record {
       some = fits.some;
       whole = length-set t.counts q (get_or t.counts q 0 + 1) ∙ fits.whole;
-      few = λ p. (let here = one_at t.total t.counts input p inside in let old = fits.few p in let one = at_most_one (eqb q p) in omega (arith, here, old, one));
+      few = λ p. (let here = one_at t.counts q p inside in let old = fits.few p in let one = at_most_one (eqb q p) in omega (arith, here, old, one));
     }
 
 fits_first : (page : PageName) (total : ℕ) → 0 < total → Fits (untallied page total)
@@ -67,28 +69,39 @@ fits_first page total some = record {
 abbrev Taken : Tallied → List Noted → Type 0
 Taken t notes = (u : Tallied) × (with_notes (Ok t) notes ≡ Ok u)
 
-one_taken : (t : Tallied) (note : Noted) → is_above_last t.before (note_line note) ≡ true → page_eq note.page t.page ≡ true → has_room t note.input ≡ true → with_note t note ≡ Ok (tallied t (note_line note) note.input)
-one_taken t note above same room = rw (above, same, room) refl
+one_taken : (t : Tallied) (note : Noted) → is_above_last t.before (note_line note) ≡ true → is_alike t.before (note_line note) ≡ true → page_eq note.page t.page ≡ true → has_room t (point_of t.total note.input) ≡ true
+    → with_said t (of_input note) ≡ Ok (tallied t (note_line note) (point_of t.total note.input))
+one_taken t note above alike same room = rw (above, alike, same, room) refl
 
-one_passed : (t : Tallied) (note : Noted) → is_above_last t.before (note_line note) ≡ true → page_eq note.page t.page ≡ false → with_note t note ≡ Ok (passed t (note_line note))
-one_passed t note above other = rw (above, other) refl
+one_passed : (t : Tallied) (note : Noted) → is_above_last t.before (note_line note) ≡ true → is_alike t.before (note_line note) ≡ true → page_eq note.page t.page ≡ false → with_said t (of_input note) ≡ Ok (passed t (note_line note))
+one_passed t note above alike other = rw (above, alike, other) refl
 
-all_taken : (notes : List Noted) (t : Tallied) → Fits t → Follows t.before (map note_line notes) → t.inputs + length (inputs_of t.page notes) ≤ most_at_point → Taken t notes
-all_taken [] t fits follows few = (t, refl)
-all_taken (note ∷ notes) t fits follows few =
+-- the line before it has an input
+abbrev HadInput : Option (List ℕ) → Type 0
+HadInput before = IfSome before (λ line. has_hash line ≡ false)
+
+input_alike : (before : Option (List ℕ)) (note : Noted) → HadInput before → is_alike before (note_line note) ≡ true
+input_alike None note had = refl
+input_alike (Some before) note had = rw (had, input_kind note) refl
+
+all_taken : (notes : List Noted) (t : Tallied) → Fits t → HadInput t.before → Follows t.before (map note_line notes) → t.inputs + length (inputs_of t.page notes) ≤ most_at_point → Taken t notes
+all_taken [] t fits had follows few = (t, refl)
+all_taken (note ∷ notes) t fits had follows few =
+    let alike = input_alike t.before note had in
     ⊎_elim
     (λ (same : page_eq note.page t.page ≡ true).
     let here = ap length (inputs_here t.page note notes same) in
-    let had = fits.few (point_of t.total note.input) in
-    let room = room_is t note.input (omega (arith, few, here)) (omega (arith, few, here, had)) in
-    let next = tallied t (note_line note) note.input in
-    let later = all_taken notes next (fits_next t (note_line note) note.input fits) follows.1 (omega (arith, few, here)) in
-    (later.0, ap (λ (r : Result Tallied LineTallyFault). with_notes r notes) (one_taken t note follows.0 same room) ∙ later.1))
+    let at = point_of t.total note.input in
+    let some = fits.few at in
+    let room = room_is t at (omega (arith, few, here)) (omega (arith, few, here, some)) in
+    let next = tallied t (note_line note) at in
+    let later = all_taken notes next (fits_next t (note_line note) note.input fits) (input_kind note) follows.1 (omega (arith, few, here)) in
+    (later.0, ap (λ (r : Result Tallied LineTallyFault). with_notes r notes) (one_taken t note follows.0 alike same room) ∙ later.1))
     (λ (other : page_eq note.page t.page ≡ false).
     let there = ap length (inputs_there t.page note notes other) in
     let next = passed t (note_line note) in
-    let later = all_taken notes next (record { some = fits.some; whole = fits.whole; few = fits.few }) follows.1 (omega (arith, few, there)) in
-    (later.0, ap (λ (r : Result Tallied LineTallyFault). with_notes r notes) (one_passed t note follows.0 other) ∙ later.1))
+    let later = all_taken notes next (record { some = fits.some; whole = fits.whole; few = fits.few }) (input_kind note) follows.1 (omega (arith, few, there)) in
+    (later.0, ap (λ (r : Result Tallied LineTallyFault). with_notes r notes) (one_passed t note follows.0 alike other) ∙ later.1))
     (cases_Bool (page_eq note.page t.page))
 
 follow : (x : List ℕ) (xs : List (List ℕ)) → IsStrictlySortedBy bytes_cmp (x ∷ xs) → Follows (Some x) xs
@@ -103,7 +116,7 @@ follow_first (x ∷ xs) rising = (refl, follow x xs rising)
 pub sorted_notes : TalliesInAnyOrder → SortedNotesAreTallied
 sorted_notes any page total notes inputs some rising same few =
     let size = length_permutation (inputs_of page notes) inputs same in
-    let taken = all_taken notes (untallied page total) (fits_first page total some) (follow_first (map note_line notes) rising) (omega (arith, few, size)) in
+    let taken = all_taken notes (untallied page total) (fits_first page total some) tt (follow_first (map note_line notes) rising) (omega (arith, few, size)) in
     let is = tally_of_notes page total notes taken.0 some taken.1 in
     (taken.0, taken.1, is.same, any (finished taken.0) (inputs_of page notes) inputs is.tally.tally same)
 

@@ -1,20 +1,28 @@
 -- What is tallied of many lines.
-use Rattle.std.specs.Prelude.{◌≡◌, ◌<◌, ◌≤◌, ℕ, List, [], ◌∷◌, length, map, filter, IsPermutation, Result, Ok, Err}
+use Rattle.std.specs.Prelude.{◌≡◌, ◌<◌, ◌≤◌, ◌⊎◌, ℕ, List, [], ◌∷◌, length, map, filter, IsPermutation, Result, Ok, Err}
 use Rattle.std.specs.List.{AllByRecursion}
 use Rattle.std.specs.List.Sorted.{IsStrictlySortedBy}
 use Rattle.book_core.specs.Book.{Inputs, IsExposure}
 use Rattle.book_core.specs.Page.{PageName, bytes_cmp, page_eq}
+use Rattle.note_lines.specs.Hashed.{Hashed, hashed_line}
 use Rattle.note_lines.specs.Note.{IsNote, Noted, note_line}
-use Rattle.tally_core.specs.Law.{IsRangeOf, IsTallyOf}
+use Rattle.tally_core.specs.Law.{IsRangeOf, IsRangeOfHashes, IsTallyOf}
 use Rattle.tally_core.specs.Tally.{most_at_point, noted_on}
-use Rattle.line_tally.specs.Lines.{Tallied, finished, untallied, with_note}
+use Rattle.line_tally.specs.Lines.{IsSaid, Said, Tallied, finished, of_hash, of_input, untallied, with_said}
 use Rattle.line_tally.specs.declared.fault.LineTallyFault.{LineTallyFault}
 
--- what the lines of these notes change, one after the other, or the first refusal
+-- what lines that say this change, one after the other, or the first refusal
+abbrev pub with_saids : Result Tallied LineTallyFault → List Said → Result Tallied LineTallyFault
+with_saids (Err fault) saids = Err fault
+with_saids (Ok t) [] = Ok t
+with_saids (Ok t) (said ∷ saids) = with_saids (with_said t said) saids
+
+-- the same of the lines of notes, and of notes without inputs
 abbrev pub with_notes : Result Tallied LineTallyFault → List Noted → Result Tallied LineTallyFault
-with_notes (Err fault) notes = Err fault
-with_notes (Ok t) [] = Ok t
-with_notes (Ok t) (note ∷ notes) = with_notes (with_note t note) notes
+with_notes r notes = with_saids r (map of_input notes)
+
+abbrev pub with_hashes : Result Tallied LineTallyFault → List Hashed → Result Tallied LineTallyFault
+with_hashes r notes = with_saids r (map of_hash notes)
 
 -- the notes of a page
 abbrev pub notes_of : PageName → List Noted → List Noted
@@ -29,6 +37,24 @@ pub record IsTallyOfNotes (page : PageName) (notes : List Noted) (t : Tallied) :
   pub rising : IsStrictlySortedBy bytes_cmp (map note_line notes)
   pub same : t.page ≡ page
   pub tally : IsRangeOf (inputs_of page notes) (finished t)
+
+-- the hashes of a page
+abbrev pub hashes_of : PageName → List Hashed → List ℕ
+hashes_of page notes = map (λ note. note.hash) (filter (λ note. page_eq note.page page) notes)
+
+-- The lines of the notes without inputs rise strictly, so each is there once, and what was tallied is the tally of the page's hashes among them.
+pub record IsTallyOfHashedNotes (page : PageName) (notes : List Hashed) (t : Tallied) : Type 0 where
+  pub rising : IsStrictlySortedBy bytes_cmp (map hashed_line notes)
+  pub same : t.page ≡ page
+  pub tally : IsRangeOfHashes (hashes_of page notes) (finished t)
+
+-- they are all notes, or all notes without inputs
+abbrev pub AreOfOneKind : List Said → Type 0
+AreOfOneKind saids = ((notes : List Noted) × (saids ≡ map of_input notes)) ⊎ ((notes : List Hashed) × (saids ≡ map of_hash notes))
+
+-- where no line is refused
+abbrev pub TalliedAreOfOneKind : Type 0
+TalliedAreOfOneKind = (page : PageName) (total : ℕ) (saids : List Said) (t : Tallied) → AllByRecursion IsSaid saids → with_saids (Ok (untallied page total)) saids ≡ Ok t → AreOfOneKind saids
 
 -- none of the notes is refused, and what was tallied of them is the tally of these inputs of the page
 abbrev pub AreTalliedAs : PageName → ℕ → List Noted → Inputs → Type 0

@@ -1,5 +1,6 @@
 pub use Rattle.bucket_core.specs.Rule
 pub use Rattle.book_core.specs.Page
+pub use Rattle.note_lines.specs.Hashed
 pub use Rattle.note_lines.specs.Note
 pub use Rattle.tally_core.specs.Join
 pub use Rattle.tally_core.specs.Tally
@@ -7,4 +8,5 @@ pub mod Head
 pub mod Last
 pub mod Law
 pub mod Lines
+pub mod Place
 pub mod Refusals

@@ -1,17 +1,25 @@
 -- Why a line is refused.
-use Rattle.std.specs.Prelude.{◌≡◌, ◌≢◌, ℕ, List, Err}
-use Rattle.note_lines.specs.Note.{Noted, IsNote, note_line}
-use Rattle.line_tally.specs.Lines.{Tallied, with_note}
+use Rattle.std.specs.Prelude.{◌≡◌, ◌≢◌, ℕ, List, Ok, Err}
+use Rattle.line_tally.specs.Lines.{IsSaid, Said, Tallied, said_line, with_said}
 use Rattle.line_tally.specs.declared.fault.LineTallyFault.{LineTallyFault}
-use Rattle.line_tally.specs.declared.fault.LineTallyFault.TheVariants.{WantOfMemory, Line, Order, TooMany}
+use Rattle.line_tally.specs.declared.fault.LineTallyFault.TheVariants.{WantOfMemory, Line, Order, TooMany, Mixed}
 
--- it is the line of a note that is refused for this
-abbrev pub RefusesNote : Tallied → List ℕ → LineTallyFault → Type 0
-RefusesNote t line fault = (note : Noted) × IsNote note × (line ≡ note_line note) × (with_note t note ≡ Err fault)
+-- the line says something, which changes this
+abbrev pub TakesSaid : Tallied → List ℕ → Tallied → Type 0
+TakesSaid old line new = (said : Said) × IsSaid said × (line ≡ said_line said) × (with_said old said ≡ Ok new)
+
+-- the line says something that is refused for this
+abbrev pub RefusesSaid : Tallied → List ℕ → LineTallyFault → Type 0
+RefusesSaid t line fault = (said : Said) × IsSaid said × (line ≡ said_line said) × (with_said t said ≡ Err fault)
+
+-- it is the line of no note, with an input or without
+abbrev pub SaysNothing : List ℕ → Type 0
+SaysNothing line = (said : Said) → IsSaid said → line ≢ said_line said
 
 -- Line where it is the line of no note, and else what is wrong with its note
 abbrev pub Refuses : Tallied → List ℕ → LineTallyFault → Type 0
 Refuses t line WantOfMemory = Unit {0}
-Refuses t line Line = (note : Noted) → IsNote note → line ≢ note_line note
-Refuses t line Order = RefusesNote t line Order
-Refuses t line TooMany = RefusesNote t line TooMany
+Refuses t line Line = SaysNothing line
+Refuses t line Order = RefusesSaid t line Order
+Refuses t line TooMany = RefusesSaid t line TooMany
+Refuses t line Mixed = RefusesSaid t line Mixed

@@ -20,6 +20,9 @@ pub enum LineTallyFault {
     /// There are 67,108,864 inputs on the input's point, or 8,589,934,592 in all.
     #[error("too many inputs")]
     TooMany,
+    /// The line has an input and the one before it a hash, or the other way round.
+    #[error("the line has a hash and the one before it an input, or the other way round")]
+    Mixed,
 }
 
 impl From<AllocError> for LineTallyFault {

@@ -1,8 +1,9 @@
 //! What the definition of a tally amounts to.
 ghost use Rattle.std.specs.Prelude.{◌≡◌, ◌<◌, ℕ, List, Ok};
 ghost use Rattle.book_core.specs.Page.{PageName};
+ghost use Rattle.note_lines.specs.Hashed.{Hashed};
 ghost use Rattle.note_lines.specs.Note.{Noted};
-ghost use Rattle.line_tally.specs.Law.{with_notes, BookPagesAreTallied, IsTallyOfNotes, SortedNotesAreTallied};
+ghost use Rattle.line_tally.specs.Law.{with_hashes, with_notes, BookPagesAreTallied, IsTallyOfHashedNotes, IsTallyOfNotes, SortedNotesAreTallied, TalliedAreOfOneKind};
 ghost use Rattle.line_tally.specs.Lines.{Tallied, untallied};
 
 use tally_core::a_tally_is_in_any_order;
@@ -11,6 +12,16 @@ use tally_core::a_tally_is_in_any_order;
 /// how many of them there are and how many on each point.
 pub fn a_tally_is_of_its_lines()
     ensures { (page : PageName) (total : ℕ) (notes : List Noted) (tally : Tallied) → 0 < total → with_notes (Ok (untallied page total)) notes ≡ Ok tally → IsTallyOfNotes page notes tally }
+{}
+
+/// The same of notes without inputs: what was tallied is how many different hashes there are and how many on each point.
+pub fn a_tally_is_of_its_hashes()
+    ensures { (page : PageName) (total : ℕ) (notes : List Hashed) (tally : Tallied) → 0 < total → with_hashes (Ok (untallied page total)) notes ≡ Ok tally → IsTallyOfHashedNotes page notes tally }
+{}
+
+/// Where no line was refused, all have inputs or all have hashes.
+pub fn tallied_lines_are_of_one_kind()
+    ensures { TalliedAreOfOneKind }
 {}
 
 /// Notes whose lines rise strictly are tallied as the inputs of their page, in whatever order these are given, where they are

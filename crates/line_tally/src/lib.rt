@@ -7,14 +7,21 @@
 //! refused line leaves the tally as it was; and where none was refused, what was tallied is the number of the page's
 //! inputs and how many are on each point, each input there once ([`a_tally_is_of_its_lines`], `Law`). The lines of a page of
 //! a book, once sorted, are tallied as the inputs of the book ([`a_book_page_is_tallied`]).
+//!
+//! The lines may have hashes in the place of inputs, all of them or none ([`tallied_lines_are_of_one_kind`]). Then what was tallied is
+//! how many hashes of the page there are and how many are on each point, each hash there once ([`a_tally_is_of_its_hashes`]).
 #![tactic(auto)]
 
 mod fault;
 mod laws;
 mod page_lines;
+mod place;
 mod tally;
 
 pub use fault::LineTallyFault;
-pub use laws::{a_book_page_is_tallied, a_tally_is_of_its_lines, sorted_notes_are_tallied};
+pub use laws::{
+    a_book_page_is_tallied, a_tally_is_of_its_hashes, a_tally_is_of_its_lines,
+    sorted_notes_are_tallied, tallied_lines_are_of_one_kind,
+};
 pub use tally::LineTally;
 pub use tally_core::{JoinFault, PageTally, join};

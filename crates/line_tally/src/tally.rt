@@ -1,17 +1,20 @@
 //! A tally, line by line.
-ghost use Rattle.std.specs.Prelude.{◌≡◌, ◌≢◌, ◌++◌, ◌∷◌, [], ℕ, List, Option, true, false, option_map, IfOk, OnOk, OnErr, IfErr, Ok, Err};
+ghost use Rattle.std.specs.Prelude.{◌≡◌, ◌≢◌, ◌<◌, ◌++◌, ◌∷◌, [], ℕ, List, Option, true, false, option_map, IfOk, OnOk, OnErr, IfErr, MatchOption, None, Ok, Err};
 ghost use Rattle.page_tally.specs.Folding.{is_above_last};
+ghost use Rattle.note_lines.specs.Hashed.{Hashed, IsHashed, hashed_line};
 ghost use Rattle.note_lines.specs.Note.{Noted, IsNote, note_line};
-ghost use Rattle.tally_core.specs.Tally.{IsTallyTotal, noted_on, line_on};
+ghost use Rattle.tally_core.specs.Tally.{IsLineOn, IsTallyTotal};
 ghost use Rattle.line_tally.specs.Last.{last_line};
-ghost use Rattle.line_tally.specs.Lines.{untallied, passed, has_room, finished, with_input, with_note};
-ghost use Rattle.line_tally.specs.Refusals.{Refuses};
+ghost use Rattle.line_tally.specs.Lines.{untallied, passed, has_room, finished, is_alike, with_point};
+ghost use Rattle.line_tally.specs.Place.{IsPlace};
+ghost use Rattle.line_tally.specs.Refusals.{Refuses, SaysNothing, TakesSaid};
 
 use crate::fault::LineTallyFault;
 use crate::page_lines::PageLines;
+use crate::place::Place;
 use book_core::Page;
-use bucket_core::point;
-use note_lines::read_note;
+use bucket_core::{point, scale};
+use note_lines::{has_hash, read_hashed_note, read_note};
 use std::alloc::{AllocError, Global};
 use std::marker::Model;
 use std::mem;
@@ -99,30 +102,28 @@ impl LineTally {
         })
     }
 
-    /// Takes the next line, with its line feed. A line of the page is counted at the point of its input, a line of
-    /// another page is passed over.
+    /// Takes the next line, with its line feed: one with an input, or one with the hash of an input in its place. A line of the
+    /// page is counted at the point of its hash, a line of another page is passed over.
     ///
     /// Refusals, in this order: `Line` where it is the line of no note; `Order` where it is not above the line before it;
-    /// `TooMany`. A refused line leaves the tally as it was. That a line without a line feed is none takes no memory.
+    /// `Mixed` where one of both has an input and the other a hash; `TooMany`. A refused line leaves the tally as it was. That a
+    /// line without a line feed is none takes no memory.
     pub fn take(&mut self, alloc: Global, line: &[u8]) -> Result<(), LineTallyFault>
-        ensures taken { OnOk result ((note : Noted) × IsNote note × (line.now ≡ note_line note) × (with_note self.old note ≡ Ok self.new)) }
+        ensures taken { OnOk result (TakesSaid self.old line.now self.new) }
         ensures refused { IfErr result (λ fault. Refuses self.old line.now fault) }
         ensures unended { ((text : List ℕ) → line.now ≢ text ++ 10 ∷ []) → result ≡ Err LineTallyFault.Line }
         ensures same { OnErr result (self.new ≡ self.old) }
     {
-        if let Some(input) = self.page.plain_input(line) {
-            return self.take_own(alloc, line, input);
-        }
-        let Some(note) = read_note(alloc, line)? else {
+        let Some(place) = self.place_of(alloc, line)? else {
             return Err(LineTallyFault::Line);
         };
-        if note.page == *self.page.page() {
-            return self.take_own(alloc, line, note.input.as_str());
-        }
         if !self.is_next(line) {
             return Err(LineTallyFault::Order);
         }
-        self.pass(alloc, line)
+        if !self.is_alike(line) {
+            return Err(LineTallyFault::Mixed);
+        }
+        self.take_at(alloc, line, place)
     }
 
     /// The tally of the lines so far.
@@ -159,23 +160,78 @@ impl LineTally {
         }
     }
 
-    /// Takes the line of an input of the page.
-    fn take_own(&mut self, alloc: Global, line: &[u8], input: &str) -> Result<(), LineTallyFault>
-        requires note { IsNote (noted_on self.old.page input.now) }
-        requires spelled { line.now ≡ line_on self.old.page input.now }
-        ensures taken { OnOk result (with_note self.old (noted_on self.old.page input.now) ≡ Ok self.new) }
-        ensures refused { IfErr result (λ fault. fault ≢ LineTallyFault.WantOfMemory → with_note self.old (noted_on self.old.page input.now) ≡ Err fault) }
+    /// Whether a line has an input as the one before it, or a hash as that.
+    fn is_alike(&self, line: &[u8]) -> bool
+        ensures { result ≡ is_alike self.now.before line.now }
+    {
+        match &self.before {
+            None => true,
+            Some(before) => has_hash(before.as_slice()) == has_hash(line),
+        }
+    }
+
+    /// Where a line is counted; none where it is the line of no note.
+    fn place_of(&self, alloc: Global, line: &[u8]) -> Result<Option<Place>, AllocError>
+        ensures place { IfOk result (λ r. MatchOption r (SaysNothing line.now) (IsPlace self.now line.now)) }
+        ensures unended { ((text : List ℕ) → line.now ≢ text ++ 10 ∷ []) → result ≡ Ok None }
+    {
+        if let Some(input) = self.page.plain_input(line) {
+            return Ok(Some(Place::Own(point(self.total, input))));
+        }
+        if has_hash(line) {
+            self.place_of_hash(alloc, line)
+        } else {
+            self.place_of_input(alloc, line)
+        }
+    }
+
+    /// The same of a line with an input.
+    fn place_of_input(&self, alloc: Global, line: &[u8]) -> Result<Option<Place>, AllocError>
+        ensures place { IfOk result (λ r. MatchOption r ((note : Noted) → IsNote note → line.now ≢ note_line note) (IsPlace self.now line.now)) }
+        ensures unended { ((text : List ℕ) → line.now ≢ text ++ 10 ∷ []) → result ≡ Ok None }
+    {
+        let Some(note) = read_note(alloc, line)? else {
+            return Ok(None);
+        };
+        if note.page != *self.page.page() {
+            return Ok(Some(Place::Other));
+        }
+        Ok(Some(Place::Own(point(self.total, note.input.as_str()))))
+    }
+
+    /// The same of a line with a hash.
+    fn place_of_hash(&self, alloc: Global, line: &[u8]) -> Result<Option<Place>, AllocError>
+        ensures place { IfOk result (λ r. MatchOption r ((note : Hashed) → IsHashed note → line.now ≢ hashed_line note) (IsPlace self.now line.now)) }
+        ensures unended { ((text : List ℕ) → line.now ≢ text ++ 10 ∷ []) → result ≡ Ok None }
+    {
+        let Some(note) = read_hashed_note(alloc, line)? else {
+            return Ok(None);
+        };
+        if note.page != *self.page.page() {
+            return Ok(Some(Place::Other));
+        }
+        Ok(Some(Place::Own(scale(self.total, note.hash))))
+    }
+
+    /// Takes a line that is above the one before it and of its kind.
+    fn take_at(&mut self, alloc: Global, line: &[u8], place: Place) -> Result<(), LineTallyFault>
+        requires above { is_above_last self.old.before line.now ≡ true }
+        requires alike { is_alike self.old.before line.now ≡ true }
+        requires place { IsPlace self.old line.now place }
+        ensures taken { OnOk result (TakesSaid self.old line.now self.new) }
+        ensures refused { IfErr result (λ fault. Refuses self.old line.now fault) }
         ensures same { OnErr result (self.new ≡ self.old) }
     {
-        if !self.is_next(line) {
-            return Err(LineTallyFault::Order);
+        match place {
+            Place::Own(at) => self.count(alloc, line, at),
+            Place::Other => self.pass(alloc, line),
         }
-        self.count(alloc, line, input)
     }
 
     /// Passes over a line.
     fn pass(&mut self, alloc: Global, line: &[u8]) -> Result<(), LineTallyFault>
-        requires { is_above_last self.old.before line.now ≡ true }
+        requires above { is_above_last self.old.before line.now ≡ true }
+        requires alike { is_alike self.old.before line.now ≡ true }
         ensures passed { OnOk result (self.new ≡ passed self.old line.now) }
         ensures want { IfErr result (λ fault. fault ≡ LineTallyFault.WantOfMemory) }
         ensures same { OnErr result (self.new ≡ self.old) }
@@ -187,17 +243,18 @@ impl LineTally {
         Ok(())
     }
 
-    /// Counts the input of a line.
-    fn count(&mut self, alloc: Global, line: &[u8], input: &str) -> Result<(), LineTallyFault>
+    /// Counts a line of the page at its point.
+    fn count(&mut self, alloc: Global, line: &[u8], at: u32) -> Result<(), LineTallyFault>
         requires above { is_above_last self.old.before line.now ≡ true }
-        requires note { IsNote (noted_on self.old.page input.now) }
-        requires spelled { line.now ≡ line_on self.old.page input.now }
-        ensures counted { OnOk result (with_input self.old line.now input.now ≡ Ok self.new) }
-        ensures refused { IfErr result (λ fault. fault ≢ LineTallyFault.WantOfMemory → with_input self.old line.now input.now ≡ Err fault) }
-        ensures full { has_room self.old input.now ≡ false → result ≡ Err LineTallyFault.TooMany }
+        requires alike { is_alike self.old.before line.now ≡ true }
+        requires line { IsLineOn self.old.page line.now }
+        requires below { at < self.old.total }
+        ensures counted { OnOk result (with_point self.old line.now at ≡ Ok self.new) }
+        ensures refused { IfErr result (λ fault. fault ≢ LineTallyFault.WantOfMemory → with_point self.old line.now at ≡ Err fault) }
+        ensures full { has_room self.old at ≡ false → result ≡ Err LineTallyFault.TooMany }
         ensures same { OnErr result (self.new ≡ self.old) }
     {
-        let at = point(self.total, input) as usize;
+        let at = at as usize;
         if self.inputs >= MOST_IN_ALL || self.counts[at] >= MOST_AT_POINT {
             return Err(LineTallyFault::TooMany);
         }

@@ -9,6 +9,7 @@ mod evaluation_tests;
 #[cfg(test)]
 mod expression_tests;
 #[cfg(test)]
+mod float_flag_tests;
 mod float_tests;
 #[cfg(test)]
 mod kept_tests;

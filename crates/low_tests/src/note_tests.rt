@@ -2,7 +2,7 @@
 use crate::rows::each;
 use book_core::Page;
 use line_tally::{LineTally, PageTally, join};
-use note_lines::{note_line, read_note};
+use note_lines::{hashed_line, note_line, read_hashed_note, read_note};
 use std::alloc::{AllocError, Global};
 use std::test::Fail;
 use tally_filters::join_all;
@@ -49,6 +49,44 @@ fn lines_of_notes(rt: HostRuntime) -> Result<(), Fail> {
     each(rt.alloc(), LINES, notes)
 }
 
+/// The hash of the note without input whose line this is, where it is printed so again.
+fn hash_of(alloc: Global, line: &str) -> Option<u32> {
+    let line = ended(alloc, line).ok()?;
+    let note = read_hashed_note(alloc, line.as_slice()).ok()??;
+    let again = hashed_line(alloc, &note.page, note.hash).ok()?;
+    if again.as_slice() == line.as_slice() {
+        Some(note.hash)
+    } else {
+        None
+    }
+}
+
+/// Whether this is the line of this hash, or of none.
+fn has_hash(alloc: Global, line: &str, want: &str) -> bool {
+    match (hash_of(alloc, line), want.parse::<u32>()) {
+        (Some(hash), Ok(number)) => hash == number,
+        (None, Err(_)) => want == "none",
+        _ => false,
+    }
+}
+
+const HASHED: &str = r#"["color",0,null,3127628307] -> 3127628307
+["color",4294967295,"{\"var\":[\"email\"]}",0] -> 0
+["color",0,null,4294967295] -> 4294967295
+["color",0,null,4294967296] -> none
+["color",0,null,-1] -> none
+["color",0,null,00] -> none
+["color",0,null, 1] -> none
+["color",0,null,1.0] -> none
+["color",0,null,"test"] -> none
+["color",0,null,1,1] -> none
+["color",0,null] -> none"#;
+
+#[test]
+fn lines_of_hashes(rt: HostRuntime) -> Result<(), Fail> {
+    each(rt.alloc(), HASHED, has_hash)
+}
+
 /// The tally of lines without their line feeds, on the page of a flag without a name, at ten points.
 fn tallied(alloc: Global, lines: &str) -> Option<PageTally> {
     let page = Page {
@@ -79,6 +117,16 @@ const BACK: &str = r#"["",0,null,"Hello, world!"]
 ["",0,null,"The quick brown fox jumps over the lazy dog"]
 ["",0,null,"test"]
 ["",1,null,"test"]"#;
+
+/// Hashes on the points 0, 7 and 9, with one of another page.
+const HASHES: &str = r#"["",0,null,0]
+["",0,null,3127628307]
+["",0,null,4294967295]
+["",1,null,1]"#;
+
+/// An input, and then a hash.
+const BOTH: &str = r#"["",0,null,"test"]
+["",1,null,1]"#;
 
 /// The counts of lines in two parts, joined; none where a line or the join is refused.
 fn counts(alloc: Global, one: &str, other: &str) -> Option<Vec<u32>> {
@@ -123,6 +171,9 @@ const PARTS: &[(&str, &[&str], &[u32])] = &[
     ),
     (FRONT, &[BACK, MIDDLE], &[]),
     (MIDDLE, &[MIDDLE], &[]),
+    ("", &[HASHES, ""], &[1, 0, 0, 0, 0, 0, 0, 1, 0, 1]),
+    (MIDDLE, &[HASHES], &[]),
+    (BOTH, &[], &[]),
 ];
 
 #[test]

@@ -1,2 +1,3 @@
+pub mod OneKind
 pub mod Lines
 mod Lengths

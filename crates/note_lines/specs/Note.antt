@@ -15,9 +15,13 @@ pub record Noted : Type 0 where
 abbrev pub most_noted : ℕ
 most_noted = input_bytes
 
+-- [FLAG,SITE,BY,LAST]
+abbrev pub parts_shape : PageName → Shape → Shape
+parts_shape page last = list (item (text page.flag) (item (whole (pos page.site)) (item (by_shape page.by) (item last no_items))))
+
 -- [FLAG,SITE,BY,INPUT]
 abbrev pub note_shape : Noted → Shape
-note_shape note = list (item (text note.page.flag) (item (whole (pos note.page.site)) (item (by_shape note.page.by) (item (text note.input) no_items))))
+note_shape note = parts_shape note.page (text note.input)
 
 -- the compact text of that list, and a line feed
 unfoldable pub note_line : Noted → List ℕ

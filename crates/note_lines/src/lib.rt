@@ -15,15 +15,23 @@
 //! Proved, over the definitions of `specs/`: [`note_line`] gives the line of its note, which reads back as the note
 //! (`Note`); [`read_note`] gives the note whose line it is given, and no note only where the line is that of none
 //! (`Reading`); and the lines of different notes differ ([`each_note_has_its_line`]).
+//!
+//! A note can be written without its input, as `[FLAG,SITE,BY,HASH]` with the 32-bit hash of the input ([`NoteForm`]). Such a line
+//! is made and read by [`hashed_line`] and [`read_hashed_note`], which promise the same of it (`Hashed`), and no line is of both kinds
+//! ([`no_line_is_of_both`]).
 #![tactic(auto)]
 
+mod form;
+mod hashed;
 mod laws;
 mod note;
 mod parts;
 mod print;
 mod read;
 
-pub use laws::each_note_has_its_line;
+pub use form::{NoteForm, line_as};
+pub use hashed::{HashedNote, has_hash, hashed_line, read_hashed_note};
+pub use laws::{each_hashed_note_has_its_line, each_note_has_its_line, no_line_is_of_both};
 pub use note::Note;
 pub use print::note_line;
 pub use read::read_note;

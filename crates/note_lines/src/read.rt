@@ -6,8 +6,7 @@ ghost use Rattle.flag_text.specs.View.{view};
 ghost use Rattle.note_lines.specs.Note.{Noted, IsNote, most_noted, note_shape, note_line};
 ghost use Rattle.note_lines.specs.Reading.{Reads};
 
-use crate::note::Note;
-use crate::parts::tree_note;
+use crate::note::{Note, tree_note};
 use crate::print::note_line;
 use flag_text::{TextFault, Tree, read_tree};
 use limits::INPUT_BYTES;
@@ -31,7 +30,7 @@ pub fn read_note(alloc: Global, line: &[u8]) -> Result<Option<Note>, AllocError>
 }
 
 /// The bytes before the line feed that ends a line.
-fn before_feed(line: &[u8]) -> Option<&[u8]>
+pub(crate) fn before_feed(line: &[u8]) -> Option<&[u8]>
     ensures { MatchOption result ((text : List ℕ) → line.now ≢ text ++ 10 ∷ []) (λ text. line.now ≡ text.now ++ 10 ∷ []) }
 {
     match line {
@@ -41,7 +40,7 @@ fn before_feed(line: &[u8]) -> Option<&[u8]>
 }
 
 /// The tree of a text, where it has one.
-fn tree_in(alloc: Global, text: &[u8]) -> Result<Option<Tree>, AllocError>
+pub(crate) fn tree_in(alloc: Global, text: &[u8]) -> Result<Option<Tree>, AllocError>
     ensures { IfOk result (λ r. MatchOption r ((tree : Shape) → tree_of text.now (length text.now) ≢ Ok tree) (λ tree. tree_of text.now (length text.now) ≡ Ok (view tree))) }
 {
     match read_tree(alloc, text, text.len()) {

@@ -8,7 +8,9 @@ use Rattle.std.proofs.lemmas.Grind.{flat_map-append}
 use Rattle.std.proofs.lemmas.List.{map-append}
 use Rattle.std.proofs.lemmas.List.Elements.{Contains-append_left, Contains-append_right, Contains-push, Contains-push_cases, Contains-append_cases}
 use Rattle.lru.proofs.CallerLemmas.{Contains-lookup}
-use Rattle.note_lines.specs.Note.{Noted, most_noted, note_line}
+use Rattle.note_lines.specs.Hashed.{line_as}
+use Rattle.note_lines.specs.Note.{Noted, most_noted}
+use Rattle.note_lines.specs.declared.form.NoteForm.{NoteForm}
 use Rattle.note_log.specs.Batch.{Adds, Grows, IsBatch, IsKnown, Same}
 use Rattle.note_log.specs.Log.{Wants}
 use Rattle.note_log.specs.Sound.{Remembered}
@@ -20,13 +22,13 @@ some_of None h = cc
 some_of (Some v) h = (v, refl)
 
 -- a line that the memory has is known
-pub found : (remembered : Remembered) (q line : List ℕ) (note : Noted) → q ≡ line → line ≡ note_line note → is_some (lookup (λ (k : Vec ℕ Global). pointwise nat_eq q k.items) remembered) ≡ true → IsKnown remembered note
-found remembered q line note same text is =
+pub found : (form : NoteForm) (remembered : Remembered) (q line : List ℕ) (note : Noted) → q ≡ line → line ≡ line_as form note → is_some (lookup (λ (k : Vec ℕ Global). pointwise nat_eq q k.items) remembered) ≡ true → IsKnown form remembered note
+found form remembered q line note same text is =
     let some = some_of (lookup (λ (k : Vec ℕ Global). pointwise nat_eq q k.items) remembered) is in
     let e = Contains-lookup (λ (k : Vec ℕ Global). pointwise nat_eq q k.items) remembered some.0 some.1 in
     ((e.0, some.0), e.1, sym (same_text q e.0.items (sym e.2)) ∙ same ∙ text)
 
-module _ (notes : List Noted) (note : Noted) where
+module _ (form : NoteForm) (notes : List Noted) (note : Noted) where
   abbrev more : List Noted
   more = notes ++ note ∷ []
 
@@ -34,7 +36,7 @@ module _ (notes : List Noted) (note : Noted) where
   wider n w = (Contains-append_left notes (note ∷ []) n w.0, w.1)
 
   -- the batch stays as it is
-  kept : (remembered : Remembered) (old new : Batch) → IsBatch notes remembered old → Same old new → (length note.input ≤ most_noted → IsKnown remembered note) → IsBatch more remembered new
+  kept : (remembered : Remembered) (old new : Batch) → IsBatch form notes remembered old → Same old new → (length note.input ≤ most_noted → IsKnown form remembered note) → IsBatch form more remembered new
   kept remembered old new b same known = record {
     recorded = b.recorded;
     wanted = λ n c. wider n (b.wanted n c);
@@ -42,20 +44,20 @@ module _ (notes : List Noted) (note : Noted) where
     bytes = same.1 ∙ b.bytes;
     known = λ n w. elim (Contains-push_cases notes note n w.0) [
       | inl c ↦ b.known n (c, w.1)
-      | inr e ↦ inl (subst (IsKnown remembered) e (known (subst (λ (m : Noted). length m.input ≤ most_noted) (sym e) w.1)))
+      | inr e ↦ inl (subst (IsKnown form remembered) e (known (subst (λ (m : Noted). length m.input ≤ most_noted) (sym e) w.1)))
     ];
   }
 
-  grown : (remembered : Remembered) (old new : Batch) → IsBatch notes remembered old → length note.input ≤ most_noted → Grows note old new → IsBatch more remembered new
+  grown : (remembered : Remembered) (old new : Batch) → IsBatch form notes remembered old → length note.input ≤ most_noted → Grows form note old new → IsBatch form more remembered new
   grown remembered old new b short g = record {
     recorded = b.recorded ++ note ∷ [];
     wanted = λ n c. elim (Contains-push_cases b.recorded note n c) [
       | inl d ↦ wider n (b.wanted n d)
       | inr e ↦ subst (Wants more) e (Contains-push notes note, short)
     ];
-    lines = g.0 ∙ ap (λ (ls : List (List ℕ)). ls ++ note_line note ∷ []) b.lines ∙ sym (map-append note_line b.recorded (note ∷ []));
-    bytes = g.1 ∙ ap (λ (bs : List ℕ). bs ++ note_line note) b.bytes ∙ ap (λ (bs : List ℕ). flat_map note_line b.recorded ++ bs) (sym (append-nil (note_line note)))
-        ∙ sym (flat_map-append note_line b.recorded (note ∷ []));
+    lines = g.0 ∙ ap (λ (ls : List (List ℕ)). ls ++ line_as form note ∷ []) b.lines ∙ sym (map-append (line_as form) b.recorded (note ∷ []));
+    bytes = g.1 ∙ ap (λ (bs : List ℕ). bs ++ line_as form note) b.bytes ∙ ap (λ (bs : List ℕ). flat_map (line_as form) b.recorded ++ bs) (sym (append-nil (line_as form note)))
+        ∙ sym (flat_map-append (line_as form) b.recorded (note ∷ []));
     known = λ n w. elim (Contains-push_cases notes note n w.0) [
       | inl c ↦ elim (b.known n (c, w.1)) [
         | inl k ↦ inl k
@@ -65,7 +67,7 @@ module _ (notes : List Noted) (note : Noted) where
     ];
   }
 
-  pub with_note : (remembered : Remembered) (old new : Batch) → IsBatch notes remembered old → Adds note remembered old new → IsBatch more remembered new
+  pub with_note : (remembered : Remembered) (old new : Batch) → IsBatch form notes remembered old → Adds form note remembered old new → IsBatch form more remembered new
   with_note remembered old new b adds = elim adds [
     | inl long ↦ kept remembered old new b long.1 (λ short. absurd (omega (arith, long.0, short)))
     | inr other ↦ elim other [
@@ -75,17 +77,17 @@ module _ (notes : List Noted) (note : Noted) where
   ]
 
 -- each line is that of a note
-pub listed : (lines : List (Vec ℕ Global)) (notes : List Noted) → map (λ (line : Vec ℕ Global). line.items) lines ≡ map note_line notes
-    → (line : Vec ℕ Global) → Contains lines line → (note : Noted) × Contains notes note × (line.items ≡ note_line note)
-listed [] notes e line c = absurd (not_in line c)
-listed (x ∷ lines) [] e line c = cc
-listed (x ∷ lines) (n ∷ notes) e line c =
-    let first : x.items ≡ note_line n = cc in
-    let others : map (λ (line : Vec ℕ Global). line.items) lines ≡ map note_line notes = cc in
+pub listed : (form : NoteForm) (lines : List (Vec ℕ Global)) (notes : List Noted) → map (λ (line : Vec ℕ Global). line.items) lines ≡ map (line_as form) notes
+    → (line : Vec ℕ Global) → Contains lines line → (note : Noted) × Contains notes note × (line.items ≡ line_as form note)
+listed form [] notes e line c = absurd (not_in line c)
+listed form (x ∷ lines) [] e line c = cc
+listed form (x ∷ lines) (n ∷ notes) e line c =
+    let first : x.items ≡ line_as form n = cc in
+    let others : map (λ (line : Vec ℕ Global). line.items) lines ≡ map (line_as form) notes = cc in
     elim (Contains-append_cases (x ∷ []) lines line c) [
       | inl d ↦ elim (Contains-push_cases [] x line d) [
         | inl none ↦ absurd (not_in line none)
-        | inr same ↦ (n, Contains-append_left (n ∷ []) notes n (Contains-push [] n), subst (λ (l : Vec ℕ Global). l.items ≡ note_line n) same first)
+        | inr same ↦ (n, Contains-append_left (n ∷ []) notes n (Contains-push [] n), subst (λ (l : Vec ℕ Global). l.items ≡ line_as form n) same first)
       ]
-      | inr d ↦ let r = listed lines notes others line d in (r.0, Contains-append_right (n ∷ []) notes r.0 r.1, r.2)
+      | inr d ↦ let r = listed form lines notes others line d in (r.0, Contains-append_right (n ∷ []) notes r.0 r.1, r.2)
     ]

@@ -5,21 +5,24 @@ use Rattle.std.specs.Io.KnownBytes.{append_known}
 use Rattle.log_file.specs.declared.file.LogFile.{Ghosts}
 use Rattle.log_file.specs.declared.journal.Look.{Look}
 use Rattle.log_file.specs.declared.journal.Look.TheVariants.{Stands, Reopened, Lost}
-use Rattle.note_lines.specs.Note.{Noted, most_noted, note_line}
+use Rattle.note_lines.specs.Hashed.{line_as}
+use Rattle.note_lines.specs.Note.{Noted, most_noted}
+use Rattle.note_lines.specs.declared.form.NoteForm.{NoteForm}
 use Rattle.note_log.specs.Line.{HasLine}
 use Rattle.note_log.specs.Sound.{Remembered, earlier_in, handed_in, lines_in}
 use Rattle.note_log.specs.declared.log.NoteLog.{NoteLog}
 use Rattle.note_log.specs.declared.trouble.Trouble.{Trouble}
 use Rattle.note_log.specs.declared.trouble.Trouble.TheVariants as trouble
 
--- what each file that was lost was handed, what the one that is open was handed, and what of the lines waits
+-- the form of its lines, what each file that was lost was handed, what the one that is open was handed, and what of the lines waits
 pub record Logged : Type 0 where
+  pub form : NoteForm
   pub earlier : List (List ℕ)
   pub handed : List ℕ
   pub waiting : List ℕ
 
 abbrev pub logged : {F : Type 0} {g : Ghosts F} → NoteLog F g → Logged
-logged log = record { earlier = earlier_in log.earlier.items; handed = handed_in log.handed.items; waiting = log.waiting.items }
+logged log = record { form = log.form; earlier = earlier_in log.earlier.items; handed = handed_in log.handed.items; waiting = log.waiting.items }
 
 -- what all files were handed, the one that is open last
 abbrev pub files_of : Logged → List (List ℕ)
@@ -37,7 +40,7 @@ trouble_of false (byte ∷ bytes) = Some trouble.Unwritten
 
 -- another file is open, or none: nothing was handed to it, nothing waits for it
 abbrev pub begun_anew : Logged → Logged
-begun_anew l = record { earlier = files_of l; handed = []; waiting = [] }
+begun_anew l = record { form = l.form; earlier = files_of l; handed = []; waiting = [] }
 
 abbrev pub logged_after : Look → Logged → Logged
 logged_after Stands l = l
@@ -54,13 +57,14 @@ remembered_after (Lost loss fault) remembered = []
 abbrev pub Wants : List Noted → Noted → Type 0
 Wants notes note = Contains notes note × (length note.input ≤ most_noted)
 
--- Of these notes, some were recorded: what waited and their lines are handed over as far as the place takes them, and wait else. Where all is taken, the line of each note stands in what was handed over.
+-- Of these notes, some were recorded: what waited and their lines are handed over as far as the place takes them, and wait else. Where all is taken, the line of each note stands in what was handed over. The lines are of the log's form.
 pub record Records (notes : List Noted) (old new : Logged) (old_bytes new_bytes : Option (List ℕ)) (all : Bool) : Type 0 where
   pub recorded : List Noted
   pub wanted : (note : Noted) → Contains recorded note → Wants notes note
   pub more : List ℕ
+  pub form : new.form ≡ old.form
   pub earlier : new.earlier ≡ old.earlier
   pub handed : new.handed ≡ old.handed ++ more
   pub bytes : new_bytes ≡ append_known old_bytes more
-  pub lines : old.waiting ++ flat_map note_line recorded ≡ more ++ new.waiting
-  pub whole : all ≡ true → (new.waiting ≡ []) × ((note : Noted) → Wants notes note → HasLine (note_line note) new.handed)
+  pub lines : old.waiting ++ flat_map (line_as old.form) recorded ≡ more ++ new.waiting
+  pub whole : all ≡ true → (new.waiting ≡ []) × ((note : Noted) → Wants notes note → HasLine (line_as old.form note) new.handed)

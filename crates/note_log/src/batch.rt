@@ -5,7 +5,7 @@ ghost use Rattle.note_log.specs.Batch.{Adds, IsBatch};
 use bytes::BytesMut;
 use limits::INPUT_BYTES;
 use lru::LruCache;
-use note_lines::{Note, note_line};
+use note_lines::{Note, NoteForm, line_as};
 use std::alloc::{AllocError, Global};
 use std::hash::RandomState;
 
@@ -19,13 +19,14 @@ pub(crate) struct Batch {
     pub(crate) too_long: u64,
 }
 
-/// The lines of these notes that are not remembered. A note whose input is too long has none.
+/// The lines of these notes in a form that are not remembered. A note whose input is too long has none.
 pub(crate) fn batch_of(
     alloc: Global,
+    form: NoteForm,
     notes: &[Note],
     remembered: &LruCache<Vec<u8>, (), RandomState>,
 ) -> Result<Batch, AllocError>
-    ensures { IfOk result (λ batch. IsBatch notes.now remembered.now.entries batch) }
+    ensures { IfOk result (λ batch. IsBatch form notes.now remembered.now.entries batch) }
 {
     let mut batch = Batch {
         lines: Vec::new(alloc),
@@ -34,7 +35,7 @@ pub(crate) fn batch_of(
         too_long: 0,
     };
     for note in notes {
-        batch.add(alloc, note, remembered)?;
+        batch.add(alloc, form, note, remembered)?;
     }
     Ok(batch)
 }
@@ -44,16 +45,17 @@ impl Batch {
     fn add(
         &mut self,
         alloc: Global,
+        form: NoteForm,
         note: &Note,
         remembered: &LruCache<Vec<u8>, (), RandomState>,
     ) -> Result<(), AllocError>
-        ensures { OnOk result (Adds note.now remembered.now.entries self.old self.new) }
+        ensures { OnOk result (Adds form note.now remembered.now.entries self.old self.new) }
     {
         if note.input.len() > INPUT_BYTES {
             self.too_long = self.too_long.saturating_add(1);
             return Ok(());
         }
-        let line = note_line(alloc, &note.page, note.input.as_str())?;
+        let line = line_as(alloc, form, &note.page, note.input.as_str())?;
         if remembered.contains(line.as_slice()) {
             self.known.push(line)?;
             return Ok(());

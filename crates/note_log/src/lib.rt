@@ -3,7 +3,7 @@
 //!
 //! A [`NoteLog`] stands over a `Journal` of `log_file`. [`NoteLog::record`] hands it the lines of notes, those that it still
 //! remembers to have handed over left out, and says whether all of them stand there. What was not taken of a line goes first at the
-//! next call. [`NoteLog::look`] looks whether the file is still there, and where it is not forgets what that was handed.
+//! next call. A log's lines have the inputs, or the hashes of the inputs in their place (`NoteForm` of `note_lines`). [`NoteLog::look`] looks whether the file is still there, and where it is not forgets what that was handed.
 //!
 //! Proved, over the definitions of `specs/Log.antt`: what is handed over is whole lines of the notes that were given, one after
 //! the other, and nothing else; where the answer is true, the line of each of these notes stands among what the file that is open

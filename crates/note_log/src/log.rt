@@ -11,7 +11,7 @@ use bytes::BytesMut;
 use http_server::Log;
 use log_file::{Journal, LogFile, LogPaths, Look};
 use lru::LruCache;
-use note_lines::Note;
+use note_lines::{Note, NoteForm};
 use std::alloc::{AllocError, Global};
 use std::hash::RandomState;
 use std::num::NonZeroUsize;
@@ -19,6 +19,8 @@ use std::num::NonZeroUsize;
 /// A log of notes at the end of a file. The bytes that stand in the file before are whole lines.
 #[derive(Drop)]
 pub struct NoteLog<F: LogFile> {
+    /// What the lines have of the inputs.
+    form: NoteForm,
     journal: Journal<F>,
     /// What each file that was lost was handed, and what the one that is open was handed, which only proofs read.
     earlier: Log<Log<BytesMut, usize>, u8>,
@@ -37,21 +39,24 @@ pub struct NoteLog<F: LogFile> {
 impl<F: LogFile + Drop> NoteLog<F> {
     ghost use Rattle.note_log.specs.Log.{logged};
 
-    /// A log that nothing was recorded in yet. It remembers so many lines, of which it forgets the least recently used first, or none.
+    /// A log that nothing was recorded in yet, of lines in this form. It remembers so many lines, of which it forgets the least recently used first, or none.
     /// `keys` are for a table of lines, whose texts others choose.
     pub fn new(
         alloc: Global,
         keys: RandomState,
+        form: NoteForm,
         journal: Journal<F>,
         remember: Option<NonZeroUsize>,
     ) -> Result<NoteLog<F>, AllocError>
-        ensures fresh { IfOk result (λ log. logged log ≡ record { earlier = []; handed = []; waiting = [] }) }
+        ensures fresh { IfOk result (λ log. logged log ≡ record { form = form; earlier = []; handed = []; waiting = [] }) }
+        ensures form { IfOk result (λ log. log.form ≡ form) }
         ensures journal { IfOk result (λ log. log.journal ≡ journal) }
         ensures remember { IfOk result (λ log. IfSome remember (λ most. log.remembered.cap ≡ non_zero_usize_get most)) }
         ensures forgets { IfOk result (λ log. log.forgets ≡ is_none remember) }
     {
         let remembered = table_of(alloc, keys, remember.unwrap_or(NonZeroUsize::MIN))?;
         Ok(NoteLog {
+            form,
             journal,
             earlier: Log::new(),
             handed: Log::new(),
@@ -69,7 +74,7 @@ impl<F: LogFile> NoteLog<F> {
     ghost use Rattle.note_log.specs.Batch.{IsBatch};
     ghost use Rattle.note_log.specs.Log.{Records, begun_anew, lines_of, logged, logged_after, remembered_after, trouble_of};
 
-    /// Records notes, and says whether the line of each stands in the file that is open now. One whose input has more than 1,024
+    /// Records notes, and says whether the line of each, in the form of the log, stands in the file that is open now. One whose input has more than 1,024
     /// bytes has no line. What waits of earlier lines is handed over first, and where not all of it is taken nothing is added. It
     /// answers false only where the file is lost or a write has failed, and what was recorded before stays.
     pub fn record(&mut self, alloc: Global, notes: &[Note]) -> Result<bool, AllocError>
@@ -80,13 +85,13 @@ impl<F: LogFile> NoteLog<F> {
         ensures looks { F.looks self.new.journal.file ≡ F.looks self.old.journal.file }
         ensures err { OnErr result (self.new ≡ self.old) }
     {
-        let batch = batch_of(alloc, notes, &self.remembered)?;
+        let batch = batch_of(alloc, self.form, notes, &self.remembered)?;
         Ok(self.take(notes, batch))
     }
 
     /// Hands over what waits, and then the lines of a batch.
     fn take(&mut self, notes: &[Note], batch: Batch) -> bool
-        requires { IsBatch notes.now self.old.remembered.entries batch }
+        requires { IsBatch self.old.form notes.now self.old.remembered.entries batch }
         ensures records { ∥ Records notes.now (logged self.old) (logged self.new) (F.bytes self.old.journal.file) (F.bytes self.new.journal.file) result ∥₁ }
         ensures stands { result ≡ true → F.stands self.new.journal.file ≡ true }
         ensures refused { result ≡ false → (is_some self.old.journal.lost ≡ true) ⊎ (F.faults self.old.journal.file < F.faults self.new.journal.file) }

@@ -5,9 +5,9 @@ use Rattle.std.specs.Io.KnownBytes.{IsAtEnd}
 use Rattle.line_batches.proofs.Cutting.{begins, line_first, no_line, some_part}
 use Rattle.line_batches.specs.Fill.{Grows}
 use Rattle.line_batches.specs.Lines.{HasNoFeed, IsFirst, parts_of}
-use Rattle.line_tally.specs.Law.{inputs_of}
+use Rattle.line_tally.specs.Law.{hashes_of, inputs_of}
 use Rattle.line_tally.specs.Lines.{Tallied, finished, untallied}
-use Rattle.tally_core.specs.Law.{TalliesInAnyOrder}
+use Rattle.tally_core.specs.Law.{HashesStandForInputs, TalliesInAnyOrder}
 use Rattle.record_lines.specs.Record.{most_line}
 use Rattle.tally_filters.specs.Filter.{Filtered, RefusesLine, StreamIsTallied, Takes, TakesAll}
 use Rattle.tally_filters.specs.declared.fault.FilterFault.{FilterFault}
@@ -181,7 +181,8 @@ takes_all t n (line ∷ next ∷ parts) last (inr refused) = absurd (no_fault la
 pub of_lines : StreamIsTallied → StreamIsOfItsLines
 of_lines law page total bytes last some tallies = law page total (lines_in (parts_of bytes)) last some (takes_all (untallied page total) 0 (parts_of bytes) last tallies)
 
-pub of_inputs : StreamIsTallied → TalliesInAnyOrder → StreamIsOfItsInputs
-of_inputs law any page total bytes last some tallies =
-    let is = of_lines law page total bytes last some tallies in
-    (is.0, is.1, λ inputs same. any (finished last) (inputs_of page is.0) inputs is.2.tally.tally same)
+pub of_inputs : StreamIsTallied → TalliesInAnyOrder → HashesStandForInputs → StreamIsOfItsInputs
+of_inputs law any stand page total bytes last some tallies = elim (of_lines law page total bytes last some tallies) [
+  | inl is ↦ inl (is.0, is.1, λ inputs same. any (finished last) (inputs_of page is.0) inputs is.2.tally.tally same)
+  | inr is ↦ inr (is.0, is.1, λ inputs are once. stand (finished last) (hashes_of page is.0) inputs is.2.tally are once)
+]

@@ -6,7 +6,7 @@
 //!
 //! Proved, over the definitions of `specs/`, for a stream whose bytes are known: what is written is the fold over its lines, up
 //! to the first that is no context, whose number is told (`Recorded`); what is tallied are its lines, or the first is told that
-//! is refused (`Tallied`), and without a refusal each input of the page is tallied once ([`a_stream_is_of_its_lines`]); a stream counts as unreadable only where a read of it failed.
+//! is refused (`Tallied`), and without a refusal each input of the page, or each hash, is tallied once ([`a_stream_is_of_its_lines`]); a stream counts as unreadable only where a read of it failed.
 #![tactic(auto)]
 
 mod laws;

@@ -31,7 +31,7 @@ pub enum RecordStop {
     Broken,
 }
 
-/// Why note lines are not tallied to the end of their stream, in the order of the numbers.
+/// Why note lines are not tallied to the end of their stream.
 #[derive(Clone, Copy, Debug, PartialEq, Eq, Error)]
 pub enum TallyStop {
     /// A line is refused, or memory ran out.

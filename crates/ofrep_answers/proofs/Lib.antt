@@ -1,6 +1,6 @@
-pub mod Bodies
 pub mod Loops
 pub mod Matching
 pub mod Places
 pub mod Reached
+mod Spelled
 pub mod Variants

@@ -2,23 +2,23 @@
 use Rattle.std.proofs.Common.{◌≡◌, ℕ, Bool, true, false, ◌||◌, ◌&&◌, if◌then◌else◌, List, codes, Some, refl, sym, subst, ap, ◌∙◌}
 use Rattle.std.proofs.lemmas.Slice.Eq.{bytes_eq-Decides}
 use Rattle.std.specs.Str.{bytes_eq}
-use Rattle.flag_defs.specs.Document.{Definitions}
+use Rattle.flag_resolve.specs.Floats.{Marked}
 use Rattle.ofrep_answers.specs.Answer.{allow_of, answer_at, answer_by, answer_of, not_allowed, takes}
 use Rattle.ofrep_answers.specs.Request.{Asked, evaluates}
 use Rattle.ofrep_requests.specs.Request.{method_at, place_of}
 use Rattle.ofrep_requests.specs.declared.place.Place.{Place}
 use Rattle.ofrep_requests.specs.declared.place.Place.TheVariants.{OneFlag, EveryFlag, Health, Metrics, Nowhere}
 
-by_method : (flags : Definitions) (moment : ℕ) (r : Asked) (p : Place) (m : List ℕ) → p ≡ place_of r.path → Some m ≡ method_at p
+by_method : (flags : Marked) (moment : ℕ) (r : Asked) (p : Place) (m : List ℕ) → p ≡ place_of r.path → Some m ≡ method_at p
     → answer_of flags moment r ≡ (if takes m r.method then answer_at flags moment r (place_of r.path) else not_allowed (allow_of m))
 by_method flags moment r p m at is = ap (answer_by flags moment r (place_of r.path)) (sym (is ∙ ap method_at at))
 
-pub refused : (flags : Definitions) (moment : ℕ) (r : Asked) (p : Place) (m : List ℕ) → p ≡ place_of r.path → Some m ≡ method_at p → takes m r.method ≡ false
+pub refused : (flags : Marked) (moment : ℕ) (r : Asked) (p : Place) (m : List ℕ) → p ≡ place_of r.path → Some m ≡ method_at p → takes m r.method ≡ false
     → not_allowed (allow_of m) ≡ answer_of flags moment r
 refused flags moment r p m at is h =
     sym (by_method flags moment r p m at is ∙ ap (λ b. if b then answer_at flags moment r (place_of r.path) else not_allowed (allow_of m)) h)
 
-pub taken : (flags : Definitions) (moment : ℕ) (r : Asked) (p : Place) (m : List ℕ) → p ≡ place_of r.path → Some m ≡ method_at p → takes m r.method ≡ true
+pub taken : (flags : Marked) (moment : ℕ) (r : Asked) (p : Place) (m : List ℕ) → p ≡ place_of r.path → Some m ≡ method_at p → takes m r.method ≡ true
     → answer_at flags moment r p ≡ answer_of flags moment r
 taken flags moment r p m at is h =
     ap (answer_at flags moment r) at ∙ sym (by_method flags moment r p m at is ∙ ap (λ b. if b then answer_at flags moment r (place_of r.path) else not_allowed (allow_of m)) h)

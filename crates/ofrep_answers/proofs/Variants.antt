@@ -18,16 +18,23 @@ use Rattle.flag_defs.specs.declared.kind.Kind.{Kind}
 use Rattle.flag_defs.specs.declared.kind.Kind.TheVariants as kind
 use Rattle.ofrep_answers.specs.Kind.{kind_in, kind_of, variants_kind}
 
--- a value of a kind has that kind
-kind_is : (k : Kind) (t : Shape) → is_of_kind k t ≡ true → kind_of t ≡ k
-kind_is kind.Bool (boolean b) h = refl
-kind_is kind.Bool t h = cc
-kind_is kind.Text (text s) h = refl
-kind_is kind.Text t h = cc
-kind_is kind.Whole (whole n) h = refl
-kind_is kind.Whole t h = cc
-kind_is kind.Object (object ms) h = refl
-kind_is kind.Object t h = cc
+-- it is a kind of the values of a tree
+is_own : Kind → Bool
+is_own kind.Float = false
+is_own k = true
+
+-- a value of such a kind has that kind
+kind_is : (k : Kind) (t : Shape) → is_own k ≡ true → is_of_kind k t ≡ true → kind_of t ≡ k
+unfolding is_own
+kind_is kind.Bool (boolean b) own h = refl
+kind_is kind.Bool t own h = cc
+kind_is kind.Text (text s) own h = refl
+kind_is kind.Text t own h = cc
+kind_is kind.Whole (whole n) own h = refl
+kind_is kind.Whole t own h = cc
+kind_is kind.Object (object ms) own h = refl
+kind_is kind.Object t own h = cc
+kind_is kind.Float t own h = cc
 
 chosen : (f : Shape → Bool) (b : Bool) (t : Shape) (o : Option Shape) → f t ≡ true → Holds f o → Holds f (if b then Some t else o)
 chosen f true t o h rest = h
@@ -46,12 +53,12 @@ nothing_found v e = cc
 abbrev pub IsOne : Members → Shape → Type 0
 IsOne ms v = (kind_of v ≡ variants_kind ms) × (is_of_kind (variants_kind ms) v ≡ true)
 
-of_kind : (k : Kind) (name : List ℕ) (ms : Members) (v : Shape) → all_values (λ t. is_of_kind k t) ms ≡ true → find_member name ms ≡ Some v → IsOne ms v
-of_kind k name no_members v h e = absurd (nothing_found v e)
-of_kind k name (member l t ms) v h e =
+of_kind : (k : Kind) (name : List ℕ) (ms : Members) (v : Shape) → is_own k ≡ true → all_values (λ t. is_of_kind k t) ms ≡ true → find_member name ms ≡ Some v → IsOne ms v
+of_kind k name no_members v own h e = absurd (nothing_found v e)
+of_kind k name (member l t ms) v own h e =
     let one : is_of_kind k v ≡ true = subst (Holds (λ u. is_of_kind k u)) e (found (λ u. is_of_kind k u) name (member l t ms) h) in
-    let first : kind_of t ≡ k = kind_is k t (left (is_of_kind k t) (all_values (λ u. is_of_kind k u) ms) h) in (
-      kind_is k v one ∙ sym first,
+    let first : kind_of t ≡ k = kind_is k t own (left (is_of_kind k t) (all_values (λ u. is_of_kind k u) ms) h) in (
+      kind_is k v own one ∙ sym first,
       ap (λ i. is_of_kind i v) first ∙ one,
     )
 
@@ -63,10 +70,11 @@ abbrev all_of : Kind → Members → Bool
 all_of k ms = all_values (λ t. is_of_kind k t) ms
 
 one_kind : (name : List ℕ) (ms : Members) (v : Shape) → are_of_one_kind ms ≡ true → find_member name ms ≡ Some v → IsOne ms v
+unfolding is_own
 one_kind name ms v h e =
-    or_else (all_of kind.Bool ms) (all_of kind.Text ms || (all_of kind.Whole ms || all_of kind.Object ms)) h (λ b. of_kind kind.Bool name ms v b e)
-    (λ h1. or_else (all_of kind.Text ms) (all_of kind.Whole ms || all_of kind.Object ms) h1 (λ b. of_kind kind.Text name ms v b e)
-    (λ h2. or_else (all_of kind.Whole ms) (all_of kind.Object ms) h2 (λ b. of_kind kind.Whole name ms v b e) (λ b. of_kind kind.Object name ms v b e)))
+    or_else (all_of kind.Bool ms) (all_of kind.Text ms || (all_of kind.Whole ms || all_of kind.Object ms)) h (λ b. of_kind kind.Bool name ms v refl b e)
+    (λ h1. or_else (all_of kind.Text ms) (all_of kind.Whole ms || all_of kind.Object ms) h1 (λ b. of_kind kind.Text name ms v refl b e)
+    (λ h2. or_else (all_of kind.Whole ms) (all_of kind.Object ms) h2 (λ b. of_kind kind.Whole name ms v refl b e) (λ b. of_kind kind.Object name ms v refl b e)))
 
 rules_kind : (r : Rules) → are_rules r ≡ true → are_of_one_kind r.variants ≡ true
 rules_kind r h =

@@ -3,7 +3,7 @@ use Rattle.std.specs.Prelude.{ℕ, Bool, ◌&&◌, ◌||◌, List, [], codes, dr
 use Rattle.std.specs.List.{list_any}
 use Rattle.std.specs.Str.{bytes_eq}
 use Rattle.entity_tags.specs.Tag.{entity_tag, is_listed, opaque_tag}
-use Rattle.flag_defs.specs.Document.{Definitions}
+use Rattle.flag_resolve.specs.Floats.{Marked}
 use Rattle.flag_resolve.specs.Resolved.{Resolved}
 use Rattle.flag_resolve.specs.declared.code.Code.{Code}
 use Rattle.flag_resolve.specs.declared.code.Code.TheVariants.{ParseError, InvalidContext, FlagNotFound}
@@ -11,14 +11,14 @@ use Rattle.flag_text.specs.Printing.{text_of}
 use Rattle.flag_text.specs.Shape.{Shape}
 use Rattle.logic_eval.specs.Run.{Reach}
 use Rattle.logic_eval.specs.Views.{reach_view}
-use Rattle.ofrep_answers.specs.Evaluation.{bodies, evaluation, reached_at, reached_in}
+use Rattle.ofrep_answers.specs.Evaluation.{bodies, evaluation, is_spelled, reached_at, reached_in}
 use Rattle.ofrep_answers.specs.Request.{Asked}
 use Rattle.ofrep_answers.specs.declared.answer.Answer as program
 use Rattle.ofrep_answers.specs.declared.answer.Content.{Content}
 use Rattle.ofrep_answers.specs.declared.answer.Content.TheVariants as content
 use Rattle.ofrep_answers.specs.declared.answer.FlagReached.{FlagReached}
-use Rattle.ofrep_bodies.specs.Bodies.{failure, flags_shape}
-use Rattle.ofrep_bodies.specs.Evaluation.{body_of, status_of}
+use Rattle.ofrep_bodies.specs.Bodies.{failure, flags_text}
+use Rattle.ofrep_bodies.specs.Evaluation.{body_text, status_of}
 use Rattle.ofrep_bodies.specs.Failure.{code_status}
 use Rattle.ofrep_contexts.specs.Context.{context_of}
 use Rattle.ofrep_contexts.specs.Way.{details_in}
@@ -94,11 +94,11 @@ without_context key body fault = failed key (fault_code fault) (details_in body 
 
 -- ---- one flag
 
-abbrev pub one_told : List ℕ → Resolved → Answered
-one_told key r = record { status = status_of r; allow = None; tag = None; body = json (text_of (body_of key r)); reached = reached_at key r.reached }
+abbrev pub one_told : Bool → List ℕ → Resolved → Answered
+one_told spelled key r = record { status = status_of r; allow = None; tag = None; body = json (body_text spelled key r); reached = reached_at key r.reached }
 
-abbrev pub one_in : Definitions → ℕ → List ℕ → List ℕ → Result Shape ContextFault → Answered
-one_in flags moment key body (Ok context) = one_told key (evaluation flags key context moment)
+abbrev pub one_in : Marked → ℕ → List ℕ → List ℕ → Result Shape ContextFault → Answered
+one_in flags moment key body (Ok context) = one_told (is_spelled key flags) key (evaluation flags.0 key context moment)
 one_in flags moment key body (Err fault) = without_context (Some key) body fault
 
 -- what stands in a path in the place of the key, as it was sent
@@ -109,7 +109,7 @@ segment_of path = if is_of_one_flag path then unwrap_or (text_if (drop (length o
 abbrev pub no_key : List ℕ → Answered
 no_key path = failed (Some (segment_of path)) (Some FlagNotFound) (codes "the path has no key that can be decoded")
 
-abbrev pub one_flag : Definitions → ℕ → List ℕ → Option (List ℕ) → List ℕ → Answered
+abbrev pub one_flag : Marked → ℕ → List ℕ → Option (List ℕ) → List ℕ → Answered
 one_flag flags moment path None body = no_key path
 one_flag flags moment path (Some key) body = one_in flags moment key body (context_of body)
 
@@ -129,13 +129,13 @@ tagged fields body reached = record {
   reached = reached;
 }
 
-abbrev pub every_in : Definitions → ℕ → List (List ℕ) → List ℕ → Result Shape ContextFault → Answered
-every_in flags moment fields body (Ok context) = tagged fields (text_of (flags_shape (bodies flags context moment flags))) (reached_in flags context moment flags)
+abbrev pub every_in : Marked → ℕ → List (List ℕ) → List ℕ → Result Shape ContextFault → Answered
+every_in flags moment fields body (Ok context) = tagged fields (flags_text (bodies flags context moment flags.0)) (reached_in flags.0 context moment flags.0)
 every_in flags moment fields body (Err fault) = without_context None body fault
 
 -- ---- every request
 
-abbrev pub answer_at : Definitions → ℕ → Asked → Place → Answered
+abbrev pub answer_at : Marked → ℕ → Asked → Place → Answered
 answer_at flags moment r OneFlag = one_flag flags moment r.path (key_in r.path) r.body
 answer_at flags moment r EveryFlag = every_in flags moment r.if_none_match r.body (context_of r.body)
 answer_at flags moment r Health = healthy
@@ -151,12 +151,12 @@ abbrev pub allow_of : List ℕ → List ℕ
 allow_of method = if bytes_eq method (codes "GET") then codes "GET, HEAD" else method
 
 -- a place takes one method, and no place takes another
-abbrev pub answer_by : Definitions → ℕ → Asked → Place → Option (List ℕ) → Answered
+abbrev pub answer_by : Marked → ℕ → Asked → Place → Option (List ℕ) → Answered
 answer_by flags moment r place None = nothing_here
 answer_by flags moment r place (Some method) = if takes method r.method then answer_at flags moment r place else not_allowed (allow_of method)
 
--- the answer to a request, of the flags at the moment in seconds
-abbrev pub answer_of : Definitions → ℕ → Asked → Answered
+-- the answer to a request, of the flags, some of which may have floats, at the moment in seconds
+abbrev pub answer_of : Marked → ℕ → Asked → Answered
 answer_of flags moment r = answer_by flags moment r (place_of r.path) (method_at (place_of r.path))
 
 -- ---- of the program

@@ -1,6 +1,7 @@
 //! The answer to any request.
 ghost use Rattle.std.specs.Prelude.{◌≡◌, ◌≢◌, ◌<◌, ◌^◌, false, length, codes, IfOk, IsOk};
 ghost use Rattle.flag_defs.specs.Flags.{flags_view};
+ghost use Rattle.flag_defs.specs.Floats.{floats_view};
 ghost use Rattle.ofrep_answers.specs.Answer.{allow_of, answer_at, answer_of, answer_view, takes};
 ghost use Rattle.ofrep_answers.specs.Request.{evaluates, request_view};
 ghost use Rattle.ofrep_contexts.specs.Context.{max_body};
@@ -32,7 +33,7 @@ use std::alloc::{AllocError, Global};
 /// caller is 404, and has no body among every flag's; one that is broken or can't be evaluated is 400.
 ///
 /// The condition is a moment of at most 2^53-1. It fails only where memory runs out, and never where no flag is evaluated.
-/// Each flag costs two searches by its key and at most one evaluation.
+/// Each flag costs three searches by its key and at most one evaluation. The value of a flag with floats is printed by its spelling.
 pub fn answer_to(
     alloc: Global,
     flags: &Flags,
@@ -40,7 +41,7 @@ pub fn answer_to(
     request: &Request<'_>,
 ) -> Result<Answer, AllocError>
     requires moment { moment < 2 ^ 53 }
-    ensures exact { IfOk result (λ a. answer_view a ≡ answer_of (flags_view flags.now) moment (request_view request.now)) }
+    ensures exact { IfOk result (λ a. answer_view a ≡ answer_of (flags_view flags.now, floats_view flags.now) moment (request_view request.now)) }
     ensures elsewhere { evaluates (place_of request.now.path.now) ≡ false → IsOk result }
     ensures method { request.now.method.now ≢ codes "POST" → IsOk result }
     ensures large { place_of request.now.path.now ≡ Place.EveryFlag → max_body < length request.now.body.now → IsOk result }
@@ -57,7 +58,7 @@ pub fn answer_to_with(
     scratch: &mut Scratch,
 ) -> Result<Answer, AllocError>
     requires moment { moment < 2 ^ 53 }
-    ensures exact { IfOk result (λ a. answer_view a ≡ answer_of (flags_view flags.now) moment (request_view request.now)) }
+    ensures exact { IfOk result (λ a. answer_view a ≡ answer_of (flags_view flags.now, floats_view flags.now) moment (request_view request.now)) }
     ensures elsewhere { evaluates (place_of request.now.path.now) ≡ false → IsOk result }
     ensures method { request.now.method.now ≢ codes "POST" → IsOk result }
     ensures large { place_of request.now.path.now ≡ Place.EveryFlag → max_body < length request.now.body.now → IsOk result }
@@ -96,7 +97,7 @@ fn answer_at(
     scratch: &mut Scratch,
 ) -> Result<Answer, AllocError>
     requires moment { moment < 2 ^ 53 }
-    ensures exact { IfOk result (λ a. answer_view a ≡ answer_at (flags_view flags.now) moment (request_view request.now) place) }
+    ensures exact { IfOk result (λ a. answer_view a ≡ answer_at (flags_view flags.now, floats_view flags.now) moment (request_view request.now) place) }
     ensures elsewhere { evaluates place ≡ false → IsOk result }
     ensures large { place ≡ Place.EveryFlag → max_body < length request.now.body.now → IsOk result }
 {

@@ -1,37 +1,36 @@
 //! The answer to a request for every flag.
-ghost use Rattle.std.specs.Prelude.{◌≡◌, ◌<◌, ◌≤◌, ◌++◌, ◌^◌, true, length, map, if◌then◌else◌, IfOk, OnOk, IsOk};
+ghost use Rattle.std.specs.Prelude.{◌≡◌, ◌<◌, ◌≤◌, ◌++◌, ◌^◌, true, length, map, string_bytes, if◌then◌else◌, IfOk, OnOk, IsOk};
 ghost use Rattle.flag_defs.specs.Flags.{flags_view};
+ghost use Rattle.flag_defs.specs.Floats.{floats_view};
 ghost use Rattle.flag_resolve.specs.Views.{resolution_view};
-ghost use Rattle.flag_text.specs.Shape.{is_tidy, items_are_whole};
-ghost use Rattle.flag_text.specs.View.{view, items_view};
-ghost use Rattle.flag_text.specs.Printing.{text_of};
+ghost use Rattle.flag_text.specs.Shape.{is_tidy};
+ghost use Rattle.flag_text.specs.View.{view};
 ghost use Rattle.ofrep_answers.specs.Answer.{answer_view, body_view, json, nothing, reached_view, tagged};
 ghost use Rattle.ofrep_answers.specs.Answer as spec;
 ghost use Rattle.ofrep_answers.specs.Evaluation.{bodies, body_if_told, reached_at, reached_in};
-ghost use Rattle.ofrep_bodies.specs.Bodies.{flags_shape};
+ghost use Rattle.ofrep_bodies.specs.Bodies.{flags_text};
 ghost use Rattle.ofrep_contexts.specs.Context.{context_of, max_body};
 
 use crate::answer::{Answer, Content, FlagReached, push_reached};
-use crate::evaluation::evaluate;
+use crate::evaluation::{evaluate, is_spelled};
 use crate::one::without_context;
 use crate::reasons::Reasons;
 use entity_tags::{entity_tag, is_listed, opaque_tag};
 use flag_defs::Flags;
 use flag_resolve::{Reason, Resolution};
-use flag_text::{Tree, print_tree};
+use flag_text::Tree;
 use http::StatusCode;
 use json::Scratch;
-use ofrep_bodies::{evaluation_of, flags_body, status_of};
+use ofrep_bodies::{evaluation_text, flags_text, status_of};
 use ofrep_contexts::{ContextFault, read_context_with};
 use std::alloc::{AllocError, Global};
 
-/// The bodies of the flags that there are for the caller, and what the evaluations of all flags reached and how they ended.
+/// The texts of the bodies of the flags that there are for the caller, and what the evaluations of all flags reached and how they ended.
 #[derive(Drop)]
 struct Evaluations {
-    bodies: Vec<Tree>,
+    bodies: Vec<String>,
     reached: Vec<FlagReached>,
     reasons: Reasons,
-    ghost whole: { items_are_whole (items_view bodies.items) ≡ true },
 }
 
 /// The answer to the request for every flag that this body makes, with these fields `If-None-Match`.
@@ -44,7 +43,7 @@ pub(crate) fn every_flag(
     scratch: &mut Scratch,
 ) -> Result<Answer, AllocError>
     requires moment { moment < 2 ^ 53 }
-    ensures exact { IfOk result (λ a. answer_view a ≡ spec.every_in (flags_view flags.now) moment (map (λ field. field.now) if_none_match.now) body.now (context_of body.now)) }
+    ensures exact { IfOk result (λ a. answer_view a ≡ spec.every_in (flags_view flags.now, floats_view flags.now) moment (map (λ field. field.now) if_none_match.now) body.now (context_of body.now)) }
     ensures large { max_body < length body.now → IsOk result }
 {
     match read_context_with(alloc, body, scratch) {
@@ -66,7 +65,7 @@ fn told_flags(
 ) -> Result<Evaluations, AllocError>
     requires moment { moment < 2 ^ 53 }
     requires context { is_tidy (view context.now) ≡ true }
-    ensures bodies { IfOk result (λ t. map view t.bodies.items ≡ bodies (flags_view flags.now) (view context.now) moment (flags_view flags.now)) }
+    ensures bodies { IfOk result (λ t. map string_bytes t.bodies.items ≡ bodies (flags_view flags.now, floats_view flags.now) (view context.now) moment (flags_view flags.now)) }
     ensures reached { IfOk result (λ t. map reached_view t.reached.items ≡ reached_in (flags_view flags.now) (view context.now) moment (flags_view flags.now)) }
 {
     let mut told = Evaluations {
@@ -77,8 +76,9 @@ fn told_flags(
     for i in 0..flags.len() {
         let (key, _) = flags.at(i);
         let resolution = evaluate(alloc, flags, key, context, moment)?;
+        let spelled = is_spelled(flags, key);
         told.count(resolution.reason);
-        told.add(alloc, key, resolution)?;
+        told.add(alloc, key, resolution, spelled)?;
     }
     Ok(told)
 }
@@ -86,31 +86,37 @@ fn told_flags(
 impl Evaluations {
     /// Counts an evaluation that ended with this reason.
     fn count(&mut self, reason: Reason)
-        ensures bodies { map view self.new.bodies.items ≡ map view self.old.bodies.items }
+        ensures bodies { map string_bytes self.new.bodies.items ≡ map string_bytes self.old.bodies.items }
         ensures reached { map reached_view self.new.reached.items ≡ map reached_view self.old.reached.items }
     {
         self.reasons.count(reason);
     }
 
     /// Adds the evaluation of the flag of a key.
-    fn add(&mut self, alloc: Global, key: &str, resolution: Resolution) -> Result<(), AllocError>
-        ensures bodies { OnOk result (map view self.new.bodies.items ≡ map view self.old.bodies.items ++ body_if_told key.now (resolution_view resolution)) }
+    fn add(
+        &mut self,
+        alloc: Global,
+        key: &str,
+        resolution: Resolution,
+        spelled: bool,
+    ) -> Result<(), AllocError>
+        ensures bodies { OnOk result (map string_bytes self.new.bodies.items ≡ map string_bytes self.old.bodies.items ++ body_if_told spelled key.now (resolution_view resolution)) }
         ensures reached { OnOk result (map reached_view self.new.reached.items ≡ map reached_view self.old.reached.items ++ reached_at key.now (resolution_view resolution).reached) }
     {
         if status_of(&resolution) == StatusCode::NOT_FOUND {
             return push_reached(alloc, &mut self.reached, key, resolution.reached);
         }
-        let evaluation = evaluation_of(alloc, key, resolution)?;
-        self.bodies.push(evaluation.body)?;
-        push_reached(alloc, &mut self.reached, key, evaluation.reached)
+        let text = evaluation_text(alloc, key, &resolution, spelled)?;
+        self.bodies.push(text)?;
+        push_reached(alloc, &mut self.reached, key, resolution.reached)
     }
 }
 
 /// The answer with these evaluations under the tag of its body, or without a body for a caller who has it.
 fn tagged(alloc: Global, if_none_match: &[&[u8]], told: Evaluations) -> Result<Answer, AllocError>
-    ensures { IfOk result (λ a. answer_view a ≡ tagged (map (λ field. field.now) if_none_match.now) (text_of (flags_shape (map view told.bodies.items))) (map reached_view told.reached.items)) }
+    ensures { IfOk result (λ a. answer_view a ≡ tagged (map (λ field. field.now) if_none_match.now) (flags_text (map string_bytes told.bodies.items)) (map reached_view told.reached.items)) }
 {
-    let text = print_tree(alloc, &flags_body(alloc, told.bodies)?)?.into_bytes();
+    let text = flags_text(alloc, told.bodies.as_slice())?.into_bytes();
     let opaque = opaque_tag(alloc, text.as_slice())?;
     let tag = entity_tag(alloc, opaque.as_str())?;
     let named = is_named(opaque.as_str(), if_none_match);

@@ -1,11 +1,12 @@
 //! The answers of the OpenFeature Remote Evaluation Protocol, below any socket.
 //!
 //! [`answer_to`] says what a [`Request`] is answered of flags at a moment: an [`Answer`] with its status, its fields, its body,
-//! the hash inputs that the evaluations reached, and how many ended with which of the [`Reasons`]. It changes nothing, and the same arguments have the same answer.
+//! the hash inputs that the evaluations reached, and how many ended with which of the [`Reasons`]. It changes nothing, and the same arguments have the same answer. [`answer_to_with`] reads bodies in room that its caller keeps.
 //!
 //! Proved, over the definitions of `specs/`: the answer is what `Answer` says, over what a flag resolves to (`Evaluation`) for
 //! a caller who takes the kind of its variants (`Kind`), unless memory runs out. What evaluates no flag takes no
-//! memory. No flag is evaluated for another kind than that of its variants (`Law`). Of the reasons' numbers nothing is said.
+//! memory. No flag is evaluated for another kind than that of its variants, and the value of a flag with floats is printed by its
+//! spelling (`Law`). Of the reasons' numbers nothing is said.
 #![tactic(auto)]
 
 mod answer;
@@ -19,7 +20,7 @@ mod reasons;
 mod request;
 
 pub use answer::{Answer, Content, FlagReached};
-pub use answers::answer_to;
-pub use laws::no_evaluation_mismatches;
+pub use answers::{answer_to, answer_to_with};
+pub use laws::{floats_are_spelled, no_evaluation_mismatches};
 pub use reasons::Reasons;
 pub use request::Request;

@@ -1,17 +1,18 @@
 //! The answer to a request for one flag.
 ghost use Rattle.std.specs.Prelude.{◌≡◌, ◌<◌, ◌≢◌, ◌^◌, true, Some, IfOk, IsOk, option_copied, option_map, unwrap_or};
 ghost use Rattle.flag_defs.specs.Flags.{flags_view};
+ghost use Rattle.flag_defs.specs.Floats.{floats_view};
 ghost use Rattle.flag_text.specs.Shape.{is_tidy};
 ghost use Rattle.flag_text.specs.View.{view};
 ghost use Rattle.ofrep_answers.specs.Answer.{answer_view, failed, fault_code, one_told, segment_of};
 ghost use Rattle.ofrep_answers.specs.Answer as spec;
-ghost use Rattle.ofrep_answers.specs.Evaluation.{evaluation};
+ghost use Rattle.ofrep_answers.specs.Evaluation.{evaluation, is_spelled};
 ghost use Rattle.ofrep_contexts.specs.Context.{context_of};
 ghost use Rattle.ofrep_requests.specs.Request as request;
 ghost use Rattle.ofrep_requests.specs.Request.{text_if};
 
 use crate::answer::{Answer, Content, push_reached};
-use crate::evaluation::evaluate;
+use crate::evaluation::{evaluate, is_spelled};
 use crate::reasons::Reasons;
 use flag_defs::Flags;
 use flag_resolve::Code;
@@ -39,7 +40,7 @@ pub(crate) fn one_flag(
     scratch: &mut Scratch,
 ) -> Result<Answer, AllocError>
     requires moment { moment < 2 ^ 53 }
-    ensures { IfOk result (λ a. answer_view a ≡ spec.one_flag (flags_view flags.now) moment path.now (request.key_in path.now) body.now) }
+    ensures { IfOk result (λ a. answer_view a ≡ spec.one_flag (flags_view flags.now, floats_view flags.now) moment path.now (request.key_in path.now) body.now) }
 {
     match key_in(alloc, path)? {
         Some(key) => one_in(alloc, flags, moment, key.as_str(), body, scratch),
@@ -78,7 +79,7 @@ fn one_in(
     scratch: &mut Scratch,
 ) -> Result<Answer, AllocError>
     requires moment { moment < 2 ^ 53 }
-    ensures { IfOk result (λ a. answer_view a ≡ spec.one_in (flags_view flags.now) moment key.now body.now (context_of body.now)) }
+    ensures { IfOk result (λ a. answer_view a ≡ spec.one_in (flags_view flags.now, floats_view flags.now) moment key.now body.now (context_of body.now)) }
 {
     match read_context_with(alloc, body, scratch) {
         Ok(context) => one_told(alloc, flags, moment, key, &context),
@@ -97,12 +98,13 @@ fn one_told(
 ) -> Result<Answer, AllocError>
     requires moment { moment < 2 ^ 53 }
     requires context { is_tidy (view context.now) ≡ true }
-    ensures { IfOk result (λ a. answer_view a ≡ one_told key.now (evaluation (flags_view flags.now) key.now (view context.now) moment)) }
+    ensures { IfOk result (λ a. answer_view a ≡ one_told (is_spelled key.now (flags_view flags.now, floats_view flags.now)) key.now (evaluation (flags_view flags.now) key.now (view context.now) moment)) }
 {
     let resolution = evaluate(alloc, flags, key, context, moment)?;
     let status = status_of(&resolution);
     let reasons = Reasons::of(resolution.reason);
-    let text = evaluation_text(alloc, key, &resolution)?;
+    let spelled = is_spelled(flags, key);
+    let text = evaluation_text(alloc, key, &resolution, spelled)?.into_bytes();
     let mut reached = Vec::new(alloc);
     push_reached(alloc, &mut reached, key, resolution.reached)?;
     Ok(Answer {

@@ -1,11 +1,17 @@
--- The text of a body from the texts of its parts.
-use Rattle.std.proofs.Common.{◌≡◌, ℕ, List, ◌++◌, codes, refl, ◌∙◌, append_assoc}
+-- The text of a body from the texts of its parts, and of all bodies from their texts.
+use Rattle.std.proofs.Common.{◌≡◌, ℕ, Bool, false, true, List, [], ◌∷◌, ◌++◌, codes, map, Option, Some, None, refl, ap, sym, ◌∙◌, append_assoc}
 use Rattle.json.specs.Print.{escape_byte}
+use Rattle.serde_json.specs.Written.{compact_text, items_text}
+use Rattle.flag_defs.specs.Spelled.{value_spelled}
+use Rattle.flag_resolve.specs.Resolved.{Resolved}
 use Rattle.flag_resolve.specs.Words.{reason_word}
 use Rattle.flag_resolve.specs.declared.reason.Reason.{Reason}
-use Rattle.flag_text.specs.Printing.{text_of}
+use Rattle.flag_text.specs.Printing.{data_of, items_data, text_of}
 use Rattle.flag_text.specs.Shape.{Shape, text}
-use Rattle.ofrep_bodies.specs.Bodies.{success}
+use Rattle.flag_text.specs.View.{items_of}
+use Rattle.ofrep_bodies.specs.Bodies.{flags_shape, flags_text, others_text, success, success_text}
+use Rattle.ofrep_bodies.specs.Evaluation.{body_of, body_text, told_body, told_text}
+use Rattle.ofrep_bodies.specs.Law.{FlagsTextIsOfBodies, TextsAreOfBodies}
 
 -- what stands in front of each part, and behind the last
 abbrev key_front : List ℕ
@@ -30,12 +36,30 @@ joined a b c d e f g h i =
     ∙ append_assoc _ d (e ++ (f ++ (g ++ (h ++ i)))) ∙ append_assoc _ c (d ++ (e ++ (f ++ (g ++ (h ++ i))))) ∙ append_assoc a b (c ++ (d ++ (e ++ (f ++ (g ++ (h ++ i))))))
 
 module _ (key : List ℕ) (reason : Reason) (value : Shape) (variant : List ℕ) where
-  parts : key_front ++ (text_of (text key) ++ (reason_front ++ (text_of (text (reason_word reason)) ++ (value_front ++ (text_of value ++ (variant_front ++ (text_of (text variant) ++ end)))))))
-      ≡ text_of (success key reason value variant)
-  unfolding text_of escape_byte
-  parts = refl
+  pub success_parts : (spelled : Bool) → (((((((key_front ++ text_of (text key)) ++ reason_front) ++ text_of (text (reason_word reason))) ++ value_front) ++ value_spelled spelled value) ++ variant_front) ++ text_of (text variant)) ++ end
+      ≡ success_text spelled key reason value variant
+  success_parts spelled =
+      joined key_front (text_of (text key)) reason_front (text_of (text (reason_word reason))) value_front (value_spelled spelled value) variant_front (text_of (text variant)) end
 
-  pub success_parts : (((((((key_front ++ text_of (text key)) ++ reason_front) ++ text_of (text (reason_word reason))) ++ value_front) ++ text_of value) ++ variant_front) ++ text_of (text variant)) ++ end
-      ≡ text_of (success key reason value variant)
-  success_parts =
-      joined key_front (text_of (text key)) reason_front (text_of (text (reason_word reason))) value_front (text_of value) variant_front (text_of (text variant)) end ∙ parts
+  plain_parts : success_text false key reason value variant ≡ text_of (success key reason value variant)
+  unfolding text_of escape_byte
+  plain_parts = refl
+
+pub texts_of_bodies : TextsAreOfBodies
+texts_of_bodies key r = by r.variant
+  where
+    by : (o : Option (List ℕ)) → told_text false key o r ≡ text_of (told_body key o r)
+    by (Some variant) = plain_parts key r.reason r.value variant
+    by None = refl
+
+others_written : (ts : List Shape) → items_text true (items_data (items_of ts)) ++ codes "}" ≡ others_text (map text_of ts)
+unfolding text_of
+others_written [] = refl
+others_written (t ∷ ts) =
+    ap (λ (s : List ℕ). 44 ∷ s) (append_assoc (compact_text (data_of t)) (items_text true (items_data (items_of ts))) (codes "}")) ∙ ap (λ (s : List ℕ). 44 ∷ (compact_text (data_of t) ++ s)) (others_written ts)
+
+pub flags_text_of_bodies : FlagsTextIsOfBodies
+unfolding text_of escape_byte
+flags_text_of_bodies [] = refl
+flags_text_of_bodies (t ∷ ts) =
+    sym (ap (λ (s : List ℕ). codes "{\"flags\":[" ++ s) (append_assoc (compact_text (data_of t)) (items_text true (items_data (items_of ts))) (codes "}") ∙ ap (λ (s : List ℕ). compact_text (data_of t) ++ s) (others_written ts)))

@@ -1,8 +1,10 @@
 -- The bodies of answers (OpenFeature Remote Evaluation Protocol: serverEvaluationSuccess, evaluationFailure, flagNotFound, bulkEvaluationSuccess, bulkEvaluationFailure).
-use Rattle.std.specs.Prelude.{ℕ, List, codes, Option, Some, None}
+use Rattle.std.specs.Prelude.{ℕ, Bool, List, [], ◌∷◌, ◌++◌, codes, Option, Some, None}
 use Rattle.flag_resolve.specs.Words.{code_word, reason_word}
 use Rattle.flag_resolve.specs.declared.code.Code.{Code}
 use Rattle.flag_resolve.specs.declared.reason.Reason.{Reason}
+use Rattle.flag_defs.specs.Spelled.{value_spelled}
+use Rattle.flag_text.specs.Printing.{text_of}
 use Rattle.flag_text.specs.Shape.{Shape, text, list, object, Members, no_members, member}
 use Rattle.flag_text.specs.View.{items_of}
 
@@ -25,3 +27,21 @@ failure key code details =
 -- {"flags":[..]}
 abbrev pub flags_shape : List Shape → Shape
 flags_shape bodies = object (member (codes "flags") (list (items_of bodies)) no_members)
+
+-- ---- their texts
+
+-- of a variant's body, where the value may stand as a text that is its spelling
+abbrev pub success_text : Bool → List ℕ → Reason → Shape → List ℕ → List ℕ
+success_text spelled key reason value variant =
+    codes "{\"key\":" ++ (text_of (text key) ++ (codes ",\"metadata\":{},\"reason\":" ++ (text_of (text (reason_word reason)) ++ (codes ",\"value\":" ++ (value_spelled spelled value
+    ++ (codes ",\"variant\":" ++ (text_of (text variant) ++ codes "}")))))))
+
+-- what follows the first body in the text of all
+abbrev pub others_text : List (List ℕ) → List ℕ
+others_text [] = codes "]}"
+others_text (b ∷ bs) = codes "," ++ (b ++ others_text bs)
+
+-- of all bodies, from their texts
+abbrev pub flags_text : List (List ℕ) → List ℕ
+flags_text [] = codes "{\"flags\":[]}"
+flags_text (b ∷ bs) = codes "{\"flags\":[" ++ (b ++ others_text bs)

@@ -1,8 +1,9 @@
 -- What the evaluation of a flag is answered with (OpenFeature Remote Evaluation Protocol: POST /ofrep/v1/evaluate/flags/{key}).
-use Rattle.std.specs.Prelude.{ℕ, List, Option, Some, None}
+use Rattle.std.specs.Prelude.{ℕ, Bool, List, Option, Some, None}
 use Rattle.flag_resolve.specs.Resolved.{Resolved}
+use Rattle.flag_text.specs.Printing.{text_of}
 use Rattle.flag_text.specs.Shape.{Shape}
-use Rattle.ofrep_bodies.specs.Bodies.{success, failure}
+use Rattle.ofrep_bodies.specs.Bodies.{success, success_text, failure}
 use Rattle.ofrep_bodies.specs.Failure.{code_of, code_status, details_of}
 
 -- 200 where a variant is told
@@ -21,3 +22,11 @@ told_body key None r = failure (Some key) (code_of r.code) (details_of r.code r.
 
 abbrev pub body_of : List ℕ → Resolved → Shape
 body_of key r = told_body key r.variant r
+
+-- the text of the same, where the value of a variant may stand as a text that is its spelling
+abbrev pub told_text : Bool → List ℕ → Option (List ℕ) → Resolved → List ℕ
+told_text spelled key (Some variant) r = success_text spelled key r.reason r.value variant
+told_text spelled key None r = text_of (failure (Some key) (code_of r.code) (details_of r.code r.reason))
+
+abbrev pub body_text : Bool → List ℕ → Resolved → List ℕ
+body_text spelled key r = told_text spelled key r.variant r

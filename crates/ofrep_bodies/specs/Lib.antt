@@ -1,3 +1,4 @@
 pub mod Bodies
 pub mod Evaluation
 pub mod Failure
+pub mod Law

@@ -1,7 +1,8 @@
 //! The bodies of the answers of the OpenFeature Remote Evaluation Protocol.
 //!
-//! [`status_of`] and [`evaluation_of`] are the status and the body of a flag's evaluation, [`flags_body`] is the body of every
-//! flag's, and [`failure_body`] that of a request for every flag that fails as a whole. Their members are sorted.
+//! [`status_of`] and [`evaluation_text`] are the status and the text of the body of a flag's evaluation, [`flags_text`] is the text of
+//! the body of every flag's, and [`failure_body`] the body of a request for every flag that fails as a whole. Their members are
+//! sorted.
 //!
 //! ```rust
 //! use flag_resolve::Code;
@@ -13,16 +14,17 @@
 //!     == r#"{"errorCode":"PARSE_ERROR","errorDetails":"the body is no JSON text"}"#);
 //! ```
 //!
-//! Proved, over the definitions of `specs/`: each body is the tree that its definition gives, and can be printed (`Bodies`,
-//! `Evaluation`), unless memory runs out; a status is exact and takes no memory.
+//! Proved, over the definitions of `specs/`: each body is the tree or text that its definition gives (`Bodies`, `Evaluation`), unless
+//! memory runs out; a status is exact and takes no memory. Where no value stands as a text that is its spelling, the texts are
+//! the compact texts of the bodies ([`texts_are_of_bodies`]).
 #![tactic(auto)]
 
-mod body;
 mod evaluation;
 mod failure;
+mod laws;
 mod text;
 
-pub use body::{flags_body, success_body};
-pub use evaluation::{Evaluation, evaluation_of, status_of};
+pub use evaluation::status_of;
 pub use failure::{code_of, code_status, details_of, failure_body};
-pub use text::evaluation_text;
+pub use laws::texts_are_of_bodies;
+pub use text::{evaluation_text, flags_text};

@@ -18,9 +18,11 @@ mod load;
 mod patience;
 mod peer;
 mod refusals;
+mod served;
 mod socket;
 mod work;
 
 pub use load::Load;
 pub use patience::Patience;
+pub use served::Served;
 pub use work::{answer_connections, answer_connections_with};

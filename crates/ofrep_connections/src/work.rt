@@ -1,5 +1,5 @@
 //! The loop of a worker.
-ghost use Rattle.std.specs.Prelude.{List};
+ghost use Rattle.std.specs.Prelude.{◌≡◌, List};
 ghost use Rattle.http_server.specs.Exchange.{Call, Chain};
 ghost use Rattle.recorded_answers.specs.Stand.{Works};
 ghost use Rattle.ofrep_connections.specs.Stand.{PeersStand};
@@ -9,6 +9,7 @@ use crate::closing::{drop_input, is_dropping, leave_due, leave_free, part};
 use crate::load::{Load, LoadShare};
 use crate::patience::Patience;
 use crate::peer::{Peer, Stay};
+use crate::served::Served;
 use crate::socket::Socket;
 use http_server::Config;
 use mio::event::Event;
@@ -75,7 +76,7 @@ pub fn answer_connections<S: Recording, R: Net + Clock>(
         patience: Patience::default(),
         traffic: &traffic,
     };
-    answer_made(rt, making, listener, load, stop, service)
+    answer_made(rt, making, listener, load, stop, service).into_outcome()
 }
 
 /// Answers connections of a listener, which must not block, until the flag is set or the system fails. After each wait, which lasts
@@ -84,7 +85,7 @@ pub fn answer_connections<S: Recording, R: Net + Clock>(
 /// `patience` says; they, and the requests that reach no service, are counted in `traffic`.
 ///
 /// Once the flag is set no further connection is taken, each is closed that has nothing under way, and the call ends when none is
-/// left, or after ten seconds.
+/// left, or after ten seconds. What it returns says which limits the connections had.
 pub fn answer_connections_with<S: Recording, R: Net + Clock>(
     rt: &R,
     alloc: Global,
@@ -96,8 +97,10 @@ pub fn answer_connections_with<S: Recording, R: Net + Clock>(
     load: &Load,
     stop: &AtomicBool,
     service: &mut S,
-) -> io::Result<()>
-    ensures { (turns : List (List Call)) × Works S.answers S.looked service.old turns service.new }
+) -> Served
+    ensures turns { (turns : List (List Call)) × Works S.answers S.looked service.old turns service.new }
+    ensures config { result.config ≡ config }
+    ensures patience { result.patience ≡ patience }
 {
     let making = Making {
         alloc,
@@ -109,7 +112,28 @@ pub fn answer_connections_with<S: Recording, R: Net + Clock>(
     answer_made(rt, making, listener, load, stop, service)
 }
 
+/// Answers the connections that are made so.
 fn answer_made<S: Recording, R: Net + Clock>(
+    rt: &R,
+    making: Making<'_>,
+    listener: net::TcpListener,
+    load: &Load,
+    stop: &AtomicBool,
+    service: &mut S,
+) -> Served
+    ensures turns { (turns : List (List Call)) × Works S.answers S.looked service.old turns service.new }
+    ensures config { result.config ≡ making.entry.config }
+    ensures patience { result.patience ≡ making.entry.patience }
+{
+    let outcome = answer_listener(rt, making, listener, load, stop, service);
+    Served {
+        config: making.config,
+        patience: making.patience,
+        outcome,
+    }
+}
+
+fn answer_listener<S: Recording, R: Net + Clock>(
     rt: &R,
     making: Making<'_>,
     listener: net::TcpListener,

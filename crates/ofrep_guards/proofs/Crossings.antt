@@ -3,7 +3,7 @@ use denote.Param.Send.{IsSend, IsSync, sendable}
 use denote.Param.SendFields.{declared_send, declared_sync}
 use Rattle.std.proofs.Crossing.{crosses}
 use Rattle.ofrep_guards.specs.contracts.held.KeyRing as KeyRing
-use Rattle.ofrep_guards.specs.contracts.held.Later as Later
+use Rattle.ofrep_guards.specs.contracts.held.LaterKeys as Later
 use Rattle.ofrep_guards.specs.contracts.keys.Keys as Keys
 
 Keys-send : IsSend Keys.the_row

@@ -1,12 +1,13 @@
 //! Keys that many guards share, and that change while they are in use.
 ghost use Rattle.std.specs.Prelude.{◌≡◌, IfOk, Some};
+ghost use Rattle.std.specs.Sync.Mutex.{mutex_guard_value};
 ghost use Rattle.ofrep_guards.specs.Key.{keys_view};
 ghost use Rattle.ofrep_guards.specs.Held.{TakesOver};
 
 use crate::keys::Keys;
 use std::alloc::{AllocError, Global};
 use std::sync::atomic::{AtomicU64, Ordering};
-use std::sync::{Mutex, Wait};
+use std::sync::{Mutex, MutexGuard, Wait};
 
 /// The keys that the guards of a service share: those that they begin with, and those that were set since.
 #[derive(Drop)]
@@ -14,7 +15,7 @@ pub struct KeyRing {
     pub(crate) first: Keys,
     /// How often others were set.
     version: AtomicU64,
-    later: Mutex<Later>,
+    later: Mutex<LaterKeys>,
 }
 
 impl KeyRing {
@@ -25,24 +26,29 @@ impl KeyRing {
         KeyRing {
             first: keys,
             version: AtomicU64::new(0),
-            later: Mutex::new(Later { keys: None }),
+            later: Mutex::new(LaterKeys { keys: None }),
         }
     }
 
-    /// Sets other keys. Each guard holds them in the place of the last ones from one of its next looks on.
-    pub fn replace<R: Wait>(&self, rt: &R, keys: Keys) {
-        self.later.lock(rt).set(keys);
+    /// Sets other keys, and returns what holds them then. Once that is let go each guard holds them in the place of the last ones, from
+    /// one of its next looks on.
+    pub fn replace<R: Wait>(&self, rt: &R, keys: Keys) -> MutexGuard<'_, LaterKeys>
+        ensures { (mutex_guard_value result).keys ≡ Some keys }
+    {
+        let mut later = self.later.lock(rt);
+        later.set(keys);
         self.version.fetch_add(1, Ordering::SeqCst);
+        later
     }
 }
 
-/// The keys that were set last, where others were set.
+/// The keys that were set last, where others than the first were set.
 #[derive(Drop)]
-pub(crate) struct Later {
+pub struct LaterKeys {
     pub(crate) keys: Option<Keys>,
 }
 
-impl Later {
+impl LaterKeys {
     /// Sets other keys.
     pub(crate) fn set(&mut self, keys: Keys)
         ensures { self.new.keys ≡ Some keys }
@@ -91,7 +97,7 @@ impl<'a> HeldKeys<'a> {
     }
 
     /// Takes over the keys that were set last, and says whether it did. Where memory runs out, or none were set, it holds what it held.
-    fn take_over(&mut self, later: &Later) -> bool
+    fn take_over(&mut self, later: &LaterKeys) -> bool
         ensures { TakesOver later.now.keys self.old.keys self.new.keys result }
     {
         let Some(later) = &later.keys else {

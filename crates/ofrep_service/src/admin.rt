@@ -2,7 +2,9 @@
 ghost use denote.Param.Send.{IsSend, IsSync};
 ghost use Rattle.std.specs.Prelude.{◌≡◌, List, IfOk, false};
 ghost use Rattle.http_server.specs.Exchange.{Call};
+ghost use Rattle.ofrep_guards.specs.Hosts.{hosts_view, named_at};
 ghost use Rattle.recorded_answers.specs.Stand.{Works};
+ghost use Rattle.ofrep_service.specs.Limits.{HasUsualLimits};
 
 use crate::board::Board;
 use crate::workers::worker_of;
@@ -11,7 +13,7 @@ use dated_answers::Dated;
 use http_server::{Config, Service};
 use limits::STACK_BYTES;
 use log_file::LogPaths;
-use ofrep_connections::{Load, Patience, answer_connections_with};
+use ofrep_connections::{Load, Patience, Served, answer_connections_with};
 use ofrep_guards::{AdminGuard, AdminRules, CountsStatus, OwnHosts};
 use recorded_answers::Recording;
 use snap_share::{ReadSeat, ShareName};
@@ -26,19 +28,22 @@ use std::time::Clock;
 /// The most bytes of a body there. No path takes one yet.
 const MOST_BODY: usize = 65_536;
 
-/// Where operations are asked for: a listener of their own, the hosts by which it is named, and whether it may be asked to stop the
-/// service.
+/// Where operations are asked for: a listener of their own, its address, the hosts by which it is named, and whether it may be asked
+/// to stop the service.
 #[derive(Drop)]
 pub struct AdminPost {
     listener: TcpListener,
+    address: SocketAddr,
     hosts: OwnHosts,
     pub(crate) may_stop: bool,
 }
 
 impl AdminPost {
     /// The address that it listens on.
-    pub fn address(&self) -> io::Result<SocketAddr> {
-        self.listener.local_addr()
+    pub fn address(&self) -> SocketAddr
+        ensures { result ≡ self.now.address }
+    {
+        self.address
     }
 }
 
@@ -49,13 +54,16 @@ pub fn bind_admin<R: Net<Listener = TcpListener, Stream = TcpStream>>(
     address: SocketAddr,
     may_stop: bool,
 ) -> io::Result<AdminPost>
-    ensures { IfOk result (λ post. post.may_stop ≡ may_stop) }
+    ensures may_stop { IfOk result (λ post. post.may_stop ≡ may_stop) }
+    ensures hosts { IfOk result (λ post. (hosts_view post.hosts).named ≡ named_at post.address) }
 {
     let listener = TcpListener::bind(rt, address)?;
     listener.set_nonblocking(true)?;
-    let hosts = OwnHosts::of(alloc, listener.local_addr()?)?;
+    let address = listener.local_addr()?;
+    let hosts = OwnHosts::of(alloc, address)?;
     Ok(AdminPost {
         listener,
+        address,
         hosts,
         may_stop,
     })
@@ -121,6 +129,7 @@ fn answer_operations<J: ShareName, R: Net + LogPaths + Clock>(
 ) -> io::Result<()> {
     let AdminPost {
         listener,
+        address: _,
         hosts,
         may_stop,
     } = post;
@@ -129,7 +138,7 @@ fn answer_operations<J: ShareName, R: Net + LogPaths + Clock>(
     let guard = AdminGuard::new(rules, &board.is_stopping, worker);
     let logged = LoggedService::new(rt, alloc, board.lines.as_ref(), guard);
     let mut dated = Dated::new(rt, alloc, board.counts.traffic(), logged)?;
-    serve_operations(rt, alloc, keys, board, listener, &mut dated)
+    serve_operations(rt, alloc, keys, board, listener, &mut dated).into_outcome()
 }
 
 /// Has a worker behind a guard, which was not asked to stop yet, answer the connections of a listener until all threads are to end or
@@ -141,9 +150,10 @@ fn serve_operations<'a, S: Recording + CountsStatus, R: Net + Clock>(
     board: &Board,
     listener: TcpListener,
     dated: &mut Dated<'a, R, LoggedService<'a, R, AdminGuard<'a, S>>>,
-) -> io::Result<()>
+) -> Served
     requires { dated.old.service.service.is_stopping ≡ false }
-    ensures { (turns : List (List Call)) × Works ⟦<Dated<'a, R, LoggedService<'a, R, AdminGuard<'a, S>>> as Service>⟧.answers ⟦<Dated<'a, R, LoggedService<'a, R, AdminGuard<'a, S>>> as Recording>⟧.looked dated.old turns dated.new }
+    ensures turns { (turns : List (List Call)) × Works ⟦<Dated<'a, R, LoggedService<'a, R, AdminGuard<'a, S>>> as Service>⟧.answers ⟦<Dated<'a, R, LoggedService<'a, R, AdminGuard<'a, S>>> as Recording>⟧.looked dated.old turns dated.new }
+    ensures limits { HasUsualLimits result }
 {
     let config = Config {
         max_body_len: MOST_BODY,

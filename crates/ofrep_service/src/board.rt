@@ -1,16 +1,17 @@
 //! What the threads of a service tell each other.
-ghost use Rattle.std.specs.Prelude.{◌≡◌, option_map};
+ghost use Rattle.std.specs.Prelude.{◌≡◌, IfSome, Some, is_some, option_map};
+ghost use Rattle.std.specs.Sync.Mutex.{mutex_guard_value};
 
-use access_lines::AccessLines;
+use access_lines::{AccessLines, WaitingLines};
 use log_file::Loss;
+use note_lines::NoteForm;
 use note_log::Trouble;
 use ofrep_connections::Load;
-use ofrep_guards::{KeyRing, Keys, Paths};
+use ofrep_guards::{KeyRing, Keys, LaterKeys, Paths};
 use ofrep_worker::{Counts, WithoutRecord};
-use std::alloc::Global;
 use std::num::NonZeroUsize;
-use std::sync::Wait;
 use std::sync::atomic::{AtomicBool, AtomicU64, Ordering};
+use std::sync::{MutexGuard, Wait};
 
 /// How long a worker keeps a connection on which nothing comes, in seconds, and the most bytes of a body that it takes.
 #[derive(Clone, Copy, Debug, PartialEq, Eq)]
@@ -21,8 +22,8 @@ pub struct ConnectionLimits {
 
 /// What the threads of a service tell each other: what the workers count, how many connections they hold, which snapshot was
 /// published last, whether they are to end; and what becomes of answers that can't be recorded, how many notes each worker
-/// remembers, the pages of which origins may ask, the keys of which a request shows one, where one is wanted, what the workers
-/// serve, and the limits of their connections.
+/// remembers, what their lines have of the inputs, the pages of which origins may ask, the keys of which a request shows one, where one
+/// is wanted, what the workers serve, and the limits of their connections.
 #[derive(Drop)]
 pub struct Board {
     pub(crate) counts: Counts,
@@ -34,6 +35,7 @@ pub struct Board {
     published: AtomicU64,
     pub(crate) without_record: WithoutRecord,
     pub(crate) remember: Option<NonZeroUsize>,
+    pub(crate) form: NoteForm,
     pub(crate) origins: Vec<String>,
     pub(crate) keys: Option<KeyRing>,
     pub(crate) paths: Paths,
@@ -44,11 +46,13 @@ pub struct Board {
 
 impl Board {
     /// A board where nothing was counted or published yet. This becomes of answers that can't be recorded, each worker remembers so
-    /// many notes, or none, the pages of these origins may ask, or with `*` any, a request shows one of the keys, where there are
-    /// some, the workers serve these paths, the lines of requests go there, where they are wanted, and connections have these limits.
+    /// many notes, or none, and their lines have this form, the pages of these origins may ask, or with `*` any, a request shows one of
+    /// the keys, where there are some, the workers serve these paths, the lines of requests go there, where they are wanted, and
+    /// connections have these limits.
     pub fn new(
         without_record: WithoutRecord,
         remember: Option<NonZeroUsize>,
+        form: NoteForm,
         origins: Vec<String>,
         keys: Option<Keys>,
         paths: Paths,
@@ -57,9 +61,11 @@ impl Board {
     ) -> Board
         ensures without { result.without_record ≡ without_record }
         ensures remember { result.remember ≡ remember }
+        ensures form { result.form ≡ form }
         ensures origins { result.origins ≡ origins }
         ensures keys { option_map (λ ring. ring.first) result.keys ≡ keys }
         ensures paths { result.paths ≡ paths }
+        ensures lines { result.lines ≡ lines }
         ensures limits { result.limits ≡ limits }
     {
         let keys = match keys {
@@ -74,6 +80,7 @@ impl Board {
             published: AtomicU64::new(0),
             without_record,
             remember,
+            form,
             origins,
             keys,
             paths,
@@ -117,27 +124,35 @@ impl Board {
         self.counts.accept_document(second);
     }
 
-    /// From now on a request shows one of these keys, where one is wanted.
-    pub fn replace_keys<R: Wait>(&self, rt: &R, keys: Keys) {
-        if let Some(ring) = &self.keys {
-            ring.replace(rt, keys);
+    /// Sets other keys, where a request shows one, and returns what holds them then. Once that is let go a request shows one of these.
+    pub fn replace_keys<R: Wait>(&self, rt: &R, keys: Keys) -> Option<MutexGuard<'_, LaterKeys>>
+        ensures wanted { is_some result ≡ is_some self.now.keys }
+        ensures keys { IfSome result (λ held. (mutex_guard_value held).keys ≡ Some keys) }
+    {
+        match &self.keys {
+            Some(ring) => Some(ring.replace(rt, keys)),
+            None => None,
         }
     }
 
-    /// Takes the lines of requests that wait to be written; none where they are not wanted.
-    pub fn take_lines<R: Wait>(&self, rt: &R, alloc: Global) -> Vec<u8> {
+    /// The lines of requests that wait to be written, where they are wanted.
+    pub fn waiting_lines<R: Wait>(&self, rt: &R) -> Option<MutexGuard<'_, WaitingLines>>
+        ensures { is_some result ≡ is_some self.now.lines }
+    {
         match &self.lines {
-            Some(lines) => lines.take(rt, alloc),
-            None => Vec::new(alloc),
+            Some(lines) => Some(lines.waiting(rt)),
+            None => None,
         }
     }
 
-    /// How many lines of requests were left out.
-    pub fn lines_left_out(&self) -> u64 {
-        match &self.lines {
-            Some(lines) => lines.left_out(),
-            None => 0,
-        }
+    /// The logs have so many bytes together.
+    pub fn show_log_bytes(&self, bytes: u64) {
+        self.counts.show_log_bytes(bytes);
+    }
+
+    /// So many bytes of the process's memory are resident.
+    pub fn show_memory(&self, bytes: u64) {
+        self.counts.show_memory(bytes);
     }
 
     /// What becomes of answers that can't be recorded.

@@ -67,3 +67,21 @@ fn log_path(alloc: Global, folder: &str, worker: usize) -> Result<String, AllocE
 {
     format!(in alloc; "{folder}/worker-{worker}.log")
 }
+
+/// How many bytes the logs of so many workers in a folder have together, by what the system says of their paths. One of which it says
+/// nothing has none.
+pub fn log_bytes<P: LogPaths>(
+    paths: &P,
+    alloc: Global,
+    folder: &str,
+    workers: usize,
+) -> Result<u64, AllocError> {
+    let mut bytes: u64 = 0;
+    for place in 0..workers {
+        let path = log_path(alloc, folder, place + 1)?;
+        if let Ok(found) = paths.metadata_at(path.as_str()) {
+            bytes = bytes.saturating_add(found.len());
+        }
+    }
+    Ok(bytes)
+}

@@ -6,6 +6,7 @@ ghost use Rattle.http_server.specs.Exchange.{Call};
 ghost use Rattle.std.specs.List.{flat_map};
 ghost use Rattle.ofrep_guards.specs.Asked.{first_keys, rules_view};
 ghost use Rattle.recorded_answers.specs.Stand.{AllStand, Works};
+ghost use Rattle.ofrep_service.specs.Limits.{HasLimits};
 
 use crate::admin::{AdminPost, operate_beside};
 use crate::board::Board;
@@ -18,7 +19,7 @@ use http_server::{Config, Service};
 use limits::STACK_BYTES;
 use log_file::{LogPaths, SystemLog};
 use note_log::NoteLog;
-use ofrep_connections::{Patience, answer_connections_with};
+use ofrep_connections::{Patience, Served, answer_connections_with};
 use ofrep_guards::{CountsStatus, Guard, Rules};
 use ofrep_worker::OfrepWorker;
 use recorded_answers::Recording;
@@ -176,12 +177,13 @@ fn answer<J: ShareName, R: Net + LogPaths + Clock>(
     let guard = Guard::new(rules, worker);
     let logged = LoggedService::new(rt, alloc, board.lines.as_ref(), guard);
     let mut dated = Dated::new(rt, alloc, board.counts.traffic(), logged)?;
-    serve(rt, alloc, keys, board, listener, &mut dated)
+    serve(rt, alloc, keys, board, listener, &mut dated).into_outcome()
 }
 
 /// Has a worker behind a guard, which lists the board's origins, begins with its keys and serves its paths, answer the connections of
 /// a listener, each answer with its date and each request logged where that is wanted, until the workers are to end or the system
-/// fails: turn by turn it looks for its log, and then answers. What its answers rest on stands in the end.
+/// fails: turn by turn it looks for its log, and then answers. What its answers rest on stands in the end. The connections have the
+/// board's limits.
 fn serve<'a, S: Recording + CountsStatus, R: Net + Clock>(
     rt: &R,
     alloc: Global,
@@ -189,17 +191,19 @@ fn serve<'a, S: Recording + CountsStatus, R: Net + Clock>(
     board: &Board,
     listener: TcpListener,
     dated: &mut Dated<'a, R, LoggedService<'a, R, Guard<'a, S>>>,
-) -> io::Result<()>
+) -> Served
     requires origins { dated.old.service.service.rules.origins.now ≡ board.now.origins.items }
     requires keys { (rules_view dated.old.service.service.rules).keys ≡ first_keys board.now.keys }
     requires paths { dated.old.service.service.rules.paths ≡ board.now.paths }
-    ensures { (turns : List (List Call)) × Works ⟦<Dated<'a, R, LoggedService<'a, R, Guard<'a, S>>> as Service>⟧.answers ⟦<Dated<'a, R, LoggedService<'a, R, Guard<'a, S>>> as Recording>⟧.looked dated.old turns dated.new
+    ensures turns { (turns : List (List Call)) × Works ⟦<Dated<'a, R, LoggedService<'a, R, Guard<'a, S>>> as Service>⟧.answers ⟦<Dated<'a, R, LoggedService<'a, R, Guard<'a, S>>> as Recording>⟧.looked dated.old turns dated.new
         × AllStand ⟦<Dated<'a, R, LoggedService<'a, R, Guard<'a, S>>> as Recording>⟧.stands dated.new (flat_map (λ calls. calls) turns) }
+    ensures limits { HasLimits board.now.limits result }
 {
     serve_recorded(rt, alloc, keys, board, listener, dated)
 }
 
-/// Has a service whose answers rest on something answer the connections of a listener. That stands in the end, for each of them.
+/// Has a service whose answers rest on something answer the connections of a listener, which have the board's limits. That stands in
+/// the end, for each of them.
 fn serve_recorded<S: Recording, R: Net + Clock>(
     rt: &R,
     alloc: Global,
@@ -207,9 +211,10 @@ fn serve_recorded<S: Recording, R: Net + Clock>(
     board: &Board,
     listener: TcpListener,
     service: &mut S,
-) -> io::Result<()>
-    ensures { (turns : List (List Call)) × Works S.answers S.looked service.old turns service.new
+) -> Served
+    ensures turns { (turns : List (List Call)) × Works S.answers S.looked service.old turns service.new
         × AllStand S.stands service.new (flat_map (λ calls. calls) turns) }
+    ensures limits { HasLimits board.now.limits result }
 {
     let config = Config {
         max_body_len: board.limits.body_bytes,
@@ -243,10 +248,11 @@ pub(crate) fn worker_of<'a, J: ShareName, R: Clock>(
     ensures log { IfOk result (λ worker. option_map (λ l. l.journal) worker.log ≡ journal) }
     ensures without { IfOk result (λ worker. worker.without_record ≡ board.now.without_record) }
     ensures remember { IfOk result (λ worker. IfSome worker.log (λ l. IfSome board.now.remember (λ most. l.remembered.cap ≡ non_zero_usize_get most))) }
+    ensures form { IfOk result (λ worker. IfSome worker.log (λ l. l.form ≡ board.now.form)) }
     ensures forgets { IfOk result (λ worker. IfSome worker.log (λ l. l.forgets ≡ is_none board.now.remember)) }
 {
     let log = match journal {
-        Some(journal) => Some(NoteLog::new(alloc, keys, journal, board.remember)?),
+        Some(journal) => Some(NoteLog::new(alloc, keys, board.form, journal, board.remember)?),
         None => None,
     };
     Ok(OfrepWorker::new(rt, alloc, seat, log, &board.counts, board.without_record))

@@ -1,4 +1,5 @@
 pub mod Crossings
+mod Parts
 mod Steps
 mod Sending
 mod Recorded

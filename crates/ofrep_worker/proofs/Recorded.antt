@@ -5,7 +5,8 @@ use Rattle.std.proofs.lemmas.List.Elements.{Contains-append_left, Contains-push}
 use Rattle.std.specs.List.{flat_map}
 use Rattle.log_file.specs.declared.file.LogFile.{Ghosts}
 use Rattle.log_file.specs.declared.journal.Look.{Look}
-use Rattle.note_lines.specs.Note.{Noted, note_line}
+use Rattle.note_lines.specs.Hashed.{line_as}
+use Rattle.note_lines.specs.Note.{Noted}
 use Rattle.note_log.specs.Log.{Logged, Records, Wants, logged, logged_after}
 use Rattle.note_log.specs.declared.log.NoteLog.{NoteLog}
 use Rattle.note_log.proofs.Lines.{not_in}
@@ -37,13 +38,14 @@ none_of (note ∷ notes) h = absurd (not_in note (h note (Contains-append_left (
 waited : (old new : Logged) (old_bytes new_bytes : Option (List ℕ)) (all : Bool) → Records [] old new old_bytes new_bytes all → HandsOver old new
 waited old new old_bytes new_bytes all r = record {
   more = r.more;
+  form = r.form;
   earlier = r.earlier;
   handed = r.handed;
-  waiting = sym (append-nil old.waiting) ∙ ap (λ (notes : List Noted). old.waiting ++ flat_map note_line notes) (sym (none_of r.recorded r.wanted)) ∙ r.lines;
+  waiting = sym (append-nil old.waiting) ∙ ap (λ (notes : List Noted). old.waiting ++ flat_map (line_as old.form) notes) (sym (none_of r.recorded r.wanted)) ∙ r.lines;
 }
 
 same_log : (old new : Logged) → new ≡ old → HandsOver old new
-same_log old new is = record { more = []; earlier = ap (λ (l : Logged). l.earlier) is; handed = ap (λ (l : Logged). l.handed) is ∙ sym (append-nil old.handed); waiting = ap (λ (l : Logged). l.waiting) (sym is) }
+same_log old new is = record { more = []; form = ap (λ (l : Logged). l.form) is; earlier = ap (λ (l : Logged). l.earlier) is; handed = ap (λ (l : Logged). l.handed) is ∙ sym (append-nil old.handed); waiting = ap (λ (l : Logged). l.waiting) (sym is) }
 
 pub handed_over : {E F : Type 0} {g : Ghosts F} (result : Result Bool E) (old new : NoteLog F g) (old_bytes new_bytes : Option (List ℕ))
     → IfOk result (λ all. ∥ Records [] (logged old) (logged new) old_bytes new_bytes all ∥₁) → OnErr result (new ≡ old) → ∥ HandsOver (logged old) (logged new) ∥₁

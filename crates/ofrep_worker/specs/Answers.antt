@@ -1,13 +1,15 @@
 -- Recorded first: what a worker answers, and what its log then holds.
 use Rattle.std.specs.Prelude.{◌≡◌, ◌<◌, ◌^◌, ◌⊎◌, ◌||◌, ◌++◌, ℕ, Bool, true, false, List, [], Option, Some, None, option_map, is_some, IfSome, Contains}
 use Rattle.flag_defs.specs.declared.flags.Flags.{Flags}
-use Rattle.flag_defs.specs.Document.{Definitions}
+use Rattle.flag_resolve.specs.Floats.{Marked}
 use Rattle.http.specs.declared.request.Request.{Request}
 use Rattle.http_server.specs.Response.{IsResponse}
 use Rattle.http_server.specs.declared.response.Response.{Response}
 use Rattle.log_file.specs.declared.file.LogFile.{Ghosts}
 use Rattle.log_file.specs.declared.journal.Look.{Look}
-use Rattle.note_lines.specs.Note.{Noted, note_line}
+use Rattle.note_lines.specs.Hashed.{line_as}
+use Rattle.note_lines.specs.Note.{Noted}
+use Rattle.note_lines.specs.declared.form.NoteForm.{NoteForm}
 use Rattle.note_log.specs.Line.{HasLine}
 use Rattle.note_log.specs.Log.{Logged, Records, Wants, files_of, logged, logged_after, trouble_of}
 use Rattle.note_log.specs.declared.log.NoteLog.{NoteLog}
@@ -18,7 +20,7 @@ use Rattle.ofrep_worker.specs.Notes.{notes_of}
 use Rattle.ofrep_worker.specs.Sent.{Fails, GivesIn, Sends, TellsUnready, unready}
 use Rattle.ofrep_worker.specs.declared.unrecorded.WithoutRecord.{WithoutRecord}
 use Rattle.ofrep_worker.specs.declared.unrecorded.WithoutRecord.TheVariants.{Answer, Refuse}
-use Rattle.snap_core.specs.Hub.{Numbered}
+use Rattle.sync_frames.specs.Snapshots.{Numbered, marked_flags}
 use Rattle.snap_share.specs.Known.{IsReadOnce, Seat, WasRead, snapshots_of}
 
 -- what a log was given, what its file shows, whether that stood at its path when it was last looked for, whether it is lost, and how many writes have failed
@@ -73,16 +75,16 @@ is_answered Answer = true
 is_answered Refuse = false
 
 -- At some moment the response is the answer to the request, of these flags, and its notes were recorded. Or they were not, and the response tells that, unless what can't be recorded is answered. While a log can't be written, its own or another's, who asks whether the service is ready is told that it is not.
-abbrev pub Answers : WithoutRecord → Definitions → Request (List ℕ) → Response → Option Kept → Option Kept → Type 0
+abbrev pub Answers : WithoutRecord → Marked → Request (List ℕ) → Response → Option Kept → Option Kept → Type 0
 Answers without flags request response old new =
     (moment : ℕ) × (moment < 2 ^ 53) × (all : Bool) × (trouble : Option Trouble)
     × (is_some (trouble_in old) ≡ true → is_some trouble ≡ true)
     × GivesIn (unready trouble (asked_of request) (answer_of flags moment (asked_of request))) (all || is_answered without) (answer_of flags moment (asked_of request)) response
-    × RecordedIn all (notes_of flags (answer_of flags moment (asked_of request))) old new
+    × RecordedIn all (notes_of flags.0 (answer_of flags moment (asked_of request))) old new
 
 -- The seat is read once, and the answer is of the snapshot that it then answers: the last of the published flags that it knows.
 abbrev pub RespondsFrom : WithoutRecord → Seat → Seat → Request (List ℕ) → Response → Option Kept → Option Kept → Type 0
-RespondsFrom without seat seat' request response old new = (s : Numbered) × WasRead seat (Some s) seat' × Answers without s.flags request response old new
+RespondsFrom without seat seat' request response old new = (s : Numbered) × WasRead seat (Some s) seat' × Answers without (marked_flags s) request response old new
 
 -- So it answers; or memory ran out, and the response is empty: it tells nothing, and nothing is recorded.
 abbrev pub Responds : WithoutRecord → Seat → Seat → Request (List ℕ) → Response → Option Kept → Option Kept → Type 0
@@ -93,6 +95,7 @@ Responds without seat seat' request response old new =
 -- what waited is handed over as far as the file takes it
 pub record HandsOver (old new : Logged) : Type 0 where
   pub more : List ℕ
+  pub form : new.form ≡ old.form
   pub earlier : new.earlier ≡ old.earlier
   pub handed : new.handed ≡ old.handed ++ more
   pub waiting : old.waiting ≡ more ++ new.waiting
@@ -113,17 +116,25 @@ Rises (Some old) (Some new) = old < new
 Rises None None = Unit {0}
 Rises _ _ = ⊥
 
--- what the files of a log that is kept were handed
-abbrev pub files : Option Kept → Option (List (List ℕ))
-files log = option_map (λ k. files_of k.logged) log
+-- the form of the lines of a log, and what its files were handed
+pub record Handed : Type 0 where
+  pub form : NoteForm
+  pub files : List (List ℕ)
 
--- the line of each note that is to be recorded stands in the bytes
-abbrev pub HasLines : List Noted → List ℕ → Type 0
-HasLines notes bytes = (note : Noted) → Wants notes note → HasLine (note_line note) bytes
+abbrev pub handed_of : Kept → Handed
+handed_of k = record { form = k.logged.form; files = files_of k.logged }
+
+-- of a log that is kept
+abbrev pub files : Option Kept → Option Handed
+files log = option_map handed_of log
+
+-- the line of each note that is to be recorded stands in the bytes, in this form
+abbrev pub HasLines : NoteForm → List Noted → List ℕ → Type 0
+HasLines form notes bytes = (note : Noted) → Wants notes note → HasLine (line_as form note) bytes
 
 -- the line of each note that is to be recorded stands in what one of the files was handed
-abbrev pub HaveLines : List Noted → List (List ℕ) → Type 0
-HaveLines notes handed = (file : List ℕ) × Contains handed file × HasLines notes file
+abbrev pub HaveLines : List Noted → Handed → Type 0
+HaveLines notes handed = (file : List ℕ) × Contains handed.files file × HasLines handed.form notes file
 
 -- The response is the answer to the request, of a snapshot among these.
 pub record IsAnswer (known : List Flags) (request : Request (List ℕ)) (response : Response) : Type 0 where
@@ -131,18 +142,18 @@ pub record IsAnswer (known : List Flags) (request : Request (List ℕ)) (respons
   pub is_known : Contains (snapshots_of known) s
   pub moment : ℕ
   pub is_moment : moment < 2 ^ 53
-  pub sends : Sends (answer_of s.flags moment (asked_of request)) response
+  pub sends : Sends (answer_of (marked_flags s) moment (asked_of request)) response
 
--- It is such an answer, and where a log is kept, whose files were handed these bytes, the line of each of its notes stands in one of them.
-pub record RestsOn (known : List Flags) (handed : Option (List (List ℕ))) (request : Request (List ℕ)) (response : Response) : Type 0 where
+-- It is such an answer, and where a log is kept, whose files were handed these bytes, the line of each of its notes, in the form of the log, stands in one of them.
+pub record RestsOn (known : List Flags) (handed : Option Handed) (request : Request (List ℕ)) (response : Response) : Type 0 where
   pub answer : IsAnswer known request response
-  pub lines : IfSome handed (HaveLines (notes_of answer.s.flags (answer_of answer.s.flags answer.moment (asked_of request))))
+  pub lines : IfSome handed (HaveLines (notes_of answer.s.flags (answer_of (marked_flags answer.s) answer.moment (asked_of request))))
 
 -- the response tells a failure, or that the service is not ready, and nothing of flags
 abbrev pub TellsNoFlag : Response → Type 0
 TellsNoFlag response = Fails response ⊎ ((trouble : Trouble) × TellsUnready trouble response)
 
 -- What a response rests on stands: it is such an answer, or it tells nothing of flags. Where what can't be recorded is answered it may be an answer without its notes.
-abbrev pub Stands : WithoutRecord → List Flags → Option (List (List ℕ)) → Request (List ℕ) → Response → Type 0
+abbrev pub Stands : WithoutRecord → List Flags → Option Handed → Request (List ℕ) → Response → Type 0
 Stands without known handed request response =
     TellsNoFlag response ⊎ (∥ RestsOn known handed request response ∥₁) ⊎ ((is_answered without ≡ true) × (∥ IsAnswer known request response ∥₁))

@@ -10,6 +10,7 @@ use Rattle.note_log.specs.declared.trouble.Trouble.{Trouble}
 use Rattle.note_log.specs.declared.trouble.Trouble.TheVariants.{Lost, Unwritten}
 use Rattle.ofrep_answers.specs.Request.{Asked}
 use Rattle.ofrep_answers.specs.Answer.{Answered, Body, nothing, plain, json, counts, bytes_of, media_type}
+use Rattle.ofrep_worker.specs.Counted.{EndsWithSizes}
 
 -- a field, where there is a value that may be sent
 abbrev pub field : List ℕ → Option (List ℕ) → List Header
@@ -19,18 +20,19 @@ field name (Some value) = if list_all is_value_byte value then (name, value) ∷
 abbrev pub fields : Answered → List Header
 fields a = (field (codes "content-type") (media_type a.body) ++ field (codes "allow") a.allow) ++ field (codes "etag") a.tag
 
--- the body is what the service counts, of which nothing is said
+-- the body is what the service counts
 abbrev pub is_counts : Body → Bool
 is_counts nothing = false
 is_counts (plain s) = false
 is_counts (json s) = false
 is_counts counts = true
 
--- the response is the answer
+-- the response is the answer; of what the service counts only the end is said
 pub record Sends (a : Answered) (r : Response) : Type 0 where
   pub status : r.status ≡ a.status
   pub headers : fields_of r ≡ fields a
   pub body : is_counts a.body ≡ false → r.body.items ≡ bytes_of a.body
+  pub counts : is_counts a.body ≡ true → EndsWithSizes r.body.items
 
 abbrev pub TellsFailure : Response → Type 0
 TellsFailure = IsResponse 500 ((codes "content-type", codes "application/json") ∷ []) (codes "{\"errorDetails\":\"the log can't be written\"}")

@@ -6,38 +6,40 @@ use mathlib.Core.List.{IsPrefix}
 use Rattle.flag_defs.specs.declared.flags.Flags.{Flags}
 use Rattle.http.specs.declared.request.Request.{Request}
 use Rattle.http_server.specs.declared.response.Response.{Response}
-use Rattle.note_lines.specs.Note.{Noted, note_line}
+use Rattle.note_lines.specs.Hashed.{line_as}
+use Rattle.note_lines.specs.Note.{Noted}
+use Rattle.note_lines.specs.declared.form.NoteForm.{NoteForm}
 use Rattle.note_log.specs.Line.{HasLine}
 use Rattle.log_file.specs.declared.journal.Look.{Look}
 use Rattle.log_file.specs.declared.journal.Look.TheVariants.{Stands as Still, Reopened, Lost}
 use Rattle.note_log.specs.Log.{Logged, Records, files_of, logged_after}
 use Rattle.note_log.proofs.Lines.{has_more, not_in}
 use Rattle.ofrep_answers.specs.Answer.{Answered, answer_of}
-use Rattle.snap_core.specs.Hub.{Numbered}
+use Rattle.sync_frames.specs.Snapshots.{Numbered, marked_flags}
 use Rattle.snap_share.specs.Known.{IsLastOf, Seat, snapshots_of}
 use Rattle.snap_share.proofs.Numbers.{is_known, starts}
 use Rattle.note_log.specs.declared.trouble.Trouble.{Trouble}
-use Rattle.ofrep_worker.specs.Answers.{AllRecorded, HandsOver, HasLines, HaveLines, IsAnswer, Kept, LooksIn, RecordedFirst, RecordedIn, Responds, RestsOn, Stands, files, is_answered}
+use Rattle.ofrep_worker.specs.Answers.{AllRecorded, Handed, HandsOver, HasLines, HaveLines, IsAnswer, Kept, LooksIn, RecordedFirst, RecordedIn, Responds, RestsOn, Stands, files, is_answered}
 use Rattle.ofrep_worker.specs.Asked.{asked_of}
 use Rattle.ofrep_worker.specs.Notes.{notes_of}
 use Rattle.ofrep_worker.specs.Sent.{Gives, GivesIn, Sends, unready}
 use Rattle.ofrep_worker.specs.declared.unrecorded.WithoutRecord.{WithoutRecord}
 use Rattle.ofrep_worker.specs.declared.unrecorded.WithoutRecord.TheVariants.{Answer, Refuse}
 
-all_stand : (notes : List Noted) (old new : Kept) → AllRecorded notes old new → ∥ HasLines notes new.logged.handed ∥₁
+all_stand : (notes : List Noted) (old new : Kept) → AllRecorded notes old new → ∥ HasLines new.logged.form notes new.logged.handed ∥₁
 all_stand notes old new (inl none) = ∣ (λ note w. absurd (not_in note (subst (λ (l : List Noted). Contains l note) none.0 w.0))) ∣₁
-all_stand notes old new (inr records) = ∥∥₁_map records.1 (λ (r : Records notes old.logged new.logged old.bytes new.bytes true). (r.whole refl).1)
+all_stand notes old new (inr records) = ∥∥₁_map records.1 (λ (r : Records notes old.logged new.logged old.bytes new.bytes true). subst (λ (form : NoteForm). HasLines form notes new.logged.handed) (sym r.form) (r.whole refl).1)
 
 all_stand_in : (notes : List Noted) (old new : Option Kept) → RecordedIn true notes old new → ∥ IfSome (files new) (HaveLines notes) ∥₁
 all_stand_in notes (Some old) (Some new) r =
-    ∥∥₁_map (all_stand notes old new r) (λ (h : HasLines notes new.logged.handed). (new.logged.handed, Contains-push new.logged.earlier new.logged.handed, h))
+    ∥∥₁_map (all_stand notes old new r) (λ (h : HasLines new.logged.form notes new.logged.handed). (new.logged.handed, Contains-push new.logged.earlier new.logged.handed, h))
 all_stand_in notes (Some old) None r = absurd r
 all_stand_in notes None (Some new) r = absurd r
 all_stand_in notes None None r = ∣ tt ∣₁
 
 module _ (known : List Flags) (request : Request (List ℕ)) (response : Response) (old new : Option Kept) (s : Numbered) (last : IsLastOf known s) (moment : ℕ) (small : moment < 2 ^ 53) where
   abbrev a : Answered
-  a = answer_of s.flags moment (asked_of request)
+  a = answer_of (marked_flags s) moment (asked_of request)
 
   abbrev given : Sends a response → IsAnswer known request response
   given sends = record { s = s; is_known = is_known known s last; moment = moment; is_moment = small; sends = sends }
@@ -56,7 +58,7 @@ responded_so : (without : WithoutRecord) (seat seat' : Seat) (request : Request 
     → Responds without seat seat' request response old new → Stands without seat'.known (files new) request response
 responded_so without seat seat' request response old new (inl r) =
     let b = r.2 in
-    answered_in seat'.known request response old new r.0 r.1.1 b.0 b.1 without b.2 (unready b.3 (asked_of request) (answer_of r.0.flags b.0 (asked_of request))) b.5 b.6
+    answered_in seat'.known request response old new r.0 r.1.1 b.0 b.1 without b.2 (unready b.3 (asked_of request) (answer_of (marked_flags r.0) b.0 (asked_of request))) b.5 b.6
 responded_so without seat seat' request response old new (inr r) = inl (inl (inr r.1))
 
 pub responded : (without without' : WithoutRecord) (seat seat' : Seat) (request : Request (List ℕ)) (response : Response) (old new : Option Kept)
@@ -70,17 +72,17 @@ responded without without' seat seat' request response old new r =
 abbrev pub GoOn : List (List ℕ) → List (List ℕ) → Type 0
 GoOn old new = (file : List ℕ) → Contains old file → (later : List ℕ) × Contains new later × IsPrefix file later
 
--- a log has only grown, and where none is kept there is none still
-abbrev pub GrowsIn : Option (List (List ℕ)) → Option (List (List ℕ)) → Type 0
-GrowsIn (Some old) (Some new) = GoOn old new
+-- a log has only grown, in its form, and where none is kept there is none still
+abbrev pub GrowsIn : Option Handed → Option Handed → Type 0
+GrowsIn (Some old) (Some new) = (new.form ≡ old.form) × GoOn old.files new.files
 GrowsIn None None = Unit {0}
 GrowsIn _ _ = ⊥
 
 same_files : (handed : List (List ℕ)) → GoOn handed handed
 same_files handed file c = (file, c, ([], append-nil file))
 
-same_in : (handed : Option (List (List ℕ))) → GrowsIn handed handed
-same_in (Some handed) = same_files handed
+same_in : (handed : Option Handed) → GrowsIn handed handed
+same_in (Some handed) = (refl, same_files handed.files)
 same_in None = tt
 
 -- the file that is open has grown
@@ -90,11 +92,15 @@ grown_files old new earlier prefix file c = elim (Contains-push_cases old.earlie
   | inr same ↦ (new.handed, Contains-push new.earlier new.handed, subst (λ (f : List ℕ). IsPrefix f new.handed) same prefix)
 ]
 
-of_records : (notes : List Noted) (old new : Kept) (all : Bool) → Records notes old.logged new.logged old.bytes new.bytes all → GoOn (files_of old.logged) (files_of new.logged)
-of_records notes old new all r = grown_files old.logged new.logged r.earlier (r.more, sym r.handed)
+-- what one of several logs was handed, the later one still, in its form
+abbrev Grown : Logged → Logged → Type 0
+Grown old new = (new.form ≡ old.form) × GoOn (files_of old) (files_of new)
 
-grown : (notes : List Noted) (old new : Kept) (all : Bool) → RecordedFirst all notes old new → ∥ GoOn (files_of old.logged) (files_of new.logged) ∥₁
-grown notes old new true (inl none) = ∣ subst (λ (k : Kept). GoOn (files_of old.logged) (files_of k.logged)) (sym none.1) (same_files (files_of old.logged)) ∣₁
+of_records : (notes : List Noted) (old new : Kept) (all : Bool) → Records notes old.logged new.logged old.bytes new.bytes all → Grown old.logged new.logged
+of_records notes old new all r = (r.form, grown_files old.logged new.logged r.earlier (r.more, sym r.handed))
+
+grown : (notes : List Noted) (old new : Kept) (all : Bool) → RecordedFirst all notes old new → ∥ Grown old.logged new.logged ∥₁
+grown notes old new true (inl none) = ∣ subst (λ (k : Kept). Grown old.logged k.logged) (sym none.1) (refl, same_files (files_of old.logged)) ∣₁
 grown notes old new true (inr records) = ∥∥₁_map records.1 (of_records notes old new true)
 grown notes old new false records = ∥∥₁_map records.1 (of_records notes old new false)
 
@@ -108,13 +114,14 @@ further : (without : WithoutRecord) (seat seat' : Seat) (request : Request (List
     → Responds without seat seat' request response old new → IsPrefix seat.known seat'.known × (∥ GrowsIn (files old) (files new) ∥₁)
 further without seat seat' request response old new (inl r) =
     let a = r.2 in
-    (r.1.0.forward, grown_in (notes_of r.0.flags (answer_of r.0.flags a.0 (asked_of request))) old new a.2 a.6)
+    (r.1.0.forward, grown_in (notes_of r.0.flags (answer_of (marked_flags r.0) a.0 (asked_of request))) old new a.2 a.6)
 further without seat seat' request response old new (inr r) = (r.0.forward, ∣ (subst (λ (k : Option Kept). GrowsIn (files old) (files k)) (sym r.2) (same_in (files old))) ∣₁)
 
-more_lines : (notes : List Noted) (old new : Option (List (List ℕ))) → GrowsIn old new → IfSome old (HaveLines notes) → IfSome new (HaveLines notes)
+more_lines : (notes : List Noted) (old new : Option Handed) → GrowsIn old new → IfSome old (HaveLines notes) → IfSome new (HaveLines notes)
 more_lines notes (Some old) (Some new) g h =
-    let later = g h.0 h.1 in
-    (later.0, later.1, λ note w. subst (HasLine (note_line note)) later.2.1 (has_more (note_line note) h.0 later.2.0 (h.2 note w)))
+    let later = g.1 h.0 h.1 in
+    let lines : HasLines old.form notes later.0 = λ note w. subst (HasLine (line_as old.form note)) later.2.1 (has_more (line_as old.form note) h.0 later.2.0 (h.2 note w)) in
+    (later.0, later.1, subst (λ (form : NoteForm). HasLines form notes later.0) (sym g.0) lines)
 more_lines notes (Some old) None g h = absurd g
 more_lines notes None (Some new) g h = absurd g
 more_lines notes None None g h = tt
@@ -131,14 +138,14 @@ answer_still known known' request response k r =
     }
 
 -- and where more stands in the log, it rests on no less
-rests_still : (known known' : List Flags) (handed handed' : Option (List (List ℕ))) (request : Request (List ℕ)) (response : Response)
+rests_still : (known known' : List Flags) (handed handed' : Option Handed) (request : Request (List ℕ)) (response : Response)
     → IsPrefix known known' → GrowsIn handed handed' → RestsOn known handed request response → RestsOn known' handed' request response
 rests_still known known' handed handed' request response k b r = record {
   answer = answer_still known known' request response k r.answer;
-  lines = more_lines (notes_of r.answer.s.flags (answer_of r.answer.s.flags r.answer.moment (asked_of request))) handed handed' b r.lines;
+  lines = more_lines (notes_of r.answer.s.flags (answer_of (marked_flags r.answer.s) r.answer.moment (asked_of request))) handed handed' b r.lines;
 }
 
-stands_still : (without without' : WithoutRecord) (known known' : List Flags) (handed handed' : Option (List (List ℕ))) (request : Request (List ℕ)) (response : Response)
+stands_still : (without without' : WithoutRecord) (known known' : List Flags) (handed handed' : Option Handed) (request : Request (List ℕ)) (response : Response)
     → without' ≡ without → IsPrefix known known' → ∥ GrowsIn handed handed' ∥₁ → Stands without known handed request response → Stands without' known' handed' request response
 stands_still without without' known known' handed handed' request response same k b (inl fails) = inl fails
 stands_still without without' known known' handed handed' request response same k b (inr (inl rests)) = inr (inl (∥∥₁_map₂ b rests (rests_still known known' handed handed' request response k)))
@@ -154,13 +161,16 @@ still_stands without without' seat seat' request response old new r earlier told
 
 -- ---- it stays, whatever a look finds
 
-looked_files : (look : Look) (l : Logged) → GoOn (files_of l) (files_of (logged_after look l))
-looked_files Still l file c = (file, c, ([], append-nil file))
-looked_files (Reopened loss) l file c = (file, Contains-append_left (files_of l) ([] ∷ []) file c, ([], append-nil file))
-looked_files (Lost loss fault) l file c = (file, Contains-append_left (files_of l) ([] ∷ []) file c, ([], append-nil file))
+begun_files : (l : Logged) → GoOn (files_of l) (files_of l ++ [] ∷ [])
+begun_files l file c = (file, Contains-append_left (files_of l) ([] ∷ []) file c, ([], append-nil file))
 
-handed_over : (old new : Logged) → HandsOver old new → GoOn (files_of old) (files_of new)
-handed_over old new h = grown_files old new h.earlier (h.more, sym h.handed)
+looked_files : (look : Look) (l : Logged) → Grown l (logged_after look l)
+looked_files Still l = (refl, same_files (files_of l))
+looked_files (Reopened loss) l = (refl, begun_files l)
+looked_files (Lost loss fault) l = (refl, begun_files l)
+
+handed_over : (old new : Logged) → HandsOver old new → Grown old new
+handed_over old new h = (h.form, grown_files old new h.earlier (h.more, sym h.handed))
 
 then_on : (a b c : List (List ℕ)) → GoOn a b → GoOn b c → GoOn a c
 then_on a b c x y file d =
@@ -170,8 +180,11 @@ then_on a b c x y file d =
 
 looked_in : (old new : Option Kept) → LooksIn old new → ∥ GrowsIn (files old) (files new) ∥₁
 looked_in (Some old) (Some new) k =
-    ∥∥₁_map k.1 (λ (h : HandsOver (logged_after k.0 old.logged) new.logged).
-    then_on (files_of old.logged) (files_of (logged_after k.0 old.logged)) (files_of new.logged) (looked_files k.0 old.logged) (handed_over (logged_after k.0 old.logged) new.logged h))
+    let seen = logged_after k.0 old.logged in
+    let first = looked_files k.0 old.logged in
+    ∥∥₁_map k.1 (λ (h : HandsOver seen new.logged).
+    let next = handed_over seen new.logged h in
+    (next.0 ∙ first.0, then_on (files_of old.logged) (files_of seen) (files_of new.logged) first.1 next.1))
 looked_in (Some old) None k = absurd k
 looked_in None (Some new) k = absurd k
 looked_in None None k = ∣ tt ∣₁

@@ -2,10 +2,12 @@
 ghost use Rattle.std.specs.Prelude.{◌≡◌, ◌<◌, ◌^◌, true, is_some, IfOk, OnErr, OnOk};
 ghost use Rattle.std.specs.Arc.{arc_value};
 ghost use Rattle.flag_defs.specs.Flags.{flags_view};
-ghost use Rattle.http_server.specs.Response.{IsBlank};
+ghost use Rattle.flag_defs.specs.Floats.{floats_view};
+ghost use Rattle.http_server.specs.Response.{IsBlank, fields_of};
 ghost use Rattle.ofrep_answers.specs.Answer.{answer_of, answer_view};
 ghost use Rattle.ofrep_worker.specs.Answers.{Answers, kept_in, trouble_in};
 ghost use Rattle.ofrep_worker.specs.Asked.{asked_of};
+ghost use Rattle.ofrep_worker.specs.Counted.{EndsWithSizes};
 ghost use Rattle.ofrep_worker.specs.Sent.{GivesIn, Sends, unready};
 
 use crate::asked::tags_named;
@@ -19,9 +21,10 @@ use bytes::{BufMut, Bytes};
 use flag_defs::Flags;
 use http::{Request, StatusCode};
 use http_server::Response;
+use json::Scratch;
 use log_file::LogFile;
 use note_log::{NoteLog, Trouble};
-use ofrep_answers::{Answer, Content, answer_to};
+use ofrep_answers::{Answer, Content, answer_to_with};
 use std::alloc::{AllocError, Global};
 use std::time::Clock;
 use sync_frames::SharedSnapshot;
@@ -38,19 +41,21 @@ pub(crate) struct Answering<'a, R> {
 }
 
 /// Answers a request of the flags of a snapshot, once the notes of the answer are recorded, where a log is kept. While a log can't
-/// be written, who asks whether the service is ready is told so. Where memory runs out the log is as it was.
+/// be written, who asks whether the service is ready is told so. Where memory runs out the log is as it was. A body is read in
+/// `scratch`.
 pub(crate) fn answer_from<R: Clock, F: LogFile>(
     with: &Answering<'_, R>,
     log: &mut Option<NoteLog<F>>,
+    scratch: &mut Scratch,
     request: &Request<Bytes>,
     response: &mut Response,
 ) -> Result<(), AllocError>
     requires { IsBlank response.old }
-    ensures ok { OnOk result (Answers with.now.without_record (flags_view (arc_value with.now.snapshot.now).flags) request.now response.new (kept_in log.old) (kept_in log.new)) }
+    ensures ok { OnOk result (Answers with.now.without_record (flags_view (arc_value with.now.snapshot.now).flags, floats_view (arc_value with.now.snapshot.now).flags) request.now response.new (kept_in log.old) (kept_in log.new)) }
     ensures err { OnErr result (log.new ≡ log.old) }
 {
     let moment = moment_of(with.rt);
-    let answer = with.answer_at(moment, request)?;
+    let answer = with.answer_at(moment, request, scratch)?;
     let cause = with.trouble(log);
     let why = unready(cause, request, &answer);
     with.tell_in(why, &answer, response)?;
@@ -64,9 +69,14 @@ pub(crate) fn answer_from<R: Clock, F: LogFile>(
 
 impl<R> Answering<'_, R> {
     /// The answer to a request at a moment.
-    fn answer_at(&self, moment: u64, request: &Request<Bytes>) -> Result<Answer, AllocError>
+    fn answer_at(
+        &self,
+        moment: u64,
+        request: &Request<Bytes>,
+        scratch: &mut Scratch,
+    ) -> Result<Answer, AllocError>
         requires { moment < 2 ^ 53 }
-        ensures { IfOk result (λ answer. answer_view answer ≡ answer_of (flags_view (arc_value self.now.snapshot.now).flags) moment (asked_of request.now)) }
+        ensures { IfOk result (λ answer. answer_view answer ≡ answer_of (flags_view (arc_value self.now.snapshot.now).flags, floats_view (arc_value self.now.snapshot.now).flags) moment (asked_of request.now)) }
     {
         let tags = tags_named(self.alloc, request)?;
         let asked = ofrep_answers::Request {
@@ -75,7 +85,7 @@ impl<R> Answering<'_, R> {
             if_none_match: tags.as_slice(),
             body: request.body().as_slice(),
         };
-        answer_to(self.alloc, self.snapshot.flags(), moment, &asked)
+        answer_to_with(self.alloc, self.snapshot.flags(), moment, &asked, scratch)
     }
 
     /// Why a log can't be written, where one can't: the worker's own, or else another's.
@@ -111,14 +121,23 @@ impl<R> Answering<'_, R> {
     {
         fill(self.alloc, answer, response)?;
         if let Content::Counts = answer.content {
-            let number = self.snapshot.number();
-            let flags = self.snapshot.flags();
-            let text = self
-                .counts
-                .text(self.alloc, number, flags.len(), broken_in(flags))?;
-            response.body.put_slice(text.as_bytes())?;
+            self.put_counts(response)?;
         }
         Ok(())
+    }
+
+    /// Adds what is counted to a response.
+    fn put_counts(&self, response: &mut Response) -> Result<(), AllocError>
+        ensures counts { OnOk result (EndsWithSizes response.new.body.items) }
+        ensures status { response.new.status ≡ response.old.status }
+        ensures fields { fields_of response.new ≡ fields_of response.old }
+    {
+        let number = self.snapshot.number();
+        let flags = self.snapshot.flags();
+        let text = self
+            .counts
+            .text(self.alloc, number, flags.len(), broken_in(flags))?;
+        response.body.put_slice(text.as_bytes())
     }
 }
 

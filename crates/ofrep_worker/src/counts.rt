@@ -33,6 +33,9 @@ pub struct Counts {
     pub(crate) documents: AtomicU64,
     pub(crate) refused: AtomicU64,
     pub(crate) accepted: AtomicU64,
+    /// How many bytes the logs have, and the memory of the process, as last looked at.
+    pub(crate) log_bytes: AtomicU64,
+    pub(crate) memory: AtomicU64,
 }
 
 impl Counts {
@@ -59,6 +62,8 @@ impl Counts {
             documents: AtomicU64::new(0),
             refused: AtomicU64::new(0),
             accepted: AtomicU64::new(0),
+            log_bytes: AtomicU64::new(0),
+            memory: AtomicU64::new(0),
         }
     }
 
@@ -75,6 +80,16 @@ impl Counts {
     /// A document was accepted in this second since 1970.
     pub fn accept_document(&self, second: u64) {
         self.accepted.store(second, Ordering::Relaxed);
+    }
+
+    /// The logs have so many bytes together.
+    pub fn show_log_bytes(&self, bytes: u64) {
+        self.log_bytes.store(bytes, Ordering::Relaxed);
+    }
+
+    /// So many bytes of the process's memory are resident.
+    pub fn show_memory(&self, bytes: u64) {
+        self.memory.store(bytes, Ordering::Relaxed);
     }
 
     /// Counts evaluations that ended with these reasons.

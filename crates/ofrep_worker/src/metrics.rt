@@ -1,4 +1,7 @@
 //! What the workers of a service count, as text for Prometheus.
+ghost use Rattle.std.specs.Prelude.{◌≡◌, ◌++◌, IfOk, OnOk, string_bytes};
+ghost use Rattle.ofrep_worker.specs.Counted.{EndsWithSizes, gauge_text, sizes_text};
+
 use crate::counts::{Counts, bit_of};
 use std::alloc::{AllocError, Global};
 use std::sync::atomic::{AtomicU64, Ordering};
@@ -15,7 +18,9 @@ impl Counts {
         snapshot: u64,
         flags: usize,
         broken: usize,
-    ) -> Result<String, AllocError> {
+    ) -> Result<String, AllocError>
+        ensures { IfOk result (λ text. EndsWithSizes (string_bytes text)) }
+    {
         let mut text = String::new(alloc);
         self.traffic.push(&mut text)?;
         self.push_evaluations(&mut text)?;
@@ -24,6 +29,9 @@ impl Counts {
         self.push_failures(&mut text)?;
         self.push_documents(&mut text)?;
         push_flags(&mut text, snapshot, flags as u64, broken as u64)?;
+        let log_bytes = self.log_bytes.load(Ordering::Relaxed);
+        let memory = self.memory.load(Ordering::Relaxed);
+        push_sizes(alloc, &mut text, log_bytes, memory)?;
         Ok(text)
     }
 
@@ -147,6 +155,40 @@ fn push_flags(text: &mut String, snapshot: u64, flags: u64, broken: u64) -> Resu
         snapshot,
     )?;
     push_gauge(text, "ofrep_flags", "Flags of the snapshot.", flags)
+}
+
+/// Adds how many bytes the logs have, and the memory of the process.
+#[tactic(auto, using(crate::proofs::Parts::two), unfolding(crate::specs::Counted::sizes_text))]
+fn push_sizes(
+    alloc: Global,
+    text: &mut String,
+    log_bytes: u64,
+    memory: u64,
+) -> Result<(), AllocError>
+    ensures { OnOk result (string_bytes text.new ≡ string_bytes text.old ++ sizes_text log_bytes memory) }
+{
+    let logs = gauge_text(
+        alloc,
+        "ofrep_log_bytes",
+        "Bytes of the logs together, as last looked at.",
+        log_bytes,
+    )?;
+    let resident = gauge_text(
+        alloc,
+        "process_resident_memory_bytes",
+        "Resident memory size in bytes.",
+        memory,
+    )?;
+    text.push_str(logs.as_str())?;
+    text.push_str(resident.as_str())
+}
+
+/// A family of one number that rises and falls.
+#[tactic(auto, unfolding(crate::specs::Counted::gauge_text))]
+fn gauge_text(alloc: Global, name: &str, help: &str, value: u64) -> Result<String, AllocError>
+    ensures { IfOk result (λ text. string_bytes text ≡ gauge_text name.now help.now value) }
+{
+    format!(in alloc; "# HELP {name} {help}\n# TYPE {name} gauge\n{name} {value}\n")
 }
 
 /// Adds a family of one number that only rises.

@@ -12,6 +12,7 @@ use crate::unrecorded::WithoutRecord;
 use bytes::Bytes;
 use http::{Request, StatusCode};
 use http_server::{Response, Service};
+use json::Scratch;
 use log_file::{LogFile, LogPaths};
 use note_log::{NoteLog, Trouble};
 use ofrep_guards::CountsStatus;
@@ -28,6 +29,8 @@ pub struct OfrepWorker<'a, J: ShareName, R, F: LogFile> {
     pub(crate) log: Option<NoteLog<F>>,
     counts: &'a Counts,
     pub(crate) without_record: WithoutRecord,
+    /// The room in which bodies are read.
+    scratch: Scratch,
     /// What was counted of its log: the notes that were written, the inputs that were too long for one, and why it can't be written.
     notes: u64,
     too_long: u64,
@@ -56,6 +59,7 @@ impl<'a, J: ShareName, R: Clock, F: LogFile> OfrepWorker<'a, J, R, F> {
             log,
             counts,
             without_record,
+            scratch: Scratch::new(alloc),
             notes: 0,
             too_long: 0,
             trouble: None,
@@ -81,7 +85,13 @@ impl<'a, J: ShareName, R: Clock, F: LogFile> OfrepWorker<'a, J, R, F> {
             snapshot: &snapshot,
             without_record: self.without_record,
         };
-        answer_from(&answering, &mut self.log, request, response)?;
+        answer_from(
+            &answering,
+            &mut self.log,
+            &mut self.scratch,
+            request,
+            response,
+        )?;
         Ok(())
     }
 

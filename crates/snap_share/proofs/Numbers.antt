@@ -3,8 +3,7 @@ use Rattle.std.proofs.Common.{◌≡◌, ℕ, ◌+◌, List, [], ◌∷◌, ◌+
 use Rattle.std.proofs.lemmas.List.Elements.{Contains-append_right}
 use mathlib.Core.List.{IsPrefix}
 use Rattle.flag_defs.specs.declared.flags.Flags.{Flags}
-use Rattle.snap_core.specs.Hub.{Numbered}
-use Rattle.snap_core.specs.HubView.{snapshot_view}
+use Rattle.sync_frames.specs.Snapshots.{Numbered, snapshot_view}
 use Rattle.snap_core.specs.declared.snapshot.Snapshot.{Snapshot}
 use Rattle.snap_share.specs.Known.{IsLastOf, IsSnapshotOf, Seat, WasRead, last_of, numbered, numbered_from, snapshots_of}
 use Rattle.snap_share.specs.Lists.{StartsWith}

@@ -2,8 +2,9 @@
 use Rattle.std.specs.Prelude.{◌≡◌, ℕ, ◌+◌, List, [], ◌∷◌, length, Option, Some, None}
 use mathlib.Core.List.{IsPrefix}
 use Rattle.flag_defs.specs.Flags.{flags_view}
+use Rattle.flag_defs.specs.Floats.{floats_view}
 use Rattle.flag_defs.specs.declared.flags.Flags.{Flags}
-use Rattle.snap_core.specs.Hub.{Numbered}
+use Rattle.sync_frames.specs.Snapshots.{Numbered}
 use Rattle.snap_core.specs.declared.snapshot.Snapshot.{Snapshot}
 
 abbrev pub last_of : {X : Type 0} → List X → Option X
@@ -12,7 +13,7 @@ last_of (x ∷ []) = Some x
 last_of (x ∷ y ∷ ys) = last_of (y ∷ ys)
 
 abbrev pub numbered : ℕ → Flags → Numbered
-numbered n f = record { number = n; flags = flags_view f }
+numbered n f = record { number = n; flags = flags_view f; floats = floats_view f }
 
 abbrev pub numbered_from : ℕ → List Flags → List Numbered
 numbered_from n [] = []

@@ -1,8 +1,7 @@
 //! Where the current snapshot is read.
 ghost use Rattle.std.specs.Prelude.{◌≡◌, List, Contains, Option, None, Some, IfOk, MatchResult};
 ghost use Rattle.std.specs.Arc.{arc_value};
-ghost use Rattle.snap_core.specs.Hub.{Numbered};
-ghost use Rattle.snap_core.specs.HubView.{snapshot_view};
+ghost use Rattle.sync_frames.specs.Snapshots.{Numbered, snapshot_view};
 ghost use Rattle.snap_share.specs.Lists.{StartsWith};
 
 use crate::fault::ShareFault;

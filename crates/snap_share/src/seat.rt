@@ -2,7 +2,7 @@
 ghost use Rattle.std.specs.Prelude.{◌≡◌, ◌+◌, true, Contains, None, Some, IfErr, IfOk, MatchResult};
 ghost use mathlib.Core.List.{IsPrefix};
 ghost use Rattle.std.specs.Arc.{arc_value};
-ghost use Rattle.snap_core.specs.HubView.{snapshot_view};
+ghost use Rattle.sync_frames.specs.Snapshots.{snapshot_view};
 ghost use Rattle.snap_share.specs.Fault.{is_of_current};
 ghost use Rattle.snap_share.specs.Known.{IsLastOf, WasRead, snapshots_of};
 ghost use Rattle.snap_share.specs.Lists.{StartsWith};

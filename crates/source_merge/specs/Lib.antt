@@ -1,4 +1,5 @@
 pub mod Fault
+pub mod Floats
 pub mod Merge
 pub mod Outcome
 pub mod Sources

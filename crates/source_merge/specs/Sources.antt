@@ -6,6 +6,7 @@ use Rattle.std.specs.declared.alloc.Global.{Global}
 use Rattle.limits.specs.Limits as limit
 use Rattle.flag_defs.specs.Document.{Definitions, DocumentMeans}
 use Rattle.flag_defs.specs.Flags.{flags_view}
+use Rattle.flag_defs.specs.Floats.{MeansAs, MeansWithFloats}
 use Rattle.flag_defs.specs.declared.fault.DefFault.{DefFault}
 use Rattle.flag_defs.specs.declared.flags.Flags.{Flags}
 use Rattle.source_merge.specs.declared.fault.SourceFault.{SourceFault}
@@ -45,9 +46,20 @@ with_read sources name (Ok flags) = Ok (with_document name (Some flags) sources)
 with_read sources name (Err fault) = Err (Refused fault)
 
 -- what setting the document of a source gives: an unknown name is refused before the document is read
+abbrev pub SetsBy : (Result Definitions DefFault → Type 0) → SourceList → List ℕ → Result SourceList SourceFault → Type 0
+SetsBy Means sources name after =
+    MatchBool (is_source name sources) ((r : Result Definitions DefFault) × Means r × (after ≡ with_read sources name r)) (after ≡ Err Unknown)
+
 abbrev pub Sets : SourceList → List ℕ → List ℕ → Result SourceList SourceFault → Type 0
-Sets sources name bytes after =
-    MatchBool (is_source name sources) ((r : Result Definitions DefFault) × DocumentMeans bytes r × (after ≡ with_read sources name r)) (after ≡ Err Unknown)
+Sets sources name bytes after = SetsBy (DocumentMeans bytes) sources name after
+
+-- the same of a document with floats
+abbrev pub SetsWithFloats : SourceList → List ℕ → List ℕ → Result SourceList SourceFault → Type 0
+SetsWithFloats sources name bytes after = SetsBy (MeansWithFloats bytes) sources name after
+
+-- the same of a document that may have floats, or may not
+abbrev pub SetsAs : Bool → SourceList → List ℕ → List ℕ → Result SourceList SourceFault → Type 0
+SetsAs floats sources name bytes after = SetsBy (MeansAs floats bytes) sources name after
 
 -- ---- of the program
 

@@ -1,9 +1,9 @@
 -- What a call of a feed answers.
-use Rattle.std.proofs.Common.{◌≡◌, ℕ, ◌+◌, ◌-◌, ◌<◌, ◌≤◌, true, List, [], ◌++◌, length, take, drop, get_or, inl, inr, refl, sym, ap, subst, ◌∙◌, arith, Ok, Err}
+use Rattle.std.proofs.Common.{◌≡◌, ℕ, ◌+◌, ◌-◌, ◌<◌, ◌≤◌, true, List, [], ◌++◌, length, take, drop, get_or, inl, inr, refl, sym, ap, subst, ◌∙◌, arith, Err}
 use Rattle.std.proofs.lemmas.Bool.{cases_lt}
-use Rattle.flag_defs.specs.Document.{DocumentMeans}
+use Rattle.flag_defs.specs.Floats.{MeansFlags, MeansWithFloats}
 use Rattle.flag_defs.specs.declared.fault.DefFault.{DefFault}
-use Rattle.snap_core.specs.Hub.{Numbered}
+use Rattle.sync_frames.specs.Snapshots.{Numbered}
 use Rattle.snap_core.specs.declared.snapshot.Snapshot.{Snapshot}
 use Rattle.sync_frames.specs.Feed.{Stands, is_failed, snapshots_view, Faults, Refuses}
 use Rattle.sync_frames.specs.Frames.{Shows, Gains, document_in, length_in}
@@ -84,13 +84,13 @@ pub received_at : (x piece kept front after now : List ℕ) (last : ℕ) (s : St
     → Stands (x ++ piece) r.last r.kept.items r.stage × Gains x (x ++ piece) (snapshots_view r.snapshots.items)
 received_at x piece kept front after now last s h r reading is fits small-now small-piece split behind joined got fed =
     let all = kept ++ piece in
-    let one : Numbered = record { number = h.number; flags = got.flags } in
-    let means = subst (λ (l : List ℕ). DocumentMeans l (Ok got.flags)) (document_is last kept piece front now h is fits split joined) got.means in
+    let one : Numbered = record { number = h.number; flags = got.flags; floats = got.floats } in
+    let means = subst (λ (l : List ℕ). MeansFlags l got.flags got.floats) (document_is last kept piece front now h is fits split joined) got.means in
     let f = first last all h one is (small-append kept piece (small-front kept front (subst (λ (l : List ℕ). (i : ℕ) → get_or l i 0 < 256) joined small-now)) small-piece) refl means in
     let rest : drop h.end all ≡ after = drop_past kept piece h.end fits ∙ sym behind in
     receives x piece kept after last one r (subst (λ (s : Stage). Stands x last kept s) reading fed) (subst (λ (l : List ℕ). IsFirst last one all l) rest f) got.received
 
 pub refused_at : (piece kept front now : List ℕ) (last : ℕ) (h : Header) → IsHeader last (kept ++ piece) h → length kept ≤ h.end → front ≡ take (h.end - length kept) piece → now ≡ kept ++ front
-    → (fault : DefFault) × DocumentMeans (drop 12 now) (Err fault) → Shows last (kept ++ piece) Document
+    → (fault : DefFault) × MeansWithFloats (drop 12 now) (Err fault) → Shows last (kept ++ piece) Document
 refused_at piece kept front now last h is fits split joined (fault, means) =
-    refused last (kept ++ piece) h fault is (subst (λ (l : List ℕ). DocumentMeans l (Err fault)) (document_is last kept piece front now h is fits split joined) means)
+    refused last (kept ++ piece) h fault is (subst (λ (l : List ℕ). MeansWithFloats l (Err fault)) (document_is last kept piece front now h is fits split joined) means)

@@ -1,6 +1,6 @@
 -- What a feed knows of a stream as a piece comes.
 use Rattle.std.proofs.Common.{◌≡◌, ℕ, ◌<◌, true, List, [], ◌∷◌, ◌++◌, refl, sym, ap, subst, ◌∙◌, arith, append_assoc, append-nil}
-use Rattle.snap_core.specs.Hub.{Numbered}
+use Rattle.sync_frames.specs.Snapshots.{Numbered}
 use Rattle.sync_frames.specs.Feed.{Stands, snapshots_view}
 use Rattle.sync_frames.specs.Frames.{frame_of, Frames, Reads, Shows, Gains, ShowsFault, ShowsNothing, IsDone, last_number}
 use Rattle.sync_frames.specs.Header.{IsPart}

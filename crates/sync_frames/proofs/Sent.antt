@@ -1,16 +1,15 @@
 -- What comes out of frames that were sent.
-use Rattle.std.proofs.Common.{◌≡◌, ◌≢◌, ℕ, ◌<◌, Bool, true, false, cond, eqb, List, [], ◌∷◌, ◌++◌, ⊎_elim, refl, sym, ap, ap₂, subst, ◌∙◌, arith, append_assoc, Ok, Some}
+use Rattle.std.proofs.Common.{◌≡◌, ◌≢◌, ℕ, ◌<◌, Bool, true, false, cond, eqb, List, [], ◌∷◌, ◌++◌, ⊎_elim, refl, sym, ap, ap₂, subst, ◌∙◌, arith, append_assoc, Some}
 use Rattle.std.specs.List.{All}
 use Rattle.std.proofs.lemmas.Bool.{eq-eqb}
 use Rattle.std.proofs.lemmas.Bool.Decides.{eqb_tells}
 use Rattle.std.proofs.lemmas.List.Elements.{All-weaker, All-nil, All-cons}
-use Rattle.flag_defs.specs.Document.{Definitions, DocumentMeans}
-use Rattle.flag_defs.proofs.Meanings.{one_meaning}
-use Rattle.snap_core.specs.Hub.{Numbered}
+use Rattle.flag_defs.specs.Floats.{MeansFlags}
+use Rattle.sync_frames.specs.Snapshots.{Numbered}
 use Rattle.sync_frames.specs.Frames.{frame_of, Frames}
 use Rattle.sync_frames.specs.Sent.{AreFramesOf, IsFirstSent, GivesWhatWasSent, first_sent}
 use Rattle.sync_frames.proofs.Headers.{same_frames, length-frame}
-use Rattle.sync_frames.proofs.Streams.{numbered}
+use Rattle.sync_frames.proofs.Streams.{one_snapshot}
 use Rattle.std.proofs.Common.{length, length-append}
 
 -- what was read is what was sent first
@@ -20,9 +19,8 @@ sent_first last (s ∷ ss) [] b r f g =
     absurd (omega (arith, ap length (sym (ap (λ (l : List ℕ). l ++ r) f.2) ∙ g), length-append (frame_of s.number f.0 ++ f.1) r, length-append (frame_of s.number f.0) f.1, length-frame s.number f.0))
 sent_first last (s ∷ ss) (t ∷ sent) b r f g =
     let same = same_frames s.number t.number f.0 g.0 (f.1 ++ r) g.1 f.4.fits g.3.fits f.4.small g.3.small (sym (append_assoc (frame_of s.number f.0) f.1 r) ∙ sym (ap (λ (l : List ℕ). l ++ r) f.2) ∙ g.2) in
-    let means : DocumentMeans g.0 (Ok s.flags) = subst (λ (l : List ℕ). DocumentMeans l (Ok s.flags)) same.1 f.4.means in
-    let flags : s.flags ≡ t.flags = cc (one_meaning g.0 (Ok s.flags) (Ok t.flags) means g.3.means) in
-    let one : s ≡ t = ap₂ (λ (n : ℕ) (d : Definitions). numbered n d) same.0 flags in
+    let means = subst (λ (l : List ℕ). MeansFlags l s.flags s.floats) same.1 f.4.means in
+    let one : s ≡ t = one_snapshot g.0 s t same.0 means g.3.means in
     let others = sent_first s.number ss sent f.1 r f.5 (subst (λ (l : List ℕ). AreFramesOf sent l) (sym same.2) g.4) in
     (others.0, ap₂ (λ (x : Numbered) (xs : List Numbered). x ∷ xs) (sym one) others.1)
 
@@ -33,13 +31,13 @@ Follows last all s = (last < s.number) × IsFirstSent all s
 behind : (s : Numbered) (all : List Numbered) (t : Numbered) → Follows s.number all t → IsFirstSent (s ∷ all) t
 behind s all t f =
     ⊎_elim (λ (h : (eqb t.number s.number ≡ true) × (t.number ≡ s.number)). absurd (omega (arith, h.1, f.0)))
-    (λ (h : (eqb t.number s.number ≡ false) × (t.number ≢ s.number)). ap (λ (b : Bool). cond b (Some s.flags) (first_sent t.number all)) h.0 ∙ f.1) (eqb_tells t.number s.number)
+    (λ (h : (eqb t.number s.number ≡ false) × (t.number ≢ s.number)). ap (λ (b : Bool). cond b (Some s) (first_sent t.number all)) h.0 ∙ f.1) (eqb_tells t.number s.number)
 
 first_ones : (last : ℕ) (ss more : List Numbered) (b : List ℕ) → Frames last ss b → All (Follows last (ss ++ more)) ss
 first_ones last [] more b f = All-nil (Follows last more)
 first_ones last (s ∷ ss) more b f =
     All-cons (Follows last (s ∷ (ss ++ more))) s ss
-    (f.3, ap (λ (t : Bool). cond t (Some s.flags) (first_sent s.number (ss ++ more))) (eq-eqb s.number s.number refl))
+    (f.3, ap (λ (t : Bool). cond t (Some s) (first_sent s.number (ss ++ more))) (eq-eqb s.number s.number refl))
     (All-weaker (Follows s.number (ss ++ more)) (Follows last (s ∷ (ss ++ more))) (λ t h. (omega (arith, h.0, f.3), behind s (ss ++ more) t h)) ss (first_ones s.number ss more f.1 f.5))
 
 pub gives : GivesWhatWasSent

@@ -1,9 +1,10 @@
 -- What the front and the rest of a stream are.
 use Rattle.std.proofs.Common.{◌≡◌, ℕ, ◌+◌, ◌-◌, ◌<◌, ◌≤◌, ◌⊎◌, ⊎_elim, List, [], ◌∷◌, ◌++◌, length, take, drop, refl, sym, ap, ap₂, subst, ◌∙◌, arith, append_assoc, append-nil, length-append, length-drop, le_antisymm, Ok, Err}
 use Rattle.std.proofs.lemmas.List.{take-append-le, drop-append-le}
-use Rattle.flag_defs.specs.Document.{Definitions, DocumentMeans}
-use Rattle.flag_defs.proofs.Meanings.{one_meaning}
-use Rattle.snap_core.specs.Hub.{Numbered}
+use Rattle.flag_defs.specs.Document.{Definitions}
+use Rattle.flag_defs.specs.Floats.{Marks, MeansFlags, MeansWithFloats}
+use Rattle.flag_defs.proofs.Meanings.{one_meaning_with_floats, same_flags}
+use Rattle.sync_frames.specs.Snapshots.{Numbered}
 use Rattle.sync_frames.specs.Frames.{frame_of, length_in, number_in, document_in, max_length, IsDocumentOf, Frames, Reads, HoldsFrame, Shows, ShowsLength, ShowsNotRising, ShowsDocument, last_number}
 use Rattle.sync_frames.specs.Header.{IsPart}
 use Rattle.sync_frames.specs.declared.fault.FrameFault.{FrameFault}
@@ -39,8 +40,8 @@ stays-no_frame last rest p s d after is rises doc =
 document-no_frame : (last : ℕ) (rest : List ℕ) → ShowsDocument last rest → NoFrame last rest
 document-no_frame last rest p s d after is rises doc =
     let document : document_in rest ≡ d = ap document_in is ∙ document_in-frame s.number d after doc.small in
-    let refused : DocumentMeans d (Err p.fault) = subst (λ (l : List ℕ). DocumentMeans l (Err p.fault)) document p.refused in
-    cc (one_meaning d (Err p.fault) (Ok s.flags) refused doc.means)
+    let refused : MeansWithFloats d (Err p.fault) = subst (λ (l : List ℕ). MeansWithFloats l (Err p.fault)) document p.refused in
+    cc (one_meaning_with_floats d (Err p.fault) (Ok s.flags) refused doc.means.0)
 
 pub shows-no_frame : (last : ℕ) (rest : List ℕ) (fault : FrameFault) → Shows last rest fault → NoFrame last rest
 shows-no_frame last rest WantOfMemory h = absurd h
@@ -59,8 +60,14 @@ part-shows_nothing last rest p Failed h = h
 
 -- ---- one reading
 
-abbrev pub numbered : ℕ → Definitions → Numbered
-numbered n d = record { number = n; flags = d }
+abbrev pub numbered : ℕ → Definitions → Marks → Numbered
+numbered n fs ms = record { number = n; flags = fs; floats = ms }
+
+-- one number and one document are one snapshot
+pub one_snapshot : (d : List ℕ) (s t : Numbered) → s.number ≡ t.number → MeansFlags d s.flags s.floats → MeansFlags d t.flags t.floats → s ≡ t
+one_snapshot d s t number p q =
+    let same = same_flags d s.flags t.flags s.floats t.floats p q in
+    ap₂ (λ (n : ℕ) (fs : Definitions). numbered n fs s.floats) number same.0 ∙ ap (λ (ms : Marks). numbered t.number t.flags ms) same.1
 
 aligned : (last : ℕ) (ss ts : List Numbered) (b c r q : List ℕ) → Frames last ss b → Frames last ts c → b ++ r ≡ c ++ q → NoFrame (last_number last ss) r → length ts ≤ length ss
 aligned last ss [] b c r q f g e none = omega arith
@@ -80,9 +87,8 @@ same_reading last (s ∷ ss) [] b c r q f g e n = absurd (omega arith)
 same_reading last (s ∷ ss) (t ∷ ts) b c r q f g e n =
     let same = same_frames s.number t.number f.0 g.0 (f.1 ++ r) (g.1 ++ q) f.4.fits g.4.fits f.4.small g.4.small (sym (append_assoc (frame_of s.number f.0) f.1 r) ∙ sym (ap (λ (l : List ℕ). l ++ r) f.2) ∙ e ∙ ap (λ (l : List ℕ). l ++ q) g.2 ∙ append_assoc (frame_of t.number g.0) g.1 q) in
     let theirs : Frames s.number ts g.1 = subst (λ (n : ℕ). Frames n ts g.1) (sym same.0) g.5 in
-    let means : DocumentMeans g.0 (Ok s.flags) = subst (λ (l : List ℕ). DocumentMeans l (Ok s.flags)) same.1 f.4.means in
-    let flags : s.flags ≡ t.flags = cc (one_meaning g.0 (Ok s.flags) (Ok t.flags) means g.4.means) in
-    let one : s ≡ t = ap₂ (λ (n : ℕ) (d : Definitions). numbered n d) same.0 flags in
+    let means = subst (λ (l : List ℕ). MeansFlags l s.flags s.floats) same.1 f.4.means in
+    let one : s ≡ t = one_snapshot g.0 s t same.0 means g.4.means in
     let others = same_reading s.number ss ts f.1 g.1 r q f.5 theirs same.2 (omega arith) in
     (ap₂ (λ (x : Numbered) (xs : List Numbered). x ∷ xs) one others.0, others.1)
 
@@ -146,5 +152,5 @@ shows-append last a b NotRising h =
     record { there = omega (arith, h.there); low = omega (arith, h.low); high = omega (arith, h.high); stays = omega (arith, h.stays) }
 shows-append last a b Document h =
     let f = h.frame in
-    record { frame = holds-append last a b f; fault = h.fault; refused = subst (λ (l : List ℕ). DocumentMeans l (Err h.fault)) (sym (document_in-append a b (omega (arith, f.there, f.low)) f.there)) h.refused }
+    record { frame = holds-append last a b f; fault = h.fault; refused = subst (λ (l : List ℕ). MeansWithFloats l (Err h.fault)) (sym (document_in-append a b (omega (arith, f.there, f.low)) f.there)) h.refused }
 shows-append last a b Failed h = h

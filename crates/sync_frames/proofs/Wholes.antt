@@ -1,10 +1,10 @@
 -- Whole frames.
-use Rattle.std.proofs.Common.{◌≡◌, ℕ, zero, suc, ◌+◌, ◌-◌, ◌<◌, ◌≤◌, List, [], ◌∷◌, ◌++◌, length, take, drop, get_or, sym, ap, subst, ◌∙◌, arith, append_assoc, append-nil, length-append, Ok, Err}
+use Rattle.std.proofs.Common.{◌≡◌, ℕ, zero, suc, ◌+◌, ◌-◌, ◌<◌, ◌≤◌, List, [], ◌∷◌, ◌++◌, length, take, drop, get_or, sym, ap, subst, ◌∙◌, arith, append_assoc, append-nil, length-append, Err}
 use Rattle.std.proofs.Math.Seq.{take-append-add, drop-append-add}
 use Rattle.std.proofs.lemmas.List.{drop-take}
-use Rattle.flag_defs.specs.Document.{DocumentMeans}
+use Rattle.flag_defs.specs.Floats.{MeansFlags, MeansWithFloats}
 use Rattle.flag_defs.specs.declared.fault.DefFault.{DefFault}
-use Rattle.snap_core.specs.Hub.{Numbered}
+use Rattle.sync_frames.specs.Snapshots.{Numbered}
 use Rattle.sync_frames.specs.Frames.{frame_of, length_in, number_in, document_in, ShowsDocument}
 use Rattle.sync_frames.specs.Header.{IsHeader}
 use Rattle.sync_frames.specs.Received.{HasRead, IsFirst}
@@ -18,7 +18,7 @@ whole_document last x h is =
     let end : h.end ≡ 12 + (length_in x - 8) = omega (arith, is.end, is.frame.low) in
     ap (λ (n : ℕ). drop 12 (take n x)) end ∙ drop-take 12 (length_in x - 8) x
 
-pub first : (last : ℕ) (x : List ℕ) (h : Header) (s : Numbered) → IsHeader last x h → ((i : ℕ) → get_or x i 0 < 256) → s.number ≡ h.number → DocumentMeans (document_in x) (Ok s.flags) → IsFirst last s x (drop h.end x)
+pub first : (last : ℕ) (x : List ℕ) (h : Header) (s : Numbered) → IsHeader last x h → ((i : ℕ) → get_or x i 0 < 256) → s.number ≡ h.number → MeansFlags (document_in x) s.flags s.floats → IsFirst last s x (drop h.end x)
 first last x h s is bytes number means =
     let same : number_in x ≡ s.number = sym (number ∙ is.number) in
     let split = frame_first x is.frame.low is.frame.there bytes in
@@ -29,7 +29,7 @@ first last x h s is bytes number means =
       is_document = record { fits = omega (arith, number_in-fits x bytes); small = omega (arith, length-document_in x is.frame.low is.frame.there, is.frame.high); means = means };
     }
 
-pub refused : (last : ℕ) (x : List ℕ) (h : Header) (fault : DefFault) → IsHeader last x h → DocumentMeans (document_in x) (Err fault) → ShowsDocument last x
+pub refused : (last : ℕ) (x : List ℕ) (h : Header) (fault : DefFault) → IsHeader last x h → MeansWithFloats (document_in x) (Err fault) → ShowsDocument last x
 refused last x h fault is means = record { frame = is.frame; fault = fault; refused = means }
 
 pub header-nil : (last : ℕ) (x : List ℕ) (h : Header) → IsHeader last (x ++ []) h → IsHeader last x h

@@ -1,7 +1,6 @@
 -- What a feed has been given.
 use Rattle.std.specs.Prelude.{◌≡◌, ℕ, ◌++◌, List, [], map, Bool, true, false, Option, Some, None}
-use Rattle.snap_core.specs.Hub.{Numbered}
-use Rattle.snap_core.specs.HubView.{snapshot_view}
+use Rattle.sync_frames.specs.Snapshots.{Numbered, snapshot_view}
 use Rattle.snap_core.specs.declared.snapshot.Snapshot.{Snapshot}
 use Rattle.sync_frames.specs.Frames.{Reads, Shows, Gains, ShowsFault, last_number}
 use Rattle.sync_frames.specs.declared.fault.FrameFault.{FrameFault}

@@ -1,10 +1,10 @@
 -- Frames of numbered flags, and what a stream of them means.
-use Rattle.std.specs.Prelude.{◌≡◌, ℕ, ◌+◌, ◌-◌, ◌<◌, ◌≤◌, ◌^◌, ◌⊎◌, List, [], ◌∷◌, ◌++◌, length, take, drop, Ok, Err}
+use Rattle.std.specs.Prelude.{◌≡◌, ℕ, ◌+◌, ◌-◌, ◌<◌, ◌≤◌, ◌^◌, ◌⊎◌, List, [], ◌∷◌, ◌++◌, length, take, drop, Err}
 use Rattle.std.specs.Int.{w32, w64, to_be_bytes, from_be_bytes}
 use Rattle.limits.specs.Limits.{text_bytes}
-use Rattle.flag_defs.specs.Document.{DocumentMeans}
+use Rattle.flag_defs.specs.Floats.{MeansFlags, MeansWithFloats}
 use Rattle.flag_defs.specs.declared.fault.DefFault.{DefFault}
-use Rattle.snap_core.specs.Hub.{Numbered}
+use Rattle.sync_frames.specs.Snapshots.{Numbered}
 use Rattle.sync_frames.specs.declared.fault.FrameFault.{FrameFault}
 use Rattle.sync_frames.specs.declared.fault.FrameFault.TheVariants.{Length, NotRising, Document}
 
@@ -16,11 +16,11 @@ max_length = 8 + text_bytes
 unfoldable pub frame_of : ℕ → List ℕ → List ℕ
 frame_of n d = to_be_bytes w32 (8 + length d) ++ (to_be_bytes w64 n ++ d)
 
--- The document may stand in a frame under the number of s, and means the flags of s.
+-- The document may stand in a frame under the number of s, and means the flags of s, with the same of them marked.
 pub record IsDocumentOf (s : Numbered) (d : List ℕ) : Type 0 where
   pub fits : s.number < 2 ^ 64
   pub small : 8 + length d ≤ max_length
-  pub means : DocumentMeans d (Ok s.flags)
+  pub means : MeansFlags d s.flags s.floats
 
 -- The bytes are joined frames, whose numbers rise strictly from above `last`, of documents that mean these numbered flags.
 abbrev pub Frames : ℕ → List Numbered → List ℕ → Type 0
@@ -75,7 +75,7 @@ pub record HoldsFrame (last : ℕ) (rest : List ℕ) : Type 0 where
 pub record ShowsDocument (last : ℕ) (rest : List ℕ) : Type 0 where
   pub frame : HoldsFrame last rest
   pub fault : DefFault
-  pub refused : DocumentMeans (document_in rest) (Err fault)
+  pub refused : MeansWithFloats (document_in rest) (Err fault)
 
 -- what is wrong with a rest behind the number `last`
 abbrev pub Shows : ℕ → List ℕ → FrameFault → Type 0

@@ -5,4 +5,5 @@ pub mod Frames
 pub mod Header
 pub mod Received
 pub mod Sent
+pub mod Snapshots
 pub mod Stage

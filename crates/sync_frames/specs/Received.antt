@@ -1,10 +1,10 @@
 -- What was read behind a number.
-use Rattle.std.specs.Prelude.{◌≡◌, ◌<◌, ◌++◌, ℕ, List, [], ◌∷◌, Option, Some, None, Ok, Err}
-use Rattle.flag_defs.specs.Document.{Definitions, DocumentMeans}
+use Rattle.std.specs.Prelude.{◌≡◌, ◌<◌, ◌++◌, ℕ, List, [], ◌∷◌, Option, Some, None, Err}
+use Rattle.flag_defs.specs.Document.{Definitions}
 use Rattle.flag_defs.specs.Flags.{flags_view}
+use Rattle.flag_defs.specs.Floats.{Marks, MeansFlags, MeansWithFloats, floats_view}
 use Rattle.flag_defs.specs.declared.fault.DefFault.{DefFault}
-use Rattle.snap_core.specs.Hub.{Numbered}
-use Rattle.snap_core.specs.HubView.{snapshot_view}
+use Rattle.sync_frames.specs.Snapshots.{Numbered, snapshot_view}
 use Rattle.snap_core.specs.declared.snapshot.Snapshot.{Snapshot}
 use Rattle.sync_frames.specs.Frames.{Frames, IsDocumentOf, Shows, frame_of, last_number}
 use Rattle.sync_frames.specs.Feed.{snapshots_view}
@@ -18,8 +18,8 @@ use Rattle.sync_frames.specs.declared.stage.Stage.TheVariants as stage
 
 -- the snapshot of the number and the document, or none where the document is refused
 abbrev pub IsRead : ℕ → List ℕ → Option Snapshot → Type 0
-IsRead number document None = (fault : DefFault) × DocumentMeans document (Err fault)
-IsRead number document (Some s) = (s.number ≡ number) × DocumentMeans document (Ok (flags_view s.flags))
+IsRead number document None = (fault : DefFault) × MeansWithFloats document (Err fault)
+IsRead number document (Some s) = (s.number ≡ number) × MeansFlags document (flags_view s.flags) (floats_view s.flags)
 
 -- nothing is wrong with what is left, or a fault shows there
 abbrev pub Ends : ℕ → List ℕ → Option FrameFault → Type 0
@@ -62,10 +62,11 @@ pub record IsReceived (first : Numbered) (bytes : List ℕ) (r : Received) : Typ
 -- The document means the first snapshot's flags, and the bytes behind are read on.
 pub record IsBehind (number : ℕ) (document bytes : List ℕ) (r : Received) : Type 0 where
   pub flags : Definitions
-  pub means : DocumentMeans document (Ok flags)
-  pub received : IsReceived (record { number = number; flags = flags }) bytes r
+  pub floats : Marks
+  pub means : MeansFlags document flags floats
+  pub received : IsReceived (record { number = number; flags = flags; floats = floats }) bytes r
 
 -- what was read of a whole frame and behind it; none where its document is refused
 abbrev pub IsWholeRead : ℕ → List ℕ → List ℕ → Option Received → Type 0
-IsWholeRead number document bytes None = (fault : DefFault) × DocumentMeans document (Err fault)
+IsWholeRead number document bytes None = (fault : DefFault) × MeansWithFloats document (Err fault)
 IsWholeRead number document bytes (Some r) = IsBehind number document bytes r

@@ -1,6 +1,6 @@
 //! A snapshot with its frame.
 ghost use Rattle.std.specs.Prelude.{◌≡◌, IfOk};
-ghost use Rattle.snap_core.specs.HubView.{snapshot_view};
+ghost use Rattle.sync_frames.specs.Snapshots.{snapshot_view};
 ghost use Rattle.sync_frames.specs.Framed.{IsFrameOf};
 
 use crate::write::write_frame;
@@ -21,7 +21,7 @@ pub struct FramedSnapshot {
 pub type SharedSnapshot = Arc<FramedSnapshot>;
 
 impl Model for FramedSnapshot {
-    ghost use Rattle.snap_core.specs.HubView.{snapshot_view};
+    ghost use Rattle.sync_frames.specs.Snapshots.{snapshot_view};
     ghost use Rattle.snap_core.specs.declared.snapshot.Snapshot.{Snapshot};
     ghost use Rattle.snap_core.specs.contracts.snapshot.Snapshot as entry;
     ghost use Rattle.sync_frames.specs.Framed.{IsFrameOf};

@@ -1,7 +1,7 @@
 //! Frames: how numbered snapshots of flags travel in a stream of bytes.
 //!
 //! A frame is how many bytes follow in 4 bytes, a snapshot's number in 8, and the flags as a document; both numbers have
-//! their high byte first. [`write_frame`] writes one, a [`FramedSnapshot`] keeps it for all who send it. A [`Feed`] is given a
+//! their high byte first. The flags may have floats: documents are written and read with them. [`write_frame`] writes one, a [`FramedSnapshot`] keeps it for all who send it. A [`Feed`] is given a
 //! stream in pieces, cut anywhere, and answers each [`snap_core::Snapshot`] with the piece that has the last byte of its frame.
 //!
 //! ```rust
@@ -24,8 +24,8 @@
 //! - [`Feed::feed`] speaks of the whole stream that the feed was given, and not of the piece: it answers the snapshots whose
 //!   frames have become whole, or else the fault that the rest shows, or else nothing; after a fault it stays failed
 //!   (`Feed`). Where memory runs out it is as it was, and the piece can be given again.
-//! - [`streams_give_what_was_sent`]: where frames of snapshots are fed, each that comes out has the flags of the first that
-//!   was framed with its number (`Sent`).
+//! - [`streams_give_what_was_sent`]: where frames of snapshots are fed, each that comes out is the first that was framed with
+//!   its number: it has the same flags, of which the same have floats (`Sent`).
 #![tactic(auto)]
 
 mod fault;

@@ -1,15 +1,13 @@
 //! Reading whole frames.
 ghost use Rattle.std.specs.Prelude.{◌≡◌, ◌≢◌, ℕ, ◌++◌, ◌+◌, ◌-◌, ◌<◌, ◌≤◌, IfOk, drop, length, slice_index};
-ghost use Rattle.flag_defs.specs.Document.{DocumentMeans};
-ghost use Rattle.flag_defs.specs.Flags.{flags_view};
-ghost use Rattle.snap_core.specs.HubView.{snapshot_view};
+ghost use Rattle.sync_frames.specs.Snapshots.{snapshot_view};
 ghost use Rattle.sync_frames.specs.Frames.{HoldsFrame, document_in, length_in};
 ghost use Rattle.sync_frames.specs.Received.{IsNext, IsRead, IsReceived, IsWholeRead};
 
 use crate::fault::FrameFault;
 use crate::header::{Begun, begins};
 use crate::stage::Stage;
-use flag_defs::{DefFault, read_flags};
+use flag_defs::{DefFault, read_flags_with_floats};
 use snap_core::Snapshot;
 use std::alloc::{AllocError, Global};
 
@@ -56,7 +54,7 @@ fn read_document(
 ) -> Result<Option<Snapshot>, AllocError>
     ensures { IfOk result (λ o. IsRead number document.now o) }
 {
-    match read_flags(alloc, document) {
+    match read_flags_with_floats(alloc, document) {
         Ok(flags) => Ok(Some(Snapshot { number, flags })),
         Err(DefFault::WantOfMemory) => Err(AllocError),
         Err(DefFault::NotJson) => Ok(None),

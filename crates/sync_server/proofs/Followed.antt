@@ -2,7 +2,7 @@
 use Rattle.std.proofs.Common.{◌≡◌, ℕ, zero, suc, ◌<◌, ◌≤◌, take, drop, Bool, true, false, List, [], ◌∷◌, ◌++◌, length, ◌||◌, arith, Option, Some, None, refl, sym, ap, subst, ◌∙◌, append-nil, append_assoc}
 use Rattle.std.proofs.lemmas.Bool.{true≢false}
 use Rattle.std.proofs.lemmas.List.{append_cancel_left}
-use Rattle.snap_core.specs.Hub.{Numbered}
+use Rattle.sync_frames.specs.Snapshots.{Numbered}
 use Rattle.sync_frames.specs.Feed.{HasBeenFed, has_failed, waiting, Refuses, Gives, snapshots_view, is_failed, waiting_in}
 use Rattle.sync_frames.specs.declared.stage.Stage.{Stage}
 use Rattle.sync_frames.specs.declared.stage.Stage.TheVariants as stage

@@ -6,7 +6,7 @@ use Rattle.std.specs.Option.{is_some, is_none}
 use Rattle.std.proofs.lemmas.Bool.{true≢false}
 use Rattle.std.proofs.lemmas.List.{take-append-drop, length-take-le}
 use Rattle.std.proofs.lemmas.List.Elements.{All-weaker, All-nil, All-cons, All-append, Contains-append_left}
-use Rattle.snap_core.specs.Hub.{Numbered}
+use Rattle.sync_frames.specs.Snapshots.{Numbered}
 use Rattle.snap_share.specs.Lists.{StartsWith}
 use Rattle.sync_frames.specs.Frames.{Frames, IsDocumentOf, frame_of}
 use Rattle.sync_frames.proofs.Streams.{Frames-snoc}

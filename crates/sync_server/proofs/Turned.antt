@@ -1,7 +1,7 @@
 -- One turn more of a stream that is written.
 use Rattle.std.proofs.Common.{◌≡◌, ℕ, ◌<◌, ◌≤◌, Bool, true, false, if◌then◌else◌, nat_lt, Option, Some, List, [], ◌∷◌, ◌++◌, refl, ap, subst, ◌∙◌}
 use Rattle.std.proofs.lemmas.Bool.{lt-ltb, le-ltb}
-use Rattle.snap_core.specs.Hub.{Numbered}
+use Rattle.sync_frames.specs.Snapshots.{Numbered}
 use Rattle.sync_frames.specs.Frames.{last_number}
 use Rattle.sync_server.specs.Turns.{Turned, latest, newer, raised}
 

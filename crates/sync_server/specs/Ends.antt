@@ -1,7 +1,7 @@
 -- What was read of a stream, and how the reading ended.
 use Rattle.std.specs.Prelude.{◌≡◌, ℕ, List, ◌++◌, Option, Bool, true, false}
 use Rattle.std.specs.Io.KnownBytes.{Consumes, IsAtEnd}
-use Rattle.snap_core.specs.Hub.{Numbered}
+use Rattle.sync_frames.specs.Snapshots.{Numbered}
 use Rattle.sync_frames.specs.Frames.{Reads, ShowsFault, ShowsNothing, IsDone}
 use Rattle.sync_server.specs.declared.end.ReadEnd.{ReadEnd}
 use Rattle.sync_server.specs.declared.end.ReadEnd.TheVariants.{Ended, EndedInside, Limit, Frame, ReadFault, WantOfMemory}

@@ -1,7 +1,7 @@
 -- What a sink was handed of a stream.
 use Rattle.std.specs.Prelude.{◌≡◌, ℕ, List, ◌++◌, Option, Some, None, Bool, true, false, is_none}
 use Rattle.std.specs.Io.KnownBytes.{Consumes}
-use Rattle.snap_core.specs.Hub.{Numbered}
+use Rattle.sync_frames.specs.Snapshots.{Numbered}
 use Rattle.sync_frames.specs.Feed.{HasBeenFed, has_failed}
 use Rattle.sync_frames.specs.Frames.{ShowsNothing, IsDone}
 use Rattle.sync_frames.specs.declared.feed.Feed.{Feed}

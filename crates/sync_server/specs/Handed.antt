@@ -1,7 +1,7 @@
 -- What a sink was handed.
 use Rattle.std.specs.Prelude.{◌≡◌, List, [], ◌∷◌, ◌++◌, Bool, true, false}
 use Rattle.std.specs.Bool.{MatchBool}
-use Rattle.snap_core.specs.Hub.{Numbered}
+use Rattle.sync_frames.specs.Snapshots.{Numbered}
 
 -- It took these, one after the other.
 abbrev pub Took : {X : Type 0} → (X → Numbered → X → Type 0) → X → List Numbered → X → Type 0

@@ -1,6 +1,6 @@
 -- The turns of a stream that is written: each asks for a number above the last that was written, and reads a snapshot.
 use Rattle.std.specs.Prelude.{◌≡◌, ℕ, List, [], ◌∷◌, Option, Some, nat_lt, if◌then◌else◌}
-use Rattle.snap_core.specs.Hub.{Numbered}
+use Rattle.sync_frames.specs.Snapshots.{Numbered}
 
 -- the last number, behind a snapshot that was read
 abbrev pub raised : ℕ → Numbered → ℕ

@@ -1,6 +1,6 @@
 //! Following a stream of snapshots.
 ghost use Rattle.std.specs.Prelude.{◌≡◌, ℕ, ◌<◌, List, ◌++◌, false, not, length, is_none};
-ghost use Rattle.snap_core.specs.Hub.{Numbered};
+ghost use Rattle.sync_frames.specs.Snapshots.{Numbered};
 ghost use Rattle.sync_frames.specs.Feed.{HasBeenFed, has_failed, snapshots_view};
 ghost use Rattle.sync_server.specs.End.{is_limit_read};
 ghost use Rattle.sync_server.specs.Follows.{AtEnd, Follows, LeadsOn, Steps, is_full, is_limit};

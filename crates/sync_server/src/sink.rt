@@ -1,8 +1,7 @@
 //! Who takes the snapshots of a stream.
 ghost use Rattle.std.specs.Prelude.{◌≡◌, Bool, false, not};
 ghost use Rattle.std.specs.Bool.{MatchBool};
-ghost use Rattle.snap_core.specs.Hub.{Numbered};
-ghost use Rattle.snap_core.specs.HubView.{snapshot_view};
+ghost use Rattle.sync_frames.specs.Snapshots.{Numbered, snapshot_view};
 
 use snap_core::Snapshot;
 

@@ -1,4 +1,5 @@
 pub mod Ends
+mod Hashes
 pub mod Pages
 mod Reordered
 mod Summed

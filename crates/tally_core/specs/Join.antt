@@ -1,15 +1,23 @@
 -- The tally of the lines of two tallies, of which the second one's come after the first one's.
 use Rattle.std.specs.Prelude.{◌≡◌, ℕ, ◌+◌, ◌<◌, ◌≤◌, ◌⊎◌, List, length, get_or, Bool, true, false, ◌&&◌, ◌==◌, Option, Some, None, Result, Ok, Err}
+use Rattle.std.specs.Bool.{beq}
 use Rattle.std.specs.Option.{option_or}
 use Rattle.std.specs.Ordering.{is_lt}
 use Rattle.book_core.specs.Page.{bytes_cmp, page_eq}
+use Rattle.note_lines.specs.Hashed.{has_hash}
 use Rattle.tally_core.specs.Tally.{PageTally, most_at_point, most_in_all}
 use Rattle.tally_core.specs.declared.joining.JoinFault.{JoinFault}
 use Rattle.tally_core.specs.declared.joining.JoinFault.TheVariants.{Page, Order, TooMany}
 
--- they are of one page and total
+-- the lines have inputs in both, or hashes in both, where both have lines
+abbrev pub are_of_one_kind : Option (List ℕ) → Option (List ℕ) → Bool
+are_of_one_kind None first = true
+are_of_one_kind (Some last) None = true
+are_of_one_kind (Some last) (Some first) = beq (has_hash last) (has_hash first)
+
+-- they are of one page and total, and their lines are of one kind
 abbrev pub are_alike : PageTally → PageTally → Bool
-are_alike one other = page_eq one.page other.page && (one.total == other.total)
+are_alike one other = (page_eq one.page other.page && (one.total == other.total)) && are_of_one_kind one.last other.first
 
 -- the last line of one is below the first of the other, where both have lines
 abbrev pub follows : Option (List ℕ) → Option (List ℕ) → Bool

@@ -1,4 +1,5 @@
 pub use Rattle.book_core.specs.Page
+pub use Rattle.note_lines.specs.Hashed
 pub use Rattle.note_lines.specs.Note
 pub mod Join
 pub mod Law

@@ -1,17 +1,18 @@
 //! Two tallies as one.
 ghost use Rattle.std.specs.Prelude.{◌≡◌, ◌≤◌, ◌+◌, ℕ, length, get_or, option_map};
 ghost use Rattle.std.specs.Bool.{OnTrue, OnFalse};
-ghost use Rattle.tally_core.specs.Join.{are_alike, follows, IsSum, IsCrowded, Joins};
+ghost use Rattle.tally_core.specs.Join.{are_alike, are_of_one_kind, follows, IsSum, IsCrowded, Joins};
 ghost use Rattle.tally_core.specs.Tally.{most_at_point};
 
 use crate::tally::{MOST_AT_POINT, MOST_IN_ALL, PageTally};
+use note_lines::has_hash;
 use thiserror::Error;
 
 /// Why two tallies are not joined.
 #[derive(Clone, Copy, Debug, PartialEq, Eq, Error)]
 pub enum JoinFault {
-    /// They are of different pages or totals.
-    #[error("the tallies are of different pages or totals")]
+    /// They are of different pages or totals, or have lines of different kinds.
+    #[error("the tallies are of different pages, totals or kinds of lines")]
     Page,
     /// The lines of the second do not follow those of the first.
     #[error("the lines of the second tally do not follow those of the first")]
@@ -21,7 +22,8 @@ pub enum JoinFault {
     TooMany,
 }
 
-/// The tally of the lines of both, where those of the second follow those of the first. It takes no memory.
+/// The tally of the lines of both, where those of the second follow those of the first, and all have inputs or all have hashes. It
+/// takes no memory.
 ///
 /// Refusals, in this order: `Page`, `Order`, `TooMany`.
 pub fn join(one: PageTally, other: PageTally) -> Result<PageTally, JoinFault>
@@ -55,7 +57,17 @@ pub fn join(one: PageTally, other: PageTally) -> Result<PageTally, JoinFault>
 fn are_alike(one: &PageTally, other: &PageTally) -> bool
     ensures { result ≡ are_alike one.now other.now }
 {
-    one.page == other.page && one.total == other.total
+    one.page == other.page && one.total == other.total && are_of_one_kind(&one.last, &other.first)
+}
+
+/// Whether both lines have inputs, or both have hashes, where both are there.
+fn are_of_one_kind(last: &Option<Vec<u8>>, first: &Option<Vec<u8>>) -> bool
+    ensures { result ≡ are_of_one_kind (option_map (λ v. v.items) last.now) (option_map (λ v. v.items) first.now) }
+{
+    match (last, first) {
+        (Some(last), Some(first)) => has_hash(last.as_slice()) == has_hash(first.as_slice()),
+        _ => true,
+    }
 }
 
 fn follows(last: &Option<Vec<u8>>, first: &Option<Vec<u8>>) -> bool

@@ -8,6 +8,9 @@
 //! of which the second one's lines follow the first one's, and refuses only where there is none (`Join`). Where both are
 //! tallies of sets of inputs, the sum is the tally of the union ([`a_join_is_the_tally_of_both`], `Law`), and a tally of
 //! inputs is one of them in any order ([`a_tally_is_in_any_order`]).
+//!
+//! Its lines may have the hashes of inputs in the place of the inputs. Then it is the tally of the set of these hashes, which is
+//! that of the inputs where no two of them have one hash ([`hashes_stand_for_inputs`]).
 #![tactic(auto)]
 
 mod joining;
@@ -15,5 +18,8 @@ mod laws;
 mod tally;
 
 pub use joining::{JoinFault, join};
-pub use laws::{a_join_is_the_tally_of_both, a_tally_is_in_any_order};
+pub use laws::{
+    a_join_is_the_tally_of_both, a_join_of_hashes_is_the_tally_of_both, a_tally_is_in_any_order,
+    hashes_stand_for_inputs,
+};
 pub use tally::{MOST_AT_POINT, MOST_IN_ALL, MOST_POINTS, PageTally};

@@ -11,7 +11,7 @@ pub const MOST_IN_ALL: u64 = limits::TALLY_INPUTS;
 /// The most points.
 pub const MOST_POINTS: u32 = limits::PLANNED_TOTAL;
 
-/// How many inputs of one page fall on each of so many points.
+/// How many inputs of one page fall on each of so many points. Where its lines have hashes, these stand for the inputs.
 #[derive(Debug, Drop)]
 pub struct PageTally {
     /// The page of the inputs.

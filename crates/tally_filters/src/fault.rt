@@ -20,10 +20,14 @@ pub enum FilterFault {
     /// There are 67,108,864 inputs on the input's point, or 8,589,934,592 in all.
     #[error("too many inputs")]
     TooMany,
+    /// The line has an input and those before it hashes, or the other way round.
+    #[error("line {0} has a hash and those before it inputs, or the other way round")]
+    Mixed(u64),
 }
 
 impl FilterFault {
-    /// The number that a refusal is printed with, from 0 for want of memory.
+    /// The number that a refusal is printed with, from 0 for want of memory. 4 and 5 are those of a stream that is not read to its
+    /// end.
     pub fn number(&self) -> u32
         ensures { result ≡ number_of self.now }
     {
@@ -32,6 +36,7 @@ impl FilterFault {
             FilterFault::Line(_) => 1,
             FilterFault::Order(_) => 2,
             FilterFault::TooMany => 3,
+            FilterFault::Mixed(_) => 6,
         }
     }
 }

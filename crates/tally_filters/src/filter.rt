@@ -41,7 +41,7 @@ impl TallyFilter {
     /// Takes the next line, with its line feed. One that has nothing but blanks is passed over. The condition is fewer than
     /// 2^64-1 lines so far.
     ///
-    /// Refusals, in this order: `Line`, `Order`, `TooMany`. That a line is blank, and that one without a line feed is that of no
+    /// Refusals, in this order: `Line`, `Order`, `Mixed`, `TooMany`. That a line is blank, and that one without a line feed is that of no
     /// note, takes no memory.
     pub fn take(&mut self, alloc: Global, line: &[u8]) -> Result<(), FilterFault>
         requires { self.old.lines + 1 < 2 ^ 64 }
@@ -90,6 +90,7 @@ fn fault_at(fault: LineTallyFault, line: u64) -> FilterFault
         LineTallyFault::Line => FilterFault::Line(line),
         LineTallyFault::Order => FilterFault::Order(line),
         LineTallyFault::TooMany => FilterFault::TooMany,
+        LineTallyFault::Mixed => FilterFault::Mixed(line),
     }
 }
 

@@ -1,5 +1,5 @@
 -- The second line of a tally: what is read of it, and that no other line is told the same.
-use Rattle.std.proofs.Common.{◌≡◌, ◌≢◌, ◌<◌, ◌≤◌, ◌^◌, ℕ, true, pos, List, [], ◌∷◌, ◌++◌, length, Option, Some, None, Result, Ok, Err, nat_lt, ◌-◌, take, codes, String, ℤ, string_bytes, option_map, length-append, append_assoc, refl, sym, ap, ap₂, ◌∙◌, subst, arith, IfSome}
+use Rattle.std.proofs.Common.{◌≡◌, ◌≢◌, ◌<◌, ◌≤◌, ◌^◌, ℕ, true, pos, List, [], ◌∷◌, ◌++◌, length, Option, Some, None, Result, Ok, Err, nat_lt, ◌-◌, take, codes, String, ℤ, string_bytes, option_map, length-append, append_assoc, refl, sym, ap, ap₂, ◌∙◌, subst, inl, inr, arith, IfSome}
 use borrow.Author.Tests.{lt-ltb}
 use Rattle.std.specs.Str.{IsUtf8}
 use Rattle.std.specs.declared.alloc.Global.{Global}
@@ -13,9 +13,10 @@ use Rattle.flag_text.specs.declared.fault.TextFault.{TextFault}
 use Rattle.book_core.specs.Page.{PageName}
 use Rattle.book_core.specs.Printing.{Reads, by_shape, line_text}
 use Rattle.book_core.specs.Reading.{by_of, page_of}
+use Rattle.note_lines.specs.Hashed.{hashed_line, hashed_shape}
 use Rattle.note_lines.specs.Note.{note_shape, note_line}
-use Rattle.note_lines.proofs.Lines.{utf8_text}
-use Rattle.tally_core.specs.Tally.{AreEnds, IsLineOn, noted_on}
+use Rattle.note_lines.proofs.Lines.{utf8_hashed, utf8_text}
+use Rattle.tally_core.specs.Tally.{AreEnds, IsLineOn, hashed_on, noted_on}
 use Rattle.tally_text.specs.Cut.{HasNoFeed}
 use Rattle.tally_text.specs.Ends.{IsTextLine}
 use Rattle.tally_text.specs.File.{Head, end_shape, head_shape, object_of, without_feed}
@@ -26,8 +27,9 @@ use Rattle.tally_text.proofs.Fed.{of_head, one_line}
 -- ---- the lines at both ends
 
 pub text_line : (page : PageName) (line : List ℕ) → IsLineOn page line → IsTextLine line
-unfolding note_line
-text_line page line on = (text_of (note_shape (noted_on page on.0)), utf8_text (noted_on page on.0) on.1, on.2)
+unfolding note_line hashed_line
+text_line page line (inl on) = (text_of (note_shape (noted_on page on.0)), utf8_text (noted_on page on.0) on.1, on.2)
+text_line page line (inr on) = (text_of (hashed_shape (hashed_on page on.0)), utf8_hashed (hashed_on page on.0) on.1, on.2)
 
 pub without : (xs : List ℕ) (b : ℕ) → without_feed (xs ++ b ∷ []) ≡ xs
 without [] b = refl

@@ -2,13 +2,13 @@
 ghost use Rattle.std.specs.Prelude.{◌≡◌, ◌++◌, ◌∷◌, [], ◌↔◌, Some, option_map, IfOk, IfSome, IsTrue};
 ghost use Rattle.flag_text.specs.Shape.{text};
 ghost use Rattle.flag_text.specs.View.{view};
-ghost use Rattle.tally_core.specs.Tally.{AreEnds, IsLineOn};
+ghost use Rattle.tally_core.specs.Tally.{AreEnds, IsHashLineOn, IsLineOn};
 ghost use Rattle.tally_text.specs.File.{end_shape, without_feed};
 ghost use Rattle.tally_text.specs.Ends.{IsTextLine};
 
 use book_core::Page;
 use flag_text::Tree;
-use note_lines::read_note;
+use note_lines::{has_hash, read_hashed_note, read_note};
 use std::alloc::{AllocError, Global};
 use std::str;
 
@@ -42,7 +42,7 @@ fn are_lines(
 ) -> Result<bool, AllocError>
     ensures { IfOk result (λ are. IsTrue are ↔ AreEnds page.now inputs (Some first.now) (Some last.now)) }
 {
-    if inputs == 0 || !first.cmp(last).is_le() {
+    if inputs == 0 || !first.cmp(last).is_le() || has_hash(first) != has_hash(last) {
         return Ok(false);
     }
     if !is_line_on(alloc, page, first)? {
@@ -51,11 +51,21 @@ fn are_lines(
     is_line_on(alloc, page, last)
 }
 
-/// Whether a line is that of an input of a page.
+/// Whether a line is that of an input of a page, or that of a hash.
 fn is_line_on(alloc: Global, page: &Page, line: &[u8]) -> Result<bool, AllocError>
     ensures { IfOk result (λ is. IsTrue is ↔ IsLineOn page.now line.now) }
 {
     match read_note(alloc, line)? {
+        None => is_hash_line_on(alloc, page, line),
+        Some(note) => Ok(note.page == *page),
+    }
+}
+
+/// Whether a line is that of a hash.
+fn is_hash_line_on(alloc: Global, page: &Page, line: &[u8]) -> Result<bool, AllocError>
+    ensures { IfOk result (λ is. IsTrue is ↔ IsHashLineOn page.now line.now) }
+{
+    match read_hashed_note(alloc, line)? {
         None => Ok(false),
         Some(note) => Ok(note.page == *page),
     }

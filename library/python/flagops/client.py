@@ -11,14 +11,14 @@ from time import time
 from typing import Any, Callable, NamedTuple
 
 from . import _library
-from ._library import BOOL, INTEGER, OBJECT, STRING, Refused, Seat
+from ._library import BOOL, FLOAT, INTEGER, OBJECT, STRING, Refused, Seat
 from ._recording import Log, NotRecorded
 from ._sources import Followed, Watched
 
 _LOGGER = logging.getLogger("flagops")
 
 # What the library is given as the default, whose place is taken by the caller's own.
-_FALLBACKS = (b"false", b'""', b"0", b"{}")
+_FALLBACKS = (b"false", b'""', b"0", b"{}", b"0")
 _PLAIN = {b"true": True, b"false": False}
 _REASONS, _CODES = _library.REASONS, _library.CODES
 
@@ -240,10 +240,10 @@ class _Place:
 
 
 def _kind_of(default: Any) -> int:
-    for of, kind in ((bool, BOOL), (str, STRING), (int, INTEGER), (Mapping, OBJECT)):
+    for of, kind in ((bool, BOOL), (str, STRING), (int, INTEGER), (float, FLOAT), (Mapping, OBJECT)):
         if isinstance(default, of):
             return kind
-    raise TypeError("the default is a bool, a str, an int or a mapping, or `kind` says what is wanted")
+    raise TypeError("the default is a bool, a str, an int, a float or a mapping, or `kind` says what is wanted")
 
 
 def _plain(value: Any) -> Any:

@@ -5,7 +5,7 @@ from collections.abc import Mapping
 from dataclasses import dataclass, field
 from typing import Any
 
-from ._library import BOOL, CONTEXT, INTEGER, OBJECT, STRING, Refused
+from ._library import BOOL, CONTEXT, FLOAT, INTEGER, OBJECT, STRING, Refused
 from ._recording import NotRecorded
 from .client import Client
 
@@ -68,8 +68,8 @@ class FlagopsProvider(AbstractProvider):
         return self._details(flag_key, INTEGER, default_value, evaluation_context)
 
     def resolve_float_details(self, flag_key: str, default_value: float, evaluation_context: Any = None) -> FlagResolutionDetails:
-        """All numbers of flags are whole; each comes as a float."""
-        details = self._details(flag_key, INTEGER, default_value, evaluation_context)
+        """A flag of floats, or of whole numbers, each of which comes as a float."""
+        details = self._details(flag_key, FLOAT, default_value, evaluation_context)
         details.value = float(details.value)
         return details
 

@@ -37,13 +37,13 @@ good_flag-requires c =
     ap are_rules (moved-rules ms _ _ o e outlined variants c.in_ok-default_variant.ensures)
     ∙ lawful_with (members_view c.args.evaluators.now) ms o e _ outlined c.in_ok-targeting.ensures
 
-pub returns : goal.returns
-returns c =
+pub returns-clause-means : goal.returns-clause-means
+returns-clause-means c =
     let evaluators = members_view c.args.evaluators.now in
     let ms = members_view c.args.members.items in
     let o = outline_view c.in-Some.outline in
     let e = option_map view c.in_ok-targeting.targeting in
     let outlined : outline_of ms ≡ Some o = sym (c.outline_of.ensures ∙ ap (λ xs. outline_of (members_view xs)) c.as_slice.ensures.value) ∙ ap (option_map outline_view) c.in-Some.is in
     let variants = c.members_in-variants.ensures ∙ ap (λ v. or_no_members (option_and_then as_object v)) c.take_both-targeting.ensures.second in
-    subst (Means evaluators (object ms)) (sym (c.good_flag.ensures ∙ ap good (moved-rules ms _ _ o e outlined variants c.in_ok-default_variant.ensures)))
+    subst (Means evaluators (object ms)) (sym (c.good_flag.ensures.value ∙ ap good (moved-rules ms _ _ o e outlined variants c.in_ok-default_variant.ensures)))
     (good_with evaluators ms o e outlined (subst (λ t. HasTargeting evaluators (or_null t) e) c.take_both-targeting.ensures.first c.in_ok-targeting.ensures))

@@ -36,4 +36,7 @@ read_all-requires-clause-light c =
 
 pub returns-clause-rising : goal.returns-clause-rising
 returns-clause-rising c =
-    rise_meant (members_view c.args.evaluators.now) (members_view c.args.definitions.items) (entries_view c.in_ok-flags.flags.items) (names_rise-tidy (members_view c.args.definitions.items) c.requires) c.in_ok-flags.ensures
+    rise_meant (members_view c.args.evaluators.now) (members_view c.args.definitions.items) (entries_view c.in_ok-flags.flags.items) (names_rise-tidy (members_view c.args.definitions.items) c.requires) c.in_ok-flags.ensures.means
+
+pub returns-clause-each : goal.returns-clause-each
+returns-clause-each c = c.in_ok-flags.ensures.means

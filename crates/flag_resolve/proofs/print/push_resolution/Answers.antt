@@ -1,22 +1,9 @@
--- the text is added piece by piece
-use Rattle.std.proofs.Common.{◌++◌, codes, map, string_bytes, ap, ap₂, ◌∙◌}
-use Rattle.flag_text.specs.Printing.{text_of}
-use Rattle.flag_text.specs.Shape.{text}
-use Rattle.flag_text.specs.View.{view}
-use Rattle.flag_resolve.specs.Printing.{list_text, text_or_null}
-use Rattle.flag_resolve.specs.Views.{reached_shape}
-use Rattle.flag_resolve.proofs.Items.{resolution_pushed}
+use Rattle.std.proofs.Common.{◌++◌, string_bytes, ap, ◌∙◌}
+use Rattle.std.proofs.lemmas.Result.{on_ok_weaker}
+use Rattle.flag_resolve.specs.Views.{resolution_view}
+use Rattle.flag_resolve.proofs.Items.{around_value}
 use Rattle.flag_resolve.proofs.print.push_resolution.Goals as goal
 
 pub returns : goal.returns
 returns c =
-    let code = c.in_ok-push_word.ensures ∙ ap₂ (λ b w. b ++ text_of (text_or_null w)) c.in_ok-push_str.ensures.bytes c.word_of.ensures in
-    let reached_front = c.in_ok-push_str-2.ensures.bytes ∙ ap (λ b. b ++ codes ",\"reached\":") code in
-    let reached = c.in_ok-push_reached.ensures ∙ ap₂ (λ b rs. b ++ list_text (map reached_shape rs)) reached_front c.as_slice.ensures.value in
-    let reason_front = c.in_ok-push_str-3.ensures.bytes ∙ ap (λ b. b ++ codes ",\"reason\":") reached in
-    let reason = c.in_ok-push_string.ensures.ok ∙ ap₂ (λ b w. b ++ text_of (text w)) reason_front c.as_str.ensures in
-    let value_front = c.in_ok-push_str-4.ensures.bytes ∙ ap (λ b. b ++ codes ",\"value\":") reason in
-    let value = c.in_ok-push_tree.ensures.ok ∙ ap (λ b. b ++ text_of (view c.args.resolution.now.value)) value_front in
-    let variant_front = c.in_ok-push_str-5.ensures.bytes ∙ ap (λ b. b ++ codes ",\"variant\":") value in
-    let variant = c.in_ok-push_word-2.ensures ∙ ap₂ (λ b w. b ++ text_of (text_or_null w)) variant_front c.name_of.ensures in
-    c.in_ok-push_str-6.ensures.bytes ∙ ap (λ b. b ++ codes "}") variant ∙ resolution_pushed (string_bytes c.args.out.now) c.args.resolution.now
+    on_ok_weaker c.push_resolution_spelled.result (λ e. e ∙ ap (λ b. string_bytes c.args.out.now ++ b) (around_value (resolution_view c.args.resolution.now))) c.push_resolution_spelled.ensures

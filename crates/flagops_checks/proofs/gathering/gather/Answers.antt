@@ -32,12 +32,12 @@ returns-in_err-all-clause-exact g c =
     let told =
     both_known (g.F.FileSet.holding c.args.files.now) (g.F.FileSet.holding before.files)
     (λ at. Goes c.args.form at all (map (λ p. p.now) (drop before.path-index paths)) before.all)
-    (λ at. GivesAll c.args.form (Err refused) (AreChecked at all))
+    (λ at. GivesAll c.args.form (Err refused) (AreChecked c.args.form.floats at all))
     before.invariant.kept before.invariant.goes c.in_err-all.ensures.exact
     (λ at goes gives.
     goes_refused c.args.form at all (map (λ p. p.now) (drop before.path-index paths)) (map (λ p. p.now) (drop (before.path-index + 1) paths)) _ before.all goes
     (first_left (λ p. p.now) paths before.path-index _ (omega arith)) refused gives) in
-    subst (λ (r : Result Gathered Refused). IfSome (g.F.FileSet.holding c.args.files.now) (λ at. GivesAll c.args.form r (AreChecked at all))) (sym is) told
+    subst (λ (r : Result Gathered Refused). IfSome (g.F.FileSet.holding c.args.files.now) (λ at. GivesAll c.args.form r (AreChecked c.args.form.floats at all))) (sym is) told
 
 pub returns-in_err-all-clause-names : goal.returns-in_err-all-clause-names
 returns-in_err-all-clause-names g c =
@@ -50,12 +50,12 @@ returns-in_err-all-clause-names g c =
     let told =
     both_known (g.F.FileSet.holding c.args.files.now) (g.F.FileSet.holding before.files)
     (λ at. Goes c.args.form at all (map (λ p. p.now) (drop before.path-index paths)) before.all)
-    (λ at. is_want refused.refusal ≡ false → NamesFirst (check_attempts at all) refused.refusal refused.remark)
+    (λ at. is_want refused.refusal ≡ false → NamesFirst (check_attempts c.args.form.floats at all) refused.refusal refused.remark)
     before.invariant.kept before.invariant.goes c.in_err-all.ensures.exact
     (λ at goes gives.
     goes_told c.args.form at all (map (λ p. p.now) (drop before.path-index paths)) (map (λ p. p.now) (drop (before.path-index + 1) paths)) _ before.all goes
     (first_left (λ p. p.now) paths before.path-index _ (omega arith)) refused gives c.in_err-all.ensures.names) in
-    subst (λ (r : Result Gathered Refused). IfSome (g.F.FileSet.holding c.args.files.now) (λ at. TellsOfFirst (check_attempts at all) r)) (sym is) told
+    subst (λ (r : Result Gathered Refused). IfSome (g.F.FileSet.holding c.args.files.now) (λ at. TellsOfFirst (check_attempts c.args.form.floats at all) r)) (sym is) told
 
 pub loop-path-preserved : goal.loop-path-preserved
 loop-path-preserved g c =
@@ -82,5 +82,5 @@ returns-clause-exact g c =
     let all = map (λ p. p.now) paths in
     where_known (g.F.FileSet.holding c.args.files.now)
     (λ at. Goes c.args.form at all (map (λ p. p.now) (drop l.path-index paths)) l.all)
-    (λ at. GivesAll c.args.form (Ok l.all) (AreChecked at all))
+    (λ at. GivesAll c.args.form (Ok l.all) (AreChecked c.args.form.floats at all))
     (λ at goes. goes_all c.args.form at all (map (λ p. p.now) (drop l.path-index paths)) l.all goes (ap (map (λ p. p.now)) (drop_all l.path-index paths c.loop-path-test.false))) l.invariant.goes

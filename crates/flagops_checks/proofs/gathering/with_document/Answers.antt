@@ -16,7 +16,7 @@ returns-in_err-bytes-clause-exact g c =
     let refused = c.in_err-bytes.field-0.0 in
     let p = err_from_is_err_and c.from_residual.result c.from_residual.ensures.1 in
     let is : c.from_residual.result ≡ Err refused = p.1 ∙ ap Err p.2 in
-    subst (λ (r : Result Gathered Refused). IfSome h (λ at. GivesNext c.args.form c.args.all r (IsCheckedAt at c.args.path.now))) (sym is)
+    subst (λ (r : Result Gathered Refused). IfSome h (λ at. GivesNext c.args.form c.args.all r (IsCheckedAt c.args.form.floats at c.args.path.now))) (sym is)
     (next_refused c.args.form c.args.all c.args.path.now h refused c.in_err-bytes.ensures.exact)
 
 pub returns-in-Ok-clause-exact : goal.returns-in-Ok-clause-exact

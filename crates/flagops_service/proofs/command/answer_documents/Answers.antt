@@ -1,4 +1,4 @@
-use Rattle.std.proofs.Common.{List, [], ◌∷◌, ◌++◌, ℕ, Vec, Global, Err, Ok, inr, subst, sym}
+use Rattle.std.proofs.Common.{List, [], ◌∷◌, ◌++◌, ℕ, true, Vec, Global, Err, Ok, inr, subst, sym}
 use Rattle.std.proofs.lemmas.List.{length-map}
 use Rattle.flag_defs.specs.Flags.{flags_view}
 use Rattle.flagops_streams.specs.Loading.{documents_view}
@@ -14,7 +14,7 @@ returns-in-Ok g c =
     let d = documents_view c.args.documents in
     let texts = c.args.documents.texts.items in
     let all = merged.0 ++ flags_view c.in-Ok.flags ∷ [] in
-    let gives = subst (λ (ts : List (Vec ℕ Global)). Gives d.sources (texts_of ts) [] (Ok all)) c.as_slice.ensures.value merged.1 in
+    let gives = subst (λ (ts : List (Vec ℕ Global)). Gives true d.sources (texts_of ts) [] (Ok all)) c.as_slice.ensures.value merged.1 in
     begun c.args.answering.now.broken
     (Reports (g.O.Outlet.bytes c.args.out.now) (g.O.Outlet.bytes c.answer_merged.new.out) (g.O.Outlet.is_broken c.answer_merged.new.out) (g.E.Outlet.bytes c.args.err.now) (g.E.Outlet.bytes c.answer_merged.new.err) (g.E.Outlet.is_broken c.answer_merged.new.err) c.answer_merged.result (answering_view c.args.answering.now))
     (seats_of (answering_view c.args.answering.now)) _ d merged.0 (flags_view c.in-Ok.flags)
@@ -23,5 +23,5 @@ returns-in-Ok g c =
 pub returns-in-Err : goal.returns-in-Err
 returns-in-Err g c =
     let d = documents_view c.args.documents in
-    let gives = subst (λ (ts : List (Vec ℕ Global)). Gives d.sources (texts_of ts) [] (let r : Answer = Err c.in-Err.refusal in r)) c.as_slice.ensures.value c.in-Err.ensures in
+    let gives = subst (λ (ts : List (Vec ℕ Global)). Gives true d.sources (texts_of ts) [] (let r : Answer = Err c.in-Err.refusal in r)) c.as_slice.ensures.value c.in-Err.ensures in
     (Err c.in-Err.refusal, inr gives, c.refuse_document.ensures)

@@ -1,4 +1,4 @@
-use Rattle.std.proofs.Common.{◌-◌, ℕ, List, [], Err, Vec, Global, drop, inl, length, refl, subst, sym, take}
+use Rattle.std.proofs.Common.{◌-◌, ℕ, List, [], Err, true, Vec, Global, drop, inl, length, refl, subst, sym, take}
 use Rattle.std.proofs.lemmas.Result.{err_from_is_err_and}
 use Rattle.flag_defs.specs.Flags.{flags_view}
 use Rattle.source_merge.specs.View.{sources_view}
@@ -14,8 +14,8 @@ returns-in_err-flags c =
     let sources = sources_view c.args.sources.now in
     let first = c.first-item.result in
     let p = err_from_is_err_and c.from_residual.result c.from_residual.ensures.1 in
-    let may = subst (λ (t : List ℕ). MayRefuse 1 sources t refusal) c.as_slice.ensures.value c.in_err-flags.ensures.refused in
-    let gives = subst (λ (ts : List (Vec ℕ Global)). Gives sources (texts_of ts) [] (Err refusal)) (sym (first_of c.args.texts.now first c.requires c.first-item.is)) (inl (refusal, refl, may)) in
+    let may = subst (λ (t : List ℕ). MayRefuse true 1 sources t refusal) c.as_slice.ensures.value c.in_err-flags.ensures.refused in
+    let gives = subst (λ (ts : List (Vec ℕ Global)). Gives true sources (texts_of ts) [] (Err refusal)) (sym (first_of c.args.texts.now first c.requires c.first-item.is)) (inl (refusal, refl, may)) in
     rw (p.1, p.2) gives
 
 pub returns : goal.returns
@@ -25,6 +25,6 @@ returns c =
     let flags = flags_view c.in_ok-flags.flags in
     let first = c.first-item.result in
     let others = take (length c.args.texts.now - 1) (drop 1 c.args.texts.now) in
-    let merges = subst (λ (t : List ℕ). Merges 1 sources t next flags) c.as_slice.ensures.value c.in_ok-flags.ensures.merged in
+    let merges = subst (λ (t : List ℕ). Merges true 1 sources t next flags) c.as_slice.ensures.value c.in_ok-flags.ensures.merged in
     subst (λ (ts : List (Vec ℕ Global)). GivesMore sources (sources_view c.merge_others.new.sources) (texts_of ts) [] c.merge_others.result) (sym (first_of c.args.texts.now first c.requires c.first-item.is))
     (first_merged sources next (sources_view c.merge_others.new.sources) flags first.items (texts_of others) c.merge_others.result merges c.merge_others.ensures)

@@ -1,4 +1,4 @@
-use Rattle.std.proofs.Common.{◌≡◌, ◌+◌, List, [], ◌∷◌, ◌++◌, drop, length}
+use Rattle.std.proofs.Common.{◌≡◌, ◌+◌, List, [], ◌∷◌, ◌++◌, drop, length, true}
 use Rattle.flag_defs.specs.Document.{Definitions}
 use Rattle.flag_defs.specs.Flags.{flags_view}
 use Rattle.source_merge.specs.View.{sources_view}
@@ -12,5 +12,5 @@ invariant-loop-text l =
     (l.number ≡ l.text-index + 1)
     × AreMerged (sources_view l.sources) l.flags
     × ((front : List Definitions) × (length (front ++ flags_view l.flags ∷ []) ≡ l.number)
-    × ((answer : Answer) → Gives (sources_view l.sources) (texts_of (drop l.text-index l.texts)) (front ++ flags_view l.flags ∷ []) answer
-    → Gives (sources_view l.fn.sources) (texts_of l.texts) (flags_view l.fn.first ∷ []) answer))
+    × ((answer : Answer) → Gives true (sources_view l.sources) (texts_of (drop l.text-index l.texts)) (front ++ flags_view l.flags ∷ []) answer
+    → Gives true (sources_view l.fn.sources) (texts_of l.texts) (flags_view l.fn.first ∷ []) answer))

@@ -20,9 +20,9 @@ returns-in_err-flags-clause-serves g c =
     let sources = sources_view c.args.sources in
     let first = c.first-item.result in
     let p = err_from_is_err_and c.from_residual.result c.from_residual.ensures.1 in
-    let may = subst (λ (t : List ℕ). MayRefuse 1 sources t refusal) c.as_slice.ensures.value c.in_err-flags.ensures.refused in
-    let gives = subst (λ (ts : List (Vec ℕ Global)). Gives sources (texts_of ts) [] (Err refusal)) (sym (first_of c.args.texts.now first c.requires c.first-item.is)) (inl (refusal, refl, may)) in
-    (Err refusal, inr (refused_alone c.args.subscribers (Gives sources (texts_of c.args.texts.now) []) refusal gives), rw (p.1, p.2) refl)
+    let may = subst (λ (t : List ℕ). MayRefuse c.args.floats 1 sources t refusal) c.as_slice.ensures.value c.in_err-flags.ensures.refused in
+    let gives = subst (λ (ts : List (Vec ℕ Global)). Gives c.args.floats sources (texts_of ts) [] (Err refusal)) (sym (first_of c.args.texts.now first c.requires c.first-item.is)) (inl (refusal, refl, may)) in
+    (Err refusal, inr (refused_alone c.args.subscribers (Gives c.args.floats sources (texts_of c.args.texts.now) []) refusal gives), rw (p.1, p.2) refl)
 
 pub returns-clause-serves : goal.returns-clause-serves
 returns-clause-serves g c =
@@ -32,11 +32,11 @@ returns-clause-serves g c =
     let first = c.first-item.result in
     let rest = c.publish_to.ensures.serves in
     let others = take (length c.args.texts.now - 1) (drop 1 c.args.texts.now) in
-    let merges = subst (λ (t : List ℕ). Merges 1 sources t next flags) c.as_slice.ensures.value c.in_ok-flags.ensures.merged in
-    let served = subst (λ (n : ℕ). ServesTo n next (texts_of others) (flags ∷ []) rest.0) c.in_ok-arrived.ensures.came rest.1 in (
+    let merges = subst (λ (t : List ℕ). Merges c.args.floats 1 sources t next flags) c.as_slice.ensures.value c.in_ok-flags.ensures.merged in
+    let served = subst (λ (n : ℕ). ServesTo c.args.floats n next (texts_of others) (flags ∷ []) rest.0) c.in_ok-arrived.ensures.came rest.1 in (
       rest.0,
-      subst (λ (ts : List (Vec ℕ Global)). ServesTo c.args.subscribers sources (texts_of ts) [] rest.0) (sym (first_of c.args.texts.now first c.requires c.first-item.is))
-          (first_served c.args.subscribers sources next flags first.items (texts_of others) rest.0 merges served),
+      subst (λ (ts : List (Vec ℕ Global)). ServesTo c.args.floats c.args.subscribers sources (texts_of ts) [] rest.0) (sym (first_of c.args.texts.now first c.requires c.first-item.is))
+          (first_served c.args.floats c.args.subscribers sources next flags first.items (texts_of others) rest.0 merges served),
       rest.2,
     )
 

@@ -9,5 +9,5 @@ abbrev pub invariant-loop-text : goal.invariant-loop-text
 invariant-loop-text g l =
     (l.number ≡ l.text-index + 1)
     × (length l.publisher ≡ l.number)
-    × ((answer : Answer) → Gives (sources_view l.sources) (texts_of (drop l.text-index l.texts)) (map flags_view l.publisher) answer
-    → Gives (sources_view l.fn.sources) (texts_of l.texts) (map flags_view l.fn.publisher) answer)
+    × ((answer : Answer) → Gives l.floats (sources_view l.sources) (texts_of (drop l.text-index l.texts)) (map flags_view l.publisher) answer
+    → Gives l.floats (sources_view l.fn.sources) (texts_of l.texts) (map flags_view l.fn.publisher) answer)

@@ -14,5 +14,5 @@ returns-clause-serves g c =
     let sources = sources_view c.args.sources in
     let texts = texts_of c.args.texts.now in
     let result = c.serve_beside.result in
-    let gives = subst (λ (p : List Flags). (result ≡ Err NoThread) ⊎ GivesSome count (Gives sources texts (map flags_view p)) (told_view result)) c.tell-told.ensures.stays c.serve_beside.ensures.gives in
-    beside_served count sources texts (map flags_view c.args.publisher.now) result gives
+    let gives = subst (λ (p : List Flags). (result ≡ Err NoThread) ⊎ GivesSome count (Gives c.args.floats sources texts (map flags_view p)) (told_view result)) c.tell-told.ensures.stays c.serve_beside.ensures.gives in
+    beside_served c.args.floats count sources texts (map flags_view c.args.publisher.now) result gives

@@ -19,12 +19,12 @@ pub returns-in-Ok-outcome-clause-serves : goal.returns-in-Ok-outcome-clause-serv
 returns-in-Ok-outcome-clause-serves g c =
     let told = c.in-Ok-outcome.told in
     let served =
-    subst (λ (published : List Flags). ServesTo (vec_len c.args.arrived.streams + c.args.arrived.absent) (sources_view c.args.sources) (texts_of c.args.texts.now) (map flags_view published) (told_view (Ok told))) c.in-Ok.ensures.published c.in-Ok-outcome.ensures.serves in
+    subst (λ (published : List Flags). ServesTo c.args.floats (vec_len c.args.arrived.streams + c.args.arrived.absent) (sources_view c.args.sources) (texts_of c.args.texts.now) (map flags_view published) (told_view (Ok told))) c.in-Ok.ensures.published c.in-Ok-outcome.ensures.serves in
     (Ok (map flags_view told), served, ap Ok (c.number.ensures ∙ sym (length-map told flags_view)))
 
 pub returns-in-Err-outcome-clause-serves : goal.returns-in-Err-outcome-clause-serves
 returns-in-Err-outcome-clause-serves g c =
     let refusal = c.in-Err-outcome.refusal in
     let served =
-    subst (λ (published : List Flags). ServesTo (vec_len c.args.arrived.streams + c.args.arrived.absent) (sources_view c.args.sources) (texts_of c.args.texts.now) (map flags_view published) (told_view (Err refusal))) c.in-Ok.ensures.published c.in-Err-outcome.ensures.serves in
+    subst (λ (published : List Flags). ServesTo c.args.floats (vec_len c.args.arrived.streams + c.args.arrived.absent) (sources_view c.args.sources) (texts_of c.args.texts.now) (map flags_view published) (told_view (Err refusal))) c.in-Ok.ensures.published c.in-Err-outcome.ensures.serves in
     (Err refusal, served, refl)

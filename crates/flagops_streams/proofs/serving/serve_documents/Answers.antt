@@ -19,7 +19,7 @@ returns-clause-documents g c =
     let lines = lines_behind Line _ _ _ _ _ published.stays warned published.lines in
     let answer = published.serves.0 in
     let served =
-    subst (λ (ts : List (Vec ℕ Global)). ServesTo c.args.subscribers (sources_view d.sources) (texts_of ts) [] answer) c.as_slice-texts.ensures.value published.serves.1 in
+    subst (λ (ts : List (Vec ℕ Global)). ServesTo c.args.floats c.args.subscribers (sources_view d.sources) (texts_of ts) [] answer) c.as_slice-texts.ensures.value published.serves.1 in
     let report =
     reported_behind Is (serve_line_as c.args.port c.args.subscribers true false (λ all. absurd (cc (all)))) (g.O.Outlet.bytes c.args.out.now) (g.O.Outlet.bytes c.report_answer.new.out) (g.O.Outlet.is_broken c.report_answer.new.out) (g.E.Outlet.bytes c.args.err.now) (g.E.Outlet.bytes c.publish_in_turn-answer.new.err) (g.E.Outlet.bytes c.report_answer.new.err)
     (g.E.Outlet.is_broken c.publish_in_turn-answer.new.err) (g.E.Outlet.is_broken c.report_answer.new.err) c.report_answer.ensures.stays c.report_answer.result c.publish_in_turn-answer.result lines c.report_answer.ensures.reports in
@@ -30,5 +30,5 @@ returns-clause-serves g c =
     let d = c.args.documents in
     let r = returns-clause-documents g c in
     let count : length (texts_of d.texts.items) ≡ length d.texts.items = length-map d.texts.items (λ t. t.items) in
-    reported (IsServeLine c.args.port c.args.subscribers) c.args.subscribers (sources_view d.sources) (texts_of d.texts.items) r.0 (g.O.Outlet.bytes c.args.out.now) (g.O.Outlet.bytes c.report_answer.new.out) (g.O.Outlet.is_broken c.report_answer.new.out)
+    reported (IsServeLine c.args.port c.args.subscribers) c.args.floats c.args.subscribers (sources_view d.sources) (texts_of d.texts.items) r.0 (g.O.Outlet.bytes c.args.out.now) (g.O.Outlet.bytes c.report_answer.new.out) (g.O.Outlet.is_broken c.report_answer.new.out)
     (g.E.Outlet.bytes c.args.err.now) (g.E.Outlet.bytes c.report_answer.new.err) (g.E.Outlet.is_broken c.report_answer.new.err) c.report_answer.result (documents_in d) (omega (arith, count, d.texts.ok.0)) r.1 r.2

@@ -6,14 +6,14 @@ use Rattle.note_lines.proofs.Lines.{ends_line, no_tree, of_tree, by_both}
 use Rattle.note_lines.proofs.read.read_note.Goals as goal
 
 pub returns-in_default-clause-exact : goal.returns-in_default-clause-exact
-returns-in_default-clause-exact c = ends_line c.args.line.now c.in_default.ensures
+returns-in_default-clause-exact c = (ends_line c.args.line.now c.in_default.ensures).0
 
 pub returns-in_default-2-clause-exact : goal.returns-in_default-2-clause-exact
 returns-in_default-2-clause-exact c =
     let text = c.in-Some.text.now in
     let refused : (tree : Shape) → tree_of text (length text) ≢ Ok tree =
     subst (λ o. MatchOption o ((tree : Shape) → tree_of text (length text) ≢ Ok tree) (λ tree. tree_of text (length text) ≡ Ok (view tree))) c.in_default-2.is c.in_ok-tree.ensures in
-    no_tree c.args.line.now text c.in-Some.ensures refused
+    (no_tree c.args.line.now text c.in-Some.ensures refused).0
 
 pub returns-clause-exact : goal.returns-clause-exact
 returns-clause-exact c =

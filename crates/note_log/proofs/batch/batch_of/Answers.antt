@@ -12,5 +12,5 @@ loop-note-preserved c =
     let x = c.note-item.result in
     let remembered = c.args.remembered.now.entries in
     let more : take (i + 1) notes ≡ take i notes ++ x ∷ [] = take_more notes i x c.loop-note-test.true ∙ ap (λ (n : Noted). take i notes ++ n ∷ []) (sym c.note-item.is) in
-    subst (λ (ns : List Noted). IsBatch ns remembered c.add.new.self) (sym more)
-    (with_note (take i notes) x remembered c.loop-note.batch c.add.new.self c.loop-note.invariant c.in_ok-add.ensures)
+    subst (λ (ns : List Noted). IsBatch c.args.form ns remembered c.add.new.self) (sym more)
+    (with_note c.args.form (take i notes) x remembered c.loop-note.batch c.add.new.self c.loop-note.invariant c.in_ok-add.ensures)

@@ -1,6 +1,8 @@
 use Rattle.std.proofs.Common.{◌≡◌, ◌∙◌, ℕ, List, Option, Some, None, ap, codes, option_map, string_bytes, sym}
 use Rattle.std.proofs.lemmas.Result.{IfOk-weaker}
 use Rattle.flag_defs.specs.Flags.{flags_view}
+use Rattle.flag_defs.specs.Floats.{floats_view}
+use Rattle.flag_resolve.specs.Floats.{Marked}
 use Rattle.flag_resolve.specs.declared.code.Code.TheVariants.{FlagNotFound}
 use Rattle.ofrep_answers.specs.Answer.{answer_view, failed, one_flag}
 use Rattle.ofrep_requests.specs.Request.{key_in}
@@ -9,7 +11,7 @@ use Rattle.ofrep_answers.proofs.one.one_flag.Goals as goal
 -- a path without a key is told as a flag that is not found, by what stands in the key's place
 pub returns-in-None : goal.returns-in-None
 returns-in-None c =
-    let flags = flags_view c.args.flags.now in
+    let flags : Marked = (flags_view c.args.flags.now, floats_view c.args.flags.now) in
     let path = c.args.path.now in
     let body = c.args.body.now in
     let none : key_in path ≡ None = sym c.in_ok-key.ensures.exact ∙ ap (option_map string_bytes) c.in-None.is in

@@ -1,7 +1,7 @@
-use Rattle.std.proofs.Common.{ℕ, sym, subst, List, Ok, Err}
-use Rattle.flag_defs.specs.Document.{DocumentMeans}
+use Rattle.std.proofs.Common.{ℕ, sym, subst, List, Err}
 use Rattle.flag_defs.specs.Flags.{flags_view}
-use Rattle.snap_core.specs.HubView.{snapshot_view}
+use Rattle.flag_defs.specs.Floats.{MeansFlags, MeansWithFloats, floats_view}
+use Rattle.sync_frames.specs.Snapshots.{snapshot_view}
 use Rattle.sync_frames.specs.Frames.{document_in}
 use Rattle.sync_frames.specs.Received.{IsFirst}
 use Rattle.sync_frames.proofs.Wholes.{first, refused, document_read, header-nil}
@@ -14,7 +14,7 @@ returns-in-Some c =
     let s = c.in-Some.snapshot in
     let h = header-nil last x c.in-Frame.header c.in-Frame.ensures.finds in
     let read = rw c.in-Some.is at c.in_ok-snapshot-in-Frame.ensures in
-    let means : DocumentMeans (document_in x) (Ok (flags_view s.flags)) = subst (λ (l : List ℕ). DocumentMeans l (Ok (flags_view s.flags))) (document_read last x c.split_at.result.0.now c.in-Frame.header h c.split_at.ensures.front) read.1 in
+    let means : MeansFlags (document_in x) (flags_view s.flags) (floats_view s.flags) = subst (λ (l : List ℕ). MeansFlags l (flags_view s.flags) (floats_view s.flags)) (document_read last x c.split_at.result.0.now c.in-Frame.header h c.split_at.ensures.front) read.1 in
     subst (λ (l : List ℕ). IsFirst last (snapshot_view s) x l) (sym c.split_at.ensures.back)
     (first last x c.in-Frame.header (snapshot_view s) h (λ i. (c.type_inv.bytes i).fits) read.0 means)
 
@@ -25,4 +25,4 @@ returns-in-None c =
     let h = header-nil last x c.in-Frame.header c.in-Frame.ensures.finds in
     let read = rw c.in-None.is at c.in_ok-snapshot-in-Frame.ensures in
     refused last x c.in-Frame.header read.0 h
-    (subst (λ (l : List ℕ). DocumentMeans l (Err read.0)) (document_read last x c.split_at.result.0.now c.in-Frame.header h c.split_at.ensures.front) read.1)
+    (subst (λ (l : List ℕ). MeansWithFloats l (Err read.0)) (document_read last x c.split_at.result.0.now c.in-Frame.header h c.split_at.ensures.front) read.1)

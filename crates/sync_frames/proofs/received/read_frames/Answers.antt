@@ -1,7 +1,6 @@
 use Rattle.std.proofs.Common.{◌∷◌, [], List, ap, subst, sym, ◌∙◌}
 use Rattle.std.proofs.lemmas.List.{map-append}
-use Rattle.snap_core.specs.Hub.{Numbered}
-use Rattle.snap_core.specs.HubView.{snapshot_view}
+use Rattle.sync_frames.specs.Snapshots.{Numbered, snapshot_view}
 use Rattle.sync_frames.specs.Received.{HasRead}
 use Rattle.sync_frames.specs.Feed.{snapshots_view}
 use Rattle.sync_frames.proofs.Wholes.{shorter, read_more}

@@ -1,7 +1,7 @@
 use Rattle.std.proofs.Common.{length}
 use Rattle.sync_frames.specs.Feed.{snapshots_view}
 use Rattle.sync_frames.specs.Received.{HasRead}
-use Rattle.snap_core.specs.HubView.{snapshot_view}
+use Rattle.sync_frames.specs.Snapshots.{snapshot_view}
 use Rattle.sync_frames.proofs.received.read_frames.Given as goal
 
 abbrev pub invariant-frames : goal.invariant-frames

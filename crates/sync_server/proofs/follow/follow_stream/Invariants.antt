@@ -1,6 +1,6 @@
 use Rattle.std.proofs.Common.{◌≡◌, ℕ, ◌<◌, List, false, length}
 use Rattle.std.specs.Io.KnownBytes.{Consumes}
-use Rattle.snap_core.specs.Hub.{Numbered}
+use Rattle.sync_frames.specs.Snapshots.{Numbered}
 use Rattle.sync_frames.specs.Feed.{has_failed}
 use Rattle.sync_server.specs.Follows.{Stands}
 use Rattle.sync_server.specs.Handed.{Took}

@@ -1,6 +1,6 @@
 use Rattle.std.proofs.Common.{[], ◌∷◌, ◌++◌, refl, sym, ap, ◌∙◌, append_assoc}
 use Rattle.std.proofs.lemmas.List.{nil_from_length}
-use Rattle.snap_core.specs.HubView.{snapshot_view}
+use Rattle.sync_frames.specs.Snapshots.{snapshot_view}
 use Rattle.sync_frames.specs.Feed.{snapshots_view}
 use Rattle.sync_server.proofs.Followed.{took_more}
 use Rattle.sync_server.proofs.follow.hand_on.Goals as goal

@@ -1,5 +1,5 @@
 use Rattle.std.proofs.Common.{◌≡◌, List, ◌++◌, false}
-use Rattle.snap_core.specs.Hub.{Numbered}
+use Rattle.sync_frames.specs.Snapshots.{Numbered}
 use Rattle.sync_frames.specs.Feed.{snapshots_view}
 use Rattle.sync_server.specs.Handed.{Took}
 use Rattle.sync_server.proofs.follow.hand_on.Given as goal

@@ -1,5 +1,5 @@
 use Rattle.std.proofs.Common.{List, [], ◌++◌, false, refl, sym, ap, subst, ◌∙◌, append-nil}
-use Rattle.snap_core.specs.Hub.{Numbered}
+use Rattle.sync_frames.specs.Snapshots.{Numbered}
 use Rattle.sync_frames.specs.Feed.{Gives, snapshots_view}
 use Rattle.sync_server.specs.Ends.{Ends}
 use Rattle.sync_server.specs.declared.end.ReadEnd.{ReadEnd}

@@ -1,5 +1,5 @@
 use Rattle.std.proofs.Common.{◌≡◌, ◌≤◌, List, false, length}
-use Rattle.snap_core.specs.Hub.{Numbered}
+use Rattle.sync_frames.specs.Snapshots.{Numbered}
 use Rattle.sync_server.specs.Served.{Sent}
 use Rattle.sync_server.specs.Turns.{Turned}
 use Rattle.sync_server.proofs.serve.serve_stream.Given as goal

@@ -1,8 +1,9 @@
 use Rattle.std.proofs.Common.{ap, arith, subst, take}
 use Rattle.std.specs.Arc.{arc_value}
-use Rattle.flag_defs.specs.Document.{printed}
 use Rattle.flag_defs.specs.Flags.{flags_view}
-use Rattle.snap_core.specs.HubView.{snapshot_view}
+use Rattle.flag_defs.specs.Floats.{floats_view}
+use Rattle.flag_defs.specs.Spelled.{printed_with_floats}
+use Rattle.sync_frames.specs.Snapshots.{snapshot_view}
 use Rattle.snap_core.specs.declared.snapshot.Snapshot.{Snapshot}
 use Rattle.sync_frames.specs.Framed.{IsFrameOf}
 use Rattle.sync_server.proofs.Serving.{begins}
@@ -19,6 +20,6 @@ returns-clause-wrote g c =
       take b.0 bytes,
       c.in-Ok.ensures.known,
       omega (arith, c.if-number-last.false, c.number-number.ensures, ap (λ (x : Snapshot). x.number) c.deref.ensures),
-      begins (snapshot_view s) (printed (flags_view s.flags)) bytes b.0 framed.is_document framed.whole b.1,
+      begins (snapshot_view s) (printed_with_floats (flags_view s.flags) (floats_view s.flags)) bytes b.0 framed.is_document framed.whole b.1,
       b.2,
     )

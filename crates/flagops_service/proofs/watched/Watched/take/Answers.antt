@@ -3,7 +3,7 @@ use Rattle.std.specs.Str.{bytes_eq}
 use Rattle.std.proofs.lemmas.Bool.{OnTrue_at}
 use Rattle.std.proofs.lemmas.Option.{slice_get_read}
 use Rattle.std.proofs.lemmas.Slice.Eq.{bytes_eq-Decides}
-use Rattle.source_merge.specs.Sources.{Sets}
+use Rattle.source_merge.specs.Sources.{SetsWithFloats}
 use Rattle.source_merge.specs.View.{sources_view}
 use Rattle.flagops_service.specs.Rereading.{IsUnfit, MayFollow}
 use Rattle.flagops_service.specs.declared.taking.Unfit.TheVariants.{WantOfMemory}
@@ -35,7 +35,7 @@ returns-in-Ok-clause-takes g c =
     let place = c.args.place in
     let text = c.args.text in
     let s = c.in-Ok.ensures.sets in
-    let fit = subst (λ (t : List ℕ). Sets (sources_view self.sources) (decimal (place + 1)) t (Ok (sources_view c.set.new.self.sources)) × MayFollow self.broken s.0.items t) c.as_slice-4.ensures.value s.2 in
+    let fit = subst (λ (t : List ℕ). SetsWithFloats (sources_view self.sources) (decimal (place + 1)) t (Ok (sources_view c.set.new.self.sources)) × MayFollow self.broken s.0.items t) c.as_slice-4.ensures.value s.2 in
     (s.0, s.1, fit.0, fit.1, ap (λ v. slice_set v.items place text) c.in-Ok.ensures.accepted, ap (λ v. slice_set v.items place None) c.in-Ok.ensures.refused)
 
 -- it is refused

@@ -1,6 +1,6 @@
 use Rattle.std.specs.Prelude.{option_map}
 use Rattle.std.proofs.Common.{refl}
-use Rattle.snap_core.specs.HubView.{snapshot_view}
+use Rattle.sync_frames.specs.Snapshots.{snapshot_view}
 use Rattle.library_seat.specs.Feeding.{Heard}
 use Rattle.library_seat.specs.View.{connection_view, seat_view}
 use Rattle.library_seat.proofs.Idle.{heard_nothing}

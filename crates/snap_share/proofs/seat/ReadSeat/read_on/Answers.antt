@@ -1,7 +1,7 @@
 use Rattle.std.proofs.Common.{List, sym, subst, ◌∙◌}
 use Rattle.std.specs.Arc.{arc_value}
 use Rattle.flag_defs.specs.declared.flags.Flags.{Flags}
-use Rattle.snap_core.specs.HubView.{snapshot_view}
+use Rattle.sync_frames.specs.Snapshots.{snapshot_view}
 use Rattle.snap_share.specs.Known.{IsLastOf}
 use Rattle.snap_share.proofs.seat.ReadSeat.read_on.Goals as goal
 

@@ -1,7 +1,7 @@
 use Rattle.std.proofs.Common.{List, subst}
 use Rattle.std.specs.Arc.{arc_value}
 use Rattle.flag_defs.specs.declared.flags.Flags.{Flags}
-use Rattle.snap_core.specs.HubView.{snapshot_view}
+use Rattle.sync_frames.specs.Snapshots.{snapshot_view}
 use Rattle.snap_share.specs.Known.{IsLastOf}
 use Rattle.snap_share.proofs.Numbers.{is_last}
 use Rattle.snap_share.proofs.stamp.Stamp.into_snapshot.Goals as goal
