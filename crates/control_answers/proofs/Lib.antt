@@ -1,0 +1,4 @@
+mod Checked
+mod Planned
+mod Recorded
+mod Turns

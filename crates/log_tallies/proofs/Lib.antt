@@ -1,0 +1,7 @@
+mod Among
+mod Crowded
+mod Cut
+mod Once
+mod Held
+mod Strays
+mod Taken
