@@ -1,4 +1,5 @@
 mod Checked
 mod Planned
 mod Recorded
+mod Tallied
 mod Turns

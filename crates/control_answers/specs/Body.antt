@@ -10,7 +10,7 @@ abbrev pub quoted : List ℕ → List ℕ
 quoted t = text_of (text t)
 
 -- what is told of a plan: the number of the snapshot, how many inputs are recorded, the plan file, the changes of name, what the edit that
--- comes to mind first would switch, the new document, words for a person, and the token by which the plan is applied
+-- comes to mind first would switch, the new document, words for a person, the picture, and the token by which the plan is applied
 pub record Told : Type 0 where
   pub snapshot : ℕ
   pub inputs : ℕ
@@ -19,6 +19,7 @@ pub record Told : Type 0 where
   pub by_hand : Option ℕ
   pub document : Option (List ℕ)
   pub explained : List ℕ
+  pub picture : List ℕ
   pub token : List ℕ
 
 -- ---- parts
@@ -59,4 +60,4 @@ numbers_text a =
 
 unfoldable pub told_text : Told → List ℕ
 told_text a =
-    numbers_text a ++ (rows_text false a.switches ++ (codes "],\"document\":" ++ (text_or_null a.document ++ (codes ",\"explained\":" ++ (quoted a.explained ++ (codes ",\"plan\":" ++ (a.plan ++ (codes ",\"token\":" ++ (a.token ++ codes "}\n")))))))))
+    numbers_text a ++ (rows_text false a.switches ++ (codes "],\"document\":" ++ (text_or_null a.document ++ (codes ",\"explained\":" ++ (quoted a.explained ++ (codes ",\"picture\":" ++ (quoted a.picture ++ (codes ",\"plan\":" ++ (a.plan ++ (codes ",\"token\":" ++ (a.token ++ codes "}\n")))))))))))

@@ -15,6 +15,7 @@ use Rattle.tally_core.specs.Tally.{PageTally}
 use Rattle.control_answers.specs.Body.{Told, told_text, token_text}
 use Rattle.plan_effects.specs.Document.{MayBeKept}
 use Rattle.plan_effects.specs.Effect.{Effect, IsEffect}
+use Rattle.plan_effects.specs.Picture.{IsPictured}
 use Rattle.control_answers.specs.Refusal.{of_printed, of_rollout}
 use Rattle.control_answers.specs.Target.{Target, target_of}
 use Rattle.control_answers.specs.Turns.{OfFiles, Outcomes, WithTarget}
@@ -39,6 +40,7 @@ pub record IsTold (s : Snapshot) (request : List ℕ) (t : PageTally) (answer : 
   pub inputs : a.inputs ≡ t.inputs
   pub plan_is : a.plan ≡ plan
   pub effect : IsEffect problem answer (record { switches = a.switches; by_hand = a.by_hand })
+  pub picture : IsPictured problem answer a.picture
   pub document : MayBeKept s.document s.flags asked.flag asked.site answer a.document
   pub token : a.token ≡ token_text s.document request plan
 

@@ -17,7 +17,7 @@ use Rattle.transport_instance.specs.Fault.{name_of as check_name, number_of as c
 use Rattle.transport_instance.specs.declared.fault.CheckFault.{CheckFault}
 use Rattle.transport_instance.specs.declared.fault.CheckFault.TheVariants as check_fault
 use Rattle.control_answers.specs.declared.refusal.ControlRefusal.{ControlRefusal}
-use Rattle.control_answers.specs.declared.refusal.ControlRefusal.TheVariants.{WantOfMemory, Rollout, Logs, ReadPlan, PrintPlan, Check}
+use Rattle.control_answers.specs.declared.refusal.ControlRefusal.TheVariants.{WantOfMemory, Rollout, Logs, ReadPlan, PrintPlan, Check, NoRecord, BadToken, OtherDocument, NoDocument}
 
 -- want of memory is one refusal, wherever it comes from
 abbrev pub of_rollout : RolloutFault → ControlRefusal
@@ -56,11 +56,13 @@ abbrev pub logs_number : LogTallyFault → ℕ
 logs_number logs.WantOfMemory = 0
 logs_number (logs.Line file line) = 1
 logs_number logs.TooMany = 3
+logs_number logs.Mixed = 6
 
 abbrev pub logs_name : LogTallyFault → List ℕ
 logs_name logs.WantOfMemory = codes "WantOfMemory"
 logs_name (logs.Line file line) = codes "Line"
 logs_name logs.TooMany = codes "TooMany"
+logs_name logs.Mixed = codes "Mixed"
 
 abbrev pub number_of : ControlRefusal → ℕ
 number_of WantOfMemory = 0
@@ -69,6 +71,10 @@ number_of (Logs e) = logs_number e
 number_of (ReadPlan e) = plan_number e
 number_of (PrintPlan e) = plan_number e
 number_of (Check e) = check_number e
+number_of NoRecord = 1
+number_of BadToken = 2
+number_of OtherDocument = 3
+number_of NoDocument = 4
 
 abbrev pub name_of : ControlRefusal → List ℕ
 name_of WantOfMemory = codes "WantOfMemory"
@@ -77,6 +83,10 @@ name_of (Logs e) = logs_name e
 name_of (ReadPlan e) = plan_name e
 name_of (PrintPlan e) = plan_name e
 name_of (Check e) = check_name e
+name_of NoRecord = codes "NoRecord"
+name_of BadToken = codes "BadToken"
+name_of OtherDocument = codes "OtherDocument"
+name_of NoDocument = codes "NoDocument"
 
 -- the call that refuses: the one that is asked, or one by which it reads or writes
 abbrev pub call_of : List ℕ → ControlRefusal → List ℕ
@@ -86,6 +96,17 @@ call_of asked (Logs e) = codes "tally"
 call_of asked (ReadPlan e) = codes "read_planned"
 call_of asked (PrintPlan e) = codes "print_planned"
 call_of asked (Check e) = asked
+call_of asked NoRecord = codes "control"
+call_of asked BadToken = codes "control"
+call_of asked OtherDocument = codes "control"
+call_of asked NoDocument = codes "control"
+
+-- the status of the answer (RFC 9110, 15.5 and 15.6.1)
+abbrev pub status_of : ControlRefusal → ℕ
+status_of WantOfMemory = 500
+status_of NoRecord = 409
+status_of OtherDocument = 409
+status_of e = 400
 
 -- the body of the refusal of a call, with words for a person
 unfoldable pub refusal_text : List ℕ → ControlRefusal → List ℕ → List ℕ

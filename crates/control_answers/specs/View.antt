@@ -14,6 +14,7 @@ told_view t = record {
   by_hand = t.effect.by_hand;
   document = option_map string_bytes t.document;
   explained = string_bytes t.explained;
+  picture = string_bytes t.picture;
   token = t.token.items;
 }
 

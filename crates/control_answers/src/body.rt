@@ -26,6 +26,8 @@ pub(crate) struct Told {
     pub(crate) document: Option<String>,
     /// What a person is told of the plan.
     pub(crate) explained: String,
+    /// The picture of the plan.
+    pub(crate) picture: String,
     /// The token by which the plan is applied.
     pub(crate) token: Vec<u8>,
 }
@@ -42,6 +44,8 @@ pub(crate) fn told_text(alloc: Global, told: &Told) -> Result<Vec<u8>, AllocErro
     push_text_or_null(alloc, &mut text, &told.document)?;
     text.push_str(",\"explained\":")?;
     push_string(alloc, &mut text, told.explained.as_str())?;
+    text.push_str(",\"picture\":")?;
+    push_string(alloc, &mut text, told.picture.as_str())?;
     text.push_str(",\"plan\":")?;
     let mut body = text.into_bytes();
     body.extend_from_slice(told.plan.as_slice())?;

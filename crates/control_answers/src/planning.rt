@@ -8,7 +8,6 @@ ghost use Rattle.rollout.specs.Tallied.{IsTallyPlanned};
 ghost use Rattle.rollout_checks.specs.Tallied.{tally_problem_of};
 ghost use Rattle.rollout_checks.specs.declared.refining.Refining.TheVariants.{Times};
 ghost use Rattle.rule_switches.specs.Switches.{rows_view};
-ghost use Rattle.plan_effects.specs.Effect.{IsOfSome};
 ghost use Rattle.control_answers.specs.Plan.{IsPlanAnswer, IsPlanOn, IsTold, snapshot_view};
 ghost use Rattle.control_answers.specs.Target.{target_view};
 ghost use Rattle.control_answers.specs.Turns.{Gives, OfFiles};
@@ -20,7 +19,7 @@ use crate::refusal::{ControlRefusal, of_printed};
 use crate::snapshot::Snapshot;
 use crate::target::Target;
 use log_tallies::{LogFile, tally_files};
-use plan_effects::{document_with, effect_of, posed};
+use plan_effects::{document_with, effect_of, picture_of, posed};
 use plan_text::{Planned, print_planned};
 use rollout::plan_file_on_tally;
 use rollout_checks::RequestFile;
@@ -30,7 +29,7 @@ use tally_core::PageTally;
 
 /// The plan of a request on the flags of a snapshot and on what log files hold of the request's page, at the rule's total, as JSON:
 /// the plan file, how many of the recorded inputs switch, from which name to which, beside how many the edit that comes to mind
-/// first would switch, the document with the new rule, and the token by which the plan is applied.
+/// first would switch, a picture of that, the document with the new rule, and the token by which the plan is applied.
 ///
 /// The refusals come in the order of the request, its site, the files, the request on their tally, and the size of the plan file.
 pub fn plan_answer(
@@ -68,7 +67,6 @@ fn plan_on(
     request: &RequestFile,
     tally: &PageTally,
 ) -> Result<Vec<u8>, ControlRefusal>
-    requires { IsOfSome tally.now }
     ensures { Gives bytes_view (IsPlanOn (snapshot_view snapshot.now) request.now tally.now) result }
 {
     let planned = plan_file_on_tally(alloc, snapshot.flags, request, tally, 1)?;
@@ -89,8 +87,7 @@ fn told(
     planned: &Planned,
     plan: Vec<u8>,
 ) -> Result<Told, AllocError>
-    requires inputs { IsOfSome tally.now }
-    requires planned { IsTallyPlanned (tally_problem_of (Times 1) (flags_view snapshot.now.flags.now) request.now tally.now) (Ok planned.now) }
+    requires { IsTallyPlanned (tally_problem_of (Times 1) (flags_view snapshot.now.flags.now) request.now tally.now) (Ok planned.now) }
     ensures told { IfOk result (λ t. IsTold (snapshot_view snapshot.now) request.now tally.now (planned_view planned.now) plan.items (told_view t)) }
     ensures few { IfOk result (λ t. sum_by (λ r. r.1) (rows_view t.effect.switches.items) ≤ tally_inputs) }
 {
@@ -107,6 +104,7 @@ fn told(
     let explained = of_planned(alloc, "request", flags, request, 1, counts, planned)?;
     let problem = posed(alloc, flags, request, tally, planned)?;
     let effect = effect_of(alloc, &problem, planned)?;
+    let picture = picture_of(alloc, &problem, planned)?;
     Ok(Told {
         snapshot: snapshot.number,
         inputs: tally.inputs,
@@ -114,6 +112,7 @@ fn told(
         effect,
         document,
         explained,
+        picture,
         token,
     })
 }

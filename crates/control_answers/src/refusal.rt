@@ -1,6 +1,6 @@
 //! Why a call is refused.
 ghost use Rattle.std.specs.Prelude.{◌≡◌, IfOk, string_bytes};
-ghost use Rattle.control_answers.specs.Refusal.{call_of, logs_name, logs_number, name_of, number_of, of_check, of_logs, of_price, of_printed, of_read, of_rollout, of_verdict, refusal_text};
+ghost use Rattle.control_answers.specs.Refusal.{call_of, logs_name, logs_number, name_of, number_of, of_check, of_logs, of_price, of_printed, of_read, of_rollout, of_verdict, refusal_text, status_of};
 ghost use Rattle.control_answers.specs.declared.refusal.ControlRefusal.TheVariants.{WantOfMemory};
 
 use flag_text::push_string;
@@ -26,6 +26,14 @@ pub enum ControlRefusal {
     PrintPlan(PlanFileFault),
     /// The plan is not right.
     Check(CheckFault),
+    /// The service keeps no log, so it has no record.
+    NoRecord,
+    /// What was handed over as a token is none.
+    BadToken,
+    /// The document is another than the one that the plan of the token was made for.
+    OtherDocument,
+    /// The plan has no rule, or no document can have it at this site.
+    NoDocument,
 }
 
 impl ControlRefusal {
@@ -40,6 +48,10 @@ impl ControlRefusal {
             ControlRefusal::ReadPlan(fault) => fault.number(),
             ControlRefusal::PrintPlan(fault) => fault.number(),
             ControlRefusal::Check(fault) => fault.number(),
+            ControlRefusal::NoRecord => 1,
+            ControlRefusal::BadToken => 2,
+            ControlRefusal::OtherDocument => 3,
+            ControlRefusal::NoDocument => 4,
         }
     }
 
@@ -54,6 +66,10 @@ impl ControlRefusal {
             ControlRefusal::ReadPlan(fault) => fault.name(),
             ControlRefusal::PrintPlan(fault) => fault.name(),
             ControlRefusal::Check(fault) => fault.name(),
+            ControlRefusal::NoRecord => "NoRecord",
+            ControlRefusal::BadToken => "BadToken",
+            ControlRefusal::OtherDocument => "OtherDocument",
+            ControlRefusal::NoDocument => "NoDocument",
         }
     }
 
@@ -68,6 +84,23 @@ impl ControlRefusal {
             ControlRefusal::ReadPlan(_) => "read_planned",
             ControlRefusal::PrintPlan(_) => "print_planned",
             ControlRefusal::Check(_) => asked,
+            ControlRefusal::NoRecord => "control",
+            ControlRefusal::BadToken => "control",
+            ControlRefusal::OtherDocument => "control",
+            ControlRefusal::NoDocument => "control",
+        }
+    }
+
+    /// The status of the answer (RFC 9110, 15.5): 409 where the service has no record, or the document has changed; 500 for want of
+    /// memory; else 400.
+    pub fn status(&self) -> u16
+        ensures { result ≡ status_of self.now }
+    {
+        match self {
+            ControlRefusal::WantOfMemory => 500,
+            ControlRefusal::NoRecord => 409,
+            ControlRefusal::OtherDocument => 409,
+            _ => 400,
         }
     }
 
@@ -97,6 +130,7 @@ fn logs_number(fault: LogTallyFault) -> u32
         LogTallyFault::WantOfMemory => 0,
         LogTallyFault::Line(_, _) => 1,
         LogTallyFault::TooMany => 3,
+        LogTallyFault::Mixed => 6,
     }
 }
 
@@ -108,6 +142,7 @@ fn logs_name(fault: LogTallyFault) -> &'static str
         LogTallyFault::WantOfMemory => "WantOfMemory",
         LogTallyFault::Line(_, _) => "Line",
         LogTallyFault::TooMany => "TooMany",
+        LogTallyFault::Mixed => "Mixed",
     }
 }
 

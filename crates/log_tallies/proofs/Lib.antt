@@ -3,5 +3,6 @@ mod Crowded
 mod Cut
 mod Once
 mod Held
+mod Members
 mod Strays
 mod Taken

@@ -1,7 +1,9 @@
 -- Lines that are looked at one after another.
 use Rattle.std.proofs.Common.{◌≡◌, ◌⊎◌, ◌+◌, ℕ, zero, suc, Bool, true, false, List, [], ◌∷◌, ◌++◌, map, refl, sym, ap, ◌∙◌, subst, inl, inr, ⊎_elim, arith}
 use Rattle.line_batches.specs.Lines.{HasNoFeed, IsFirst}
-use Rattle.note_lines.specs.Note.{IsNote, Noted, note_line}
+use Rattle.line_tally.proofs.Refused.{no_hash, no_input}
+use Rattle.line_tally.specs.Lines.{IsSaid, Said, of_hash, of_input, said_line}
+use Rattle.line_tally.specs.Refusals.{SaysNothing}
 use Rattle.tally_filters.specs.Blank.{is_blank}
 use Rattle.log_tallies.proofs.Among.{In}
 use Rattle.log_tallies.proofs.Cut.{lines_first, lines_none}

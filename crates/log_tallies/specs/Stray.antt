@@ -1,18 +1,19 @@
--- Lines that are neither blank nor those of notes, and where the first of them stands.
-use Rattle.std.specs.Prelude.{◌≡◌, ◌≢◌, ◌⊎◌, ℕ, zero, suc, Bool, true, false, List, [], ◌∷◌}
+-- Lines that are neither blank nor those of notes, with an input or without, and where the first of them stands.
+use Rattle.std.specs.Prelude.{◌≡◌, ◌⊎◌, ℕ, zero, suc, Bool, true, false, List, [], ◌∷◌}
 use Rattle.std.specs.List.{AllByRecursion}
-use Rattle.note_lines.specs.Note.{IsNote, Noted, note_line}
+use Rattle.line_tally.specs.Lines.{IsSaid, Said, said_line}
+use Rattle.line_tally.specs.Refusals.{SaysNothing}
 use Rattle.tally_filters.specs.Blank.{is_blank}
 use Rattle.log_tallies.specs.Lines.{lines_in}
 
 -- the line is not blank, and is that of no note
 pub record IsStray (line : List ℕ) : Type 0 where
   pub some : is_blank line ≡ false
-  pub none : (note : Noted) → IsNote note → line ≢ note_line note
+  pub none : SaysNothing line
 
 -- the line is blank, or that of a note
 abbrev pub IsKept : List ℕ → Type 0
-IsKept line = (is_blank line ≡ true) ⊎ ((note : Noted) × IsNote note × (line ≡ note_line note))
+IsKept line = (is_blank line ≡ true) ⊎ ((said : Said) × IsSaid said × (line ≡ said_line said))
 
 abbrev pub AreKept : List (List ℕ) → Type 0
 AreKept lines = AllByRecursion IsKept lines
@@ -34,6 +35,11 @@ IsFirstStray (file ∷ files) (suc i) n = AreKept (lines_in file) × IsFirstStra
 abbrev pub IsTold : List ℕ → Bool → Type 0
 IsTold line true = IsStray line
 IsTold line false = IsKept line
+
+-- whether it says something
+abbrev pub SaysWhether : List ℕ → Bool → Type 0
+SaysWhether line true = (said : Said) × IsSaid said × (line ≡ said_line said)
+SaysWhether line false = SaysNothing line
 
 -- some line is stray
 abbrev pub HasStrayIn : List (List ℕ) → Type 0

@@ -11,13 +11,16 @@ pub enum LogTallyFault {
     /// Memory ran out.
     #[error("out of memory")]
     WantOfMemory,
-    /// A line is neither blank nor that of a note: the number of its file among those that were given, from 0, and that of the line
+    /// A line is neither blank nor that of a note, with an input or without: the number of its file among those that were given, from 0, and that of the line
     /// in the file, from 1.
     #[error("line {1} of file {0} is that of no note")]
     Line(usize, u64),
     /// There are more than 67,108,864 inputs on a point, or than 8,589,934,592 in all.
     #[error("too many inputs")]
     TooMany,
+    /// Some lines are those of notes with inputs, and some those of notes without.
+    #[error("some notes have inputs and some have hashes")]
+    Mixed,
 }
 
 impl From<AllocError> for LogTallyFault {

@@ -1,12 +1,12 @@
 //! Where the first line stands that is neither blank nor that of a note.
 ghost use Rattle.std.specs.Prelude.{◌≡◌, IfOk, MatchOption};
 ghost use Rattle.log_tallies.specs.Lines.{files_view, lines_in};
-ghost use Rattle.log_tallies.specs.Stray.{AreKept, HasStray, IsFirstIn, IsFirstStray, IsTold};
+ghost use Rattle.log_tallies.specs.Stray.{AreKept, HasStray, IsFirstIn, IsFirstStray, IsTold, SaysWhether};
 ghost use Rattle.tally_filters.specs.Blank.{is_blank};
 
 use crate::file::LogFile;
 use line_batches::cut_line;
-use note_lines::read_note;
+use note_lines::{has_hash, read_hashed_note, read_note};
 use std::alloc::{AllocError, Global};
 
 /// The file, from 0, and the line, from 1, of the first stray line. The condition is that there is one.
@@ -45,10 +45,17 @@ fn is_stray(alloc: Global, line: &[u8]) -> Result<bool, AllocError>
     if is_blank(line) {
         return Ok(false);
     }
-    match read_note(alloc, line)? {
-        Some(_) => Ok(false),
-        None => Ok(true),
+    Ok(!is_noted(alloc, line)?)
+}
+
+/// Whether a line is that of a note, with an input or without.
+fn is_noted(alloc: Global, line: &[u8]) -> Result<bool, AllocError>
+    ensures { IfOk result (SaysWhether line.now) }
+{
+    if has_hash(line) {
+        return Ok(read_hashed_note(alloc, line)?.is_some());
     }
+    Ok(read_note(alloc, line)?.is_some())
 }
 
 /// Whether a line has nothing but blanks.

@@ -17,11 +17,12 @@ use std::alloc::Global;
 use tally_core::PageTally;
 use tally_filters::{FilterFault, TallyFilter, a_stream_is_tallied};
 
-/// The tally of the hash inputs of a page that files hold, each counted once, in so many points. Blank lines are passed over, and so
-/// is what stands behind the last line feed of a file. The condition is a total from 1 to 1,000,000.
+/// The tally of the hash inputs of a page that files hold, each counted once, in so many points; or of the hashes, where the notes
+/// are without inputs. Blank lines are passed over, and so is what stands behind the last line feed of a file. The condition is a
+/// total from 1 to 1,000,000.
 ///
-/// Refusals: `Line`, of the first line of the first file that is neither blank nor that of a note; `TooMany`. Cost: a sort of the
-/// lines of all files, and each distinct line is read once.
+/// Refusals: `Line`, of the first line of the first file that is neither blank nor that of a note; `Mixed`; `TooMany`. Cost: a sort
+/// of the lines of all files, and each distinct line is read once.
 pub fn tally_files(
     alloc: Global,
     page: Page,
@@ -43,6 +44,7 @@ pub fn tally_files(
         // Lines that rise are refused for no order.
         Err(FilterFault::Order(_)) => unreachable!(),
         Err(FilterFault::TooMany) => Err(LogTallyFault::TooMany),
+        Err(FilterFault::Mixed(_)) => Err(LogTallyFault::Mixed),
     }
 }
 

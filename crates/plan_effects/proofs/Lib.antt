@@ -1,2 +1,3 @@
-pub mod Planned
+mod Drawings
+mod Planned
 mod Texts

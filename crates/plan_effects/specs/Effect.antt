@@ -6,8 +6,6 @@ use Rattle.plan_text.specs.Answer.{Answer, emit, none_exists}
 use Rattle.rollout_checks.specs.Tallied.{AreTallied, TallyProblem}
 use Rattle.rule_switches.specs.Edit.{IsObvious}
 use Rattle.rule_switches.specs.Switches.{AreSwitches, Rows, rows_view}
-use Rattle.tally_core.specs.Law.{IsTallyOf}
-use Rattle.tally_core.specs.Tally.{PageTally}
 use Rattle.plan_effects.specs.declared.effect.Effect as program
 
 -- the changes of name, each once with the number of its inputs, and how many the edit that comes to mind first would switch
@@ -22,19 +20,13 @@ pub record IsEffectOf (p : TallyProblem) (rule : Entries) (e : Effect) : Type 0 
   pub told : e.by_hand ≡ Some edit
   pub obvious : IsObvious p.old rule p.counts edit
 
--- a set of names switches nobody
+abbrev pub nothing : Effect
+nothing = record { switches = []; by_hand = None }
+
+-- of a rule that keeps the total, as each planned one does; a set of names switches nobody
 abbrev pub IsEffect : TallyProblem → Answer → Effect → Type 0
-IsEffect p (emit rule c) e = IsEffectOf p rule e
-IsEffect p (none_exists kind names) e = (e.switches ≡ []) × (e.by_hand ≡ None)
-
--- it is the tally of some inputs
-abbrev pub IsOfSome : PageTally → Type 0
-IsOfSome t = (inputs : Inputs) × IsTallyOf inputs t
-
--- a rule has as many points as the one that it takes the place of
-abbrev pub KeepsTotal : Entries → Answer → Type 0
-KeepsTotal old (emit rule c) = total_weight rule ≡ total_weight old
-KeepsTotal old (none_exists kind names) = Unit {0}
+IsEffect p (emit rule c) e = total_weight rule ≡ total_weight p.old → IsEffectOf p rule e
+IsEffect p (none_exists kind names) e = e ≡ nothing
 
 -- of the program
 abbrev pub effect_view : program.Effect → Effect

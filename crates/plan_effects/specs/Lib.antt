@@ -3,3 +3,4 @@ pub use Rattle.rollout_checks.specs.Tallied
 pub use Rattle.rule_switches.specs.Switches
 pub mod Document
 pub mod Effect
+pub mod Picture

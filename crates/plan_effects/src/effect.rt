@@ -6,7 +6,7 @@ ghost use Rattle.plan_text.specs.Answer.{planned_view};
 ghost use Rattle.rollout_checks.specs.Tallied.{tally_view};
 ghost use Rattle.rule_switches.specs.Switches.{rows_view};
 ghost use Rattle.transport_instance.specs.Tally.{IsTally};
-ghost use Rattle.plan_effects.specs.Effect.{IsEffect, IsEffectOf, KeepsTotal, effect_view};
+ghost use Rattle.plan_effects.specs.Effect.{IsEffect, IsEffectOf, effect_view, nothing};
 
 use bucket_core::Rule;
 use plan_text::Planned;
@@ -23,23 +23,43 @@ pub struct Effect {
     pub by_hand: Option<u64>,
 }
 
-/// What an answer to a problem does. The conditions are that a rule keeps the total, and that the problem has a tally.
+/// What an answer to a problem does; of a rule that does not keep the total, which no planned one is, nothing is told. The condition is
+/// that the problem has a tally.
 pub fn effect_of(
     alloc: Global,
     problem: &Problem<'_>,
     planned: &Planned,
 ) -> Result<Effect, AllocError>
-    requires total { KeepsTotal problem.now.old (planned_view planned.now) }
-    requires tally { IsTally (total_weight problem.now.old) problem.now.counts.items }
+    requires { IsTally (total_weight problem.now.old) problem.now.counts.items }
     ensures effect { IfOk result (λ e. IsEffect (tally_view problem.now) (planned_view planned.now) (effect_view e)) }
     ensures few { IfOk result (λ e. sum_by (λ r. r.1) (rows_view e.switches.items) ≤ tally_inputs) }
 {
     match planned {
-        Planned::Emit(rule, _) => effect_on(alloc, problem, rule),
-        Planned::NoneExists(_) => Ok(Effect {
-            switches: Vec::new(alloc),
-            by_hand: None,
-        }),
+        Planned::Emit(rule, _) => effect_if_kept(alloc, problem, rule),
+        Planned::NoneExists(_) => Ok(no_effect(alloc)),
+    }
+}
+
+/// What a rule does that keeps the total.
+fn effect_if_kept(alloc: Global, problem: &Problem<'_>, rule: &Rule) -> Result<Effect, AllocError>
+    requires { IsTally (total_weight problem.now.old) problem.now.counts.items }
+    ensures effect { IfOk result (λ e. total_weight rule.now ≡ total_weight problem.now.old → IsEffectOf (tally_view problem.now) rule.now (effect_view e)) }
+    ensures few { IfOk result (λ e. sum_by (λ r. r.1) (rows_view e.switches.items) ≤ tally_inputs) }
+{
+    if rule.total() == problem.old.total() {
+        effect_on(alloc, problem, rule)
+    } else {
+        Ok(no_effect(alloc))
+    }
+}
+
+/// Nothing.
+fn no_effect(alloc: Global) -> Effect
+    ensures { effect_view result ≡ nothing }
+{
+    Effect {
+        switches: Vec::new(alloc),
+        by_hand: None,
     }
 }
 

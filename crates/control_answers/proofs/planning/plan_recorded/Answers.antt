@@ -8,10 +8,6 @@ use Rattle.control_answers.specs.View.{bytes_view}
 use Rattle.control_answers.proofs.Turns.{no_tally, with_tally}
 use Rattle.control_answers.proofs.planning.plan_recorded.Goals as goal
 
--- the tally is that of the inputs that the files hold
-pub plan_on-requires : goal.plan_on-requires
-plan_on-requires c = let held = c.in_ok-tally.ensures.0 in (held.inputs, held.tally.tally)
-
 pub returns-in_err-tally : goal.returns-in_err-tally
 returns-in_err-tally c =
     let f = c.in_err-tally.field-0.0 in

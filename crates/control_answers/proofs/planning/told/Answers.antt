@@ -7,7 +7,7 @@ use Rattle.control_answers.proofs.planning.told.Goals as goal
 
 -- what was planned is lawful
 pub unreachable-requires : goal.unreachable-requires
-unreachable-requires c = was_asked (flags_view c.args.snapshot.now.flags.now) c.args.request.now c.args.tally.now c.in-Err.field-0 c.args.planned.now (sym c.in-Err.ensures.value) c.requires.planned
+unreachable-requires c = was_asked (flags_view c.args.snapshot.now.flags.now) c.args.request.now c.args.tally.now c.in-Err.field-0 c.args.planned.now (sym c.in-Err.ensures.value) c.requires
 
 pub returns-clause-told : goal.returns-clause-told
 returns-clause-told c = record {
@@ -19,6 +19,7 @@ returns-clause-told c = record {
   inputs = search rules;
   plan_is = refl;
   effect = c.in_ok-effect.ensures.effect;
+  picture = c.in_ok-picture.ensures;
   document = search rules;
   token = search rules;
 }

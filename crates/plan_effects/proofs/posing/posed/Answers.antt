@@ -1,17 +1,13 @@
 use Rattle.std.proofs.Common.{◌≡◌, ◌≢◌, rules}
 use Rattle.flag_defs.specs.Flags.{flags_view}
-use Rattle.rollout_checks.specs.Tallied.{tally_problem_of, tally_view}
+use Rattle.rollout_checks.specs.Tallied.{tally_problem_of}
 use Rattle.rollout_checks.specs.declared.fault.RolloutFault.TheVariants.{WantOfMemory}
 use Rattle.rollout_checks.specs.declared.refining.Refining.TheVariants.{Times}
-use Rattle.plan_effects.proofs.Planned.{keeps_total, not_refused}
+use Rattle.plan_effects.proofs.Planned.{not_refused}
 use Rattle.plan_effects.proofs.posing.posed.Goals as goal
 
 -- what was planned is lawful
 pub unreachable-requires : goal.unreachable-requires
 unreachable-requires c =
     let other : c.in-Err.field-0 ≢ WantOfMemory = search rules in
-    not_refused (tally_problem_of (Times 1) (flags_view c.args.flags.now) c.args.request.now c.args.tally.now) c.in-Err.field-0 c.args.planned.now c.in-Err.ensures.exact other c.requires.planned
-
-pub returns-in-Ok-clause-total : goal.returns-in-Ok-clause-total
-returns-in-Ok-clause-total c =
-    keeps_total c.tallies_plan_as_books.ensures.asks (flags_view c.args.flags.now) c.args.request.now c.args.tally.now (tally_view c.in-Ok.problem) c.args.planned.now c.requires.inputs c.in-Ok.ensures.exact c.requires.planned
+    not_refused (tally_problem_of (Times 1) (flags_view c.args.flags.now) c.args.request.now c.args.tally.now) c.in-Err.field-0 c.args.planned.now c.in-Err.ensures.exact other c.requires
