@@ -91,6 +91,7 @@ class ConsoleTest(unittest.TestCase):
         """Screenshots at two widths, light and dark, where they are asked for."""
         for width in (400, 1600) if PICTURES else ():
             for scheme in ("light", "dark"):
+                self.told("Emulation.setScrollbarsHidden", hidden=True)
                 self.told("Emulation.setDeviceMetricsOverride", width=width, height=900, deviceScaleFactor=1, mobile=False)
                 self.told("Emulation.setEmulatedMedia", features=[{"name": "prefers-color-scheme", "value": scheme}])
                 self.browser.run("await new Promise(go => setTimeout(go, 300));")

@@ -16,18 +16,18 @@ use Rattle.control_answers.specs.declared.refusal.ControlRefusal.{ControlRefusal
 use Rattle.control_answers.specs.declared.refusal.ControlRefusal.TheVariants.{WantOfMemory}
 use Rattle.control_answers.proofs.Turns.{refused}
 
-module _ {A : Type 0} (seen : A → List ℕ) where
-  pub no_answer : (bytes : List ℕ) (Next : Answer → Outcomes (List ℕ)) (f : PlanFileFault) (r : Result A ControlRefusal) → r ≡ Err (of_read f) → (f ≢ plan_fault.WantOfMemory → answer_of bytes ≡ Err f) → Gives seen (WithAnswer Next (answer_of bytes)) r
+module _ {A B : Type 0} (seen : A → B) where
+  pub no_answer : (bytes : List ℕ) (Next : Answer → Outcomes B) (f : PlanFileFault) (r : Result A ControlRefusal) → r ≡ Err (of_read f) → (f ≢ plan_fault.WantOfMemory → answer_of bytes ≡ Err f) → Gives seen (WithAnswer Next (answer_of bytes)) r
   no_answer bytes Next f r is reads =
       refused seen (WithAnswer Next (answer_of bytes)) (of_read f) r is
       (λ other. subst (λ (a : Result Answer PlanFileFault). WithAnswer Next a (Err (of_read f))) (sym (reads (λ want. other (ap of_read want)))) refl)
 
-  pub with_answer : (bytes : List ℕ) (Next : Answer → Outcomes (List ℕ)) (answer : Answer) (r : Result A ControlRefusal) → answer_of bytes ≡ Ok answer → Gives seen (Next answer) r → Gives seen (WithAnswer Next (answer_of bytes)) r
+  pub with_answer : (bytes : List ℕ) (Next : Answer → Outcomes B) (answer : Answer) (r : Result A ControlRefusal) → answer_of bytes ≡ Ok answer → Gives seen (Next answer) r → Gives seen (WithAnswer Next (answer_of bytes)) r
   with_answer bytes Next answer r reads made = subst (λ (a : Result Answer PlanFileFault). Gives seen (WithAnswer Next a) r) (sym reads) made
 
-  module _ (flags : Definitions) (request : List ℕ) (answer : Answer) (t : PageTally) where
-    pub wrong : (f : VerifyFault) (r : Result A ControlRefusal) → r ≡ Err (of_verdict f) → IsTallyOutcome (tally_problem_of (refining_for answer) flags request t) answer (Err f) → Gives seen (IsVerdictOn flags request answer t) r
-    wrong f r is told = refused seen (IsVerdictOn flags request answer t) (of_verdict f) r is (λ other. (Err f, record { told = told; shown = tt }, refl))
+module _ {A : Type 0} (seen : A → List ℕ) (flags : Definitions) (request : List ℕ) (answer : Answer) (t : PageTally) where
+  pub wrong : (f : VerifyFault) (r : Result A ControlRefusal) → r ≡ Err (of_verdict f) → IsTallyOutcome (tally_problem_of (refining_for answer) flags request t) answer (Err f) → Gives seen (IsVerdictOn flags request answer t) r
+  wrong f r is told = refused seen (IsVerdictOn flags request answer t) (of_verdict f) r is (λ other. (Err f, record { told = told; shown = tt }, refl))
 
 pub right : (flags : Definitions) (request : List ℕ) (answer : Answer) (t : PageTally) (text : List ℕ) → IsTallyOutcome (tally_problem_of (refining_for answer) flags request t) answer (Ok tt) → IsTallyShown (tally_problem_of (refining_for answer) flags request t) answer
     → text ≡ valid_text answer → IsVerdictOn flags request answer t (Ok text)

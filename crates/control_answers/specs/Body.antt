@@ -1,6 +1,5 @@
 -- The text of the answer to a request for a plan.
 use Rattle.std.specs.Prelude.{ℕ, Bool, true, false, List, [], ◌∷◌, ◌++◌, codes, decimal, sum_by, if◌then◌else◌, Option, Some, None}
-use Rattle.entity_tags.specs.Tag.{opaque_tag}
 use Rattle.flag_text.specs.Printing.{text_of}
 use Rattle.flag_text.specs.Shape.{text}
 use Rattle.price_core.specs.Pricing.{Pair}
@@ -45,12 +44,6 @@ rows_text later (r ∷ rs) = comma_if later ++ (row_text r ++ rows_text true rs)
 
 abbrev pub switched_in : Rows → ℕ
 switched_in rows = sum_by (λ r. r.1) rows
-
--- ---- the token: which document, which plan, which request
-
--- the tag of the document, the plan file and the request, as they are
-unfoldable pub token_text : List ℕ → List ℕ → List ℕ → List ℕ
-token_text document request plan = codes "{\"document\":\"" ++ (opaque_tag document ++ (codes "\",\"plan\":" ++ (plan ++ (codes ",\"request\":" ++ (request ++ codes "}")))))
 
 -- ---- the whole
 

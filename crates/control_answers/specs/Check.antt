@@ -32,7 +32,7 @@ verdict_report answer (Err e) = Err (of_verdict e)
 abbrev pub IsVerdictOn : Definitions → List ℕ → Answer → PageTally → Outcomes (List ℕ)
 IsVerdictOn flags request answer t r = (verdict : Result (Unit {0}) VerifyFault) × MayBeTold flags request t answer verdict × (r ≡ verdict_report answer verdict)
 
-abbrev pub WithAnswer : (Answer → Outcomes (List ℕ)) → Result Answer PlanFileFault → Outcomes (List ℕ)
+abbrev pub WithAnswer : {B : Type 0} → (Answer → Outcomes B) → Result Answer PlanFileFault → Outcomes B
 WithAnswer Next (Err e) r = r ≡ Err (of_read e)
 WithAnswer Next (Ok answer) r = Next answer r
 

@@ -7,7 +7,9 @@ pub mod Turns
 pub mod Record
 pub mod Check
 pub mod Body
+pub mod Token
 pub mod View
 pub mod Plan
+pub mod Apply
 pub mod Held
 pub mod Law

@@ -12,7 +12,8 @@ use Rattle.rollout_checks.specs.Tallied.{TallyProblem, tally_problem_of}
 use Rattle.rollout_checks.specs.declared.fault.RolloutFault.{RolloutFault}
 use Rattle.rollout_checks.specs.declared.refining.Refining.TheVariants.{Times}
 use Rattle.tally_core.specs.Tally.{PageTally}
-use Rattle.control_answers.specs.Body.{Told, told_text, token_text}
+use Rattle.control_answers.specs.Body.{Told, told_text}
+use Rattle.control_answers.specs.Token.{token_text}
 use Rattle.plan_effects.specs.Document.{MayBeKept}
 use Rattle.plan_effects.specs.Effect.{Effect, IsEffect}
 use Rattle.plan_effects.specs.Picture.{IsPictured}

@@ -2,10 +2,9 @@
 ghost use Rattle.std.specs.Prelude.{◌≡◌, ◌++◌, ◌≤◌, false, IfOk, OnOk, option_map, string_bytes, sum_by};
 ghost use Rattle.limits.specs.Limits.{tally_inputs};
 ghost use Rattle.rule_switches.specs.Switches.{row_view, rows_view};
-ghost use Rattle.control_answers.specs.Body.{comma_if, number_or_null, numbers_text, row_text, rows_text, switched_in, text_or_null, token_text, told_text};
+ghost use Rattle.control_answers.specs.Body.{comma_if, number_or_null, numbers_text, row_text, rows_text, switched_in, text_or_null, told_text};
 ghost use Rattle.control_answers.specs.View.{told_view};
 
-use entity_tags::opaque_tag;
 use flag_text::push_string;
 use plan_effects::Effect;
 use rule_switches::Switch;
@@ -128,26 +127,4 @@ fn push_text_or_null(
         None => out.push_str("null"),
         Some(text) => push_string(alloc, out, text.as_str()),
     }
-}
-
-/// The token by which the plan of a request is applied to a document.
-#[tactic(auto, unfolding(crate::specs::Body::token_text))]
-pub(crate) fn token_text(
-    alloc: Global,
-    document: &str,
-    request: &[u8],
-    plan: &[u8],
-) -> Result<Vec<u8>, AllocError>
-    ensures { IfOk result (λ v. v.items ≡ token_text document.now request.now plan.now) }
-{
-    let tag = opaque_tag(alloc, document.as_bytes())?;
-    let mut token = Vec::new(alloc);
-    token.extend_from_slice("{\"document\":\"".as_bytes())?;
-    token.extend_from_slice(tag.as_bytes())?;
-    token.extend_from_slice("\",\"plan\":".as_bytes())?;
-    token.extend_from_slice(plan)?;
-    token.extend_from_slice(",\"request\":".as_bytes())?;
-    token.extend_from_slice(request)?;
-    token.extend_from_slice("}".as_bytes())?;
-    Ok(token)
 }

@@ -13,11 +13,12 @@ ghost use Rattle.control_answers.specs.Target.{target_view};
 ghost use Rattle.control_answers.specs.Turns.{Gives, OfFiles};
 ghost use Rattle.control_answers.specs.View.{bytes_view, told_view};
 
-use crate::body::{Told, token_text, told_text};
+use crate::body::{Told, told_text};
 use crate::place::target_of;
 use crate::refusal::{ControlRefusal, of_printed};
 use crate::snapshot::Snapshot;
 use crate::target::Target;
+use crate::token::token_text;
 use log_tallies::{LogFile, tally_files};
 use plan_effects::{document_with, effect_of, picture_of, posed};
 use plan_text::{Planned, print_planned};
