@@ -121,43 +121,26 @@ class Control:
             self.read = {"state": state, "lines": sorted(found)}
         return self.read["lines"]
 
-    def pages(self):
-        """How many lines each page has."""
-        lines = self.lines()
-        if "pages" not in self.read:
-            self.read["pages"] = {}
-            for line in lines:
-                page = tuple(json.loads(line)[:3])
-                self.read["pages"][page] = self.read["pages"].get(page, 0) + 1
-        return self.read["pages"]
-
     def tally(self, key, site):
         if self.logs is None:
             raise Refused("tally", 0, "NoRecord", "The service keeps no log.", 409)
         return self.run(["tally", self.document, key, str(site)], b"".join(self.lines()))[0]
 
     def flags(self):
+        """The merged flags, as `flag_defs` prints them, and what is told of them: a broken one is an empty object."""
         text = self.text()
-        broken = {}
-        for line in self.run(["check", self.document])[1].splitlines():
-            found = re.match(r"broken: flags\.([^.]+)\.?(\S*) (.*)$", line)
-            if found:
-                broken[found[1]] = {"member": found[2], "rule": found[3]}
-        pages = self.pages()
-        flags = [self.flag(key, flag, broken.get(key), pages) for key, flag in json.loads(text)["flags"].items()]
-        return {"flags": sorted(flags, key=lambda flag: flag["key"]), "may_apply": self.allow_apply, "snapshot": self.number}
-
-    def flag(self, key, flag, broken, pages):
-        sites = []
-        for site, given in enumerate(rules_of(flag.get("targeting"))):
-            by, rule = site_of(given)
-            total = sum(weight for _, weight in rule) if rule else None
-            sites.append({"by": by, "inputs": pages.get((key, site, by), 0), "rule": rule, "site": site, "total": total})
-        values = list(flag.get("variants", {}).values())
-        kind = {bool: "boolean", int: "integer", str: "string", float: "number", dict: "object", list: "object"}.get(type(values[0])) if values else None
+        remarks = self.run(["check", self.document])[1]
+        broken = {key for key, flag in json.loads(text)["flags"].items() if re.search(f"^broken: flags\\.({re.escape(key)}|{re.escape(compact(key))})[. ]", remarks, re.MULTILINE)}
+        merged, sites = {}, []
+        for key, flag in sorted(json.loads(text)["flags"].items(), key=lambda it: it[0].encode()):
+            members = {name: spelled(flag[name]) if name == "targeting" else flag[name] for name in ("defaultVariant", "state", "targeting", "variants") if flag.get(name) is not None}
+            merged[key] = {} if key in broken else members
+            for site, given in enumerate(rules_of(merged[key].get("targeting"))):
+                by, rule = site_of(given)
+                sites.append({"by": by, "flag": key, "site": site, "rule": rule})
         return {
-            "broken": broken, "default": flag.get("defaultVariant"), "document": os.path.basename(self.document), "doubts": [], "key": key, "kind": kind,
-            "metadata": flag.get("metadata", {}), "sites": sites, "state": flag.get("state", "ENABLED"), "targeting": flag.get("targeting"), "variants": flag.get("variants", {}),
+            "snapshot": self.number, "may_apply": self.allow_apply, "remarks": "".join(line + "\n" for line in remarks.splitlines() if line.startswith("broken: ")),
+            "sources": [os.path.basename(self.document)], "sites": sites, "doubts": [], "merged": {"flags": merged},
         }
 
     def plan(self, body):

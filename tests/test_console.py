@@ -217,7 +217,7 @@ class Names(ConsoleTest):
     def test_markup_in_names(self):
         evil = "<img src=x onerror=document.title='bad'>\"'&"
         rule = {"fractional": [[evil, 5], ["off", 95]]}
-        document = {"flags": {evil: {"state": "ENABLED", "variants": {evil: True, "off": False}, "defaultVariant": evil, "targeting": rule, "metadata": {evil: evil}}}}
+        document = {"flags": {evil: {"state": "ENABLED", "variants": {evil: True, "off": False}, "defaultVariant": evil, "targeting": rule}}}
         self.begin(json.dumps(document), [note(evil, key) for key in range(50)])
         self.click("#flag-rows a")
         self.until("document.querySelectorAll('.counts div').length")

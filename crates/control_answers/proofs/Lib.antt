@@ -1,3 +1,4 @@
+mod Applied
 mod Checked
 mod Planned
 mod Recorded

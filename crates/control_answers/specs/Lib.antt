@@ -12,4 +12,5 @@ pub mod View
 pub mod Plan
 pub mod Apply
 pub mod Held
+pub mod History
 pub mod Law

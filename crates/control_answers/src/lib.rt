@@ -3,7 +3,7 @@
 //! A service that answers flag evaluations notes in log files what it has answered. [`record_answer`] tallies what they hold of a
 //! site's page, [`plan_answer`] plans a request on it, and says who would switch beside the edit that comes to mind first, and
 //! [`check_answer`] checks an answer, whoever made it; [`apply_answer`] checks the plan of a token once more, and puts its rule into
-//! the document. [`document_tag`] is the tag of a snapshot's document. None opens a file or a socket: whoever calls hands over the bytes.
+//! the document; [`history_row`] and [`history_answer`] write and tell what was applied. [`document_tag`] is the tag of a snapshot's document. None opens a file or a socket: whoever calls hands over the bytes.
 //!
 //! ```rust
 //! use control_answers::{Snapshot, plan_answer};
@@ -23,6 +23,7 @@
 mod applying;
 mod body;
 mod checking;
+mod history;
 mod holding;
 mod laws;
 mod place;
@@ -35,6 +36,7 @@ mod token;
 
 pub use applying::{Applied, apply_answer};
 pub use checking::check_answer;
+pub use history::{AppliedRow, history_answer, history_row};
 pub use holding::{DocumentTag, document_tag};
 pub use laws::answers_plan_the_record;
 pub use planning::plan_answer;
