@@ -70,17 +70,9 @@ full_in {X} at t xs total p below same is full =
 -- ---- members of a page as what lines say of it
 
 module _ {X : Type 0} (say : X → Said) where
-  count_said : (test : Said → Bool) (xs : List X) → count_by test (map say xs) ≡ count_by (λ (x : X). test (say x)) xs
-  count_said test [] = refl
-  count_said test (x ∷ xs) = ap (λ (n : ℕ). cond (test (say x)) 1 0 + n) (count_said test xs)
-
   length_said : (xs : List X) → length (map say xs) ≡ length xs
   length_said [] = refl
   length_said (x ∷ xs) = ap suc (length_said xs)
-
-  lines_said : (xs : List X) → map said_line (map say xs) ≡ map (λ (x : X). said_line (say x)) xs
-  lines_said [] = refl
-  lines_said (x ∷ xs) = ap (λ (ls : List (List ℕ)). said_line (say x) ∷ ls) (lines_said xs)
 
   all_said : (P : Said → Type 0) (xs : List X) → AllByRecursion (λ (x : X). P (say x)) xs → AllByRecursion P (map say xs)
   all_said P [] all = tt

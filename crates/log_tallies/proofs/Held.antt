@@ -2,6 +2,7 @@
 use Rattle.std.proofs.Common.{◌≡◌, ◌<◌, ◌⊎◌, ℕ, Bool, true, false, if◌then◌else◌, List, [], ◌∷◌, map, Result, Ok, Err, refl, sym, ap, ◌∙◌, subst, inl, inr, ⊎_elim}
 use Rattle.std.specs.List.{AllByRecursion, Contains}
 use Rattle.std.specs.List.Sorted.{IsStrictlySortedBy}
+use Rattle.bucket_core.specs.Point.{point_of, scale}
 use Rattle.book_core.specs.Book.{Inputs}
 use Rattle.book_core.specs.Page.{PageName, bytes_cmp, page_eq}
 use Rattle.line_tally.specs.Law.{IsTallyOfHashedNotes, IsTallyOfNotes, hashes_of, inputs_of}
@@ -74,7 +75,7 @@ module _ (files lines : List (List ℕ)) (page : PageName) (are : AreDistinct fi
       record {
         inputs = inputs;
         recorded = record {
-          once = on_this line_on _ page last inputs read.2.same read.2.tally;
+          once = on_this line_on point_of page last inputs read.2.same read.2.tally;
           each = held (λ input. IsNote (noted_on page input)) (line_on page) files inputs each;
           all = λ input recorded.
               from_in inputs input (in_members (λ (n : Noted). n.page) (λ n. n.input) page (noted_on page) notes input (page_itself page) refl (in_notes notes (noted_on page input) (is_said (map of_input notes) (of_input (noted_on page input)) read.1 recorded.one recorded.there)));
@@ -93,7 +94,7 @@ module _ (files lines : List (List ℕ)) (page : PageName) (are : AreDistinct fi
       record {
         hashes = hashes;
         recorded = record {
-          once = on_this hash_line_on _ page last hashes read.2.same read.2.tally;
+          once = on_this hash_line_on scale page last hashes read.2.same read.2.tally;
           each = held (λ hash. IsHashed (hashed_on page hash)) (hash_line_on page) files hashes each;
           all = λ hash recorded.
               from_in hashes hash (in_members (λ (n : Hashed). n.page) (λ n. n.hash) page (hashed_on page) notes hash (page_itself page) refl (in_hashes notes (hashed_on page hash) (is_said (map of_hash notes) (of_hash (hashed_on page hash)) read.1 recorded.one recorded.there)));

@@ -45,7 +45,11 @@ fn is_stray(alloc: Global, line: &[u8]) -> Result<bool, AllocError>
     if is_blank(line) {
         return Ok(false);
     }
-    Ok(!is_noted(alloc, line)?)
+    if is_noted(alloc, line)? {
+        Ok(false)
+    } else {
+        Ok(true)
+    }
 }
 
 /// Whether a line is that of a note, with an input or without.
@@ -53,9 +57,15 @@ fn is_noted(alloc: Global, line: &[u8]) -> Result<bool, AllocError>
     ensures { IfOk result (SaysWhether line.now) }
 {
     if has_hash(line) {
-        return Ok(read_hashed_note(alloc, line)?.is_some());
+        return match read_hashed_note(alloc, line)? {
+            Some(_) => Ok(true),
+            None => Ok(false),
+        };
     }
-    Ok(read_note(alloc, line)?.is_some())
+    match read_note(alloc, line)? {
+        Some(_) => Ok(true),
+        None => Ok(false),
+    }
 }
 
 /// Whether a line has nothing but blanks.
