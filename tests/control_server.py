@@ -6,12 +6,16 @@ import json
 import os
 import re
 import subprocess
+import sys
 import tempfile
 import threading
 import time
 from urllib.parse import parse_qs, urlsplit
 
 from program import PROGRAM, ROOT
+
+sys.path.insert(0, os.path.join(ROOT, "tools"))
+from embed_console import policy_of
 
 CONSOLE = os.path.join(ROOT, "console", "console.html")
 
@@ -276,14 +280,6 @@ class Answers(http.server.BaseHTTPRequestHandler):
 
     def log_message(self, *_):
         pass
-
-
-def policy_of(page):
-    """The policy of a page: its own style and script, by their hashes, and nothing from elsewhere."""
-    import base64
-
-    own = lambda tag: base64.b64encode(hashlib.sha256(re.search(f"<{tag}>(.*?)</{tag}>", page, re.DOTALL)[1].encode()).digest()).decode()
-    return f"default-src 'none'; style-src 'sha256-{own('style')}'; script-src 'sha256-{own('script')}'; connect-src 'self'; img-src blob: data:; base-uri 'none'; form-action 'none'; frame-ancestors 'none'"
 
 
 class ControlServer:

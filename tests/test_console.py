@@ -3,12 +3,14 @@ import base64
 import http.client
 import json
 import os
+import socket
+import subprocess
 import tempfile
 import unittest
 
 from browser import Browser, Pages
 from control_server import ControlServer
-from program import ROOT, SECONDS, needs
+from program import PROGRAM, ROOT, SECONDS, free_port, needs, wait_until
 
 DEMO = os.path.join(ROOT, "demo")
 PICTURES = os.environ.get("CONSOLE_PICTURES")
@@ -17,6 +19,31 @@ ENTER, TAB, SPACE, RIGHT = "\ue007", "\ue004", "\ue00d", "\ue014"
 
 def note(page, key):
     return json.dumps([page, 0, None, f"{page}{key}"], separators=(",", ":"), ensure_ascii=False) + "\n"
+
+
+def serves_console():
+    """Whether the program itself has the calls."""
+    return "--allow-apply" in subprocess.run([PROGRAM, "ofrep", "--help"], capture_output=True, text=True, check=False).stdout
+
+
+class Service:
+    """The service over a document and a folder of logs."""
+
+    def __init__(self, test, document, logs, allow_apply=False):
+        port, admin = free_port(test), free_port(test)
+        words = ["ofrep", "--listen", f"127.0.0.1:{port}", "--admin", f"127.0.0.1:{admin}", "--log", logs, *(["--allow-apply"] if allow_apply else []), document]
+        self.child = subprocess.Popen([PROGRAM, *words], stdout=subprocess.DEVNULL, stderr=subprocess.DEVNULL)
+        self.origin = f"http://127.0.0.1:{admin}"
+        wait_until(lambda: is_open(admin), "the service listens")
+
+    def close(self):
+        self.child.kill()
+        self.child.wait()
+
+
+def is_open(port):
+    with socket.socket() as probe:
+        return probe.connect_ex(("127.0.0.1", port)) == 0
 
 
 @needs("chromium", "chromedriver")
@@ -52,7 +79,8 @@ class ConsoleTest(unittest.TestCase):
         half = len(lines) // 2
         self.put("log/worker-1.log", "".join(lines[: half + 10]))
         self.put("log/worker-2.log", "".join(lines[half:]))
-        self.server = ControlServer(self.path("flags.json"), self.path("log"), **how)
+        paths = self.path("flags.json"), self.path("log")
+        self.server = Service(self, *paths, **how) if serves_console() else ControlServer(*paths, **how)
         self.addCleanup(self.server.close)
         self.browser.open(self.server.origin + "/")
         self.until("document.querySelectorAll('#flag-rows tr').length")
@@ -260,6 +288,8 @@ class Strangers(ConsoleTest):
         self.browser.open(pages.origin)
         told = self.browser.run("const found = []; for (const path of ['flags', 'history', 'snapshot']) found.push(await fetch(given[0] + path).then(() => 'told', fault => fault.name)); return found;", self.server.origin + "/")
         self.assertEqual(told, ["TypeError"] * 3)
+        # What the browser says of this is no error of the console's.
+        self.session("POST", "/se/log", {"type": "browser"})
         self.browser.open(self.server.origin + "/")
 
     def test_another_name_of_the_host(self):
