@@ -28,7 +28,7 @@ button,input{font:inherit;color:inherit;background:var(--field);border:1px solid
 button{cursor:pointer;background:var(--card)}button:hover:enabled{border-color:var(--mark)}
 button.main{background:var(--mark);border-color:var(--mark);color:var(--mark-ink);font-weight:600}
 button:disabled{opacity:.5;cursor:default}
-input[type=number]{width:7.5em;font-variant-numeric:tabular-nums}input[type=range]{padding:0;border:0;background:none;accent-color:var(--mark);width:100%;min-width:60px}
+input[type=number]{width:6.5em;font-variant-numeric:tabular-nums}input[type=range]{padding:0;border:0;background:none;accent-color:var(--mark);width:100%;min-width:60px}
 input[type=checkbox]{width:20px;height:20px;accent-color:var(--mark);vertical-align:middle;margin:0}
 :focus-visible{outline:3px solid var(--mark);outline-offset:2px}
 .card{background:var(--card);border:1px solid var(--line);border-radius:12px;padding:18px 20px;margin:0 0 16px;min-width:0}
@@ -37,9 +37,9 @@ input[type=checkbox]{width:20px;height:20px;accent-color:var(--mark);vertical-al
 .row{display:flex;flex-wrap:wrap;gap:8px 12px;align-items:center;margin:12px 0}.row:last-child{margin-bottom:0}
 .scroll{overflow-x:auto}
 table{border-collapse:collapse;width:100%}
-th{font-weight:600;font-size:.875rem;color:var(--soft)}tbody th{color:var(--ink);font-size:1rem}
+th{font-weight:600;font-size:.875rem;color:var(--soft)}tbody th{color:var(--ink);font-size:1rem;min-width:6em}
 th,td{text-align:left;padding:9px 12px 9px 0;border-bottom:1px solid var(--line);vertical-align:middle;overflow-wrap:anywhere}
-tbody tr:last-child>*{border-bottom:0}th:last-child,td:last-child{padding-right:0}
+thead th{overflow-wrap:normal}tbody tr:last-child>*{border-bottom:0}th:last-child,td:last-child{padding-right:0}
 .n{text-align:right;font-variant-numeric:tabular-nums;white-space:nowrap;padding-right:28px}
 .sr{position:absolute;width:1px;height:1px;overflow:hidden;clip-path:inset(50%);white-space:nowrap}
 #rates:empty{display:none}
@@ -586,4 +586,4 @@ rates();
 "##;
 
 /// The value of its field `Content-Security-Policy`: its own style and script, by their digests, and nothing from elsewhere.
-pub const POLICY: &str = "default-src 'none'; style-src 'sha256-TS537IvGM0lMrVGKCvEOCLMiro8AWFvRh+F9jfWhiqU='; script-src 'sha256-sze2ZPP3M6x+LepCzC257CiaKnC1XsJkG9lYrJwlAxU='; connect-src 'self'; img-src blob:; base-uri 'none'; form-action 'none'; frame-ancestors 'none'";
+pub const POLICY: &str = "default-src 'none'; style-src 'sha256-NiphOTQAvOpv3kJru3uOvSQ2Pms0KazLh9Y+PApOTBY='; script-src 'sha256-sze2ZPP3M6x+LepCzC257CiaKnC1XsJkG9lYrJwlAxU='; connect-src 'self'; img-src blob:; base-uri 'none'; form-action 'none'; frame-ancestors 'none'";
