@@ -31,7 +31,8 @@ def source_of(page):
 pub const PAGE: &str = r##"{page}"##;
 
 /// The value of its field `Content-Security-Policy`: its own style and script, by their digests, and nothing from elsewhere.
-pub const POLICY: &str = "{policy_of(page)}";
+pub const POLICY: &str =
+    "{policy_of(page)}";
 """
 
 

@@ -586,4 +586,5 @@ rates();
 "##;
 
 /// The value of its field `Content-Security-Policy`: its own style and script, by their digests, and nothing from elsewhere.
-pub const POLICY: &str = "default-src 'none'; style-src 'sha256-NiphOTQAvOpv3kJru3uOvSQ2Pms0KazLh9Y+PApOTBY='; script-src 'sha256-sze2ZPP3M6x+LepCzC257CiaKnC1XsJkG9lYrJwlAxU='; connect-src 'self'; img-src blob:; base-uri 'none'; form-action 'none'; frame-ancestors 'none'";
+pub const POLICY: &str =
+    "default-src 'none'; style-src 'sha256-NiphOTQAvOpv3kJru3uOvSQ2Pms0KazLh9Y+PApOTBY='; script-src 'sha256-sze2ZPP3M6x+LepCzC257CiaKnC1XsJkG9lYrJwlAxU='; connect-src 'self'; img-src blob:; base-uri 'none'; form-action 'none'; frame-ancestors 'none'";

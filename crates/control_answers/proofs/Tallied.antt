@@ -28,4 +28,3 @@ tallied law flags request t p inputs is asks =
     let there = inputs_there t.page inputs in
     let book = book_of t.page inputs in
     subst (AreTallied p) there ((law (Times 1) flags request book t p (subst (λ (xs : Inputs). IsTallyOf xs t) (sym there) is) asks).1)
-

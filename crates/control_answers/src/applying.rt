@@ -1,10 +1,8 @@
 //! The plan of a token, applied.
-ghost use Rattle.std.specs.Prelude.{◌≡◌, ◌≢◌, Ok, IfOk, OnOk};
-ghost use Rattle.bucket_core.specs.Rule.{entries_view};
+ghost use Rattle.std.specs.Prelude.{Ok};
 ghost use Rattle.flag_defs.specs.Flags.{flags_view};
 ghost use Rattle.log_tallies.specs.Lines.{files_view};
 ghost use Rattle.plan_text.specs.Answer.{planned_view};
-ghost use Rattle.price_core.specs.Request.{asked_of};
 ghost use Rattle.rollout_checks.specs.Tallied.{IsTallyOutcome, tally_problem_of};
 ghost use Rattle.rollout_checks.specs.Verified.{refining_for};
 ghost use Rattle.control_answers.specs.Apply.{IsApplied, IsAppliedOn, IsApplyAnswer, IsApplyOf, applied_view};

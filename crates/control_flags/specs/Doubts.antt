@@ -1,11 +1,10 @@
 -- What is doubted of flags by their targetings.
-use Rattle.std.specs.Prelude.{ℕ, Bool, true, false, List, [], ◌∷◌, ◌++◌, codes, flat_map, map}
-use Rattle.std.specs.List.{filter}
+use Rattle.std.specs.Prelude.{ℕ, Bool, true, false, List, [], ◌∷◌, ◌++◌, codes, filter, flat_map, map}
 use Rattle.flag_defs.specs.Definition.{Definition}
 use Rattle.flag_defs.specs.Document.{Definitions}
 use Rattle.flag_doubts.specs.Doubts.{gives_foreign, gives_none, is_weighed_badly, name_of}
 use Rattle.flag_doubts.specs.declared.doubt.Doubt.{Doubt}
-use Rattle.flag_doubts.specs.declared.doubt.Doubt.TheVariants.{Unread, Weight, Variant, Never, Doubled, Repeated}
+use Rattle.flag_doubts.specs.declared.doubt.Doubt.TheVariants.{Weight, Variant, Never}
 use Rattle.control_flags.specs.Joined.{comma_if, quoted}
 
 abbrev pub is_doubted : Doubt → Definition → Bool

@@ -1,5 +1,5 @@
 //! The text of the answer.
-ghost use Rattle.std.specs.Prelude.{◌≡◌, ◌++◌, IfOk, OnOk, string_bytes};
+ghost use Rattle.std.specs.Prelude.{◌≡◌, IfOk, string_bytes};
 ghost use Rattle.flag_defs.specs.Flags.{flags_view};
 ghost use Rattle.control_flags.specs.Flags.{IsFlagsText, bool_text, numbers_text};
 
@@ -51,7 +51,9 @@ fn numbers_text(alloc: Global, asked: &FlagsAsked<'_>) -> Result<String, AllocEr
 {
     let number = asked.number;
     let may_apply = bool_text(asked.may_apply);
-    let mut text = format!(in alloc; "{{\"snapshot\":{number},\"may_apply\":{may_apply},\"remarks\":")?;
+    let mut text = format!(in alloc;
+        "{{\"snapshot\":{number},\"may_apply\":{may_apply},\"remarks\":"
+    )?;
     push_string(alloc, &mut text, asked.remarks)?;
     text.push_str(",\"sources\":[")?;
     push_names(alloc, &mut text, asked.sources)?;

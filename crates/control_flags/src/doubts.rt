@@ -1,5 +1,5 @@
 //! What is doubted of flags.
-ghost use Rattle.std.specs.Prelude.{◌≡◌, ◌++◌, IfOk, string_bytes};
+ghost use Rattle.std.specs.Prelude.{◌≡◌, IfOk, string_bytes};
 ghost use Rattle.flag_defs.specs.Flag.{flag_view};
 ghost use Rattle.flag_defs.specs.Flags.{flags_view};
 ghost use Rattle.control_flags.specs.Doubts.{doubts_text, is_doubted};

@@ -1,5 +1,5 @@
 //! Items between commas.
-ghost use Rattle.std.specs.Prelude.{◌≡◌, ◌++◌, OnOk, string_bytes};
+ghost use Rattle.std.specs.Prelude.{◌≡◌, ◌++◌, false, OnOk, string_bytes};
 ghost use Rattle.control_flags.specs.Joined.{comma_if, names_text, quoted};
 
 use flag_text::push_string;

@@ -1,9 +1,8 @@
 //! The sites of flags.
-ghost use Rattle.std.specs.Prelude.{◌≡◌, ◌++◌, IfOk, OnOk, map, option_map, string_bytes, true};
+ghost use Rattle.std.specs.Prelude.{◌≡◌, ◌++◌, false, IfOk, OnOk, option_map, string_bytes};
 ghost use Rattle.bucket_core.specs.Rule.{entries_view};
 ghost use Rattle.flag_defs.specs.Flags.{flags_view};
 ghost use Rattle.logic_ast.specs.View.{view};
-ghost use Rattle.control_flags.specs.Joined.{comma_if};
 ghost use Rattle.control_flags.specs.Sites.{AreSites, IsSitesText, entries_text, entry_text, page_head, rule_at, rule_text, site_text};
 
 use crate::joined::comma_if;
@@ -50,7 +49,12 @@ fn push_sites(
 }
 
 /// Adds the row of a site: its page, and its rule where its buckets are literal.
-fn push_site(alloc: Global, out: &mut String, page: &Page, targeting: &Expr) -> Result<(), AllocError>
+fn push_site(
+    alloc: Global,
+    out: &mut String,
+    page: &Page,
+    targeting: &Expr,
+) -> Result<(), AllocError>
     ensures { OnOk result (string_bytes out.new ≡ string_bytes out.old ++ site_text page.now (rule_at (view targeting.now) page.now.site)) }
 {
     push_page(alloc, out, page)?;
@@ -77,7 +81,11 @@ fn push_page(alloc: Global, out: &mut String, page: &Page) -> Result<(), AllocEr
 }
 
 /// The entries of a site, where they are literal.
-fn rule_of(alloc: Global, targeting: &Expr, number: u32) -> Result<Option<Vec<(String, u64)>>, AllocError>
+fn rule_of(
+    alloc: Global,
+    targeting: &Expr,
+    number: u32,
+) -> Result<Option<Vec<(String, u64)>>, AllocError>
     ensures { IfOk result (λ o. option_map (λ v. entries_view v.items) o ≡ rule_at (view targeting.now) number) }
 {
     match site(alloc, targeting, number) {
@@ -88,7 +96,11 @@ fn rule_of(alloc: Global, targeting: &Expr, number: u32) -> Result<Option<Vec<(S
 }
 
 /// Adds a rule's entries to a text, as a JSON list of lists of a name and a weight.
-pub fn push_rule(alloc: Global, out: &mut String, entries: &[(String, u64)]) -> Result<(), AllocError>
+pub fn push_rule(
+    alloc: Global,
+    out: &mut String,
+    entries: &[(String, u64)],
+) -> Result<(), AllocError>
     ensures { OnOk result (string_bytes out.new ≡ string_bytes out.old ++ rule_text (entries_view entries.now)) }
 {
     out.push_str("[")?;
@@ -96,7 +108,11 @@ pub fn push_rule(alloc: Global, out: &mut String, entries: &[(String, u64)]) -> 
     out.push_str("]")
 }
 
-fn push_entries(alloc: Global, out: &mut String, entries: &[(String, u64)]) -> Result<(), AllocError>
+fn push_entries(
+    alloc: Global,
+    out: &mut String,
+    entries: &[(String, u64)],
+) -> Result<(), AllocError>
     ensures { OnOk result (string_bytes out.new ≡ string_bytes out.old ++ entries_text false (entries_view entries.now)) }
 {
     let mut later = false;
