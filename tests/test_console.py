@@ -30,8 +30,8 @@ class Service:
     """The service over a document and a folder of logs."""
 
     def __init__(self, test, document, logs, allow_apply=False):
-        port, admin = free_port(test), free_port(test)
-        words = ["ofrep", "--listen", f"127.0.0.1:{port}", "--admin", f"127.0.0.1:{admin}", "--log", logs, *(["--allow-apply"] if allow_apply else []), document]
+        self.port, admin = free_port(test), free_port(test)
+        words = ["ofrep", "--listen", f"127.0.0.1:{self.port}", "--admin", f"127.0.0.1:{admin}", "--log", logs, *(["--allow-apply"] if allow_apply else []), document]
         self.child = subprocess.Popen([PROGRAM, *words], stdout=subprocess.DEVNULL, stderr=subprocess.DEVNULL)
         self.origin = f"http://127.0.0.1:{admin}"
         wait_until(lambda: is_open(admin), "the service listens")
