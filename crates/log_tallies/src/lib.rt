@@ -12,7 +12,7 @@
 //! assert!(rt; tally.inputs == 1);
 //! ```
 //!
-//! Proved, over the definitions of `specs/`: the tally is that of just the inputs whose note lines stand in the files, each once, or
+//! Stated, over the definitions of `specs/` (the proofs are not checked yet): the tally is that of just the inputs whose note lines stand in the files, each once, or
 //! of just the hashes, where the notes are without inputs (`Recorded`), and then each line is blank or that of a note; a line that is
 //! neither is told by its file and its number, the first of all (`Stray`); that there are too many, or notes of both kinds, is told
 //! only where there are (`Tallies`).
