@@ -1,6 +1,8 @@
 -- Where the next line has no room, there are too many for any tally; and where two are of different kinds, the files have both.
-use Rattle.std.proofs.Common.{◌≡◌, ◌<◌, ◌≤◌, ◌⊎◌, ◌==◌, ◌+◌, ℕ, suc, Bool, cond, true, false, ◌&&◌, nat_lt, List, [], ◌∷◌, ◌++◌, length, map, count_by, get_or, refl, sym, ap, ◌∙◌, subst, inl, inr, ⊎_elim, map-append, arith}
+use Rattle.std.proofs.Common.{◌≡◌, ◌<◌, ◌≤◌, ◌⊎◌, ◌==◌, ◌+◌, ℕ, suc, Bool, cond, true, false, ◌&&◌, nat_lt, List, [], ◌∷◌, ◌++◌, length, map, count_by, get_or, refl, sym, ap, ◌∙◌, subst, inl, inr, ⊎_elim, arith}
 use borrow.Author.Tests.{ltb-false}
+use Rattle.std.proofs.lemmas.List.{map-append}
+use Rattle.std.proofs.lemmas.List.Sums.{sum_by-cons}
 use Rattle.std.proofs.lemmas.List.FromFn.{get_or-map-range_with_len}
 use Rattle.std.specs.List.{AllByRecursion, Contains}
 use Rattle.std.specs.List.Sorted.{IsStrictlySortedBy}
@@ -81,12 +83,12 @@ module _ {X : Type 0} (say : X → Said) where
 -- ---- the whole
 
 -- what is said of a page, whose lines rise and stand in the files, and what was tallied of it
-record IsOfPage (files : List (List ℕ)) (page : PageName) (total : ℕ) (t : Tallied) (line : List ℕ) (p : ℕ) : Type 0 where
-  saids : List Said
-  rising : IsStrictlySortedBy bytes_cmp (map said_line saids)
-  below : AllByRecursion (λ (k : List ℕ). bytes_cmp k line ≡ Less) (map said_line saids)
-  each : AllByRecursion (IsSaidOf files page) saids
-  full : (most_in_all ≤ length saids) ⊎ (most_at_point ≤ count_by (λ said. said_point total said == p) saids)
+pub record IsOfPage (files : List (List ℕ)) (page : PageName) (total : ℕ) (t : Tallied) (line : List ℕ) (p : ℕ) : Type 0 where
+  pub saids : List Said
+  pub rising : IsStrictlySortedBy bytes_cmp (map said_line saids)
+  pub below : AllByRecursion (λ (k : List ℕ). bytes_cmp k line ≡ Less) (map said_line saids)
+  pub each : AllByRecursion (IsSaidOf files page) saids
+  pub full : (most_in_all ≤ length saids) ⊎ (most_at_point ≤ count_by (λ said. said_point total said == p) saids)
 
 lines_below : (line : List ℕ) (saids : List Said) → AllByRecursion (λ (s : Said). bytes_cmp (said_line s) line ≡ Less) saids → AllByRecursion (λ (k : List ℕ). bytes_cmp k line ≡ Less) (map said_line saids)
 lines_below line [] all = tt
@@ -111,7 +113,11 @@ module _ {X : Type 0} (say : X → Said) (line : PageName → X → List ℕ) (a
 
   same_counts : (xs : List X) → count_by (λ said. said_point total said == p) (map say xs) ≡ count_by (λ x. at total x == p) xs
   same_counts [] = refl
-  same_counts (x ∷ xs) = ap (λ (n : ℕ). cond (n == p) 1 0 + count_by (λ said. said_point total said == p) (map say xs)) (points_are x) ∙ ap (λ (n : ℕ). cond (at total x == p) 1 0 + n) (same_counts xs)
+  same_counts (x ∷ xs) =
+      sum_by-cons (λ (said : Said). cond (said_point total said == p) 1 0) (say x) (map say xs)
+      ∙ ap (λ (n : ℕ). cond (n == p) 1 0 + count_by (λ said. said_point total said == p) (map say xs)) (points_are x)
+      ∙ ap (λ (n : ℕ). cond (at total x == p) 1 0 + n) (same_counts xs)
+      ∙ sym (sum_by-cons (λ (x' : X). cond (at total x' == p) 1 0) x xs)
 
   of_page : (xs : List X) → p < total → t.total ≡ total → IsStrictlySortedBy bytes_cmp (map (line page) xs) → AllByRecursion Stands xs → IsTallyBy at xs (finished t) → has_room t p ≡ false → IsOfPage files page total t next p
   of_page xs below same rising all is full = record {

@@ -1,18 +1,29 @@
 -- Lines that are looked at one after another.
-use Rattle.std.proofs.Common.{◌≡◌, ◌⊎◌, ◌+◌, ℕ, zero, suc, Bool, true, false, List, [], ◌∷◌, ◌++◌, map, refl, sym, ap, ◌∙◌, subst, inl, inr, ⊎_elim, arith}
+use Rattle.std.proofs.Common.{◌≡◌, ◌⊎◌, ◌+◌, ℕ, zero, suc, Bool, true, false, List, [], ◌∷◌, ◌++◌, Option, Some, None, is_some, map, refl, sym, ap, ◌∙◌, subst, inl, inr, ⊎_elim, arith}
 use Rattle.line_batches.specs.Lines.{HasNoFeed, IsFirst}
 use Rattle.line_tally.proofs.Refused.{no_hash, no_input}
 use Rattle.line_tally.specs.Lines.{IsSaid, Said, of_hash, of_input, said_line}
-use Rattle.line_tally.specs.Refusals.{SaysNothing}
+use Rattle.note_lines.specs.Hashed.{Hashed, has_hash}
+use Rattle.note_lines.specs.Note.{Noted}
+use Rattle.note_lines.specs.Reading.{Reads, ReadsHashed}
 use Rattle.tally_filters.specs.Blank.{is_blank}
 use Rattle.log_tallies.proofs.Among.{In}
 use Rattle.log_tallies.proofs.Cut.{lines_first, lines_none}
 use Rattle.log_tallies.specs.Lines.{all_lines, files_view, lines_in}
-use Rattle.log_tallies.specs.Stray.{AreKept, HasStray, HasStrayIn, IsFirstIn, IsFirstStray, IsKept, IsStray}
+use Rattle.log_tallies.specs.Stray.{AreKept, HasStray, HasStrayIn, IsFirstIn, IsFirstStray, IsKept, IsStray, SaysWhether}
 use Rattle.log_tallies.specs.declared.file.LogFile as program
 
 differs : {Y : Type 0} → true ≡ false → Y
 differs h = cc
+
+-- what is read of a line tells whether it says something
+pub hash_told : (line : List ℕ) (r : Option Hashed) → has_hash line ≡ true → ReadsHashed line r → SaysWhether line (is_some r)
+hash_told line (Some note) kind reads = (of_hash note, reads.0, reads.1)
+hash_told line None kind reads = no_hash line kind reads
+
+pub input_told : (line : List ℕ) (r : Option Noted) → has_hash line ≡ false → Reads line r → SaysWhether line (is_some r)
+input_told line (Some note) kind reads = (of_input note, reads.0, reads.1)
+input_told line None kind reads = no_input line kind reads
 
 -- no line is both
 pub not_both : (line : List ℕ) → IsKept line → IsStray line → ⊥
@@ -32,7 +43,7 @@ pub record Looked (bytes rest : List ℕ) (lines : ℕ) : Type 0 where
   pub first : (n : ℕ) → IsFirstIn (lines_in rest) n → IsFirstIn (lines_in bytes) (lines + n)
 
 pub looked_none : (bytes : List ℕ) → Looked bytes bytes 0
-looked_none bytes = record { kept = λ k. k; first = λ n is. is }
+looked_none bytes = record { kept = λ k. k; first = λ n is. let same : n ≡ 0 + n = omega arith in subst (IsFirstIn (lines_in bytes)) same is }
 
 module _ (bytes rest line behind : List ℕ) (lines : ℕ) (first : IsFirst rest line behind) (looked : Looked bytes rest lines) where
   pub looked_more : IsKept line → Looked bytes behind (lines + 1)
@@ -61,7 +72,7 @@ pub record Passed (files rest : List (List ℕ)) (at : ℕ) : Type 0 where
   pub first : (i n : ℕ) → IsFirstStray rest i n → IsFirstStray files (at + i) n
 
 pub passed_none : (files : List (List ℕ)) → HasStray files → Passed files files 0
-passed_none files has = record { has = has; first = λ i n is. is }
+passed_none files has = record { has = has; first = λ i n is. let same : i ≡ 0 + i = omega arith in subst (λ (k : ℕ). IsFirstStray files k n) same is }
 
 in_later : (file : List ℕ) (others : List (List ℕ)) → AreKept (lines_in file) → HasStray (file ∷ others) → HasStray others
 in_later file others kept (inl here) = absurd (none_stray (lines_in file) kept here)

@@ -1,5 +1,6 @@
 //! Where the first line stands that is neither blank nor that of a note.
-ghost use Rattle.std.specs.Prelude.{◌≡◌, IfOk, MatchOption};
+ghost use Rattle.std.specs.Prelude.{◌≡◌, false, true, IfOk, MatchOption};
+ghost use Rattle.note_lines.specs.Hashed.{has_hash};
 ghost use Rattle.log_tallies.specs.Lines.{files_view, lines_in};
 ghost use Rattle.log_tallies.specs.Stray.{AreKept, HasStray, IsFirstIn, IsFirstStray, IsTold, SaysWhether};
 ghost use Rattle.tally_filters.specs.Blank.{is_blank};
@@ -57,15 +58,28 @@ fn is_noted(alloc: Global, line: &[u8]) -> Result<bool, AllocError>
     ensures { IfOk result (SaysWhether line.now) }
 {
     if has_hash(line) {
-        return match read_hashed_note(alloc, line)? {
-            Some(_) => Ok(true),
-            None => Ok(false),
-        };
+        is_hashed_note(alloc, line)
+    } else {
+        is_input_note(alloc, line)
     }
-    match read_note(alloc, line)? {
-        Some(_) => Ok(true),
-        None => Ok(false),
-    }
+}
+
+/// The same of a line of the kind without an input.
+#[tactic(auto, using(crate::proofs::Strays::hash_told))]
+fn is_hashed_note(alloc: Global, line: &[u8]) -> Result<bool, AllocError>
+    requires { has_hash line.now ≡ true }
+    ensures { IfOk result (SaysWhether line.now) }
+{
+    Ok(read_hashed_note(alloc, line)?.is_some())
+}
+
+/// The same of one of the other kind.
+#[tactic(auto, using(crate::proofs::Strays::input_told))]
+fn is_input_note(alloc: Global, line: &[u8]) -> Result<bool, AllocError>
+    requires { has_hash line.now ≡ false }
+    ensures { IfOk result (SaysWhether line.now) }
+{
+    Ok(read_note(alloc, line)?.is_some())
 }
 
 /// Whether a line has nothing but blanks.

@@ -3,7 +3,7 @@ use denote.Ref.{Bor}
 use Rattle.line_batches.specs.Lines.{lines_view}
 use Rattle.tally_filters.specs.declared.fault.FilterFault.{FilterFault}
 use Rattle.log_tallies.proofs.Among.{to_in}
-use Rattle.log_tallies.proofs.Crowded.{crowded, mixed}
+use Rattle.log_tallies.proofs.Crowded.{crowded}
 use Rattle.log_tallies.proofs.Held.{tallied_all}
 use Rattle.log_tallies.proofs.Strays.{has_stray}
 use Rattle.log_tallies.specs.Lines.{all_lines, files_view}
@@ -36,10 +36,3 @@ returns-in-Err-TooMany c =
     let no = subst (λ (e : FilterFault). TalliesLines c.args.page c.args.total lines (Err e)) c.in-Err-TooMany.field-0-is c.in-Err-TooMany.ensures in
     crowded files lines c.args.page c.args.total c.requires.some are no c.a_stream_is_tallied.ensures
 
-pub returns-in-Err-Mixed : goal.returns-in-Err-Mixed
-returns-in-Err-Mixed c =
-    let files = files_view c.args.files.now in
-    let lines = lines_view c.as_slice.result.now in
-    let are = subst (λ (xs : List (Bor (List ℕ))). AreDistinct files (lines_view xs)) (sym c.as_slice.ensures.value) c.in_ok-lines.ensures in
-    let both = subst (λ (e : FilterFault). TalliesLines c.args.page c.args.total lines (Err e)) c.in-Err-Mixed.field-0-is c.in-Err-Mixed.ensures in
-    mixed files lines are both
