@@ -1,5 +1,6 @@
 pub mod Accepted
 pub mod Changed
+pub mod Ends
 pub mod Formed
 pub mod Inner
 pub mod Lowered

@@ -12,6 +12,7 @@ use Rattle.logic_eval.specs.Operators.{values, operated, mapped, kept, occurs, r
 use Rattle.logic_values.specs.Truth.{is_true}
 use Rattle.logic_eval.specs.Views.{progress, scope_view, default_view, input_view, weighted_variant_view}
 use Rattle.logic_values.specs.Views.{value_view}
+use Rattle.logic_eval.proofs.Branching.{literal_site}
 use Rattle.logic_eval.proofs.Branches.{node_view-literal, node_view-list, node_view-operation, as_seen, operated-other, conditional_err, conditional_true, conditional_false, conditional_end, first_of_truth_err, first_of_truth_found, first_of_truth_next, first_of_truth_none}
 use Rattle.logic_eval.proofs.Budgets.{bind_ok, bind_err, cost_ok, cost_err, paid-gives}
 use Rattle.logic_eval.proofs.Exits.{exits, gives_same, ended}
@@ -20,6 +21,7 @@ use Rattle.logic_eval.proofs.Items.{bool_eq-same, bool_eq-other, mapped_ok, mapp
 use Rattle.logic_eval.proofs.Sites.{literal_ok, computed_name_err, computed_weight_err, computed_ok}
 use Rattle.logic_values.proofs.Surfaces.{value_items, value_null, value_bool, value_lent}
 use Rattle.logic_eval.proofs.Values.{values_ok, values_err, prepended, prepended-err, prepended-none, prepended_all, one_more}
+use Rattle.logic_eval.proofs.Within.{own_ends}
 use Rattle.logic_eval.proofs.nodes.+evaluate.Goals as goal
 use Rattle.logic_eval.proofs.nodes.+evaluate.Goals.{kept-then-is_true+in_ok-copy+in_ok-push, kept-else-is_true, shares-in-Literal+in_ok-push-in-Literal, shares-in-Computed+in_ok-name-in-Computed+in_ok-weight-in-Computed+in_ok-push-in-Computed}
 
@@ -102,6 +104,22 @@ evaluate_node-returns-in_err-input-in-Fractional t c = record {
   exact = exits _ _ _ _ c.from_residual-in_err-input-in-Fractional.ensures.1
       (λ n. as_seen _ _ _ _ _ (ap node_view c.in-Fractional.is ∙ node_view-fractional _ _ _) ∙ (cost_ok _ _ _ _ _ c.in_ok-pay-in-Fractional.ensures.exact ∙ bind_err _ _ _ _ (c.in_err-input-in-Fractional.ensures.exact n)));
 }
+
+pub evaluate_node-decide_literal-requires : goal.evaluate_node-decide_literal-requires
+evaluate_node-decide_literal-requires t c =
+    let some : 0 < length c.ends_at.result.now = grind arith in
+    record {
+      ends = own_ends c.args.subject c.args.node.now c.in-Fractional.site c.in-Fractional.by c.in-Fractional.buckets c.in-Fractional.is c.requires c.ends_at.result.now c.ends_at.ensures some;
+      some = some;
+    }
+
+pub evaluate_node-returns-then-not-is_empty-in-Fractional : goal.evaluate_node-returns-then-not-is_empty-in-Fractional
+evaluate_node-returns-then-not-is_empty-in-Fractional t c =
+    let some : 0 < length c.ends_at.result.now = grind arith in
+    let are = own_ends c.args.subject c.args.node.now c.in-Fractional.site c.in-Fractional.by c.in-Fractional.buckets c.in-Fractional.is c.requires c.ends_at.result.now c.ends_at.ensures some in
+    let law = literal_site (default_view c.args.subject) c.in-Fractional.site (boxed_view c.in-Fractional.by) (buckets_view c.in-Fractional.buckets.items) _ (scope_view c.args.scope) are.literal are.small in record {
+      exact = gives_same _ _ _ _ (as_seen _ _ _ _ _ (ap node_view c.in-Fractional.is ∙ node_view-fractional _ _ _) ∙ (ap (paid (progress c.args.meter.now)) law ∙ (cost_ok _ _ _ _ _ c.in_ok-pay-in-Fractional.ensures.exact ∙ bind_ok _ _ _ _ _ c.in_ok-input-in-Fractional.ensures.exact))) c.decide_literal.ensures.exact;
+    }
 
 pub evaluate_node-returns-in_err-shares-in-Fractional : goal.evaluate_node-returns-in_err-shares-in-Fractional
 evaluate_node-returns-in_err-shares-in-Fractional t c = record {
