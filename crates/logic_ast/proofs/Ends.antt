@@ -1,9 +1,8 @@
 -- The cumulative weights of sites, bucket by bucket and site by site.
-use Rattle.std.proofs.Common.{◌≡◌, ℕ, suc, ◌+◌, ◌^◌, ◌<◌, ◌≤◌, List, [], ◌∷◌, ◌++◌, append_assoc, length, get_or, drop, drop-cons, map, Bool, true, false, eqb, eqb-true, ◌&&◌, ◌==◌, Option, Some, None, option_map, option_and_then, Vec, Global, refl, sym, ap, ◌∙◌, subst, inl, inr, arith}
+use Rattle.std.proofs.Common.{◌≡◌, ℕ, suc, ◌+◌, ◌^◌, ◌<◌, ◌≤◌, List, [], ◌∷◌, ◌++◌, append_assoc, append-nil, length, get_or, drop, drop-cons, add-one, map, Bool, true, false, eqb-true, ltb-true, ltb-false, lt-ltb, le-ltb, ◌==◌, Option, Some, None, option_map, option_and_then, Vec, Global, refl, sym, ap, ◌∙◌, subst, arith}
 use Rattle.std.specs.Prelude.{nat_lt, Result, Ok, Err, OnOk, if◌then◌else◌}
 use Rattle.std.specs.List.{All}
-use Rattle.std.proofs.lemmas.Bool.{cases_Bool}
-use Rattle.std.proofs.lemmas.List.{drop_all, map-append, append-nil, length_push}
+use Rattle.std.proofs.lemmas.List.{drop_all, map-append, length_push}
 use Rattle.std.proofs.lemmas.List.Elements.{All-nil, All-cons}
 use Rattle.bucket_core.specs.Rule.{Entries, total_weight, ends_from}
 use Rattle.bucket_core.proofs.Points.{total_weight-cons}
@@ -25,42 +24,51 @@ light : ℕ → Option Entries → Option (List ℕ)
 light end None = None
 light end (Some r) = if nat_lt (end + total_weight r) (2 ^ 31) then Some (ends_from end r) else None
 
-light-cons : (end : ℕ) (e : List ℕ × ℕ) (o : Option Entries) → nat_lt (end + e.1) (2 ^ 31) ≡ true
-    → option_map (λ ends. (end + e.1) ∷ ends) (light (end + e.1) o) ≡ light end (option_map (λ es. e ∷ es) o)
-unfolding light ends_from
-light-cons end e None h = refl
-light-cons end e (Some r) h =
-    let same : end + total_weight (e ∷ r) ≡ end + e.1 + total_weight r = omega (arith, total_weight-cons e r) in
-    rw same (elim (cases_Bool (nat_lt (end + e.1 + total_weight r) (2 ^ 31))) [ inl t ↦ rw t refl | inr t ↦ rw t refl ])
+-- one more before them, where there are any
+one_before : (b : Bool) (x : ℕ) (xs : List ℕ) → option_map (λ ends. x ∷ ends) (if b then Some xs else None) ≡ (if b then Some (x ∷ xs) else None)
+one_before true x xs = refl
+one_before false x xs = refl
 
-light-over : (end : ℕ) (e : List ℕ × ℕ) (o : Option Entries) → nat_lt (end + e.1) (2 ^ 31) ≡ false → None ≡ light end (option_map (λ es. e ∷ es) o)
+light-cons : (end : ℕ) (e : List ℕ × ℕ) (o : Option Entries) → option_map (λ ends. (end + e.1) ∷ ends) (light (end + e.1) o) ≡ light end (option_map (λ es. e ∷ es) o)
+unfolding light ends_from
+light-cons end e None = refl
+light-cons end e (Some r) =
+    let same : end + e.1 + total_weight r ≡ end + total_weight (e ∷ r) = omega (arith, total_weight-cons e r) in
+    one_before (nat_lt (end + e.1 + total_weight r) (2 ^ 31)) (end + e.1) (ends_from (end + e.1) r)
+    ∙ ap (λ n. if nat_lt n (2 ^ 31) then Some ((end + e.1) ∷ ends_from (end + e.1) r) else None) same
+
+light-over : (end : ℕ) (e : List ℕ × ℕ) (o : Option Entries) → 2 ^ 31 ≤ end + e.1 → None ≡ light end (option_map (λ es. e ∷ es) o)
 unfolding light
 light-over end e None h = refl
 light-over end e (Some r) h =
-    let sum = total_weight-cons e r in
-    let over : nat_lt (end + total_weight (e ∷ r)) (2 ^ 31) ≡ false = grind (arith, sum, h) in
+    let over : nat_lt (end + total_weight (e ∷ r)) (2 ^ 31) ≡ false = le-ltb _ _ (omega (arith, total_weight-cons e r, h)) in
     rw over refl
 
 as_light : (end : ℕ) (bs : Buckets) → end < 2 ^ 31 → ends_after end bs ≡ light end (entries_of bs)
 unfolding light ends_from
 as_light end no_buckets h =
     let same : end + 0 ≡ end = omega arith in
-    let below : nat_lt end (2 ^ 31) ≡ true = grind (arith, h) in
+    let below : nat_lt end (2 ^ 31) ≡ true = lt-ltb _ _ h in
     rw (same, below) refl
-as_light end (bucket (literal_bucket name weight) bs) h =
-    elim (cases_Bool (nat_lt (end + weight) (2 ^ 31))) [
-      | inl t ↦ let below : end + weight < 2 ^ 31 = grind (arith, t) in
-          rw (t, as_light (end + weight) bs below) (light-cons end (name, weight) (entries_of bs) t)
-      | inr t ↦ rw t (light-over end (name, weight) (entries_of bs) t)
-    ]
+as_light end (bucket (literal_bucket name weight) bs) h = by (nat_lt (end + weight) (2 ^ 31)) refl (as_light (end + weight) bs)
+  where
+    by : (b : Bool) → nat_lt (end + weight) (2 ^ 31) ≡ b → (end + weight < 2 ^ 31 → ends_after (end + weight) bs ≡ light (end + weight) (entries_of bs))
+        → option_and_then (λ next. option_map (λ ends. next ∷ ends) (ends_after next bs)) (if b then Some (end + weight) else None) ≡ light end (option_map (λ es. (name, weight) ∷ es) (entries_of bs))
+    by true t rest = ap (option_map (λ ends. (end + weight) ∷ ends)) (rest (ltb-true _ _ t)) ∙ light-cons end (name, weight) (entries_of bs)
+    by false t rest = light-over end (name, weight) (entries_of bs) (ltb-false _ _ t)
 as_light end (bucket (computed_bucket name weight) bs) h = refl
+
+-- no sum is none before them
+from_nothing : (b : Bool) (xs : List ℕ) → (if b then xs else []) ≡ after_ends [] (if b then Some xs else None)
+from_nothing true xs = refl
+from_nothing false xs = refl
 
 from_light : (o : Option Entries) → ends_of_entries o ≡ after_ends [] (light 0 o)
 unfolding light
 from_light None = refl
 from_light (Some r) =
-    let same : 0 + total_weight r ≡ total_weight r = omega arith in
-    rw same (elim (cases_Bool (nat_lt (total_weight r) (2 ^ 31))) [ inl t ↦ rw t refl | inr t ↦ rw t refl ])
+    let same : total_weight r ≡ 0 + total_weight r = omega arith in
+    from_nothing (nat_lt (total_weight r) (2 ^ 31)) (ends_from 0 r) ∙ ap (λ n. after_ends [] (if nat_lt n (2 ^ 31) then Some (ends_from 0 r) else None)) same
 
 pub ends_start : (bs : Buckets) → ends_of bs ≡ after_ends [] (ends_after 0 bs)
 ends_start bs = from_light (entries_of bs) ∙ ap (after_ends []) (sym (as_light 0 bs (omega arith)))
@@ -74,7 +82,7 @@ more before next (Some ends) = sym (append_assoc before (next ∷ []) ends)
 
 module _ (xs : List (BucketOf Node)) (i : ℕ) (x : BucketOf Node) (within : i < length xs) (is : x ≡ get_or xs i x) where
   cut : buckets_view (drop i xs) ≡ bucket (bucket_view x) (buckets_view (drop (i + 1) xs))
-  cut = let one : i + 1 ≡ suc i = omega arith in rw one (ap buckets_view (drop-cons xs i x within ∙ ap (λ y. y ∷ drop (suc i) xs) (sym is)))
+  cut = rw add-one (ap buckets_view (drop-cons xs i x within ∙ ap (λ y. y ∷ drop (suc i) xs) (sym is)))
 
   pub ends_next : (before : List ℕ) (end next : ℕ) → Some next ≡ next_end end (bucket_view x)
       → after_ends before (ends_after end (buckets_view (drop i xs))) ≡ after_ends (before ++ next ∷ []) (ends_after next (buckets_view (drop (i + 1) xs)))
@@ -89,10 +97,10 @@ ends_all xs i before end h = rw (drop_all i xs h) (append-nil before)
 -- ---- the sum after one more bucket
 
 pub end_below : (end weight : ℕ) → end + weight < 2 ^ 31 → Some (end + weight) ≡ (if nat_lt (end + weight) (2 ^ 31) then Some (end + weight) else None)
-end_below end weight h = let t : nat_lt (end + weight) (2 ^ 31) ≡ true = grind (arith, h) in rw t refl
+end_below end weight h = let t : nat_lt (end + weight) (2 ^ 31) ≡ true = lt-ltb _ _ h in rw t refl
 
 pub end_above : (end weight : ℕ) → 2 ^ 31 ≤ end + weight → let none : Option ℕ = None in none ≡ (if nat_lt (end + weight) (2 ^ 31) then Some (end + weight) else None)
-end_above end weight h = let t : nat_lt (end + weight) (2 ^ 31) ≡ false = grind (arith, h) in rw t refl
+end_above end weight h = let t : nat_lt (end + weight) (2 ^ 31) ≡ false = le-ltb _ _ h in rw t refl
 
 -- ---- the sites of a node
 

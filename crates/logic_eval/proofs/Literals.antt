@@ -1,5 +1,5 @@
 -- A site whose buckets are all literal, by their cumulative weights.
-use Rattle.std.proofs.Common.{◌≡◌, ◌≢◌, ℕ, zero, suc, ◌+◌, ◌^◌, ◌<◌, List, [], ◌∷◌, ◌++◌, length, get_or, take, take_all, true, false, eqb, Option, Some, None, option_map, Result, Ok, Err, string_bytes, refl, sym, ap, ◌∙◌, inl, inr, arith}
+use Rattle.std.proofs.Common.{◌≡◌, ◌≢◌, ℕ, zero, suc, ◌+◌, ◌^◌, ◌<◌, List, [], ◌∷◌, ◌++◌, length, get_or, take, take_all, true, false, eqb, ltb-true, Option, Some, None, option_map, Result, Ok, Err, string_bytes, refl, sym, ap, ◌∙◌, inl, inr, arith}
 use Rattle.std.specs.Prelude.{nat_lt}
 use Rattle.std.specs.Option.{option_map_or}
 use Rattle.std.proofs.lemmas.Bool.{cases_Bool}
@@ -31,9 +31,12 @@ are_ends bs sums is some = go (entries_of bs) refl is
     go None e g = let none : length sums ≡ 0 = ap length g in absurd (omega arith)
     go (Some r) e g = elim (cases_Bool (nat_lt (total_weight r) (2 ^ 31))) [
       | inl t ↦
-          let small : total_weight r < 2 ^ 31 = grind (arith, t) in
-          record { literal = rw e refl; sums = rw e (g ∙ rw t refl); small = rw e small }
-      | inr t ↦ let none : length sums ≡ 0 = ap length (g ∙ rw t refl) in absurd (omega arith)
+          let read : ends_of_entries (Some r) ≡ ends_from 0 r = rw t refl in
+          record { literal = rw e refl; sums = rw e (g ∙ read); small = rw e (ltb-true _ _ t) }
+      | inr t ↦
+          let read : ends_of_entries (Some r) ≡ [] = rw t refl in
+          let none : length sums ≡ 0 = ap length (g ∙ read) in
+          absurd (omega arith)
     ]
 
 -- ---- the total is the last of them
@@ -52,23 +55,30 @@ last_end bs sums are some i x last is =
 pub named_alike : (xs : List (Bucket Node)) (r : Entries) (i : ℕ) (x : Bucket Node) → entries_of (buckets_view xs) ≡ Some r → i < length xs → x ≡ get_or xs i x
     → literal_name (bucket_view x) ≡ option_map_or text (entry_name r i) null
 named_alike [] r i x e h is = absurd (omega arith)
-named_alike (Literal name weight ∷ xs) r i x e h is = go (entries_of (buckets_view xs)) refl e i h is
+named_alike (Literal name weight ∷ xs) r i x e h is = go (entries_of (buckets_view xs)) refl e i h is (λ es n y. named_alike xs es n y)
   where
     go : (o : Option Entries) → entries_of (buckets_view xs) ≡ o → option_map (λ es. (string_bytes name, weight) ∷ es) o ≡ Some r
-        → (i : ℕ) → i < suc (length xs) → x ≡ get_or (Literal name weight ∷ xs) i x → literal_name (bucket_view x) ≡ option_map_or text (entry_name r i) null
-    go None f g i h is = absurd (cc g)
-    go (Some es) f g zero h is = let all : (string_bytes name, weight) ∷ es ≡ r = cc g in rw (is, ← all) refl
-    go (Some es) f g (suc i) h is = let all : (string_bytes name, weight) ∷ es ≡ r = cc g in rw (← all) (named_alike xs es i x f (omega arith) is)
+        → (i : ℕ) → i < suc (length xs) → x ≡ get_or (Literal name weight ∷ xs) i x
+        → ((es : Entries) (n : ℕ) (y : Bucket Node) → entries_of (buckets_view xs) ≡ Some es → n < length xs → y ≡ get_or xs n y → literal_name (bucket_view y) ≡ option_map_or text (entry_name es n) null)
+        → literal_name (bucket_view x) ≡ option_map_or text (entry_name r i) null
+    go None f g i h is rest = absurd (cc g)
+    go (Some es) f g zero h is rest =
+        let all : (string_bytes name, weight) ∷ es ≡ r = cc g in
+        ap (λ b. literal_name (bucket_view b)) is ∙ ap (λ r. option_map_or text (entry_name r 0) null) all
+    go (Some es) f g (suc i) h is rest =
+        let all : (string_bytes name, weight) ∷ es ≡ r = cc g in
+        rest es i x f (omega arith) is ∙ ap (λ r. option_map_or text (entry_name r (suc i)) null) all
 named_alike (Computed name weight ∷ xs) r i x e h is = absurd (cc e)
 
 -- as many buckets as entries
 pub as_many : (xs : List (Bucket Node)) (r : Entries) → entries_of (buckets_view xs) ≡ Some r → length r ≡ length xs
 as_many [] r e = let none : [] ≡ r = cc e in ap length (sym none)
-as_many (Literal name weight ∷ xs) r e = go (entries_of (buckets_view xs)) refl e
+as_many (Literal name weight ∷ xs) r e = go (entries_of (buckets_view xs)) refl e (as_many xs)
   where
-    go : (o : Option Entries) → entries_of (buckets_view xs) ≡ o → option_map (λ es. (string_bytes name, weight) ∷ es) o ≡ Some r → length r ≡ suc (length xs)
-    go None f g = absurd (cc g)
-    go (Some es) f g = let all : (string_bytes name, weight) ∷ es ≡ r = cc g in rw (← all) (ap suc (as_many xs es f))
+    go : (o : Option Entries) → entries_of (buckets_view xs) ≡ o → option_map (λ es. (string_bytes name, weight) ∷ es) o ≡ Some r
+        → ((es : Entries) → entries_of (buckets_view xs) ≡ Some es → length es ≡ length xs) → length r ≡ suc (length xs)
+    go None f g rest = absurd (cc g)
+    go (Some es) f g rest = let all : (string_bytes name, weight) ∷ es ≡ r = cc g in ap length (sym all) ∙ ap suc (rest es f)
 as_many (Computed name weight ∷ xs) r e = absurd (cc e)
 
 -- ---- what the site gives
@@ -111,7 +121,7 @@ module _ (site : ℕ) (input : Option (Result (List ℕ) EvalFault)) (r : Entrie
       at_site =
           let same : option_map_or text (choice r s) null ≡ v = ap (λ k. option_map_or text (at r (point_of k s)) null) (sym e) ∙ sym named in
           paid-reach p (record { site = site; input = s; total = total_weight r }) (chosen (choice r s))
-          ∙ (chosen_gives _ (choice r s) ∙ rw (same, ← e) refl)
+          ∙ (chosen_gives _ (choice r s) ∙ rw (same, e) refl)
 
       go : (i : Option (Result (List ℕ) EvalFault)) → input_result i ≡ Ok (Some s) → paid p (by_input site i r) ≡ Ok (v, (p.0, p.1 ++ record { site = site; input = s; total = t } ∷ []))
       go None k = absurd (cc k)
