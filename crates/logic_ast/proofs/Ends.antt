@@ -99,7 +99,7 @@ ends_all xs i before end h = rw (drop_all i xs h) (append-nil before)
 pub end_below : (end weight : ℕ) → end + weight < 2 ^ 31 → Some (end + weight) ≡ (if nat_lt (end + weight) (2 ^ 31) then Some (end + weight) else None)
 end_below end weight h = let t : nat_lt (end + weight) (2 ^ 31) ≡ true = lt-ltb _ _ h in rw t refl
 
-pub end_above : (end weight : ℕ) → 2 ^ 31 ≤ end + weight → let none : Option ℕ = None in none ≡ (if nat_lt (end + weight) (2 ^ 31) then Some (end + weight) else None)
+pub end_above : (end weight : ℕ) → 2 ^ 31 ≤ end + weight → None ≡ (if nat_lt (end + weight) (2 ^ 31) then Some (end + weight) else None)
 end_above end weight h = let t : nat_lt (end + weight) (2 ^ 31) ≡ false = le-ltb _ _ h in rw t refl
 
 -- ---- the sites of a node
