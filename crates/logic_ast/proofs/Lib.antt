@@ -1,6 +1,5 @@
 pub mod Accepted
 pub mod Changed
-pub mod Ends
 pub mod Formed
 pub mod Inner
 pub mod Lowered
@@ -15,6 +14,7 @@ pub mod Refusals
 pub mod Replaced
 pub mod Sizes
 pub mod Stripped
+pub mod Summed
 pub mod Trees
 pub mod Views
 pub mod WellFormed

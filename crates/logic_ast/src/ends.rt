@@ -94,7 +94,7 @@ fn ends_of(alloc: Global, buckets: &Vec<Bucket<Node>>) -> Result<Vec<u32>, Alloc
 }
 
 /// The sum with the weight of a literal bucket, where it is less than 2^31.
-#[tactic(auto, using(crate::proofs::Ends::end_below, crate::proofs::Ends::end_above))]
+#[tactic(auto, using(crate::proofs::Summed::end_below, crate::proofs::Summed::end_above))]
 fn next_end(end: u32, bucket: &Bucket<Node>) -> Option<u32>
     requires { end < 2 ^ 31 }
     ensures value { result ≡ next_end end (bucket_view bucket.now) }

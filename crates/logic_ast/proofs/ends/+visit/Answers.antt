@@ -1,6 +1,6 @@
 use Rattle.std.proofs.Common.{ap, ◌∙◌}
 use Rattle.logic_ast.specs.View.{node_view, boxed_view, buckets_view}
-use Rattle.logic_ast.proofs.Ends.{on_ok, visited}
+use Rattle.logic_ast.proofs.Summed.{on_ok, visited}
 use Rattle.logic_ast.proofs.Views.{node_view-fractional}
 use Rattle.logic_ast.proofs.ends.+visit.Goals as goal
 

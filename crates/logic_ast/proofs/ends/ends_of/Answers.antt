@@ -2,7 +2,7 @@ use Rattle.std.proofs.Common.{◌+◌, ◌<◌, drop, length, sym, ap, ◌∙◌
 use Rattle.logic_ast.specs.Ends.{ends_of}
 use Rattle.logic_ast.specs.Summing.{ends_after, after_ends}
 use Rattle.logic_ast.specs.View.{buckets_view}
-use Rattle.logic_ast.proofs.Ends.{ends_start, ends_next, ends_none, ends_all}
+use Rattle.logic_ast.proofs.Summed.{ends_start, ends_next, ends_none, ends_all}
 use Rattle.logic_ast.proofs.ends.ends_of.Goals as goal
 
 pub loop-bucket-init : goal.loop-bucket-init

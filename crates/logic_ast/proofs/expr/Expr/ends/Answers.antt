@@ -1,7 +1,7 @@
 use Rattle.std.proofs.Common.{ap, ◌∙◌}
 use Rattle.logic_ast.specs.Ends.{ends_view}
 use Rattle.logic_ast.specs.Expr.{view}
-use Rattle.logic_ast.proofs.Ends.{has_ends}
+use Rattle.logic_ast.proofs.Summed.{has_ends}
 use Rattle.logic_ast.proofs.expr.Expr.ends.Goals as goal
 
 pub returns : goal.returns
