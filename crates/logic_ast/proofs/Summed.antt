@@ -1,5 +1,5 @@
 -- The cumulative weights of sites, bucket by bucket and site by site.
-use Rattle.std.proofs.Common.{◌≡◌, ℕ, suc, ◌+◌, ◌^◌, ◌<◌, ◌≤◌, List, [], ◌∷◌, ◌++◌, append_assoc, append-nil, length, get_or, drop, drop-cons, add-one, map, Bool, true, false, eqb-true, ltb-true, ltb-false, lt-ltb, le-ltb, ◌==◌, Option, Some, None, option_map, option_and_then, Vec, Global, refl, sym, ap, ◌∙◌, subst, arith}
+use Rattle.std.proofs.Common.{◌≡◌, ℕ, suc, ◌+◌, ◌^◌, ◌<◌, ◌≤◌, List, [], ◌∷◌, ◌++◌, append_assoc, append-nil, length, get_or, drop, drop-cons, add-one, map, Bool, true, false, ltb-true, ltb-false, lt-ltb, le-ltb, Option, Some, None, option_map, option_and_then, Vec, Global, refl, sym, ap, ◌∙◌, subst, arith}
 use Rattle.std.specs.Prelude.{nat_lt, Result, Ok, Err, OnOk, if◌then◌else◌}
 use Rattle.std.specs.List.{All}
 use Rattle.std.proofs.lemmas.List.{drop_all, map-append, length_push}
@@ -14,8 +14,8 @@ use Rattle.logic_ast.specs.Summing.{next_end, ends_after, after_ends}
 use Rattle.logic_ast.specs.View.{bucket_view, buckets_view}
 use Rattle.logic_ast.specs.declared.node.Bucket.{Bucket as BucketOf}
 use Rattle.logic_ast.specs.declared.node.Node.{Node}
-use Rattle.logic_ast.proofs.Numbered.{are_numbered, numbered-preorder}
-use Rattle.logic_ast.proofs.Written.{left, right}
+use Rattle.logic_ast.proofs.Numbered.{are_numbered, number-first, numbered-preorder, numbered-rest}
+use Rattle.logic_ast.proofs.Written.{left}
 
 -- ---- one after another, they are those of the entries
 
@@ -122,14 +122,13 @@ stands [] x rest = refl
 stands (y ∷ ys) x rest = stands ys x rest
 
 numbered_ends : (k : ℕ) (front : List (List ℕ)) (ss : List Site) → k ≡ length front → are_numbered k ss ≡ true → All (HasEnds (front ++ map site_ends ss)) ss
-unfolding are_numbered
 numbered_ends k front [] long h = All-nil (HasEnds (front ++ []))
 numbered_ends k front (s ∷ ss) long h =
     let table = front ++ site_ends s ∷ map site_ends ss in
-    let place : s.number ≡ length front = eqb-true s.number k (left (s.number == k) _ h) ∙ long in
+    let place : s.number ≡ length front = number-first k s ss h ∙ long in
     let own : HasEnds table s = ap (λ n. get_or table n []) place ∙ stands front (site_ends s) (map site_ends ss) in
     let longer : suc k ≡ length (front ++ site_ends s ∷ []) = omega (arith, long, length_push front (site_ends s)) in
-    let rest = numbered_ends (suc k) (front ++ site_ends s ∷ []) ss longer (right (s.number == k) _ h) in
+    let rest = numbered_ends (suc k) (front ++ site_ends s ∷ []) ss longer (numbered-rest k s ss h) in
     All-cons (HasEnds table) s ss own (subst (λ t. All (HasEnds t) ss) (append_assoc front (site_ends s ∷ []) (map site_ends ss)) rest)
 
 pub has_ends : (e : Expression) (table : List (List ℕ)) → table ≡ all_ends e → is_well_formed e ≡ true → All (HasEnds table) (preorder e)
