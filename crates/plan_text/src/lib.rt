@@ -21,6 +21,7 @@
 mod fault;
 mod form;
 mod laws;
+mod listing;
 mod misfit;
 mod order;
 mod plain;

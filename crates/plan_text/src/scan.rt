@@ -1,11 +1,11 @@
 //! The rule and the certificate that a text seems to hold, token by token. What is made is only a guess, since names of
 //! members are not looked at: its caller compares what is printed of it with the text. A printed rule has no names but those
 //! of its certificate, so each is kept once.
-ghost use Rattle.std.specs.Prelude.{◌≡◌, ◌<◌, IfErr, IfOk, IfSome, length};
-ghost use Rattle.bucket_core.specs.Rule.{AreNamed, names_view};
+ghost use Rattle.std.specs.Prelude.{◌≡◌, IfErr};
 ghost use Rattle.plan_text.specs.declared.fault.PlanFileFault.TheVariants.{WantOfMemory};
 
 use crate::fault::PlanFileFault;
+use crate::listing::listed;
 use bucket_core::{Rule, RuleFault};
 use json::{Reader, Scratch, Token};
 use std::alloc::{AllocError, Global};
@@ -24,7 +24,10 @@ pub(crate) fn scan(alloc: Global, text: &str) -> Result<Option<(Rule, Certificat
         return Ok(None);
     }
     let names = names_of(alloc, certificate.beta.as_slice())?;
-    let Some(entries) = entries(alloc, &mut reader, names.as_slice())? else {
+    let Some(list) = text.as_bytes().get(reader.offset()..) else {
+        return Ok(None);
+    };
+    let Some(entries) = listed(alloc, list, names.as_slice())? else {
         return Ok(None);
     };
     match Rule::of_places(alloc, names, entries) {
@@ -130,52 +133,6 @@ fn beta_row(alloc: Global, reader: &mut Reader<'_>) -> Result<Option<(String, i6
         return Ok(None);
     }
     Ok(Some((String::from_str(alloc, name)?, n)))
-}
-
-/// The entries of a rule, each by the place of its name among these, which rise; none where it is no such name.
-fn entries(
-    alloc: Global,
-    reader: &mut Reader<'_>,
-    names: &[String],
-) -> Result<Option<Vec<(usize, u64)>>, AllocError>
-    ensures { IfOk result (λ o. IfSome o (λ v. AreNamed (names_view names.now) v.items)) }
-{
-    let Some(Token::BeginArray) = reader.next() else {
-        return Ok(None);
-    };
-    let mut rows = Vec::new(alloc);
-    for _ in 0..u64::MAX {
-        if reader.take_end_array() {
-            return Ok(Some(rows));
-        }
-        let Some(row) = entry(reader, names) else {
-            return Ok(None);
-        };
-        rows.push(row)?;
-    }
-    Ok(None)
-}
-
-fn entry(reader: &mut Reader<'_>, names: &[String]) -> Option<(usize, u64)>
-    ensures { IfSome result (λ e. e.0 < length (names_view names.now)) }
-{
-    let place = place_of(names, row_name(reader)?)?;
-    let weight = unsigned(reader)?;
-    if !reader.take_end_array() {
-        return None;
-    }
-    Some((place, weight))
-}
-
-/// The place of a name among these, which rise.
-fn place_of(names: &[String], name: &str) -> Option<usize>
-    ensures { IfSome result (λ place. place < length (names_view names.now)) }
-{
-    let place = names.partition_point(|other| other.as_str() < name);
-    match names.get(place) {
-        Some(other) if other.as_str() == name => Some(place),
-        _ => None,
-    }
 }
 
 /// The names of the numbers of names.
