@@ -19,12 +19,16 @@ use std::thread::{Threads, available_parallelism};
 /// So many bytes of a page are read before any is read in parts.
 pub(crate) const ALONE: usize = 1 << 18;
 
+/// No more bytes are read in parts at a time, so that the points of their inputs stay in memory that is at hand, and that is used
+/// again for the next ones.
+const MOST_AT_ONCE: usize = 1 << 22;
+
 /// The most parts that are read at the same time.
 const MOST_PARTS: usize = 8;
 
 /// Takes and counts the plain inputs that stand next, as long as each is above the one before and finds room, and gives
-/// the last one. Behind the first bytes of a page it is read in parts, each time as many bytes as were read before, so that
-/// what is read in vain, behind the end of a run, is no more than was taken.
+/// the last one. Behind the first bytes of a page it is read in parts, each time at most as many bytes as were read before, so
+/// that what is read in vain, behind the end of a run, is no more than was taken.
 pub(crate) fn read_run<'a, R: Threads>(
     rt: &R,
     alloc: Global,
@@ -94,7 +98,8 @@ fn next_input<'a>(lines: &mut Lines<'a>, last: &[u8], counter: &Counter) -> Opti
     lines.take_above(last)
 }
 
-/// Takes and counts parts of a run, each with twice the bytes of the one before, until one does not end where it should.
+/// Takes and counts parts of a run, each with twice the bytes of the one before up to a limit, until one does not end where it
+/// should.
 fn take_parts<'a, R: Threads>(
     rt: &R,
     alloc: Global,
@@ -116,7 +121,7 @@ fn take_parts<'a, R: Threads>(
         if lines.rest.len() > stop {
             break;
         }
-        size = size.saturating_mul(2);
+        size = size.saturating_mul(2).min(MOST_AT_ONCE);
     }
     last
 }
