@@ -14,6 +14,7 @@ pub mod Lengths
 pub mod Members
 pub mod NameTotals
 pub mod Pairs
+pub mod Parted
 pub mod Placed
 pub mod Plans
 pub mod Points

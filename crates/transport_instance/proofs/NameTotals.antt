@@ -86,15 +86,43 @@ module _ (test : List ℕ → Bool) (name : List ℕ) (has : Bor (List ℕ) → 
   passed-set [] total more found = absurd (none-some total found)
   passed-set (r ∷ rs) total more found = passed-set_by r rs total more (has r.0) (passed-set rs total more) refl found
 
-passed-lent : (test : List ℕ → Bool) (rows : List Lent) → passed test (totals_view rows) ≡ sum_by (λ (x : Lent). cond (test x.0.now) x.1 0) rows
-passed-lent test [] = refl
-passed-lent test (r ∷ rs) = omega (arith, passed-cons test (lent_view r) (totals_view rs), sum_by-cons (λ (x : Lent). cond (test x.0.now) x.1 0) r rs, passed-lent test rs)
+-- more points in the row at a place
+pub passed-more : (test : List ℕ → Bool) (rows : List Lent) (k : ℕ) (d : Lent) (more : ℕ) → k < length rows
+    → passed test (totals_view (set rows k ((get_or rows k d).0, (get_or rows k d).1 + more))) ≡ passed test (totals_view rows) + cond (test (get_or rows k d).0.now) more 0
+passed-more test [] k d more below = absurd (omega arith)
+passed-more test (r ∷ rs) zero d more below =
+    omega (arith, passed-cons test (r.0.now, r.1 + more) (totals_view rs), passed-cons test (lent_view r) (totals_view rs), both_parts (test r.0.now) r.1 more)
+passed-more test (r ∷ rs) (suc k) d more below =
+    omega (arith, passed-cons test (lent_view r) (totals_view rs), passed-cons test (lent_view r) (totals_view (set rs k ((get_or rs k d).0, (get_or rs k d).1 + more))), passed-more test rs k d more (omega (arith, below)))
 
--- points of a name that has none, whose row goes somewhere
-pub passed-put : (test : List ℕ → Bool) (rows more : List Lent) (r : Lent) → IsPermutation (r ∷ rows) more → passed test (totals_view more) ≡ passed test (totals_view rows) + cond (test r.0.now) r.1 0
-passed-put test rows more r put =
-    let f : Lent → ℕ = λ x. cond (test x.0.now) x.1 0 in
-    omega (arith, passed-lent test more, sum_by-IsPermutation f (r ∷ rows) more put, sum_by-cons f r rows, passed-lent test rows)
+-- the names stay
+pub names-more : (rows : List Lent) (k : ℕ) (d : Lent) (more : ℕ) → keys_of (totals_view (set rows k ((get_or rows k d).0, (get_or rows k d).1 + more))) ≡ keys_of (totals_view rows)
+names-more [] k d more = refl
+names-more (r ∷ rs) zero d more = refl
+names-more (r ∷ rs) (suc k) d more = ap (λ ns. r.0.now ∷ ns) (names-more rs k d more)
+
+pub row-le : (rows : List Lent) (k : ℕ) (d : Lent) → k < length rows → (get_or rows k d).1 ≤ whole_amount rows
+row-le [] k d below = absurd (omega arith)
+row-le (r ∷ rs) zero d below = omega (arith, sum_by-cons (λ (x : Lent). x.1) r rs)
+row-le (r ∷ rs) (suc k) d below = omega (arith, sum_by-cons (λ (x : Lent). x.1) r rs, row-le rs k d (omega (arith, below)))
+
+pub row-name : (rows : List Lent) (k : ℕ) (d : Lent) → k < length rows → get_or (keys_of (totals_view rows)) k [] ≡ (get_or rows k d).0.now
+row-name [] k d below = absurd (omega arith)
+row-name (r ∷ rs) zero d below = refl
+row-name (r ∷ rs) (suc k) d below = row-name rs k d (omega (arith, below))
+
+pub rows-long : (rows : List Lent) → length (keys_of (totals_view rows)) ≡ length rows
+rows-long [] = refl
+rows-long (r ∷ rs) = ap suc (rows-long rs)
+
+-- a name more, without points
+pub names-push : (rows : List Lent) (r : Lent) → keys_of (totals_view (rows ++ r ∷ [])) ≡ keys_of (totals_view rows) ++ r.0.now ∷ []
+names-push [] r = refl
+names-push (x ∷ rows) r = ap (λ ns. x.0.now ∷ ns) (names-push rows r)
+
+pub passed-push : (test : List ℕ → Bool) (rows : List Lent) (r : Lent) → passed test (totals_view (rows ++ r ∷ [])) ≡ passed test (totals_view rows) + cond (test r.0.now) r.1 0
+passed-push test [] r = omega (arith, passed-cons test (lent_view r) [])
+passed-push test (x ∷ rows) r = omega (arith, passed-cons test (lent_view x) (totals_view rows), passed-cons test (lent_view x) (totals_view (rows ++ r ∷ [])), passed-push test rows r)
 
 -- points of a name that has none
 passed-insert_by : (test : List ℕ → Bool) (r : Lent) (rs : List Lent) (name : Bor (List ℕ)) (more : ℕ) (o : Ordering)
@@ -119,8 +147,8 @@ whole-lent (r ∷ rs) = omega (arith, sum_by-cons (λ (x : List ℕ × ℕ). x.1
 abbrev pub SumsUp : List Lent → Entries → Entries → Type 0
 SumsUp rows left entries = (test : List ℕ → Bool) → passed test (totals_view rows) + passed test left ≡ passed test entries
 
-pub sums_none : (rows : List Lent) (entries : Entries) → rows ≡ [] → SumsUp rows entries entries
-sums_none rows entries none = λ test. let nothing : passed test (totals_view rows) ≡ 0 = ap (λ rs. passed test (totals_view rs)) none in omega (arith, nothing)
+pub sums_none : (rows : List Lent) (entries : Entries) → ((test : List ℕ → Bool) → passed test (totals_view rows) ≡ 0) → SumsUp rows entries entries
+sums_none rows entries none = λ test. omega (arith, none test)
 
 -- there is room for the first of the entries that are left
 pub sums_fit : (rows : List Lent) (entries left rest : Entries) (e : List ℕ × ℕ) → left ≡ e ∷ rest → SumsUp rows left entries → whole_amount rows + e.1 ≤ total_weight entries

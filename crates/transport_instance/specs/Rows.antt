@@ -1,5 +1,5 @@
 -- Rows of a key and an amount, where a key may stand more than once.
-use Rattle.std.specs.Prelude.{◌≡◌, ℕ, ◌+◌, ◌<◌, ◌≤◌, Bool, List, [], ◌∷◌, length, map, sum_by, count_by, unwrap_or, if◌then◌else◌}
+use Rattle.std.specs.Prelude.{◌≡◌, ℕ, ◌+◌, ◌<◌, ◌≤◌, Bool, true, List, [], ◌∷◌, length, map, sum_by, count_by, unwrap_or, if◌then◌else◌}
 use Rattle.std.specs.Borrow.{Bor}
 use Rattle.std.specs.Cmp.Lexicographic.{slice_cmp}
 use Rattle.std.specs.List.{All, range_with_len}
@@ -31,6 +31,21 @@ joined same (row ∷ rows) = joined_from same row rows
 pub record AddsCounts (name : List ℕ) (counts : List ℕ) (old new : List (GroupKey × ℕ)) : Type 0 where
   pub amounts : (g : GroupKey) → amount_of is_same_group new g ≡ amount_of is_same_group old g + count_by (λ count. is_same_group g (name, count)) counts
   pub whole : whole_amount new ≡ whole_amount old + length counts
+  pub some : All (λ r. 0 < r.1) old → All (λ r. 0 < r.1) new
+
+-- so many numbers that a table counts, from this one on, pass a test
+abbrev pub counted_in : (ℕ → Bool) → ℕ → List ℕ → ℕ
+counted_in test count [] = 0
+counted_in test count (points ∷ table) = (if test count then points else 0) + counted_in test (count + 1) table
+
+-- each of the numbers is counted in a table or among the others
+abbrev pub AreParted : List ℕ → List ℕ → List ℕ → Type 0
+AreParted counts table others = (test : ℕ → Bool) → count_by test counts ≡ counted_in test 0 table + count_by test others
+
+-- the rows have points of this name more, as many for each number as a table counts
+pub record AddsTable (name : List ℕ) (table : List ℕ) (old new : List (GroupKey × ℕ)) : Type 0 where
+  pub amounts : (g : GroupKey) → amount_of is_same_group new g ≡ amount_of is_same_group old g + counted_in (λ count. is_same_group g (name, count)) 0 table
+  pub whole : whole_amount new ≡ whole_amount old + counted_in (λ count. true) 0 table
   pub some : All (λ r. 0 < r.1) old → All (λ r. 0 < r.1) new
 
 -- the rows are the points of the rule, each with the number of inputs that its load says

@@ -4,6 +4,7 @@ ghost use Rattle.std.specs.Cmp.Lexicographic.{slice_cmp};
 ghost use Rattle.std.specs.List.Sorted.{IsStrictlySortedBy};
 ghost use Rattle.std.specs.Map.{keys_of};
 ghost use Rattle.std.specs.Ordering.{nat_cmp};
+ghost use Rattle.bucket_core.specs.Rule.{AreNamed, all_named, names_view};
 ghost use Rattle.price_core.specs.Limits.{high_of, limits_view};
 ghost use Rattle.transport_instance.specs.Refusals.{KeepsLimits, BreaksLimit};
 ghost use Rattle.transport_instance.specs.Rows.{AreTotals, BreakHigh, BreakLow, KeepHigh, KeepLow, total_in, totals_view, whole_amount};
@@ -11,7 +12,7 @@ ghost use Rattle.transport_instance.specs.Rows.{AreTotals, BreakHigh, BreakLow, 
 use bucket_core::Rule;
 use price_core::{Limit, Totals};
 use std::alloc::{AllocError, Global};
-use std::collections::{BTreeMap, HashMap};
+use std::collections::BTreeMap;
 
 /// Whether the total of each name is within its limits. It takes `O(n)` steps at n entries, and `O(k)` for each of k names.
 pub fn keeps_limits(alloc: Global, rule: &Rule, limits: &Totals) -> Result<bool, AllocError>
@@ -31,50 +32,52 @@ pub(crate) fn totals<'a>(alloc: Global, rule: &'a Rule) -> Result<Vec<(&'a str, 
 {
     // Called for what its contract says: no sum of a rule's weights is above 2^31-1.
     let _total = rule.total();
-    let mut sums = HashMap::new(alloc);
-    for (name, weight) in rule.entries() {
-        count_points(&mut sums, name, weight as u32)?;
-    }
-    by_name(alloc, sums)
+    let (names, entries) = rule.by_places();
+    let mut sums = without_points(alloc, names)?;
+    add_entries(sums.as_mut_slice(), entries);
+    by_name(alloc, sums.as_slice())
 }
 
-/// The totals in the order of the names.
-fn by_name<'a>(
-    alloc: Global,
-    sums: HashMap<&'a str, u32>,
-) -> Result<Vec<(&'a str, u32)>, AllocError>
-    requires { whole_amount sums.entries < 2 ^ 32 }
+/// Adds the weight of each entry to the name at its place.
+fn add_entries(sums: &mut [(&str, u32)], entries: &[(usize, u64)])
+    requires named { AreNamed (keys_of (totals_view sums.old)) entries.now }
+    requires small { whole_amount sums.old + sum_by (λ e. e.1) entries.now < 2 ^ 32 }
+    ensures { (test : List ℕ → Bool) → sum_by (λ r. if test r.0 then r.1 else 0) (totals_view sums.new)
+        ≡ sum_by (λ r. if test r.0 then r.1 else 0) (totals_view sums.old) + sum_by (λ r. if test r.0 then r.1 else 0) (all_named (keys_of (totals_view sums.old)) entries.now) }
+{
+    for (place, weight) in entries {
+        sums[*place].1 += *weight as u32;
+    }
+}
+
+/// These names, without points.
+fn without_points<'a>(alloc: Global, names: &'a [String]) -> Result<Vec<(&'a str, u32)>, AllocError>
+    ensures names { IfOk result (λ v. keys_of (totals_view v.items) ≡ names_view names.now) }
+    ensures none { IfOk result (λ v. (test : List ℕ → Bool) → sum_by (λ r. if test r.0 then r.1 else 0) (totals_view v.items) ≡ 0) }
+{
+    let mut rows = Vec::with_capacity(alloc, names.len())?;
+    for name in names {
+        rows.push((name.as_str(), 0))?;
+    }
+    Ok(rows)
+}
+
+/// The totals in the order of the names, those of one name as one.
+fn by_name<'a>(alloc: Global, sums: &[(&'a str, u32)]) -> Result<Vec<(&'a str, u32)>, AllocError>
+    requires { whole_amount sums.now < 2 ^ 32 }
     ensures rise { IfOk result (λ v. IsStrictlySortedBy (slice_cmp nat_cmp) (keys_of (totals_view v.items))) }
     ensures sums { IfOk result (λ v. (test : List ℕ → Bool) → sum_by (λ r. if test r.0 then r.1 else 0) (totals_view v.items)
-        ≡ sum_by (λ r. if test r.0 then r.1 else 0) (totals_view sums.entry.entries)) }
+        ≡ sum_by (λ r. if test r.0 then r.1 else 0) (totals_view sums.now)) }
 {
     let mut sorted = BTreeMap::new(alloc);
     for (name, total) in sums {
-        add_points(&mut sorted, name, total)?;
+        add_points(&mut sorted, *name, *total)?;
     }
     let mut totals = Vec::new(alloc);
     for total in sorted {
         totals.push(total)?;
     }
     Ok(totals)
-}
-
-/// Adds points to the sum of a name.
-fn count_points<'a>(
-    sums: &mut HashMap<&'a str, u32>,
-    name: &'a str,
-    points: u32,
-) -> Result<(), AllocError>
-    requires { whole_amount sums.old.entries + points < 2 ^ 32 }
-    ensures { OnOk result ((test : List ℕ → Bool) → sum_by (λ r. if test r.0 then r.1 else 0) (totals_view sums.new.entries)
-        ≡ sum_by (λ r. if test r.0 then r.1 else 0) (totals_view sums.old.entries) + (if test name.now then points else 0)) }
-{
-    if let Some(sum) = sums.get_mut(name) {
-        *sum += points;
-        return Ok(());
-    }
-    sums.insert(name, points)?;
-    Ok(())
 }
 
 /// Adds points to the total of a name.
