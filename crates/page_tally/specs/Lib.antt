@@ -1,3 +1,4 @@
+pub mod Feeding
 pub mod File
 pub mod Folding
 pub mod Foreign

@@ -5,11 +5,13 @@ ghost use Rattle.book_core.specs.Page.{bytes_cmp};
 ghost use Rattle.page_tally.specs.Folding.{is_above_last};
 ghost use Rattle.page_tally.specs.Inputs.{input_view, last_view};
 
-/// The bytes of an input: where its line is a text without escapes those of the file, else a text of its own.
+/// The bytes of an input: where its line is a text without escapes those of the file, else a text of its own; or
+/// bytes that were kept from lines which are gone.
 #[derive(Drop)]
 pub(crate) enum Input<'a> {
     Plain(&'a [u8]),
     Text(String),
+    Kept(Vec<u8>),
 }
 
 impl<'a> Input<'a> {
@@ -20,6 +22,7 @@ impl<'a> Input<'a> {
         match self {
             Input::Plain(bytes) => *bytes,
             Input::Text(text) => text.as_bytes(),
+            Input::Kept(bytes) => bytes.as_slice(),
         }
     }
 }

@@ -10,6 +10,7 @@
 
 mod ascii;
 mod counter;
+mod feed;
 mod file;
 mod foreign;
 mod input;
@@ -23,6 +24,7 @@ mod recorded;
 mod run;
 mod stretch;
 
+pub use feed::Feed;
 pub use file::BookFile;
 pub use read::read_tally;
 pub use recorded::Recorded;

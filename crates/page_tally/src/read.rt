@@ -75,7 +75,7 @@ fn read_pages<R: Threads>(
     'pages: while let Some(page) = next {
         let number = lines.taken;
         let first = lines.take(alloc)?;
-        check_page(&before, &page, &first, number)?;
+        check_page(&before, &page, first.as_ref(), number)?;
         begin(&mut counter, &page, wanted, total);
         next = read_inputs(rt, alloc, lines, first, &mut counter)?;
         before = Some(page);
@@ -99,10 +99,10 @@ fn first_page(alloc: Global, lines: &mut Lines<'_>) -> Result<Option<Page>, Book
 }
 
 /// Judges a page that stands on the line of this number, by the page and the line that it stands between.
-fn check_page(
+pub(crate) fn check_page(
     before: &Option<Page>,
     page: &Page,
-    first: &Option<Line<'_>>,
+    first: Option<&Line<'_>>,
     number: u64,
 ) -> Result<(), BookFileFault>
     ensures good { OnOk result ((after : List FileLine) → page_fault number (standing before.now) page.now (with_line first.now after) ≡ None) }
@@ -124,7 +124,7 @@ fn check_page(
 }
 
 /// Whether a page that stands before this line has no inputs.
-fn ends_page(line: &Option<Line<'_>>) -> bool
+fn ends_page(line: Option<&Line<'_>>) -> bool
     ensures { (after : List FileLine) → result ≡ ends_page (with_line line.now after) }
 {
     match line {
@@ -136,7 +136,7 @@ fn ends_page(line: &Option<Line<'_>>) -> bool
 }
 
 /// Begins a page.
-fn begin(counter: &mut Counter, page: &Page, wanted: &Page, total: u32)
+pub(crate) fn begin(counter: &mut Counter, page: &Page, wanted: &Page, total: u32)
     requires allowed { IsRuleTotal total }
     requires whole { length counter.old.counts ≡ total }
     ensures { counter.new ≡ begun wanted.now total page.now counter.old.counts }
@@ -180,7 +180,7 @@ fn read_inputs<'a, R: Threads>(
 }
 
 /// Counts an input that stands on the line taken last, and the run of plain lines after it; gives the last input.
-fn read_on<'a, R: Threads>(
+pub(crate) fn read_on<'a, R: Threads>(
     rt: &R,
     alloc: Global,
     lines: &mut Lines<'a>,
@@ -217,6 +217,7 @@ fn follow<'a, R: Threads>(
     match input {
         Input::Plain(first) => Input::Plain(read_run(rt, alloc, lines, first, counter)),
         Input::Text(text) => Input::Text(text),
+        Input::Kept(bytes) => Input::Kept(bytes),
     }
 }
 
