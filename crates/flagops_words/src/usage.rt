@@ -75,7 +75,7 @@ const STATUSES: &str =
     "Each command tells its words with --help, as 'flagops ramp --help'.\n\nStatus: 0 done, 1 refused, a broken or doubted flag at check --strict, or the output failed, 2 words that are no command, 3 no rule fits.\nWhat was refused, where, and what to change is told on the error outlet; docs/REFUSALS.md has each line\nthat begins with 'refused', docs/FORMATS.md the files with examples, demo/README.md a first rollout.";
 
 /// The version of the program, and the kit that it is proved with (`rt version`), a line each.
-const VERSION: &str = "0.1.0\nproved with rattle-kit-13f logic dac8208d650f15bf";
+const VERSION: &str = "0.1.0\nproved with rattle-kit-13b logic dac8208d650f15bf";
 
 /// The program without its commands.
 fn program<'a>(alloc: Global) -> Result<Command<'a>, AllocError>
