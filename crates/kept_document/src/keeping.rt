@@ -99,8 +99,9 @@ fn document_tree(alloc: Global, document: &str, floats: bool) -> Result<Tree, Ke
     }
 }
 
-/// The tree of bytes that may have floats, or may not.
-fn tree_as(alloc: Global, bytes: &[u8], floats: bool) -> Result<Tree, TextFault>
+/// The tree of bytes that may have floats, as `float_variants::read_with_floats` reads them, or may not, as `flag_text::read_doc` does;
+/// of at most 4,194,304 of them.
+pub fn tree_as(alloc: Global, bytes: &[u8], floats: bool) -> Result<Tree, TextFault>
     ensures { GivesUnless TextFault.WantOfMemory tree_view result (tree_as floats bytes.now) }
 {
     if floats {

@@ -16,4 +16,4 @@ mod fault;
 mod keeping;
 
 pub use fault::KeepFault;
-pub use keeping::keep;
+pub use keeping::{keep, tree_as};
