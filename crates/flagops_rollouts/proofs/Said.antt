@@ -1,5 +1,5 @@
 -- What a person is told beside an answer, of the files that it is an answer to.
-use Rattle.std.proofs.Common.{◌≡◌, ◌++◌, ap, ℕ, Bool, true, false, List, [], Option, Some, None, IfSome, sym, subst}
+use Rattle.std.proofs.Common.{◌≡◌, ◌∙◌, ◌++◌, ap, ℕ, Bool, true, false, List, [], Option, Some, None, IfSome, sym, subst}
 use Rattle.std.specs.Prelude.{IfOk, Result, Ok, Err, is_some, nat_lt, option_map}
 use Rattle.file_diagnostics.specs.Named.{Names}
 use Rattle.flag_defs.specs.Document.{Definitions}
@@ -13,11 +13,12 @@ use Rattle.flagops_shell.specs.declared.refused.Remark.{Remark}
 use Rattle.bucket_core.specs.Rule.{Entries, total_weight}
 use Rattle.plan_text.specs.Answer.{Answer, emit}
 use Rattle.rollout.specs.Applied.{applied}
+use Rattle.rollout.specs.Change.{IsLocal}
 use Rattle.rollout_checks.specs.declared.fault.RolloutFault.{RolloutFault}
 use Rattle.transport_instance.specs.Certificate.{DualPrices}
 use Rattle.flagops_shell.specs.Outcomes.{◌>>=◌, beside, done, refused_by}
 use Rattle.flagops_shell.specs.Report.{Report, outcome_view}
-use Rattle.flagops_rollouts.specs.Apply.{applied_report, document_line, told_report}
+use Rattle.flagops_rollouts.specs.Apply.{IsLocalReport, applied_report, document_line, told_report}
 use Rattle.repeated_names.specs.Repeated.{is_repeating}
 use Rattle.flag_text.specs.Reading.{tree_of}
 use Rattle.flagops_rollouts.specs.Beside.{AreBefore, AreBehind, AreBoth, Part, Tells, noted_with, part_if}
@@ -151,6 +152,16 @@ applied_exact floats document flags marks key site strict rule c changed told r 
     let settled : Result Bool RolloutRefusal = noted_with (nat_lt 1 (times_at flags key site (total_weight rule))) (settle_omitted strict (is_omitting floats document flags)) in
     let shown = subst (λ (s : Result Bool RolloutRefusal). GivesUnlessWant outcome_view r (s >>= λ t. beside t line)) (sym noted) gives in
     subst (λ (a : Result Definitions RolloutFault). GivesUnlessWant outcome_view r (refused_by Apply a >>= (λ ch. done (document_line floats ch marks)) >>= λ report. settled >>= λ t. beside t (Ok report))) (sym is) shown
+
+abbrev text_in : Result Report RolloutRefusal → List ℕ
+text_in (Ok report) = report.text
+text_in (Err e) = []
+
+-- what is printed of it is local, where the marks that are printed are those of before
+pub applied_local : (floats : Bool) (before changed : Definitions) (marks now : Marks) (key : List ℕ) (site : ℕ) (rule : Entries) (c : DualPrices) (told : Bool) (r : Result Outcome Refused) → IsLocal before key site rule changed → now ≡ marks
+    → GivesUnlessWant outcome_view r (beside told (done (document_line floats changed now))) → IfOk r (λ o. IsLocalReport floats before marks key site (emit rule c) (outcome_view o))
+applied_local floats before changed marks now key site rule c told (Ok o) local same gives = (changed, sym (ap text_in gives) ∙ ap (document_line floats changed) same, local)
+applied_local floats before changed marks now key site rule c told (Err e) local same gives = tt
 
 module _ (floats : Bool) (path document : List ℕ) (flags : Definitions) (key : List ℕ) (site : ℕ) where
   module _ (plan : List ℕ) (answer : Answer) where
