@@ -1,8 +1,11 @@
-"""Flags with floats: `--floats` at `check`, `resolve`, `record`, `tally` and `serve`, and `ofrep`, which always takes them."""
+"""Flags with floats: `--floats` at each command that reads a document, and `ofrep`, which always takes them."""
 import json
 import unittest
 
+from given import BOOK, FREE, RED_3, document
 from program import ProgramTest, run
+from test_keep import OLD, TEXT
+from test_ramp import THREE
 from test_service import ServiceTest, FLAGS, compact, context
 from test_streams import Streams, frames
 
@@ -142,6 +145,131 @@ class Filters(ProgramTest):
             ran = run(words, {"d": self.SHARED % "1.5"}, input=given)
             self.assertEqual(ran.status, 1)
             self.assertIn("NoSite", ran.out)
+
+
+class Rollouts(ProgramTest):
+    """The commands on rollouts with `--floats`: a rollout is of names, whatever their values are, and no value is spelled anew."""
+
+    SPELLING = {"red": "0.50", "blue": "1e2", "green": "-0.0"}
+    VARIANTS = ",".join(f'"{name}":{value}' for name, value in SPELLING.items())
+    # The same flag with texts, and with floats.
+    TEXTS, NUMBERS = document(), document(variants=VARIANTS)
+    # A document with blanks and with members that no command reads; its other flag has floats, too.
+    LONG = TEXT.replace('"red": "r", "blue": "b", "green": "g"', VARIANTS)
+    FILES = {"request": RED_3, "book": BOOK, "plan": FREE, "steps": THREE}
+
+    PLAN = ["plan", "doc", "request", "book"]
+    VERIFY = ["verify", "doc", "request", "book", "plan"]
+    KEEP = ["apply", "--keep", "doc", "plan", "request", "book"]
+    # Of each what is printed has no values.
+    WITHOUT_VALUES = [
+        PLAN,
+        [*PLAN, "--explain"],
+        VERIFY,
+        [*VERIFY, "--json"],
+        ["ramp", "doc", "steps", "book"],
+        ["picture", "doc", "request", "book", "plan"],
+        ["compare", "doc", "doc", "book"],
+    ]
+
+    def files(self, text, **more):
+        return {**self.FILES, "doc": text, **more}
+
+    def ramp(self, text, *words):
+        """The answers to the steps."""
+        ran = run(["ramp", *words, "doc", "steps", "book"], self.files(text))
+        self.assertEqual((ran.status, ran.err), (0, ""))
+        return ran.out
+
+    def test_values_make_no_difference(self):
+        for words in self.WITHOUT_VALUES:
+            with self.subTest(" ".join(words)):
+                ran = run([*words, "--floats"], self.files(self.NUMBERS))
+                self.assertEqual(ran[:3], run(words, self.files(self.TEXTS))[:3])
+                self.assertEqual(ran.status, 0)
+
+    def test_steps(self):
+        ramp = self.ramp(self.NUMBERS, "--floats")
+        self.assertEqual(ramp, self.ramp(self.TEXTS))
+        for words in (["verify-ramp", "doc", "steps", "book", "ramp"], ["picture", "--ramp", "doc", "steps", "book", "ramp"]):
+            ran = run([*words, "--floats"], self.files(self.NUMBERS, ramp=ramp))
+            self.assertEqual(ran[:3], run(words, self.files(self.TEXTS, ramp=ramp))[:3])
+            self.assertEqual(ran.status, 0)
+
+    def test_without_the_word_such_a_flag_is_broken(self):
+        given = self.files(self.NUMBERS, ramp=self.ramp(self.TEXTS))
+        for words, call in (
+            (self.PLAN, "plan"),
+            (self.VERIFY, "verify"),
+            (self.KEEP, "apply"),
+            (["apply", "doc", "plan", "color", "0"], "apply"),
+            (["ramp", "doc", "steps", "book"], "ramp"),
+            (["apply", "--step", "1", "doc", "ramp", "color", "0"], "apply"),
+        ):
+            ran = run(words, given)
+            self.assertEqual((ran.status, ran.out), (1, f"refused {call} 3 NoSite\n"), words)
+
+    def test_the_printed_document_has_each_value_as_it_is_spelled(self):
+        for words, given in (
+            (["apply", "doc", "plan", "color", "0"], self.files(self.NUMBERS)),
+            (["apply", "--step", "1", "doc", "ramp", "color", "0"], self.files(self.NUMBERS, ramp=self.ramp(self.TEXTS))),
+        ):
+            ran = run([*words, "--floats"], given)
+            self.assertEqual((ran.status, ran.err), (0, ""))
+            for name, value in self.SPELLING.items():
+                self.assertIn(f'"{name}":{value}', ran.out)
+            texts = run(words, {**given, "doc": self.TEXTS}).out
+            for name, value in self.SPELLING.items():
+                texts = texts.replace(f'"{name}":"{name[0]}"', f'"{name}":{value}')
+            self.assertEqual(ran.out, texts)
+
+    def test_from_the_plan_to_the_written_document_and_back(self):
+        """Only the buckets are changed, and each user has the value, as it is spelled, of the variant that the rule gives."""
+        plan = run([*self.PLAN, "--floats"], self.files(self.LONG))
+        self.assertEqual((plan.status, plan.err), (0, ""))
+        given = self.files(self.LONG, plan=plan.out)
+        checked = run([*self.VERIFY, "--floats"], given)
+        self.assertEqual((checked.status, checked.out, checked.err), (0, "valid cost 0\n", ""))
+        buckets = ",\n        ".join(json.dumps(it, separators=(",", ":")) for it in json.loads(plan.out)["rule"])
+        wanted = self.LONG.replace(OLD, buckets)
+        ran = run([*self.KEEP, "--floats"], given)
+        self.assertEqual((ran.status, ran.out, ran.err, ran.files), (0, wanted, "", given))
+        ran = run([*self.KEEP, "--write", "--floats"], given)
+        self.assertEqual((ran.status, ran.out, ran.err), (0, f"written {len(wanted)}\n", ""))
+        self.assertEqual(ran.files, {**given, "doc": wanted})
+        self.assertEqual(run(["check", "--floats", "doc"], ran.files).out, '"color" good\n"discount" good\n')
+        for line in BOOK.splitlines()[2:]:
+            context_ = json.dumps({"key": json.loads(line)})
+            ended = run(["resolve", "--floats", "doc", "color", "float", "7", "c", "0"], {**ran.files, "c": context_})
+            name = json.loads(ended.out)["variant"]
+            self.assertIn(f'"value":{self.SPELLING[name]},"variant":"{name}"', ended.out)
+
+    def test_a_step_that_is_kept(self):
+        given = self.files(self.LONG, ramp=self.ramp(self.LONG, "--floats"))
+        ran = run(["apply", "--step", "1", "--keep", "--write", "--floats", "doc", "ramp", "steps", "book"], given)
+        self.assertEqual((ran.status, ran.err), (0, ""))
+        front, back = self.LONG.split(OLD)
+        self.assertTrue(ran.files["doc"].startswith(front) and ran.files["doc"].endswith(back))
+        self.assertEqual(run(["check", "--floats", "doc"], ran.files).out, '"color" good\n"discount" good\n')
+
+    def test_the_word_changes_nothing_of_whole_numbers(self):
+        text = document(variants='"red":1,"blue":2,"green":3')
+        given = self.files(text, ramp=self.ramp(text), old=self.TEXTS)
+        for words in (
+            *self.WITHOUT_VALUES,
+            [*self.PLAN, "--picture", "p"],
+            self.KEEP,
+            [*self.KEEP, "--write"],
+            ["apply", "doc", "plan", "color", "0"],
+            ["apply", "doc", "plan", "color", "1"],
+            ["apply", "--step", "2", "doc", "ramp", "color", "0"],
+            ["apply", "--step", "1", "--keep", "--write", "doc", "ramp", "steps", "book"],
+            ["verify-ramp", "doc", "steps", "book", "ramp"],
+            ["picture", "--ramp", "doc", "steps", "book", "ramp"],
+            ["compare", "old", "doc", "book"],
+        ):
+            with self.subTest(" ".join(words)):
+                self.assertEqual(run(words, given), run([*words, "--floats"], given))
 
 
 class Service(ServiceTest):

@@ -29,9 +29,9 @@ told_in_any_files P old (Ok o) told = whatever old told
 told_in_any_files P old (Err e) told = tt
 
 -- the points of a plan
-pub points_told : {E : Type 0} (old : Option Holding) (a : Asked) (document request book : List ℕ) (refine : Option ℕ) (strict explain : Bool) (r : Result Outcome E) → a ≡ plan document request book refine strict explain
+pub points_told : {E : Type 0} (old : Option Holding) (a : Asked) (document request book : List ℕ) (refine : Option ℕ) (strict explain floats : Bool) (r : Result Outcome E) → a ≡ plan document request book refine strict explain floats
     → IfOk r (λ o. IfSome o.remark (Says (TellsFinerOf request (unwrap_or refine 1) o.text.items))) → IfOk r (λ o. IfSome old (λ at. IfSome o.remark (Says (numbers_of a at (outcome_view o)))))
-points_told old a document request book refine strict explain r is told =
+points_told old a document request book refine strict explain floats r is told =
     subst (λ (x : Asked). IfOk r (λ o. IfSome old (λ at. IfSome o.remark (Says (numbers_of x at (outcome_view o)))))) (sym is) (told_in_any_files (λ o. TellsFinerOf request (unwrap_or refine 1) o.text.items) old r told)
 
 -- what the words ask for, as they were matched

@@ -82,14 +82,14 @@ module _ (old : Option Holding) (path : List ℕ) where
       → IfSome old (λ at. is_want t.refusal ≡ false → bytes_at at path ≡ Err t.refusal)
   no_bytes e t is loaded = refused_so files.is_want is_want Load (λ e. refl) (λ at. refused_by file.Load (load_of at path max_text)) old e t is loaded
 
-  pub flags_there : (flags : Definitions) → IfSome old (λ at. documents.IsDocumentAt at path (Ok flags)) → IfSome old (λ at. IsDocumentAt at path (Ok flags))
+  pub flags_there : (flags : Definitions) → IfSome old (λ at. documents.IsDocumentAs false at path (Ok flags)) → IfSome old (λ at. IsDocumentAt at path (Ok flags))
   unfolding IsDocumentAt
-  flags_there flags loaded = given_one files.is_want is_want Load (λ e. refl) (λ at. documents.IsDocumentAt at path) old flags loaded
+  flags_there flags loaded = given_one files.is_want is_want Load (λ e. refl) (λ at. documents.IsDocumentAs false at path) old flags loaded
 
-  pub no_flags : (e : files.Refused) (t : Refused) → t.refusal ≡ Load e.refusal → IfSome old (λ at. files.is_want e.refusal ≡ false → documents.IsDocumentAt at path (Err e.refusal))
+  pub no_flags : (e : files.Refused) (t : Refused) → t.refusal ≡ Load e.refusal → IfSome old (λ at. files.is_want e.refusal ≡ false → documents.IsDocumentAs false at path (Err e.refusal))
       → IfSome old (λ at. is_want t.refusal ≡ false → IsDocumentAt at path (Err t.refusal))
   unfolding IsDocumentAt
-  no_flags e t is loaded = refused_one files.is_want is_want Load (λ e. refl) (λ at. documents.IsDocumentAt at path) old e t is loaded
+  no_flags e t is loaded = refused_one files.is_want is_want Load (λ e. refl) (λ at. documents.IsDocumentAs false at path) old e t is loaded
 
   pub marked_there : (floats : Bool) (flags : documents.Marked) → IfSome old (λ at. documents.AreFlagsAt floats at path (Ok flags)) → IfSome old (λ at. AreFlagsAt floats at path (Ok flags))
   unfolding AreFlagsAt

@@ -53,10 +53,10 @@ abbrev pub attempts_of : Asked → Holding → Attempts
 attempts_of (bucket rule key json) at = bucket_attempts at rule key
 attempts_of (price old new request keys json) at = price_attempts at old new request keys
 attempts_of (resolve document key kind default context moment floats) at = resolve_attempts floats at document default context
-attempts_of (verify document request book answer refine strict json) at = rolled (verify_attempts at document request book answer)
-attempts_of (plan document request book refine strict explain) at = rolled (plan_attempts at document request book)
-attempts_of (apply document answer key site strict) at = rolled (apply_attempts at document answer)
-attempts_of (keep document answer request book write refine strict) at = rolled (keep_attempts at document answer request book)
+attempts_of (verify document request book answer refine strict json floats) at = rolled (verify_attempts floats at document request book answer)
+attempts_of (plan document request book refine strict explain floats) at = rolled (plan_attempts floats at document request book)
+attempts_of (apply document answer key site strict floats) at = rolled (apply_attempts floats at document answer)
+attempts_of (keep document answer request book write refine strict floats) at = rolled (keep_attempts floats at document answer request book)
 attempts_of (drive document asks workers book add replace strict json) at = drive_attempts at document asks book add
 attempts_of (completions shell) at = []
 

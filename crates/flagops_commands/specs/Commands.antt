@@ -28,16 +28,16 @@ abbrev pub IsOutcome : Holding → Option Holding → Asked → Outcomes
 IsOutcome at after (bucket rule key json) r = bucket_report at rule key json ≡ r
 IsOutcome at after (price old new request keys json) r = price_report at old new request keys json ≡ r
 IsOutcome at after (resolve document key kind default context moment floats) r = IsResolveReport at document key kind default context moment floats r
-IsOutcome at after (verify document request book file refine strict json) r = Lifts Rollout (IsVerifyReport at document request book file refine strict json) r
-IsOutcome at after (apply document file key site strict) r = Lifts Rollout (IsApplyReport at document file key site strict) r
-IsOutcome at after (keep document file request book write refine strict) r = Lifts Rollout (IsKeepReport at after document file request book write refine strict) r
-IsOutcome at after (plan document request book refine strict explain) r = Lifts Rollout (IsPlanReport at document request book refine strict explain) r
+IsOutcome at after (verify document request book file refine strict json floats) r = Lifts Rollout (IsVerifyReport floats at document request book file refine strict json) r
+IsOutcome at after (apply document file key site strict floats) r = Lifts Rollout (IsApplyReport floats at document file key site strict) r
+IsOutcome at after (keep document file request book write refine strict floats) r = Lifts Rollout (IsKeepReport floats at after document file request book write refine strict) r
+IsOutcome at after (plan document request book refine strict explain floats) r = Lifts Rollout (IsPlanReport floats at document request book refine strict explain) r
 IsOutcome at after (completions shell) r = completions_report shell ≡ r
 IsOutcome at after (drive document file workers book add replace strict json) r = IsDriveReport at after document file workers book add replace strict json r
 
 -- a command leaves the files as they are; `drive` and `apply --keep --write` change the one file that they write, and only where there is something to write
 abbrev pub Leaves : Asked → Option Holding → Option Holding → Type 0
-Leaves (keep document file request book write refine strict) old new = LeavesDocument old new document write
+Leaves (keep document file request book write refine strict floats) old new = LeavesDocument old new document write
 Leaves (drive document file workers book add replace strict json) old new = LeavesBook old new document file workers book add strict
 Leaves asked old new = new ≡ old
 
@@ -46,10 +46,10 @@ abbrev pub calls_of : Asked → ListedCall → Bool
 calls_of (bucket rule key json) c = bucket_calls c
 calls_of (price old new request keys json) c = price_calls c
 calls_of (resolve document key kind default context moment floats) c = resolve_calls c
-calls_of (verify document request book file refine strict json) c = rolls verify_calls c
-calls_of (apply document file key site strict) c = rolls apply_calls c
-calls_of (keep document file request book write refine strict) c = rolls keep_calls c
-calls_of (plan document request book refine strict explain) c = rolls plan_calls c
+calls_of (verify document request book file refine strict json floats) c = rolls verify_calls c
+calls_of (apply document file key site strict floats) c = rolls apply_calls c
+calls_of (keep document file request book write refine strict floats) c = rolls keep_calls c
+calls_of (plan document request book refine strict explain floats) c = rolls plan_calls c
 calls_of (completions shell) c = completions_calls c
 calls_of (drive document file workers book add replace strict json) c = drive_calls c
 

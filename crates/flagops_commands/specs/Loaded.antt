@@ -1,5 +1,5 @@
 -- What is loaded for a listed command, where each refusal is one of these commands.
-use Rattle.std.specs.Prelude.{ℕ, Bool, List, Option, Result}
+use Rattle.std.specs.Prelude.{ℕ, Bool, false, List, Option, Result}
 use Rattle.bucket_core.specs.Rule.{Entries}
 use Rattle.book_core.specs.Book.{Contents}
 use Rattle.flag_defs.specs.Document.{Definitions}
@@ -32,7 +32,7 @@ choice_at at path key = refused_by Load (loading.choice_at at path key)
 
 -- the flags of the document at a path, or why there are none
 unfoldable pub IsDocumentAt : Holding → List ℕ → Result Definitions ListedRefusal → Type 0
-IsDocumentAt at path r = Lifts Load (documents.IsDocumentAt at path) r
+IsDocumentAt at path r = Lifts Load (documents.IsDocumentAs false at path) r
 
 -- the flags of the document at a path, which may have floats or may not, or why there are none
 unfoldable pub AreFlagsAt : Bool → Holding → List ℕ → Result documents.Marked ListedRefusal → Type 0

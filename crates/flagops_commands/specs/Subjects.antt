@@ -74,23 +74,23 @@ driven_subjects asks book = (file asks, is_of_asks) ∷ (word the_workers, is_of
 -- request or of an answer to it, what is left out of a document, and what the asks ended in
 abbrev pub notes_of : Asked → List ℕ → Type 0
 notes_of (price old new request keys json) = Names request
-notes_of (verify document request book answer refine strict json) = NamesDoubted request book
-notes_of (plan document request book refine strict explain) = NamesDoubted request book
-notes_of (apply document answer key site strict) = Names document
-notes_of (keep document answer request book write refine strict) = NamesDoubted request book
+notes_of (verify document request book answer refine strict json floats) = NamesDoubted request book
+notes_of (plan document request book refine strict explain floats) = NamesDoubted request book
+notes_of (apply document answer key site strict floats) = Names document
+notes_of (keep document answer request book write refine strict floats) = NamesDoubted request book
 notes_of (drive document asks workers book add replace strict json) = Names asks
 notes_of asked = λ lines. Unit {0}
 
 -- and the numbers that are told: of `plan`, how many points its rule has where it was planned in finer ones, and of `drive`, those of what it printed
 abbrev pub numbers_of : Asked → Holding → Report → List ℕ → Type 0
-numbers_of (plan document request book refine strict explain) at report = TellsFinerOf request (unwrap_or refine 1) report.text
+numbers_of (plan document request book refine strict explain floats) at report = TellsFinerOf request (unwrap_or refine 1) report.text
 numbers_of (drive document asks workers book add replace strict json) at report = TellsPrinted at asks book add json report.text
 numbers_of asked at report = λ lines. Unit {0}
 
 -- and of a command on rollouts all that is told, part after part
 abbrev pub parts_of : Asked → Holding → Report → Option Remark → Type 0
-parts_of (verify document request book answer refine strict json) at report told = TellsDoubtsAt at document request book told
-parts_of (plan document request book refine strict explain) at report told = TellsPlanAt at document request book (unwrap_or refine 1) explain report.text told
-parts_of (apply document answer key site strict) at report told = TellsAppliedAt at document answer key site told
-parts_of (keep document answer request book write refine strict) at report told = TellsKeptAt at document answer request book told
+parts_of (verify document request book answer refine strict json floats) at report told = TellsDoubtsAt floats at document request book told
+parts_of (plan document request book refine strict explain floats) at report told = TellsPlanAt floats at document request book (unwrap_or refine 1) explain report.text told
+parts_of (apply document answer key site strict floats) at report told = TellsAppliedAt floats at document answer key site told
+parts_of (keep document answer request book write refine strict floats) at report told = TellsKeptAt floats at document answer request book told
 parts_of asked at report told = Unit {0}

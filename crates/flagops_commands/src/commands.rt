@@ -69,8 +69,9 @@ pub fn outcome<R: Threads + Wait + Sync, F: FileSet>(
             refine,
             strict,
             json,
+            floats,
         } => verify(
-            rt, alloc, files, document, request, book, plan, *refine, *strict, *json,
+            rt, alloc, files, document, *floats, request, book, plan, *refine, *strict, *json,
         ),
         Asked::Plan {
             document,
@@ -79,8 +80,9 @@ pub fn outcome<R: Threads + Wait + Sync, F: FileSet>(
             refine,
             strict,
             explain,
+            floats,
         } => plan(
-            rt, alloc, files, document, request, book, *refine, *strict, *explain,
+            rt, alloc, files, document, *floats, request, book, *refine, *strict, *explain,
         ),
         Asked::Apply {
             document,
@@ -88,7 +90,8 @@ pub fn outcome<R: Threads + Wait + Sync, F: FileSet>(
             key,
             site,
             strict,
-        } => apply(alloc, files, document, plan, key, *site, *strict),
+            floats,
+        } => apply(alloc, files, document, *floats, plan, key, *site, *strict),
         Asked::Keep {
             document,
             plan,
@@ -97,8 +100,9 @@ pub fn outcome<R: Threads + Wait + Sync, F: FileSet>(
             write,
             refine,
             strict,
+            floats,
         } => keep(
-            rt, alloc, files, document, plan, request, book, *write, *refine, *strict,
+            rt, alloc, files, document, *floats, plan, request, book, *write, *refine, *strict,
         ),
         Asked::Drive {
             document,

@@ -116,7 +116,7 @@ pub(crate) fn load_flags<F: FileSet>(
     ensures kept { F.holding files.new ≡ F.holding files.old }
     ensures names { TellsOf (file path.now) result }
 {
-    match load_document(alloc, files, path) {
+    match load_document(alloc, files, path, false) {
         Ok(document) => Ok(document.flags),
         Err(refused) => Err(Refused::of(refused)),
     }

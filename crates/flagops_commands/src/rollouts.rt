@@ -31,23 +31,24 @@ pub(crate) fn plan<R: Threads + Sync, F: FileSet>(
     alloc: Global,
     files: &mut F,
     document: &str,
+    floats: bool,
     request: &str,
     book: &str,
     refine: Option<Factor>,
     strict: bool,
     explain: bool,
 ) -> Result<Outcome, Refused>
-    ensures exact { IfSome (F.holding files.old) (λ at. GivesOne outcome_view result (Lifts Rollout (IsPlanReport at document.now request.now book.now (option_map (λ m. m.number) refine) strict explain))) }
+    ensures exact { IfSome (F.holding files.old) (λ at. GivesOne outcome_view result (Lifts Rollout (IsPlanReport floats at document.now request.now book.now (option_map (λ m. m.number) refine) strict explain))) }
     ensures calls { ComesFrom (rolls plan_calls) result }
     ensures failed { F.has_failed files.new ≡ (F.has_failed files.old || is_file_fault result) }
     ensures kept { F.holding files.new ≡ F.holding files.old }
-    ensures names { IfSome (F.holding files.old) (λ at. TellsOfFirst (rolled (plan_attempts at document.now request.now book.now)) result) }
+    ensures names { IfSome (F.holding files.old) (λ at. TellsOfFirst (rolled (plan_attempts floats at document.now request.now book.now)) result) }
     ensures notes { IfOk result (λ o. IfSome o.remark (Says (NamesDoubted request.now book.now))) }
     ensures numbers { IfOk result (λ o. IfSome o.remark (Says (TellsFinerOf request.now (unwrap_or (option_map (λ m. m.number) refine) 1) o.text.items))) }
-    ensures parts { IfSome (F.holding files.old) (λ at. IfOk result (λ o. TellsPlanAt at document.now request.now book.now (unwrap_or (option_map (λ m. m.number) refine) 1) explain o.text.items o.remark)) }
+    ensures parts { IfSome (F.holding files.old) (λ at. IfOk result (λ o. TellsPlanAt floats at document.now request.now book.now (unwrap_or (option_map (λ m. m.number) refine) 1) explain o.text.items o.remark)) }
 {
     match flagops_rollouts::plan(
-        rt, alloc, files, document, request, book, refine, strict, explain,
+        rt, alloc, files, document, floats, request, book, refine, strict, explain,
     ) {
         Ok(outcome) => Ok(outcome),
         Err(refused) => Err(Refused::of(refused)),
@@ -61,6 +62,7 @@ pub(crate) fn verify<R: Threads + Sync, F: FileSet>(
     alloc: Global,
     files: &mut F,
     document: &str,
+    floats: bool,
     request: &str,
     book: &str,
     plan: &str,
@@ -68,16 +70,16 @@ pub(crate) fn verify<R: Threads + Sync, F: FileSet>(
     strict: bool,
     json: bool,
 ) -> Result<Outcome, Refused>
-    ensures exact { IfSome (F.holding files.old) (λ at. GivesOne outcome_view result (Lifts Rollout (IsVerifyReport at document.now request.now book.now plan.now (option_map (λ m. m.number) refine) strict json))) }
+    ensures exact { IfSome (F.holding files.old) (λ at. GivesOne outcome_view result (Lifts Rollout (IsVerifyReport floats at document.now request.now book.now plan.now (option_map (λ m. m.number) refine) strict json))) }
     ensures calls { ComesFrom (rolls verify_calls) result }
     ensures failed { F.has_failed files.new ≡ (F.has_failed files.old || is_file_fault result) }
     ensures kept { F.holding files.new ≡ F.holding files.old }
-    ensures names { IfSome (F.holding files.old) (λ at. TellsOfFirst (rolled (verify_attempts at document.now request.now book.now plan.now)) result) }
+    ensures names { IfSome (F.holding files.old) (λ at. TellsOfFirst (rolled (verify_attempts floats at document.now request.now book.now plan.now)) result) }
     ensures notes { IfOk result (λ o. IfSome o.remark (Says (NamesDoubted request.now book.now))) }
-    ensures parts { IfSome (F.holding files.old) (λ at. IfOk result (λ o. TellsDoubtsAt at document.now request.now book.now o.remark)) }
+    ensures parts { IfSome (F.holding files.old) (λ at. IfOk result (λ o. TellsDoubtsAt floats at document.now request.now book.now o.remark)) }
 {
     match flagops_rollouts::verify(
-        rt, alloc, files, document, request, book, plan, refine, strict, json,
+        rt, alloc, files, document, floats, request, book, plan, refine, strict, json,
     ) {
         Ok(outcome) => Ok(outcome),
         Err(refused) => Err(Refused::of(refused)),
@@ -90,20 +92,21 @@ pub(crate) fn apply<F: FileSet>(
     alloc: Global,
     files: &mut F,
     document: &str,
+    floats: bool,
     plan: &str,
     key: &str,
     site: u32,
     strict: bool,
 ) -> Result<Outcome, Refused>
-    ensures exact { IfSome (F.holding files.old) (λ at. GivesOne outcome_view result (Lifts Rollout (IsApplyReport at document.now plan.now key.now site strict))) }
+    ensures exact { IfSome (F.holding files.old) (λ at. GivesOne outcome_view result (Lifts Rollout (IsApplyReport floats at document.now plan.now key.now site strict))) }
     ensures calls { ComesFrom (rolls apply_calls) result }
     ensures failed { F.has_failed files.new ≡ (F.has_failed files.old || is_file_fault result) }
     ensures kept { F.holding files.new ≡ F.holding files.old }
-    ensures names { IfSome (F.holding files.old) (λ at. TellsOfFirst (rolled (apply_attempts at document.now plan.now)) result) }
+    ensures names { IfSome (F.holding files.old) (λ at. TellsOfFirst (rolled (apply_attempts floats at document.now plan.now)) result) }
     ensures notes { IfOk result (λ o. IfSome o.remark (Says (Names document.now))) }
-    ensures parts { IfSome (F.holding files.old) (λ at. IfOk result (λ o. TellsAppliedAt at document.now plan.now key.now site o.remark)) }
+    ensures parts { IfSome (F.holding files.old) (λ at. IfOk result (λ o. TellsAppliedAt floats at document.now plan.now key.now site o.remark)) }
 {
-    match flagops_rollouts::apply(alloc, files, document, plan, key, site, strict) {
+    match flagops_rollouts::apply(alloc, files, document, floats, plan, key, site, strict) {
         Ok(outcome) => Ok(outcome),
         Err(refused) => Err(Refused::of(refused)),
     }
@@ -116,6 +119,7 @@ pub(crate) fn keep<R: Threads + Sync, F: FileSet>(
     alloc: Global,
     files: &mut F,
     document: &str,
+    floats: bool,
     plan: &str,
     request: &str,
     book: &str,
@@ -123,17 +127,17 @@ pub(crate) fn keep<R: Threads + Sync, F: FileSet>(
     refine: Option<Factor>,
     strict: bool,
 ) -> Result<Outcome, Refused>
-    ensures exact { IfSome (F.holding files.old) (λ at. GivesOne outcome_view result (Lifts Rollout (IsKeepReport at (F.holding files.new) document.now plan.now request.now book.now write (option_map (λ m. m.number) refine) strict))) }
+    ensures exact { IfSome (F.holding files.old) (λ at. GivesOne outcome_view result (Lifts Rollout (IsKeepReport floats at (F.holding files.new) document.now plan.now request.now book.now write (option_map (λ m. m.number) refine) strict))) }
     ensures calls { ComesFrom (rolls keep_calls) result }
     ensures failed { F.has_failed files.new ≡ (F.has_failed files.old || is_file_fault result) }
     ensures left { LeavesDocument (F.holding files.old) (F.holding files.new) document.now write }
     ensures kept { KeepsUnlessDone (F.holding files.old) (F.holding files.new) result }
-    ensures names { IfSome (F.holding files.old) (λ at. TellsOfFirst (rolled (keep_attempts at document.now plan.now request.now book.now)) result) }
+    ensures names { IfSome (F.holding files.old) (λ at. TellsOfFirst (rolled (keep_attempts floats at document.now plan.now request.now book.now)) result) }
     ensures notes { IfOk result (λ o. IfSome o.remark (Says (NamesDoubted request.now book.now))) }
-    ensures parts { IfSome (F.holding files.old) (λ at. IfOk result (λ o. TellsKeptAt at document.now plan.now request.now book.now o.remark)) }
+    ensures parts { IfSome (F.holding files.old) (λ at. IfOk result (λ o. TellsKeptAt floats at document.now plan.now request.now book.now o.remark)) }
 {
     match flagops_rollouts::keep(
-        rt, alloc, files, document, plan, request, book, write, refine, strict,
+        rt, alloc, files, document, floats, plan, request, book, write, refine, strict,
     ) {
         Ok(outcome) => Ok(outcome),
         Err(refused) => Err(Refused::of(refused)),

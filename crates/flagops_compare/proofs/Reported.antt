@@ -153,21 +153,21 @@ module _ (a : Comparing) (pages : List PageFound) (ps : Pictures) where
 module _ (a : Comparing) where
   -- ---- the report
 
-  reported_at : (at : Holding) (new : Option Holding) (l : Loaded) (r : Result Outcome Told) → IsLoadedAt at a.old a.new a.book (Ok l) → GivesOne r (IsWithLoaded (Some at) new a (Ok l)) → GivesOne r (IsCompareReport at new a)
+  reported_at : (at : Holding) (new : Option Holding) (l : Loaded) (r : Result Outcome Told) → IsLoadedAt a.floats at a.old a.new a.book (Ok l) → GivesOne r (IsWithLoaded (Some at) new a (Ok l)) → GivesOne r (IsCompareReport at new a)
   unfolding IsCompareReport
   reported_at at new l (Ok o) loaded gives = (Ok l, loaded, gives)
   reported_at at new l (Err t) loaded gives = λ no_want. (Ok l, loaded, gives no_want)
 
-  pub reported : (old mid new : Option Holding) (l : Loaded) (r : Result Outcome Told) → mid ≡ old → IfSome old (λ at. IsLoadedAt at a.old a.new a.book (Ok l)) → GivesOne r (IsWithLoaded mid new a (Ok l))
+  pub reported : (old mid new : Option Holding) (l : Loaded) (r : Result Outcome Told) → mid ≡ old → IfSome old (λ at. IsLoadedAt a.floats at a.old a.new a.book (Ok l)) → GivesOne r (IsWithLoaded mid new a (Ok l))
       → IfSome old (λ at. GivesOne r (IsCompareReport at new a))
   reported None mid new l r same loaded gives = tt
   reported (Some at) mid new l r same loaded gives = reported_at at new l r loaded (subst (λ (h : Option Holding). GivesOne r (IsWithLoaded h new a (Ok l))) same gives)
 
-  refused_at : (at : Holding) (new : Option Holding) (e : Refused) (t : Told) → t.refusal ≡ Load e.refusal → new ≡ Some at → (files.is_want e.refusal ≡ false → IsLoadedAt at a.old a.new a.book (Err e.refusal)) → GivesOne (Err t) (IsCompareReport at new a)
+  refused_at : (at : Holding) (new : Option Holding) (e : Refused) (t : Told) → t.refusal ≡ Load e.refusal → new ≡ Some at → (files.is_want e.refusal ≡ false → IsLoadedAt a.floats at a.old a.new a.book (Err e.refusal)) → GivesOne (Err t) (IsCompareReport at new a)
   unfolding IsCompareReport
   refused_at at new e t is same loaded = λ no_want. (Err e.refusal, loaded (not_want t e is no_want), (ap Err is, same))
 
-  pub refused : (old new : Option Holding) (e : Refused) (t : Told) → t.refusal ≡ Load e.refusal → new ≡ old → IfSome old (λ at. files.is_want e.refusal ≡ false → IsLoadedAt at a.old a.new a.book (Err e.refusal))
+  pub refused : (old new : Option Holding) (e : Refused) (t : Told) → t.refusal ≡ Load e.refusal → new ≡ old → IfSome old (λ at. files.is_want e.refusal ≡ false → IsLoadedAt a.floats at a.old a.new a.book (Err e.refusal))
       → IfSome old (λ at. GivesOne (Err t) (IsCompareReport at new a))
   refused None new e t is same loaded = tt
   refused (Some at) new e t is same loaded = refused_at at new e t is same loaded
@@ -192,13 +192,13 @@ module _ (a : Comparing) where
   pub want_told : (t : Told) → t.refusal ≡ WantOfMemory → TellsRefused (picture_attempts a.picture) a (Err t)
   want_told t is = is_none t is
 
-  named_at : (at : Holding) (e : Refused) (t : Told) → t.refusal ≡ Load e.refusal → t.remark ≡ e.remark → (files.is_want e.refusal ≡ false → NamesFirst (compare_attempts at a.old a.new a.book) e.refusal e.remark) → TellsRefused (attempts_of at a) a (Err t)
+  named_at : (at : Holding) (e : Refused) (t : Told) → t.refusal ≡ Load e.refusal → t.remark ≡ e.remark → (files.is_want e.refusal ≡ false → NamesFirst (compare_attempts a.floats at a.old a.new a.book) e.refusal e.remark) → TellsRefused (attempts_of at a) a (Err t)
   named_at at e t is same names = λ no_want.
       subst (λ (r : CompareRefusal). NamesRefused (attempts_of at a) a r t.remark) (sym is)
-      (subst (λ (m : Remark). NamesFirst (attempts_of at a) e.refusal m) (sym same) (first_left (compare_attempts at a.old a.new a.book) (picture_attempts a.picture) e.refusal e.remark (names (not_want t e is no_want))))
+      (subst (λ (m : Remark). NamesFirst (attempts_of at a) e.refusal m) (sym same) (first_left (compare_attempts a.floats at a.old a.new a.book) (picture_attempts a.picture) e.refusal e.remark (names (not_want t e is no_want))))
 
   pub named : (holding : Option Holding) (e : Refused) (t : Told) → t.refusal ≡ Load e.refusal → t.remark ≡ e.remark
-      → IfSome holding (λ at. files.is_want e.refusal ≡ false → NamesFirst (compare_attempts at a.old a.new a.book) e.refusal e.remark) → IfSome holding (λ at. TellsRefused (attempts_of at a) a (Err t))
+      → IfSome holding (λ at. files.is_want e.refusal ≡ false → NamesFirst (compare_attempts a.floats at a.old a.new a.book) e.refusal e.remark) → IfSome holding (λ at. TellsRefused (attempts_of at a) a (Err t))
   named None e t is same names = tt
   named (Some at) e t is same names = named_at at e t is same names
 
@@ -207,23 +207,23 @@ module _ (a : Comparing) where
   third at old new l (Ok e) is same = (e, is)
 
   -- the files were read
-  succeeded : (at : Holding) (l : Loaded) → IsLoadedAt at a.old a.new a.book (Ok l) → AllSucceed (compare_attempts at a.old a.new a.book)
+  succeeded : (at : Holding) (l : Loaded) → IsLoadedAt a.floats at a.old a.new a.book (Ok l) → AllSucceed (compare_attempts a.floats at a.old a.new a.book)
   unfolding IsLoadedAt
   succeeded at l (Err e, is, same) = differ same
   succeeded at l (Ok old, is, (Err e, found, same)) = differ same
   succeeded at l (Ok old, is, (Ok new, found, (evidence, read, same))) = ((old, is), ((new, found), (third at old new l evidence read same, tt)))
 
-  behind : (at : Holding) (l : Loaded) (e : CompareRefusal) (remark : Remark) → IsLoadedAt at a.old a.new a.book (Ok l) → NamesRefused (picture_attempts a.picture) a e remark → NamesRefused (attempts_of at a) a e remark
+  behind : (at : Holding) (l : Loaded) (e : CompareRefusal) (remark : Remark) → IsLoadedAt a.floats at a.old a.new a.book (Ok l) → NamesRefused (picture_attempts a.picture) a e remark → NamesRefused (attempts_of at a) a e remark
   behind at l WantOfMemory remark loaded names = names
-  behind at l (Load e) remark loaded names = first_right (compare_attempts at a.old a.new a.book) (picture_attempts a.picture) e remark (succeeded at l loaded) names
+  behind at l (Load e) remark loaded names = first_right (compare_attempts a.floats at a.old a.new a.book) (picture_attempts a.picture) e remark (succeeded at l loaded) names
   behind at l OtherTally remark loaded names = names
 
-  behind_at : (at : Holding) (l : Loaded) (r : Result Outcome Told) → IsLoadedAt at a.old a.new a.book (Ok l) → TellsRefused (picture_attempts a.picture) a r → TellsRefused (attempts_of at a) a r
+  behind_at : (at : Holding) (l : Loaded) (r : Result Outcome Told) → IsLoadedAt a.floats at a.old a.new a.book (Ok l) → TellsRefused (picture_attempts a.picture) a r → TellsRefused (attempts_of at a) a r
   behind_at at l (Ok o) loaded tells = tt
   behind_at at l (Err t) loaded tells = λ no_want. behind at l t.refusal t.remark loaded (tells no_want)
 
   -- what is refused once the files were read
-  pub told_behind : (holding : Option Holding) (l : Loaded) (r : Result Outcome Told) → IfSome holding (λ at. IsLoadedAt at a.old a.new a.book (Ok l)) → TellsRefused (picture_attempts a.picture) a r → IfSome holding (λ at. TellsRefused (attempts_of at a) a r)
+  pub told_behind : (holding : Option Holding) (l : Loaded) (r : Result Outcome Told) → IfSome holding (λ at. IsLoadedAt a.floats at a.old a.new a.book (Ok l)) → TellsRefused (picture_attempts a.picture) a r → IfSome holding (λ at. TellsRefused (attempts_of at a) a r)
   told_behind None l r loaded tells = tt
   told_behind (Some at) l r loaded tells = behind_at at l r loaded tells
 
@@ -235,7 +235,7 @@ module _ (a : Comparing) where
       in_remark (Some m) says = says_so (λ lines. lines ≡ note_lines a.old a.new pages) (TellsOfLoaded a l) m (λ lines same. (pages, is, same)) says
   noted_so l pages (Err t) is says = tt
 
-  pub noted : (holding : Option Holding) (l : Loaded) (r : Result Outcome Told) → IfSome holding (λ at. IsLoadedAt at a.old a.new a.book (Ok l)) → IfOk r (λ o. IfSome o.remark (Says (TellsOfLoaded a l)))
+  pub noted : (holding : Option Holding) (l : Loaded) (r : Result Outcome Told) → IfSome holding (λ at. IsLoadedAt a.floats at a.old a.new a.book (Ok l)) → IfOk r (λ o. IfSome o.remark (Says (TellsOfLoaded a l)))
       → IfSome holding (λ at. IfOk r (λ o. IfSome o.remark (Says (TellsLeft at a))))
   unfolding TellsLeft
   noted None l r loaded says = tt

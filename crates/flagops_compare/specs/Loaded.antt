@@ -1,9 +1,9 @@
 -- Both documents and what was recorded, each loaded and read before the next.
-use Rattle.std.specs.Prelude.{◌≡◌, ℕ, List, [], ◌∷◌, Result, Ok, Err}
+use Rattle.std.specs.Prelude.{◌≡◌, ℕ, Bool, List, [], ◌∷◌, Result, Ok, Err}
 use Rattle.flag_defs.specs.Document.{Definitions}
 use Rattle.flag_defs.specs.Flags.{flags_view}
 use Rattle.flagops_compare.specs.declared.loading.Loaded as program
-use Rattle.flagops_files.specs.Documents.{IsDocumentAt}
+use Rattle.flagops_files.specs.Documents.{IsDocumentAs}
 use Rattle.flagops_files.specs.Question.{IsEvidenceAt}
 use Rattle.flagops_files.specs.Refusal.{Attempts}
 use Rattle.flagops_files.specs.Told.{attempt, file}
@@ -28,14 +28,14 @@ abbrev pub IsWithNew : Holding → Definitions → Result Definitions Refusal �
 IsWithNew at old (Err e) book r = r ≡ Err e
 IsWithNew at old (Ok new) book r = (evidence : Result Evidence Refusal) × IsEvidenceAt at book evidence × (r ≡ loaded_of old new evidence)
 
-abbrev pub IsWithOld : Holding → Result Definitions Refusal → List ℕ → List ℕ → Result Loaded Refusal → Type 0
-IsWithOld at (Err e) new book r = r ≡ Err e
-IsWithOld at (Ok old) new book r = (document : Result Definitions Refusal) × IsDocumentAt at new document × IsWithNew at old document book r
+abbrev pub IsWithOld : Bool → Holding → Result Definitions Refusal → List ℕ → List ℕ → Result Loaded Refusal → Type 0
+IsWithOld floats at (Err e) new book r = r ≡ Err e
+IsWithOld floats at (Ok old) new book r = (document : Result Definitions Refusal) × IsDocumentAs floats at new document × IsWithNew at old document book r
 
--- what the files at these paths are, or the first refusal
-unfoldable pub IsLoadedAt : Holding → List ℕ → List ℕ → List ℕ → Result Loaded Refusal → Type 0
-IsLoadedAt at old new book r = (document : Result Definitions Refusal) × IsDocumentAt at old document × IsWithOld at document new book r
+-- what the files at these paths are, of which the documents may have floats or may not, or the first refusal
+unfoldable pub IsLoadedAt : Bool → Holding → List ℕ → List ℕ → List ℕ → Result Loaded Refusal → Type 0
+IsLoadedAt floats at old new book r = (document : Result Definitions Refusal) × IsDocumentAs floats at old document × IsWithOld floats at document new book r
 
 -- the files in the order in which they are read, each before the next
-abbrev pub compare_attempts : Holding → List ℕ → List ℕ → List ℕ → Attempts
-compare_attempts at old new book = attempt (file old) (IsDocumentAt at old) ∷ attempt (file new) (IsDocumentAt at new) ∷ attempt (file book) (IsEvidenceAt at book) ∷ []
+abbrev pub compare_attempts : Bool → Holding → List ℕ → List ℕ → List ℕ → Attempts
+compare_attempts floats at old new book = attempt (file old) (IsDocumentAs floats at old) ∷ attempt (file new) (IsDocumentAs floats at new) ∷ attempt (file book) (IsEvidenceAt at book) ∷ []

@@ -62,7 +62,7 @@ IsWithLoaded old new a (Err e) r = (r ≡ Err (Load e)) × (new ≡ old)
 IsWithLoaded old new a (Ok l) r = (pages : Result (List PageFound) TallyFault) × IsComparedOn l a.flag pages × IsWithCompared old new a l pages r
 
 unfoldable pub IsCompareReport : Holding → Option Holding → Comparing → Came → Type 0
-IsCompareReport at new a r = (loaded : Result Loaded Refusal) × IsLoadedAt at a.old a.new a.book loaded × IsWithLoaded (Some at) new a loaded r
+IsCompareReport at new a r = (loaded : Result Loaded Refusal) × IsLoadedAt a.floats at a.old a.new a.book loaded × IsWithLoaded (Some at) new a loaded r
 
 -- ---- what is told
 
@@ -71,7 +71,7 @@ abbrev pub TellsOfLoaded : Comparing → Loaded → List ℕ → Type 0
 TellsOfLoaded a l lines = (pages : List PageFound) × IsComparedOn l a.flag (Ok pages) × (lines ≡ note_lines a.old a.new pages)
 
 unfoldable pub TellsLeft : Holding → Comparing → List ℕ → Type 0
-TellsLeft at a lines = (l : Loaded) × IsLoadedAt at a.old a.new a.book (Ok l) × TellsOfLoaded a l lines
+TellsLeft at a lines = (l : Loaded) × IsLoadedAt a.floats at a.old a.new a.book (Ok l) × TellsOfLoaded a l lines
 
 -- the file of the picture, where one is asked for and it could not be written
 abbrev pub picture_attempts : Option Text → Attempts
@@ -80,7 +80,7 @@ picture_attempts (Some path) = attempt_by (file path) (by stores_file) ∷ []
 
 -- the files that are read, and then that of the picture
 abbrev pub attempts_of : Holding → Comparing → Attempts
-attempts_of at a = compare_attempts at a.old a.new a.book ++ picture_attempts a.picture
+attempts_of at a = compare_attempts a.floats at a.old a.new a.book ++ picture_attempts a.picture
 
 -- of a refusal the name of the first file that is refused
 abbrev pub NamesRefused : Attempts → Comparing → CompareRefusal → Remark → Type 0

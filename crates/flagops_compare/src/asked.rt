@@ -17,4 +17,6 @@ pub struct Comparing<'a> {
     pub strict: bool,
     /// Whether the answer is printed as JSON.
     pub json: bool,
+    /// Whether the documents may have floats.
+    pub floats: bool,
 }

@@ -82,7 +82,15 @@ fn outcome<R: Threads, F: FileSet>(
     ensures names { IfSome (F.holding files.old) (λ at. TellsRefused (attempts_of at (comparing_view asked.now)) (comparing_view asked.now) result) }
     ensures notes { IfSome (F.holding files.old) (λ at. IfOk result (λ o. IfSome o.remark (Says (TellsLeft at (comparing_view asked.now))))) }
 {
-    match load_both(rt, alloc, files, asked.old, asked.new, asked.book) {
+    match load_both(
+        rt,
+        alloc,
+        files,
+        asked.old,
+        asked.new,
+        asked.floats,
+        asked.book,
+    ) {
         Ok(loaded) => reported(alloc, files, asked, &loaded),
         Err(refused) => Err(Refused::of(refused)),
     }

@@ -2,11 +2,11 @@
 ghost use Rattle.std.specs.Prelude.{◌≡◌, IfOk, false};
 ghost use Rattle.clap.specs.Simple.{new_app, with_rule};
 ghost use Rattle.clap.specs.Words.{app_of, rule_of};
-ghost use Rattle.flagops_compare.specs.Words.{compare_app, compare_files, flag_option, picture_option};
+ghost use Rattle.flagops_compare.specs.Words.{compare_app, compare_begun, compare_files, flag_option, picture_option};
 
 use clap::{Arg, Command};
 use flagops_words::about;
-use flagops_words::arguments::{flag, required};
+use flagops_words::arguments::{flag, floats, required};
 use std::alloc::{AllocError, Global};
 
 /// The command `compare`. The first of its words is its own name.
@@ -20,11 +20,14 @@ pub(crate) fn usage<'a>(alloc: Global) -> Result<Command<'a>, AllocError>
         "End with status 1 where a page has no rules to compare",
     );
     let json = flag(alloc, "json", "Print the answer as JSON, in a line");
-    files(alloc)?
-        .arg(only(alloc))?
-        .arg(picture(alloc))?
-        .arg(strict)?
-        .arg(json)
+    begun(alloc)?.arg(strict)?.arg(json)?.arg(floats(alloc))
+}
+
+/// The command with its files, `--flag` and `--picture`.
+fn begun<'a>(alloc: Global) -> Result<Command<'a>, AllocError>
+    ensures app { IfOk result (λ c. app_of c ≡ compare_begun) }
+{
+    files(alloc)?.arg(only(alloc))?.arg(picture(alloc))
 }
 
 /// The command with its files.

@@ -9,7 +9,7 @@ use crate::asked::Comparing;
 use crate::usage::usage;
 use clap::{ArgMatches, Error};
 use flagops_words::arguments::missing_value;
-use flagops_words::matches::{is_json, is_strict};
+use flagops_words::matches::{has_floats, is_json, is_strict};
 use std::alloc::Global;
 use std::convert::AsStr;
 
@@ -42,6 +42,7 @@ fn comparing_in<'a>(matches: &ArgMatches<'a>) -> Option<Comparing<'a>>
         picture: text_at(matches, "FILE"),
         strict: is_strict(matches),
         json: is_json(matches),
+        floats: has_floats(matches),
     })
 }
 

@@ -4,7 +4,7 @@ use Rattle.std.specs.Prelude.{Result, Ok, Err}
 use Rattle.flag_defs.specs.Document.{Definitions}
 use Rattle.flagops_shell.specs.Files.{Holding, load_of}
 use Rattle.flagops_shell.specs.Outcomes.{refused_by}
-use Rattle.flagops_files.specs.Documents.{IsDocumentAt}
+use Rattle.flagops_files.specs.Documents.{IsDocumentAs}
 use Rattle.flagops_files.specs.Loading.{max_text}
 use Rattle.flagops_files.specs.Question.{IsBookQuestionAt, IsEvidenceAt, IsQuestionAt, IsQuestionWith, book_at, book_question_attempts, book_question_view, question_attempts, question_view}
 use Rattle.flagops_files.specs.Refusal.{GivesOne, Refused, TellsOfFirst, is_file_fault, is_unread, is_want}
@@ -25,15 +25,15 @@ failed_last {X} start first second last e r is a b c =
     let failed : last ≡ (start || is_unread e.refusal) = c ∙ ap (λ (x : Bool). x || is_unread e.refusal) (b ∙ (or_false first ∙ (a ∙ or_false start))) in
     subst (λ (s : Result X Refused). last ≡ (start || is_file_fault s)) (sym is) failed
 
-module _ (path request recorded : List ℕ) (flags : Definitions) (bytes : List ℕ) (e : Refused) where
-  no_evidence_at : (at : Holding) → IsDocumentAt at path (Ok flags) → refused_by Load (load_of at request max_text) ≡ Ok bytes → (is_want e.refusal ≡ false → IsEvidenceAt at recorded (Err e.refusal))
-      → is_want e.refusal ≡ false → IsQuestionAt at path request recorded (Err e.refusal)
+module _ (floats : Bool) (path request recorded : List ℕ) (flags : Definitions) (bytes : List ℕ) (e : Refused) where
+  no_evidence_at : (at : Holding) → IsDocumentAs floats at path (Ok flags) → refused_by Load (load_of at request max_text) ≡ Ok bytes → (is_want e.refusal ≡ false → IsEvidenceAt at recorded (Err e.refusal))
+      → is_want e.refusal ≡ false → IsQuestionAt floats at path request recorded (Err e.refusal)
   unfolding IsQuestionAt
   no_evidence_at at document loaded refused no_want =
       (Ok flags, document, subst (λ (b : Result (List ℕ) Refusal). IsQuestionWith at flags b recorded (Err e.refusal)) (sym loaded) (Err e.refusal, refused no_want, refl))
 
-  no_book_at : (at : Holding) → IsDocumentAt at path (Ok flags) → refused_by Load (load_of at request max_text) ≡ Ok bytes → (is_want e.refusal ≡ false → book_at at recorded ≡ Err e.refusal)
-      → is_want e.refusal ≡ false → IsBookQuestionAt at path request recorded (Err e.refusal)
+  no_book_at : (at : Holding) → IsDocumentAs floats at path (Ok flags) → refused_by Load (load_of at request max_text) ≡ Ok bytes → (is_want e.refusal ≡ false → book_at at recorded ≡ Err e.refusal)
+      → is_want e.refusal ≡ false → IsBookQuestionAt floats at path request recorded (Err e.refusal)
   unfolding IsBookQuestionAt
   no_book_at at document loaded refused no_want = (Ok flags, document, rw (loaded, refused no_want) refl)
 
@@ -46,40 +46,40 @@ module _ (path request recorded : List ℕ) (flags : Definitions) (bytes : List 
       go None p q r = tt
       go (Some at) p q r = all at p q r
 
-  pub no_evidence : (old mid last : Option Holding) (r : Result program.Question Refused) → r ≡ Err e → mid ≡ old → last ≡ mid → IfSome old (λ at. IsDocumentAt at path (Ok flags))
+  pub no_evidence : (old mid last : Option Holding) (r : Result program.Question Refused) → r ≡ Err e → mid ≡ old → last ≡ mid → IfSome old (λ at. IsDocumentAs floats at path (Ok flags))
       → IfSome mid (λ at. refused_by Load (load_of at request max_text) ≡ Ok bytes) → IfSome last (λ at. is_want e.refusal ≡ false → IsEvidenceAt at recorded (Err e.refusal))
-      → IfSome old (λ at. GivesOne question_view r (IsQuestionAt at path request recorded))
+      → IfSome old (λ at. GivesOne question_view r (IsQuestionAt floats at path request recorded))
   no_evidence old mid last r is first second document loaded refused =
-      subst (λ (s : Result program.Question Refused). IfSome old (λ at. GivesOne question_view s (IsQuestionAt at path request recorded))) (sym is)
+      subst (λ (s : Result program.Question Refused). IfSome old (λ at. GivesOne question_view s (IsQuestionAt floats at path request recorded))) (sym is)
       (stayed old mid last first second document loaded refused no_evidence_at)
 
-  pub no_book : (old mid last : Option Holding) (r : Result program_book.BookQuestion Refused) → r ≡ Err e → mid ≡ old → last ≡ mid → IfSome old (λ at. IsDocumentAt at path (Ok flags))
+  pub no_book : (old mid last : Option Holding) (r : Result program_book.BookQuestion Refused) → r ≡ Err e → mid ≡ old → last ≡ mid → IfSome old (λ at. IsDocumentAs floats at path (Ok flags))
       → IfSome mid (λ at. refused_by Load (load_of at request max_text) ≡ Ok bytes) → IfSome last (λ at. is_want e.refusal ≡ false → book_at at recorded ≡ Err e.refusal)
-      → IfSome old (λ at. GivesOne book_question_view r (IsBookQuestionAt at path request recorded))
+      → IfSome old (λ at. GivesOne book_question_view r (IsBookQuestionAt floats at path request recorded))
   no_book old mid last r is first second document loaded refused =
-      subst (λ (s : Result program_book.BookQuestion Refused). IfSome old (λ at. GivesOne book_question_view s (IsBookQuestionAt at path request recorded))) (sym is)
+      subst (λ (s : Result program_book.BookQuestion Refused). IfSome old (λ at. GivesOne book_question_view s (IsBookQuestionAt floats at path request recorded))) (sym is)
       (stayed old mid last first second document loaded refused no_book_at)
 
   -- ---- it is the first that is refused
 
-  first_evidence_at : (at : Holding) → IsDocumentAt at path (Ok flags) → refused_by Load (load_of at request max_text) ≡ Ok bytes → (is_want e.refusal ≡ false → IsEvidenceAt at recorded (Err e.refusal))
-      → (is_want e.refusal ≡ false → Says (NamesSubject (file recorded)) e.remark) → is_want e.refusal ≡ false → NamesFirst (question_attempts at path request recorded) e.refusal e.remark
+  first_evidence_at : (at : Holding) → IsDocumentAs floats at path (Ok flags) → refused_by Load (load_of at request max_text) ≡ Ok bytes → (is_want e.refusal ≡ false → IsEvidenceAt at recorded (Err e.refusal))
+      → (is_want e.refusal ≡ false → Says (NamesSubject (file recorded)) e.remark) → is_want e.refusal ≡ false → NamesFirst (question_attempts floats at path request recorded) e.refusal e.remark
   first_evidence_at at document loaded refused says no_want = inr ((flags, document), inr ((bytes, loaded), inl (refused no_want, says no_want)))
 
-  first_book_at : (at : Holding) → IsDocumentAt at path (Ok flags) → refused_by Load (load_of at request max_text) ≡ Ok bytes → (is_want e.refusal ≡ false → book_at at recorded ≡ Err e.refusal)
-      → (is_want e.refusal ≡ false → Says (NamesSubject (file recorded)) e.remark) → is_want e.refusal ≡ false → NamesFirst (book_question_attempts at path request recorded) e.refusal e.remark
+  first_book_at : (at : Holding) → IsDocumentAs floats at path (Ok flags) → refused_by Load (load_of at request max_text) ≡ Ok bytes → (is_want e.refusal ≡ false → book_at at recorded ≡ Err e.refusal)
+      → (is_want e.refusal ≡ false → Says (NamesSubject (file recorded)) e.remark) → is_want e.refusal ≡ false → NamesFirst (book_question_attempts floats at path request recorded) e.refusal e.remark
   first_book_at at document loaded refused says no_want = inr ((flags, document), inr ((bytes, loaded), inl (refused no_want, says no_want)))
 
-  pub first_evidence : (old mid last : Option Holding) (r : Result program.Question Refused) → r ≡ Err e → mid ≡ old → last ≡ mid → IfSome old (λ at. IsDocumentAt at path (Ok flags))
+  pub first_evidence : (old mid last : Option Holding) (r : Result program.Question Refused) → r ≡ Err e → mid ≡ old → last ≡ mid → IfSome old (λ at. IsDocumentAs floats at path (Ok flags))
       → IfSome mid (λ at. refused_by Load (load_of at request max_text) ≡ Ok bytes) → IfSome last (λ at. is_want e.refusal ≡ false → IsEvidenceAt at recorded (Err e.refusal))
-      → (is_want e.refusal ≡ false → Says (NamesSubject (file recorded)) e.remark) → IfSome old (λ at. TellsOfFirst (question_attempts at path request recorded) r)
+      → (is_want e.refusal ≡ false → Says (NamesSubject (file recorded)) e.remark) → IfSome old (λ at. TellsOfFirst (question_attempts floats at path request recorded) r)
   first_evidence old mid last r is first second document loaded refused says =
-      subst (λ (s : Result program.Question Refused). IfSome old (λ at. TellsOfFirst (question_attempts at path request recorded) s)) (sym is)
+      subst (λ (s : Result program.Question Refused). IfSome old (λ at. TellsOfFirst (question_attempts floats at path request recorded) s)) (sym is)
       (stayed old mid last first second document loaded refused (λ at d l n. first_evidence_at at d l n says))
 
-  pub first_book : (old mid last : Option Holding) (r : Result program_book.BookQuestion Refused) → r ≡ Err e → mid ≡ old → last ≡ mid → IfSome old (λ at. IsDocumentAt at path (Ok flags))
+  pub first_book : (old mid last : Option Holding) (r : Result program_book.BookQuestion Refused) → r ≡ Err e → mid ≡ old → last ≡ mid → IfSome old (λ at. IsDocumentAs floats at path (Ok flags))
       → IfSome mid (λ at. refused_by Load (load_of at request max_text) ≡ Ok bytes) → IfSome last (λ at. is_want e.refusal ≡ false → book_at at recorded ≡ Err e.refusal)
-      → (is_want e.refusal ≡ false → Says (NamesSubject (file recorded)) e.remark) → IfSome old (λ at. TellsOfFirst (book_question_attempts at path request recorded) r)
+      → (is_want e.refusal ≡ false → Says (NamesSubject (file recorded)) e.remark) → IfSome old (λ at. TellsOfFirst (book_question_attempts floats at path request recorded) r)
   first_book old mid last r is first second document loaded refused says =
-      subst (λ (s : Result program_book.BookQuestion Refused). IfSome old (λ at. TellsOfFirst (book_question_attempts at path request recorded) s)) (sym is)
+      subst (λ (s : Result program_book.BookQuestion Refused). IfSome old (λ at. TellsOfFirst (book_question_attempts floats at path request recorded) s)) (sym is)
       (stayed old mid last first second document loaded refused (λ at d l n. first_book_at at d l n says))

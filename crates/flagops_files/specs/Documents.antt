@@ -1,6 +1,6 @@
 -- The flag document of a file.
 use Rattle.std.specs.Prelude.{◌≡◌, ℕ, Bool, List, Result, Ok, Err}
-use Rattle.flag_defs.specs.Document.{Definitions, DocumentMeans}
+use Rattle.flag_defs.specs.Document.{Definitions}
 use Rattle.flag_defs.specs.Floats.{AreMarkedAs, Marks, MeansAs}
 use Rattle.flag_defs.specs.declared.fault.DefFault.{DefFault}
 use Rattle.flagops_shell.specs.Files.{Holding, load_of}
@@ -9,20 +9,20 @@ use Rattle.flagops_files.specs.declared.refusal.Refusal.{Refusal}
 use Rattle.flagops_files.specs.declared.refusal.Refusal.TheVariants.{Load, ReadFlags}
 use Rattle.flagops_shell.specs.Outcomes.{refused_by}
 
--- what the bytes mean
-abbrev pub IsDocumentIn : List ℕ → Result Definitions Refusal → Type 0
-IsDocumentIn bytes r = (meaning : Result Definitions DefFault) × DocumentMeans bytes meaning × (r ≡ refused_by ReadFlags meaning)
+-- what the bytes mean, which may have floats or may not
+abbrev pub IsDocumentInAs : Bool → List ℕ → Result Definitions Refusal → Type 0
+IsDocumentInAs floats bytes r = (meaning : Result Definitions DefFault) × MeansAs floats bytes meaning × (r ≡ refused_by ReadFlags meaning)
 
 -- the same, where they were loaded
-abbrev pub IsDocumentOf : Result (List ℕ) Refusal → Result Definitions Refusal → Type 0
-IsDocumentOf (Err e) r = r ≡ Err e
-IsDocumentOf (Ok bytes) r = IsDocumentIn bytes r
+abbrev pub IsDocumentOfAs : Bool → Result (List ℕ) Refusal → Result Definitions Refusal → Type 0
+IsDocumentOfAs floats (Err e) r = r ≡ Err e
+IsDocumentOfAs floats (Ok bytes) r = IsDocumentInAs floats bytes r
 
--- the flags of the document at a path, or why there are none
-unfoldable pub IsDocumentAt : Holding → List ℕ → Result Definitions Refusal → Type 0
-IsDocumentAt at path r = IsDocumentOf (refused_by Load (load_of at path max_text)) r
+-- the flags of the document at a path, which may have floats or may not, or why there are none
+unfoldable pub IsDocumentAs : Bool → Holding → List ℕ → Result Definitions Refusal → Type 0
+IsDocumentAs floats at path r = IsDocumentOfAs floats (refused_by Load (load_of at path max_text)) r
 
--- ---- documents that may have floats, or may not
+-- ---- with floats
 
 -- flags, and which of them have floats
 abbrev pub Marked : Type 0
@@ -38,17 +38,6 @@ abbrev pub AreFlagsOf : Bool → Result (List ℕ) Refusal → Result Marked Ref
 AreFlagsOf floats (Err e) r = r ≡ Err e
 AreFlagsOf floats (Ok bytes) r = AreFlagsIn floats bytes r
 
--- the flags of the document at a path, which may have floats or may not, or why there are none
+-- the flags of the document at a path, and which of them have floats, or why there are none
 unfoldable pub AreFlagsAt : Bool → Holding → List ℕ → Result Marked Refusal → Type 0
 AreFlagsAt floats at path r = AreFlagsOf floats (refused_by Load (load_of at path max_text)) r
-
--- what the bytes mean, whatever floats the flags have
-abbrev pub IsDocumentInAs : Bool → List ℕ → Result Definitions Refusal → Type 0
-IsDocumentInAs floats bytes r = (meaning : Result Definitions DefFault) × MeansAs floats bytes meaning × (r ≡ refused_by ReadFlags meaning)
-
-abbrev pub IsDocumentOfAs : Bool → Result (List ℕ) Refusal → Result Definitions Refusal → Type 0
-IsDocumentOfAs floats (Err e) r = r ≡ Err e
-IsDocumentOfAs floats (Ok bytes) r = IsDocumentInAs floats bytes r
-
-unfoldable pub IsDocumentAs : Bool → Holding → List ℕ → Result Definitions Refusal → Type 0
-IsDocumentAs floats at path r = IsDocumentOfAs floats (refused_by Load (load_of at path max_text)) r

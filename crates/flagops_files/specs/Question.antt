@@ -4,7 +4,7 @@ use Rattle.book_core.specs.Book.{Contents}
 use Rattle.book_core.specs.Reading.{book_of}
 use Rattle.flag_defs.specs.Document.{Definitions}
 use Rattle.flag_defs.specs.Flags.{flags_view}
-use Rattle.flagops_files.specs.Documents.{IsDocumentAt}
+use Rattle.flagops_files.specs.Documents.{IsDocumentAs}
 use Rattle.flagops_shell.specs.Beginning.{first_line}
 use Rattle.flagops_files.specs.Evidence.{IsEvidenceOf}
 use Rattle.flagops_shell.specs.Files.{Holding, first_piece, load_book_of, load_notes_of, load_of}
@@ -111,19 +111,19 @@ abbrev pub book_question_subjects : List ℕ → List ℕ → List ℕ → Subje
 book_question_subjects document request book = (file document, by loads_flags) ∷ (file request, by loads_file) ∷ (file book, by loads_book) ∷ []
 
 -- the files of a question in the order in which they are read, each before the next
-abbrev pub question_attempts : Holding → List ℕ → List ℕ → List ℕ → Attempts
-question_attempts at document request evidence =
-    attempt (file document) (IsDocumentAt at document) ∷ attempt_of (file request) (refused_by Load (load_of at request max_text)) ∷ attempt (file evidence) (IsEvidenceAt at evidence) ∷ []
+abbrev pub question_attempts : Bool → Holding → List ℕ → List ℕ → List ℕ → Attempts
+question_attempts floats at document request evidence =
+    attempt (file document) (IsDocumentAs floats at document) ∷ attempt_of (file request) (refused_by Load (load_of at request max_text)) ∷ attempt (file evidence) (IsEvidenceAt at evidence) ∷ []
 
 -- the same over a book
-abbrev pub book_question_attempts : Holding → List ℕ → List ℕ → List ℕ → Attempts
-book_question_attempts at document request book =
-    attempt (file document) (IsDocumentAt at document) ∷ attempt_of (file request) (refused_by Load (load_of at request max_text)) ∷ attempt_of (file book) (book_at at book) ∷ []
+abbrev pub book_question_attempts : Bool → Holding → List ℕ → List ℕ → List ℕ → Attempts
+book_question_attempts floats at document request book =
+    attempt (file document) (IsDocumentAs floats at document) ∷ attempt_of (file request) (refused_by Load (load_of at request max_text)) ∷ attempt_of (file book) (book_at at book) ∷ []
 
--- the question of the files at these paths, or why there is none
-unfoldable pub IsQuestionAt : Holding → List ℕ → List ℕ → List ℕ → Result Question Refusal → Type 0
-IsQuestionAt at path request evidence r = (document : Result Definitions Refusal) × IsDocumentAt at path document × IsQuestionOver at document request evidence r
+-- the question of the files at these paths, of which the document may have floats or may not, or why there is none
+unfoldable pub IsQuestionAt : Bool → Holding → List ℕ → List ℕ → List ℕ → Result Question Refusal → Type 0
+IsQuestionAt floats at path request evidence r = (document : Result Definitions Refusal) × IsDocumentAs floats at path document × IsQuestionOver at document request evidence r
 
 -- the same over a book
-unfoldable pub IsBookQuestionAt : Holding → List ℕ → List ℕ → List ℕ → Result BookQuestion Refusal → Type 0
-IsBookQuestionAt at path request book r = (document : Result Definitions Refusal) × IsDocumentAt at path document × (r ≡ book_question_over at document request book)
+unfoldable pub IsBookQuestionAt : Bool → Holding → List ℕ → List ℕ → List ℕ → Result BookQuestion Refusal → Type 0
+IsBookQuestionAt floats at path request book r = (document : Result Definitions Refusal) × IsDocumentAs floats at path document × (r ≡ book_question_over at document request book)

@@ -28,29 +28,30 @@ pub struct BookQuestion {
     pub book: BookFile,
 }
 
-/// The question of the files at these paths, each loaded and read before the next. The inputs that the request is about are
-/// counted while the book is read, for the site's rule with each weight multiplied by the factor. The condition is a factor
-/// from 1.
+/// The question of the files at these paths, each loaded and read before the next; the document may have floats, or may not. The
+/// inputs that the request is about are counted while the book is read, for the site's rule with each weight multiplied by the
+/// factor. The condition is a factor from 1.
 #[tactic(auto, unfolding(crate::specs::Question::IsBookQuestionAt))]
 pub fn load_book_question<R: Threads, F: FileSet>(
     rt: &R,
     alloc: Global,
     files: &mut F,
     document: &str,
+    floats: bool,
     request: &str,
     book: &str,
     factor: u32,
 ) -> Result<BookQuestion, Refused>
     requires { 0 < factor }
-    ensures exact { IfSome (F.holding files.old) (λ at. GivesOne book_question_view result (IsBookQuestionAt at document.now request.now book.now)) }
+    ensures exact { IfSome (F.holding files.old) (λ at. GivesOne book_question_view result (IsBookQuestionAt floats at document.now request.now book.now)) }
     ensures bytes { IfSome (F.holding files.old) (λ at. IfOk result (λ q. load_of at document.now max_text ≡ Ok q.document.items)) }
     ensures calls { ComesFrom loads_book_question result }
     ensures failed { F.has_failed files.new ≡ (F.has_failed files.old || is_file_fault result) }
     ensures kept { F.holding files.new ≡ F.holding files.old }
     ensures names { TellsOfOne (book_question_subjects document.now request.now book.now) result }
-    ensures first { IfSome (F.holding files.old) (λ at. TellsOfFirst (book_question_attempts at document.now request.now book.now) result) }
+    ensures first { IfSome (F.holding files.old) (λ at. TellsOfFirst (book_question_attempts floats at document.now request.now book.now) result) }
 {
-    let Document { bytes, flags } = load_document(alloc, files, document)?;
+    let Document { bytes, flags } = load_document(alloc, files, document, floats)?;
     let request = load_request(alloc, files, request)?;
     let book = load_book_for(rt, alloc, files, &flags, &request, factor, book)?;
     Ok(BookQuestion {

@@ -45,7 +45,7 @@ mod tallies;
 
 pub use book_question::{BookQuestion, load_book_question};
 pub use books::{check_replaceable, load_book, load_notes};
-pub use documents::{Document, load_document, load_flags, load_flags_as};
+pub use documents::{Document, load_document, load_flags_as};
 pub use evidence::{Evidence, load_evidence};
 pub use lines::{fault_line, file_line, whole_line};
 pub use loading::{TEXT_LIMIT, load, load_choice, load_rule, load_tree};

@@ -19,20 +19,20 @@ use Rattle.flagops_pictures.specs.Words.{Picturing, Planning}
 
 -- of a report its note, and of a refusal the name of what is refused
 pub picture_remarks : (a : Picturing) (files : Option Holding) (r : Result Outcome Refused) → IfSome files (λ at. TellsOfFirst (picture_attempts at a) r) → IfOk r (λ o. IfSome o.remark (Says (NamesDoubted a.request a.book)))
-    → IfSome files (λ at. IfOk r (λ o. TellsDoubtsAt at a.document a.request a.book o.remark)) → IfSome files (λ at. Remarks is_want (picture_told at a) r)
+    → IfSome files (λ at. IfOk r (λ o. TellsDoubtsAt a.floats at a.document a.request a.book o.remark)) → IfSome files (λ at. Remarks is_want (picture_told at a) r)
 picture_remarks a None r names notes parts = tt
 picture_remarks a (Some at) (Ok o) names notes parts = λ remark is. (
   subst (λ (m : Option Remark). IfSome m (Says (NamesDoubted a.request a.book))) is notes,
-  subst (λ (m : Option Remark). TellsDoubtsAt at a.document a.request a.book m) is parts,
+  subst (λ (m : Option Remark). TellsDoubtsAt a.floats at a.document a.request a.book m) is parts,
 )
 picture_remarks a (Some at) (Err e) names notes parts = names
 
 pub plan_remarks : (p : Planning) (files : Option Holding) (r : Result Outcome Refused) → IfSome files (λ at. TellsOfFirst (plan_attempts at p) r) → IfOk r (λ o. IfSome o.remark (Says (NamesDoubted p.request p.book)))
-    → IfSome files (λ at. IfOk r (λ o. TellsPlanAt at p.document p.request p.book (unwrap_or p.refine 1) p.explain o.text.items o.remark)) → IfSome files (λ at. Remarks is_want (plan_told at p) r)
+    → IfSome files (λ at. IfOk r (λ o. TellsPlanAt p.floats at p.document p.request p.book (unwrap_or p.refine 1) p.explain o.text.items o.remark)) → IfSome files (λ at. Remarks is_want (plan_told at p) r)
 plan_remarks p None r names notes parts = tt
 plan_remarks p (Some at) (Ok o) names notes parts = λ remark is. (
   subst (λ (m : Option Remark). IfSome m (Says (NamesDoubted p.request p.book))) is notes,
-  subst (λ (m : Option Remark). TellsPlanAt at p.document p.request p.book (unwrap_or p.refine 1) p.explain o.text.items m) is parts,
+  subst (λ (m : Option Remark). TellsPlanAt p.floats at p.document p.request p.book (unwrap_or p.refine 1) p.explain o.text.items m) is parts,
 )
 plan_remarks p (Some at) (Err e) names notes parts = names
 

@@ -26,23 +26,23 @@ joined {P} {Q} {R} old kept same p q both = go old p (subst (λ (h : Option Hold
     go (Some at) a b = both at a b
 
 module _ (a : Picturing) (q : Question) (answer : Answer) where
-  pictured_over : (at : Holding) (r : Result Outcome Refused) → IsQuestionAt at a.document a.request a.book (Ok q) → plan_at at a.plan ≡ Ok answer
+  pictured_over : (at : Holding) (r : Result Outcome Refused) → IsQuestionAt a.floats at a.document a.request a.book (Ok q) → plan_at at a.plan ≡ Ok answer
       → GivesOne outcome_view r (IsPictured a.refine (Ok q) (Ok answer)) → GivesOne outcome_view r (IsPictureReport at a)
   unfolding IsPictureReport
   pictured_over at (Ok o) asked answered drawn = (Ok q, asked, rw answered drawn)
   pictured_over at (Err e) asked answered drawn = λ no. (Ok q, asked, rw answered (drawn no))
 
-  pub pictured : (old kept : Option Holding) (r : Result Outcome Refused) → kept ≡ old → IfSome old (λ at. IsQuestionAt at a.document a.request a.book (Ok q))
+  pub pictured : (old kept : Option Holding) (r : Result Outcome Refused) → kept ≡ old → IfSome old (λ at. IsQuestionAt a.floats at a.document a.request a.book (Ok q))
       → IfSome kept (λ at. plan_at at a.plan ≡ Ok answer) → GivesOne outcome_view r (IsPictured a.refine (Ok q) (Ok answer)) → IfSome old (λ at. GivesOne outcome_view r (IsPictureReport at a))
   pictured old kept r same asked answered drawn = joined old kept same asked answered (λ at x y. pictured_over at r x y drawn)
 
 -- a plan file that is refused
 module _ (a : Picturing) (q : Question) (e : Refused) where
-  unanswered_over : (at : Holding) → IsQuestionAt at a.document a.request a.book (Ok q) → (is_want e.refusal ≡ false → plan_at at a.plan ≡ Err e.refusal) → is_want e.refusal ≡ false → IsPictureReport at a (Err e.refusal)
+  unanswered_over : (at : Holding) → IsQuestionAt a.floats at a.document a.request a.book (Ok q) → (is_want e.refusal ≡ false → plan_at at a.plan ≡ Err e.refusal) → is_want e.refusal ≡ false → IsPictureReport at a (Err e.refusal)
   unfolding IsPictureReport
   unanswered_over at asked refused no_want = (Ok q, asked, rw (refused no_want) refl)
 
-  pub unanswered : (old kept : Option Holding) (r : Result Outcome Refused) → r ≡ Err e → kept ≡ old → IfSome old (λ at. IsQuestionAt at a.document a.request a.book (Ok q))
+  pub unanswered : (old kept : Option Holding) (r : Result Outcome Refused) → r ≡ Err e → kept ≡ old → IfSome old (λ at. IsQuestionAt a.floats at a.document a.request a.book (Ok q))
       → IfSome kept (λ at. is_want e.refusal ≡ false → plan_at at a.plan ≡ Err e.refusal) → IfSome old (λ at. GivesOne outcome_view r (IsPictureReport at a))
   unanswered old kept r is same asked refused =
       subst (λ (s : Result Outcome Refused). IfSome old (λ at. GivesOne outcome_view s (IsPictureReport at a))) (sym is) (joined old kept same asked refused unanswered_over)

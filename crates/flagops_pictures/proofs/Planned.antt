@@ -92,23 +92,23 @@ module _ (p : Planning) (q : Question) where
   unplanned (Some at) new e r is gives same = rw is (λ no_want. (inl (gives no_want), same))
 
 module _ (p : Planning) where
-  asked_at : (at : Holding) (new : Option Holding) (q : Question) (r : Result Outcome Refused) → IsQuestionAt at p.document p.request p.book (Ok q) → GivesOne outcome_view r (IsPlanWith at new p q)
+  asked_at : (at : Holding) (new : Option Holding) (q : Question) (r : Result Outcome Refused) → IsQuestionAt p.floats at p.document p.request p.book (Ok q) → GivesOne outcome_view r (IsPlanWith at new p q)
       → GivesOne outcome_view r (IsPlanPicture at new p)
   unfolding IsPlanPicture
   asked_at at new q (Ok o) asked gives = (Ok q, asked, gives)
   asked_at at new q (Err e) asked gives = λ no_want. (Ok q, asked, gives no_want)
 
-  pub asked_of : (old kept new : Option Holding) (q : Question) (r : Result Outcome Refused) → kept ≡ old → IfSome old (λ at. IsQuestionAt at p.document p.request p.book (Ok q))
+  pub asked_of : (old kept new : Option Holding) (q : Question) (r : Result Outcome Refused) → kept ≡ old → IfSome old (λ at. IsQuestionAt p.floats at p.document p.request p.book (Ok q))
       → IfSome kept (λ at. GivesOne outcome_view r (IsPlanWith at new p q)) → IfSome old (λ at. GivesOne outcome_view r (IsPlanPicture at new p))
   asked_of None kept new q r same asked gives = tt
   asked_of (Some at) kept new q r same asked gives =
       asked_at at new q r asked (subst (λ (h : Option Holding). IfSome h (λ it. GivesOne outcome_view r (IsPlanWith it new p q))) same gives)
 
-  unasked_at : (at : Holding) (new : Option Holding) (e : Refused) → GivesOne question_view (Err e) (IsQuestionAt at p.document p.request p.book) → new ≡ Some at → GivesOne outcome_view (Err e) (IsPlanPicture at new p)
+  unasked_at : (at : Holding) (new : Option Holding) (e : Refused) → GivesOne question_view (Err e) (IsQuestionAt p.floats at p.document p.request p.book) → new ≡ Some at → GivesOne outcome_view (Err e) (IsPlanPicture at new p)
   unfolding IsPlanPicture
   unasked_at at new e asked same = λ no_want. (Err e.refusal, asked no_want, (refl, same))
 
-  pub unasked : (old new : Option Holding) (e : Refused) (r : Result Outcome Refused) → r ≡ Err e → IfSome old (λ at. GivesOne question_view (Err e) (IsQuestionAt at p.document p.request p.book)) → new ≡ old → IfSome old (λ at. GivesOne outcome_view r (IsPlanPicture at new p))
+  pub unasked : (old new : Option Holding) (e : Refused) (r : Result Outcome Refused) → r ≡ Err e → IfSome old (λ at. GivesOne question_view (Err e) (IsQuestionAt p.floats at p.document p.request p.book)) → new ≡ old → IfSome old (λ at. GivesOne outcome_view r (IsPlanPicture at new p))
   unasked None new e r is asked same = tt
   unasked (Some at) new e r is asked same = rw is (unasked_at at new e asked same)
 

@@ -14,22 +14,22 @@ use Rattle.flagops_rollouts.specs.declared.refusal.RolloutRefusal.TheVariants.{L
 use Rattle.flagops_shell.proofs.Lifted.{given_one, refused_one}
 use Rattle.flagops_shell.specs.Files.{Holding}
 
-module _ (document request book : List ℕ) where
-  pub question_there : (old : Option Holding) (q : Question) → IfSome old (λ at. questions.IsQuestionAt at document request book (Ok q)) → IfSome old (λ at. IsQuestionAt at document request book (Ok q))
+module _ (floats : Bool) (document request book : List ℕ) where
+  pub question_there : (old : Option Holding) (q : Question) → IfSome old (λ at. questions.IsQuestionAt floats at document request book (Ok q)) → IfSome old (λ at. IsQuestionAt floats at document request book (Ok q))
   unfolding IsQuestionAt
-  question_there old q loaded = given_one files.is_want is_want Load (λ e. refl) (λ at. questions.IsQuestionAt at document request book) old q loaded
+  question_there old q loaded = given_one files.is_want is_want Load (λ e. refl) (λ at. questions.IsQuestionAt floats at document request book) old q loaded
 
-  pub no_question : (old : Option Holding) (e : files.Refused) (t : Refused) → t.refusal ≡ Load e.refusal → IfSome old (λ at. files.is_want e.refusal ≡ false → questions.IsQuestionAt at document request book (Err e.refusal))
-      → IfSome old (λ at. is_want t.refusal ≡ false → IsQuestionAt at document request book (Err t.refusal))
+  pub no_question : (old : Option Holding) (e : files.Refused) (t : Refused) → t.refusal ≡ Load e.refusal → IfSome old (λ at. files.is_want e.refusal ≡ false → questions.IsQuestionAt floats at document request book (Err e.refusal))
+      → IfSome old (λ at. is_want t.refusal ≡ false → IsQuestionAt floats at document request book (Err t.refusal))
   unfolding IsQuestionAt
-  no_question old e t is loaded = refused_one files.is_want is_want Load (λ e. refl) (λ at. questions.IsQuestionAt at document request book) old e t is loaded
+  no_question old e t is loaded = refused_one files.is_want is_want Load (λ e. refl) (λ at. questions.IsQuestionAt floats at document request book) old e t is loaded
 
   -- the first of its files that is refused is named as it was
   pub named : (old : Option Holding) (e : files.Refused) (t : Refused) → t.refusal ≡ Load e.refusal → t.remark ≡ e.remark
-      → IfSome old (λ at. files.is_want e.refusal ≡ false → NamesFirst (questions.question_attempts at document request book) e.refusal e.remark)
-      → IfSome old (λ at. is_want t.refusal ≡ false → NamesFirst (question_attempts at document request book) t.refusal t.remark)
+      → IfSome old (λ at. files.is_want e.refusal ≡ false → NamesFirst (questions.question_attempts floats at document request book) e.refusal e.remark)
+      → IfSome old (λ at. is_want t.refusal ≡ false → NamesFirst (question_attempts floats at document request book) t.refusal t.remark)
   named None e t is said names = tt
-  named (Some at) e t is said names = told_of_first files.is_want is_want Load (λ e. refl) e t is said (questions.question_attempts at document request book) names
+  named (Some at) e t is said names = told_of_first files.is_want is_want Load (λ e. refl) e t is said (questions.question_attempts floats at document request book) names
 
 -- ---- what refused, and whether a file could not be read, is as it was
 

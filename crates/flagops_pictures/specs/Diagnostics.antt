@@ -25,7 +25,7 @@ checked_subjects request plan = (file request, is_of_request) ∷ (file plan, is
 
 -- the files of the question, the plan file, and then the check of the one against the other
 abbrev pub picture_attempts : Holding → Picturing → Attempts
-picture_attempts at a = question_attempts at a.document a.request a.book ++ plan_read at a.plan (checked_subjects a.request a.plan)
+picture_attempts at a = question_attempts a.floats at a.document a.request a.book ++ plan_read at a.plan (checked_subjects a.request a.plan)
 
 -- what `plan` refuses of a question
 abbrev pub planned_subjects : List ℕ → List ℕ → Subjects
@@ -37,12 +37,12 @@ drawn_subjects p = (file p.picture, by stores_file) ∷ planned_subjects p.reque
 
 -- the files of the question, and then the plan and its picture
 abbrev pub plan_attempts : Holding → Planning → Attempts
-plan_attempts at p = question_attempts at p.document p.request p.book ++ by_kind (drawn_subjects p)
+plan_attempts at p = question_attempts p.floats at p.document p.request p.book ++ by_kind (drawn_subjects p)
 
 abbrev pub picture_told : Holding → Picturing → Remarks
-picture_told at a (Ok report) remark = Says (NamesDoubted a.request a.book) remark × TellsDoubtsAt at a.document a.request a.book (Some remark)
+picture_told at a (Ok report) remark = Says (NamesDoubted a.request a.book) remark × TellsDoubtsAt a.floats at a.document a.request a.book (Some remark)
 picture_told at a (Err e) remark = NamesFirst (picture_attempts at a) e remark
 
 abbrev pub plan_told : Holding → Planning → Remarks
-plan_told at p (Ok report) remark = Says (NamesDoubted p.request p.book) remark × TellsPlanAt at p.document p.request p.book (unwrap_or p.refine 1) p.explain report.text (Some remark)
+plan_told at p (Ok report) remark = Says (NamesDoubted p.request p.book) remark × TellsPlanAt p.floats at p.document p.request p.book (unwrap_or p.refine 1) p.explain report.text (Some remark)
 plan_told at p (Err e) remark = NamesFirst (plan_attempts at p) e remark

@@ -88,7 +88,7 @@ IsPictured refine (Ok q) (Err e) r = r ≡ Err e
 IsPictured refine (Ok q) (Ok answer) r = (bytes : Result (List ℕ) VerifyFault) × IsDrawnOrDenied refine q answer bytes × (r ≡ beside (is_some (doubt_of q)) (drawn_report bytes))
 
 unfoldable pub IsPictureReport : Holding → Picturing → Outcomes
-IsPictureReport at a r = (question : Result Question RolloutRefusal) × IsQuestionAt at a.document a.request a.book question × IsPictured a.refine question (plan_at at a.plan) r
+IsPictureReport at a r = (question : Result Question RolloutRefusal) × IsQuestionAt a.floats at a.document a.request a.book question × IsPictured a.refine question (plan_at at a.plan) r
 
 -- the calls that loading a question and a plan file makes
 abbrev pub loads_pictured : Call → Bool

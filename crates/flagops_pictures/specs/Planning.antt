@@ -37,7 +37,7 @@ IsPlanPictured at after p (Err e) r = (r ≡ Err e) × (after ≡ Some at)
 IsPlanPictured at after p (Ok q) r = IsPlanWith at after p q r
 
 unfoldable pub IsPlanPicture : Holding → Option Holding → Planning → Outcomes
-IsPlanPicture at after p r = (question : Result Question RolloutRefusal) × IsQuestionAt at p.document p.request p.book question × IsPlanPictured at after p question r
+IsPlanPicture at after p r = (question : Result Question RolloutRefusal) × IsQuestionAt p.floats at p.document p.request p.book question × IsPlanPictured at after p question r
 
 -- the files stay as they are, or a plan was printed, which has a rule or shows that none fits
 abbrev pub KeepsUnlessPlanned : {E : Type 0} → Option Holding → Option Holding → Result Outcome E → Type 0

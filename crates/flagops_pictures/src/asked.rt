@@ -2,7 +2,7 @@
 use flagops_ramps::Verifying;
 use flagops_words::Factor;
 
-/// What `picture` is asked for: the files of a rollout and of its plan, and the factor that it was made with.
+/// What `picture` is asked for: the files of a rollout and of its plan, the factor that it was made with, and how the document is read.
 #[derive(Clone, Copy, Debug)]
 pub struct Picturing<'a> {
     pub document: &'a str,
@@ -10,6 +10,8 @@ pub struct Picturing<'a> {
     pub book: &'a str,
     pub plan: &'a str,
     pub refine: Option<Factor>,
+    /// Whether the document may have floats.
+    pub floats: bool,
 }
 
 /// What `picture --ramp` is asked for: the answers to the steps of a rollout, as `verify-ramp` takes them.
@@ -31,4 +33,6 @@ pub struct Planning<'a> {
     pub strict: bool,
     /// Whether the answer is told in words.
     pub explain: bool,
+    /// Whether the document may have floats.
+    pub floats: bool,
 }

@@ -73,7 +73,7 @@ fn outcome<R: Threads + Sync, F: FileSet>(
     ensures failed { F.has_failed files.new ≡ (F.has_failed files.old || is_file_fault result) }
     ensures names { IfSome (F.holding files.old) (λ at. TellsOfFirst (picture_attempts at (picturing_view asked.now)) result) }
     ensures notes { IfOk result (λ o. IfSome o.remark (Says (NamesDoubted asked.now.request.now asked.now.book.now))) }
-    ensures parts { IfSome (F.holding files.old) (λ at. IfOk result (λ o. TellsDoubtsAt at asked.now.document.now asked.now.request.now asked.now.book.now o.remark)) }
+    ensures parts { IfSome (F.holding files.old) (λ at. IfOk result (λ o. TellsDoubtsAt asked.now.floats at asked.now.document.now asked.now.request.now asked.now.book.now o.remark)) }
     ensures kept { F.holding files.new ≡ F.holding files.old }
 {
     let factor = factor_of(asked.refine);
@@ -82,6 +82,7 @@ fn outcome<R: Threads + Sync, F: FileSet>(
         alloc,
         files,
         asked.document,
+        asked.floats,
         asked.request,
         asked.book,
         factor,

@@ -11,25 +11,28 @@ use flagops_shell::FileSet;
 use std::alloc::Global;
 use std::thread::Threads;
 
-/// The question of the files at these paths. The condition is a factor from 1.
+/// The question of the files at these paths, of which the document may have floats or may not. The condition is a factor from 1.
 #[tactic(auto, using(crate::proofs::Questions::comes, crate::proofs::Questions::failed))]
 pub(crate) fn load_question<R: Threads, F: FileSet>(
     rt: &R,
     alloc: Global,
     files: &mut F,
     document: &str,
+    floats: bool,
     request: &str,
     evidence: &str,
     factor: u32,
 ) -> Result<Question, Refused>
     requires { 0 < factor }
-    ensures exact { IfSome (F.holding files.old) (λ at. GivesOne question_view result (IsQuestionAt at document.now request.now evidence.now)) }
+    ensures exact { IfSome (F.holding files.old) (λ at. GivesOne question_view result (IsQuestionAt floats at document.now request.now evidence.now)) }
     ensures calls { ComesFrom loads_question result }
     ensures failed { F.has_failed files.new ≡ (F.has_failed files.old || is_file_fault result) }
     ensures kept { F.holding files.new ≡ F.holding files.old }
-    ensures names { IfSome (F.holding files.old) (λ at. TellsOfFirst (question_attempts at document.now request.now evidence.now) result) }
+    ensures names { IfSome (F.holding files.old) (λ at. TellsOfFirst (question_attempts floats at document.now request.now evidence.now) result) }
 {
-    match flagops_files::load_question(rt, alloc, files, document, request, evidence, factor) {
+    match flagops_files::load_question(
+        rt, alloc, files, document, floats, request, evidence, factor,
+    ) {
         Ok(question) => Ok(question),
         Err(refused) => Err(Refused::of(refused)),
     }

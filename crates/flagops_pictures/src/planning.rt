@@ -68,7 +68,7 @@ fn outcome<R: Threads + Sync, F: FileSet>(
     ensures failed { F.has_failed files.new ≡ (F.has_failed files.old || is_file_fault result) }
     ensures names { IfSome (F.holding files.old) (λ at. TellsOfFirst (plan_attempts at (planning_view asked.now)) result) }
     ensures notes { IfOk result (λ o. IfSome o.remark (Says (NamesDoubted asked.now.request.now asked.now.book.now))) }
-    ensures parts { IfSome (F.holding files.old) (λ at. IfOk result (λ o. TellsPlanAt at asked.now.document.now asked.now.request.now asked.now.book.now (unwrap_or (option_map (λ m. m.number) asked.now.refine) 1) asked.now.explain o.text.items o.remark)) }
+    ensures parts { IfSome (F.holding files.old) (λ at. IfOk result (λ o. TellsPlanAt asked.now.floats at asked.now.document.now asked.now.request.now asked.now.book.now (unwrap_or (option_map (λ m. m.number) asked.now.refine) 1) asked.now.explain o.text.items o.remark)) }
     ensures left { (F.holding files.new ≡ F.holding files.old) ⊎ KeepsOthers (F.holding files.old) (F.holding files.new) asked.now.picture.now }
     ensures kept { KeepsUnlessPlanned (F.holding files.old) (F.holding files.new) result }
 {
@@ -78,6 +78,7 @@ fn outcome<R: Threads + Sync, F: FileSet>(
         alloc,
         files,
         asked.document,
+        asked.floats,
         asked.request,
         asked.book,
         factor,

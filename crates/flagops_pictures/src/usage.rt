@@ -4,12 +4,12 @@ ghost use Rattle.clap.specs.Simple.{new_app, with_rule};
 ghost use Rattle.clap.specs.Words.{app_of, rule_of};
 ghost use Rattle.flagops_pictures.specs.Words.{picture_app, picture_option, plan_app, ramp_app};
 ghost use Rattle.flagops_ramps.specs.Words.{with_steps};
-ghost use Rattle.flagops_words.specs.Words.{flag, strict_flag, with_rollout};
+ghost use Rattle.flagops_words.specs.Words.{flag, floats_flag, strict_flag, with_rollout};
 
 use clap::{Arg, Command};
 use flagops_ramps::with_steps;
 use flagops_words::about;
-use flagops_words::arguments::{flag, refine, required, strict};
+use flagops_words::arguments::{flag, floats, refine, required, strict};
 use std::alloc::{AllocError, Global};
 
 /// What the book of a rollout is.
@@ -29,7 +29,8 @@ pub(crate) fn usage<'a>(alloc: Global) -> Result<Command<'a>, AllocError>
         .about(about::PICTURE);
     rollout(alloc, command)?
         .arg(plan)?
-        .arg(refine(alloc, REFINED))
+        .arg(refine(alloc, REFINED))?
+        .arg(floats(alloc))
 }
 
 /// The command `picture --ramp`. The first of its words is its own name.
@@ -46,7 +47,8 @@ pub(crate) fn ramp<'a>(alloc: Global) -> Result<Command<'a>, AllocError>
     steps(alloc)?
         .arg(answers)?
         .arg(ramp)?
-        .arg(refine(alloc, REFINED))
+        .arg(refine(alloc, REFINED))?
+        .arg(floats(alloc))
 }
 
 /// `plan --picture`. The first of its words is its own name.
@@ -64,16 +66,16 @@ pub(crate) fn plan<'a>(alloc: Global) -> Result<Command<'a>, AllocError>
     told(alloc, command)
 }
 
-/// A command with the options that say how its plan is told: `--strict` and `--explain`.
+/// A command with the options that say how its plan is told, `--strict` and `--explain`, and how its document is read.
 fn told<'a>(alloc: Global, command: Command<'a>) -> Result<Command<'a>, AllocError>
-    ensures app { IfOk result (λ c. app_of c ≡ with_rule (with_rule (app_of command.entry) strict_flag) (flag (codes "explain"))) }
+    ensures app { IfOk result (λ c. app_of c ≡ with_rule (with_rule (with_rule (app_of command.entry) strict_flag) (flag (codes "explain"))) floats_flag) }
 {
     let explain = flag(
         alloc,
         "explain",
         "Tell in words, beside the plan, what it changes, or what stands in the way of any",
     );
-    command.arg(strict(alloc))?.arg(explain)
+    command.arg(strict(alloc))?.arg(explain)?.arg(floats(alloc))
 }
 
 /// `--picture FILE`.

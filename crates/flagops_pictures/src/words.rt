@@ -10,7 +10,7 @@ use crate::usage::{plan, ramp, usage};
 use clap::{ArgMatches, Error};
 use flagops_ramps::{Verifying, verifying_in};
 use flagops_words::arguments::missing_value;
-use flagops_words::matches::{flag_in, is_strict, refine_in};
+use flagops_words::matches::{flag_in, has_floats, is_strict, refine_in};
 use std::alloc::Global;
 use std::convert::AsStr;
 
@@ -74,6 +74,7 @@ fn planning_in<'a>(matches: &ArgMatches<'a>) -> Option<Planning<'a>>
         refine,
         strict: is_strict(matches),
         explain: flag_in(matches, "explain"),
+        floats: has_floats(matches),
     })
 }
 
@@ -92,5 +93,6 @@ fn asked_in<'a>(matches: &ArgMatches<'a>) -> Option<Picturing<'a>>
         book,
         plan,
         refine,
+        floats: has_floats(matches),
     })
 }

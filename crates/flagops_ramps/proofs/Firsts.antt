@@ -1,5 +1,5 @@
 -- The first of the files of a command on steps that is refused, or what is made of them.
-use Rattle.std.proofs.Common.{◌≡◌, false, ℕ, List, [], ◌∷◌, ◌++◌, map, Option, Some, None, IfSome, inl, inr, refl, sym, subst}
+use Rattle.std.proofs.Common.{◌≡◌, false, ℕ, Bool, List, [], ◌∷◌, ◌++◌, map, Option, Some, None, IfSome, inl, inr, refl, sym, subst}
 use Rattle.std.specs.Prelude.{Result, Ok, Err}
 use Rattle.flagops_files.proofs.Succeeded.{question_succeed}
 use Rattle.flagops_files.proofs.Told.{first_left, succeed_both, told_of_first}
@@ -8,7 +8,7 @@ use Rattle.flagops_files.specs.Question.{IsQuestionAt, Question}
 use Rattle.flagops_files.specs.Refusal as files
 use Rattle.flagops_files.specs.Refusal.{Attempts}
 use Rattle.flagops_files.specs.Told.{AllSucceed, NamesFirst, NamesSubject, attempt, file, within}
-use Rattle.flagops_files.specs.Documents.{IsDocumentAt}
+use Rattle.flagops_files.specs.Documents.{IsDocumentAs}
 use Rattle.flagops_files.specs.declared.refusal.Refusal.{Refusal}
 use Rattle.flagops_files.specs.declared.refusal.Refusal.TheVariants.{Load as Unread}
 use Rattle.flag_defs.specs.Document.{Definitions}
@@ -90,20 +90,20 @@ module _ (Is : Diagnosis) (e : files.Refused) (t : Told) (is : t.refusal ≡ Loa
   unread_answers path (Some at) refused says = unread_one (answers_file at path) [] (λ wanted. inl (refused wanted, says wanted))
 
   -- of a document
-  pub unread_document : (path : List ℕ) (old : Option Holding) (rest : Holding → Attempts) → IfSome old (λ at. files.is_want e.refusal ≡ false → IsDocumentAt at path (Err e.refusal)) → (files.is_want e.refusal ≡ false → Says (NamesSubject (file path)) e.remark)
-      → IfSome old (λ at. is_want t.refusal ≡ false → IsOfFirst (attempt (file path) (IsDocumentAt at path) ∷ rest at) Is t.refusal t.remark)
-  unread_document path None rest refused says = tt
-  unread_document path (Some at) rest refused says = unread_one (attempt (file path) (IsDocumentAt at path) ∷ []) (rest at) (λ wanted. inl (refused wanted, says wanted))
+  pub unread_document : (floats : Bool) (path : List ℕ) (old : Option Holding) (rest : Holding → Attempts) → IfSome old (λ at. files.is_want e.refusal ≡ false → IsDocumentAs floats at path (Err e.refusal)) → (files.is_want e.refusal ≡ false → Says (NamesSubject (file path)) e.remark)
+      → IfSome old (λ at. is_want t.refusal ≡ false → IsOfFirst (attempt (file path) (IsDocumentAs floats at path) ∷ rest at) Is t.refusal t.remark)
+  unread_document floats path None rest refused says = tt
+  unread_document floats path (Some at) rest refused says = unread_one (attempt (file path) (IsDocumentAs floats at path) ∷ []) (rest at) (λ wanted. inl (refused wanted, says wanted))
 
 -- ---- what was read
 
-pub question_read : (a : Ramping) (q : Question) (old : Option Holding) → IfSome old (λ at. IsQuestionAt at a.document a.steps a.book (Ok q)) → IfSome old (λ at. AllSucceed (ramp_files at a))
+pub question_read : (a : Ramping) (q : Question) (old : Option Holding) → IfSome old (λ at. IsQuestionAt a.floats at a.document a.steps a.book (Ok q)) → IfSome old (λ at. AllSucceed (ramp_files at a))
 question_read a q None asked = tt
-question_read a q (Some at) asked = question_succeed at a.document a.steps a.book q asked
+question_read a q (Some at) asked = question_succeed a.floats at a.document a.steps a.book q asked
 
-pub document_read : (path : List ℕ) (flags : Definitions) (old : Option Holding) → IfSome old (λ at. IsDocumentAt at path (Ok flags)) → IfSome old (λ at. AllSucceed (let xs : Attempts = attempt (file path) (IsDocumentAt at path) ∷ [] in xs))
-document_read path flags None there = tt
-document_read path flags (Some at) there = ((flags, there), tt)
+pub document_read : (floats : Bool) (path : List ℕ) (flags : Definitions) (old : Option Holding) → IfSome old (λ at. IsDocumentAs floats at path (Ok flags)) → IfSome old (λ at. AllSucceed (let xs : Attempts = attempt (file path) (IsDocumentAs floats at path) ∷ [] in xs))
+document_read floats path flags None there = tt
+document_read floats path flags (Some at) there = ((flags, there), tt)
 
 pub bytes_read : (path bytes : List ℕ) (old : Option Holding) → IfSome old (λ at. (let x : Result (List ℕ) Refusal = refused_by Unread (load_of at path max_rule) in x) ≡ Ok bytes) → IfSome old (λ at. AllSucceed (answers_file at path))
 bytes_read path bytes None loaded = tt
@@ -130,7 +130,7 @@ module _ (v : Verifying) (a : Answered) (at : Holding) where
   found_there : IsFoundAt at v (Ok a) → AllSucceed (verify_files at v)
   unfolding IsFoundAt
   found_there (Err e, asked, found) = differ found
-  found_there (Ok q, asked, found) = succeed_both (ramp_files at v.rollout) (answers_file at v.ramp) (question_succeed at v.rollout.document v.rollout.steps v.rollout.book q asked) (answers_found q (answers_at at v.ramp) refl found)
+  found_there (Ok q, asked, found) = succeed_both (ramp_files at v.rollout) (answers_file at v.ramp) (question_succeed v.rollout.floats at v.rollout.document v.rollout.steps v.rollout.book q asked) (answers_found q (answers_at at v.ramp) refl found)
 
 pub found_read : (v : Verifying) (a : Answered) (old : Option Holding) → IfSome old (λ at. IsFoundAt at v (Ok a)) → IfSome old (λ at. AllSucceed (verify_files at v))
 found_read v a None found = tt

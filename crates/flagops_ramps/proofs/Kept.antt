@@ -59,18 +59,18 @@ asked_first refine q (request ∷ requests) answer answers right = asked_there r
 -- ---- the document
 
 -- what was made by right answers, or why there is none
-module _ (refine : Option ℕ) (document : List ℕ) (q : Question) (requests : List (List ℕ)) (before : Option Answer) where
+module _ (floats : Bool) (refine : Option ℕ) (document : List ℕ) (q : Question) (requests : List (List ℕ)) (before : Option Answer) where
   pub kept_right : (answer : Answer) (answers : List Answer) (r : Result (Option (Vec ℕ Global)) Told) → AreRight (Ok q.flags) refine requests (recorded q.evidence) (answer ∷ answers)
-      → GivesOne kept_view r (IsKeptWith document q.flags (first_request requests) before answer) → GivesOne kept_view r (IsKeptFrom refine document q requests before (answer ∷ answers))
+      → GivesOne kept_view r (IsKeptWith floats document q.flags (first_request requests) before answer) → GivesOne kept_view r (IsKeptFrom floats refine document q requests before (answer ∷ answers))
   kept_right answer answers (Ok o) right gives = (Ok tt, right, gives)
   kept_right answer answers (Err t) right gives = λ no_want. (Ok tt, right, gives no_want)
 
   pub kept_wrong : (answer : Answer) (answers : List Answer) (e : RampFault) (t : Told) → IsTold (Ok q.flags) refine requests (recorded q.evidence) (answer ∷ answers) (Err e) → t.refusal ≡ refused_as e
-      → GivesOne kept_view (Err t) (IsKeptFrom refine document q requests before (answer ∷ answers))
+      → GivesOne kept_view (Err t) (IsKeptFrom floats refine document q requests before (answer ∷ answers))
   kept_wrong answer answers e t told is = λ no_want. (Err e, told, ap Err is)
 
   -- of the answers that were read there is none, or the first is put
-  pub from_none : (planned : List Planned) → None ≡ slice_get planned 0 → IsKeptFrom refine document q requests before (map planned_view planned) (Err NoStep)
+  pub from_none : (planned : List Planned) → None ≡ slice_get planned 0 → IsKeptFrom floats refine document q requests before (map planned_view planned) (Err NoStep)
   from_none [] is = refl
   from_none (p ∷ ps) is = cc
 
@@ -82,48 +82,48 @@ module _ (refine : Option ℕ) (document : List ℕ) (q : Question) (requests : 
       ∙ asked_first refine q requests (planned_view p) (map planned_view ps) (subst (λ (f : Option ℕ). IsTold (Ok q.flags) f requests (recorded q.evidence) (map planned_view (p ∷ ps)) (Ok tt)) same_factor told)
 
   pub from_right : (planned : List Planned) (first : Planned) (factor : Option ℕ) (request : List ℕ) (r : Result (Option (Vec ℕ Global)) Told) → Some first ≡ slice_get planned 0 → factor ≡ refine → request ≡ first_request requests
-      → IsTold (Ok q.flags) factor requests (recorded q.evidence) (map planned_view planned) (Ok tt) → GivesOne kept_view r (IsKeptWith document q.flags request before (planned_view first))
-      → GivesOne kept_view r (IsKeptFrom refine document q requests before (map planned_view planned))
+      → IsTold (Ok q.flags) factor requests (recorded q.evidence) (map planned_view planned) (Ok tt) → GivesOne kept_view r (IsKeptWith floats document q.flags request before (planned_view first))
+      → GivesOne kept_view r (IsKeptFrom floats refine document q requests before (map planned_view planned))
   from_right [] first factor request r is same_factor same_request told gives = cc
   from_right (p ∷ ps) first factor request r is same_factor same_request told gives =
       let same : first ≡ p = cc in
       kept_right (planned_view p) (map planned_view ps) r (subst (λ (f : Option ℕ). IsTold (Ok q.flags) f requests (recorded q.evidence) (map planned_view (p ∷ ps)) (Ok tt)) same_factor told)
-      (subst (λ (s : List ℕ). GivesOne kept_view r (IsKeptWith document q.flags s before (planned_view p))) same_request
-      (subst (λ (x : Planned). GivesOne kept_view r (IsKeptWith document q.flags request before (planned_view x))) same gives))
+      (subst (λ (s : List ℕ). GivesOne kept_view r (IsKeptWith floats document q.flags s before (planned_view p))) same_request
+      (subst (λ (x : Planned). GivesOne kept_view r (IsKeptWith floats document q.flags request before (planned_view x))) same gives))
 
   pub from_wrong : (planned : List Planned) (first : Planned) (factor : Option ℕ) (e : RampFault) (t : Told) → Some first ≡ slice_get planned 0 → factor ≡ refine
-      → IsTold (Ok q.flags) factor requests (recorded q.evidence) (map planned_view planned) (Err e) → t.refusal ≡ refused_as e → GivesOne kept_view (Err t) (IsKeptFrom refine document q requests before (map planned_view planned))
+      → IsTold (Ok q.flags) factor requests (recorded q.evidence) (map planned_view planned) (Err e) → t.refusal ≡ refused_as e → GivesOne kept_view (Err t) (IsKeptFrom floats refine document q requests before (map planned_view planned))
   from_wrong [] first factor e t is same_factor told refusal = cc
   from_wrong (p ∷ ps) first factor e t is same_factor told refusal =
       kept_wrong (planned_view p) (map planned_view ps) e t (subst (λ (f : Option ℕ). IsTold (Ok q.flags) f requests (recorded q.evidence) (map planned_view (p ∷ ps)) (Err e)) same_factor told) refusal
 
 -- the rule of an answer, at the site of a request that was read
-module _ (document : List ℕ) (flags : Definitions) (request : List ℕ) (asked : Asked) (there : asked_of request ≡ Ok asked) (before : Option Answer) (rule : Entries) (c : DualPrices) where
-  pub onto : (r : Result (Option (Vec ℕ Global)) Told) → GivesOne kept_view r (IsKeptOnto document flags asked rule (is_left flags asked before)) → GivesOne kept_view r (IsKeptWith document flags request before (emit rule c))
+module _ (floats : Bool) (document : List ℕ) (flags : Definitions) (request : List ℕ) (asked : Asked) (there : asked_of request ≡ Ok asked) (before : Option Answer) (rule : Entries) (c : DualPrices) where
+  pub onto : (r : Result (Option (Vec ℕ Global)) Told) → GivesOne kept_view r (IsKeptOnto floats document flags asked rule (is_left flags asked before)) → GivesOne kept_view r (IsKeptWith floats document flags request before (emit rule c))
   onto (Ok o) gives = (asked, there, gives)
   onto (Err t) gives = λ no_want. (asked, there, gives no_want)
 
 -- the bytes are those that were loaded, and the place is the one that is asked for
-pub at_place : (document bytes key : List ℕ) (flags : Definitions) (site : ℕ) (asked : Asked) (rule : Entries) (r : Result Kept RolloutRefusal) → bytes ≡ document → key ≡ asked.flag → site ≡ asked.site
-    → IsKeptAt bytes flags key site rule r → IsKeptAt document flags asked.flag asked.site rule r
-at_place document bytes key flags site asked rule r same_bytes same_key same_site kept =
-    subst (λ (b : List ℕ). IsKeptAt b flags asked.flag asked.site rule r) same_bytes
-    (subst (λ (k : List ℕ). IsKeptAt bytes flags k asked.site rule r) same_key
-    (subst (λ (s : ℕ). IsKeptAt bytes flags key s rule r) same_site kept))
+pub at_place : (floats : Bool) (document bytes key : List ℕ) (flags : Definitions) (site : ℕ) (asked : Asked) (rule : Entries) (r : Result Kept RolloutRefusal) → bytes ≡ document → key ≡ asked.flag → site ≡ asked.site
+    → IsKeptAt floats bytes flags key site rule r → IsKeptAt floats document flags asked.flag asked.site rule r
+at_place floats document bytes key flags site asked rule r same_bytes same_key same_site kept =
+    subst (λ (b : List ℕ). IsKeptAt floats b flags asked.flag asked.site rule r) same_bytes
+    (subst (λ (k : List ℕ). IsKeptAt floats bytes flags k asked.site rule r) same_key
+    (subst (λ (s : ℕ). IsKeptAt floats bytes flags key s rule r) same_site kept))
 
 -- the step before left another rule, or the one that stands there
-module _ (document : List ℕ) (flags : Definitions) (asked : Asked) (rule : Entries) where
-  pub onto_other : (b : Bool) → false ≡ b → IsKeptOnto document flags asked rule b (Err OtherRule)
-  onto_other b is = subst (λ (x : Bool). IsKeptOnto document flags asked rule x (Err OtherRule)) is refl
+module _ (floats : Bool) (document : List ℕ) (flags : Definitions) (asked : Asked) (rule : Entries) where
+  pub onto_other : (b : Bool) → false ≡ b → IsKeptOnto floats document flags asked rule b (Err OtherRule)
+  onto_other b is = subst (λ (x : Bool). IsKeptOnto floats document flags asked rule x (Err OtherRule)) is refl
 
-  pub onto_left : (b : Bool) (v : Vec ℕ Global) → true ≡ b → IsKeptAt document flags asked.flag asked.site rule (Ok (Some v.items)) → IsKeptOnto document flags asked rule b (Ok (Some v.items))
-  onto_left b v is kept = subst (λ (x : Bool). IsKeptOnto document flags asked rule x (Ok (Some v.items))) is (Ok (Some v.items), kept, refl)
+  pub onto_left : (b : Bool) (v : Vec ℕ Global) → true ≡ b → IsKeptAt floats document flags asked.flag asked.site rule (Ok (Some v.items)) → IsKeptOnto floats document flags asked rule b (Ok (Some v.items))
+  onto_left b v is kept = subst (λ (x : Bool). IsKeptOnto floats document flags asked rule x (Ok (Some v.items))) is (Ok (Some v.items), kept, refl)
 
-  pub onto_refused : (b : Bool) (e : rolling.Refused) (t : Told) → t.refusal ≡ Rollout e.refusal → true ≡ b → (rolling.is_want e.refusal ≡ false → IsKeptAt document flags asked.flag asked.site rule (Err e.refusal)) → is_want t.refusal ≡ false
-      → IsKeptOnto document flags asked rule b (Err t.refusal)
+  pub onto_refused : (b : Bool) (e : rolling.Refused) (t : Told) → t.refusal ≡ Rollout e.refusal → true ≡ b → (rolling.is_want e.refusal ≡ false → IsKeptAt floats document flags asked.flag asked.site rule (Err e.refusal)) → is_want t.refusal ≡ false
+      → IsKeptOnto floats document flags asked rule b (Err t.refusal)
   onto_refused b e t same is kept no_want =
       let wanted = not_rolled rolling.is_want is_want Rollout (λ x. refl) e t same no_want in
-      subst (λ (x : Bool). IsKeptOnto document flags asked rule x (Err t.refusal)) is (Err e.refusal, kept wanted, ap Err same)
+      subst (λ (x : Bool). IsKeptOnto floats document flags asked rule x (Err t.refusal)) is (Err e.refusal, kept wanted, ap Err same)
 
 -- ---- the report
 
@@ -133,7 +133,7 @@ module _ (k : Keeping) (document : List ℕ) (q : Question) where
     settled = keeping.settled k q requests answers
 
     abbrev IsKept : Result Kept RampRefusal → Type 0
-    IsKept kept = IsKeptFrom k.answered.rollout.refine document q (from_step k.step requests) (answer_to answers (k.step - 1)) (from_step k.step answers) kept
+    IsKept kept = IsKeptFrom k.answered.rollout.floats k.answered.rollout.refine document q (from_step k.step requests) (answer_to answers (k.step - 1)) (from_step k.step answers) kept
 
     abbrev IsOver : Option Holding → Option Holding → Result Outcome Told → Type 0
     IsOver old after r = IfSome old (λ at. GivesOne outcome_view r (IsKeepOver at after k document q answers (Ok requests)))
@@ -216,22 +216,22 @@ module _ (k : Keeping) where
   Is old after r = IfSome old (λ at. GivesOne outcome_view r (IsKeepReport at after k))
 
   pub no_question : (old after : Option Holding) (e : files.Refused) (t : Told) → t.refusal ≡ Load e.refusal → after ≡ old
-      → IfSome old (λ at. files.GivesOne question_view (Err e) (IsQuestionAt at k.answered.rollout.document k.answered.rollout.steps k.answered.rollout.book)) → Is old after (Err t)
+      → IfSome old (λ at. files.GivesOne question_view (Err e) (IsQuestionAt k.answered.rollout.floats at k.answered.rollout.document k.answered.rollout.steps k.answered.rollout.book)) → Is old after (Err t)
   unfolding IsKeepReport
   no_question None after e t is same asked = tt
   no_question (Some at) after e t is same asked = λ no_want. (Err e.refusal, asked (not_want t e is no_want), (ap Err is, same))
 
   pub kept_whole : (old mid after : Option Holding) (document : List ℕ) (q : Question) (r : Result Outcome Told) → mid ≡ old
-      → IfSome old (λ at. IsQuestionAt at k.answered.rollout.document k.answered.rollout.steps k.answered.rollout.book (Ok q)) → IfSome old (λ at. load_of at k.answered.rollout.document max_text ≡ Ok document) → IsOf k document q mid after r → Is old after r
+      → IfSome old (λ at. IsQuestionAt k.answered.rollout.floats at k.answered.rollout.document k.answered.rollout.steps k.answered.rollout.book (Ok q)) → IfSome old (λ at. load_of at k.answered.rollout.document max_text ≡ Ok document) → IsOf k document q mid after r → Is old after r
   unfolding IsKeepReport
   kept_whole old mid after document q r same asked loaded of = go old asked loaded (subst (λ (h : Option Holding). IsOf k document q h after r) same of)
     where
-      ends : (at : Holding) (s : Result Outcome Told) → IsQuestionAt at k.answered.rollout.document k.answered.rollout.steps k.answered.rollout.book (Ok q) → load_of at k.answered.rollout.document max_text ≡ Ok document
+      ends : (at : Holding) (s : Result Outcome Told) → IsQuestionAt k.answered.rollout.floats at k.answered.rollout.document k.answered.rollout.steps k.answered.rollout.book (Ok q) → load_of at k.answered.rollout.document max_text ≡ Ok document
           → GivesOne outcome_view s (IsKeepOf at after k document q (answers_at at k.answered.ramp)) → GivesOne outcome_view s (IsKeepReport at after k)
       ends at (Ok o) asked loaded of = (Ok q, asked, (document, loaded, of))
       ends at (Err t) asked loaded of = λ no_want. (Ok q, asked, (document, loaded, of no_want))
 
-      go : (h : Option Holding) → IfSome h (λ at. IsQuestionAt at k.answered.rollout.document k.answered.rollout.steps k.answered.rollout.book (Ok q)) → IfSome h (λ at. load_of at k.answered.rollout.document max_text ≡ Ok document) → IsOf k document q h after r → Is h after r
+      go : (h : Option Holding) → IfSome h (λ at. IsQuestionAt k.answered.rollout.floats at k.answered.rollout.document k.answered.rollout.steps k.answered.rollout.book (Ok q)) → IfSome h (λ at. load_of at k.answered.rollout.document max_text ≡ Ok document) → IsOf k document q h after r → Is h after r
       go None asked loaded of = tt
       go (Some at) asked loaded of = ends at r asked loaded of
 
@@ -273,12 +273,12 @@ requests_from step steps rest is = ap requests_view is ∙ mapped (λ (v : Vec �
 pub answers_from : (step : ℕ) (answers others : List Planned) → others ≡ drop (step - 1) answers → map planned_view others ≡ from_step step (map planned_view answers)
 answers_from step answers others is = ap (map planned_view) is ∙ mapped planned_view (step - 1) answers
 
-pub from_steps : (refine : Option ℕ) (document : List ℕ) (q : Question) (step : ℕ) (before : Option Answer) (steps rest : List (Vec ℕ Global)) (answers others : List Planned) (r : Result (Option (Vec ℕ Global)) Told) → before ≡ answer_to (map planned_view answers) (step - 1)
-    → rest ≡ drop (step - 1) steps → others ≡ drop (step - 1) answers → GivesOne kept_view r (IsKeptFrom refine document q (requests_view rest) before (map planned_view others))
-    → GivesOne kept_view r (IsKeptFrom refine document q (from_step step (requests_view steps)) (answer_to (map planned_view answers) (step - 1)) (from_step step (map planned_view answers)))
-from_steps refine document q step before steps rest answers others r prior first second gives =
+pub from_steps : (floats : Bool) (refine : Option ℕ) (document : List ℕ) (q : Question) (step : ℕ) (before : Option Answer) (steps rest : List (Vec ℕ Global)) (answers others : List Planned) (r : Result (Option (Vec ℕ Global)) Told) → before ≡ answer_to (map planned_view answers) (step - 1)
+    → rest ≡ drop (step - 1) steps → others ≡ drop (step - 1) answers → GivesOne kept_view r (IsKeptFrom floats refine document q (requests_view rest) before (map planned_view others))
+    → GivesOne kept_view r (IsKeptFrom floats refine document q (from_step step (requests_view steps)) (answer_to (map planned_view answers) (step - 1)) (from_step step (map planned_view answers)))
+from_steps floats refine document q step before steps rest answers others r prior first second gives =
     let requests : requests_view rest ≡ from_step step (requests_view steps) = requests_from step steps rest first in
     let planned : map planned_view others ≡ from_step step (map planned_view answers) = answers_from step answers others second in
-    subst (λ (b : Option Answer). GivesOne kept_view r (IsKeptFrom refine document q (from_step step (requests_view steps)) b (from_step step (map planned_view answers)))) prior
-    (subst (λ (a : List Answer). GivesOne kept_view r (IsKeptFrom refine document q (from_step step (requests_view steps)) before a)) planned
-    (subst (λ (s : List (List ℕ)). GivesOne kept_view r (IsKeptFrom refine document q s before (map planned_view others))) requests gives))
+    subst (λ (b : Option Answer). GivesOne kept_view r (IsKeptFrom floats refine document q (from_step step (requests_view steps)) b (from_step step (map planned_view answers)))) prior
+    (subst (λ (a : List Answer). GivesOne kept_view r (IsKeptFrom floats refine document q (from_step step (requests_view steps)) before a)) planned
+    (subst (λ (s : List (List ℕ)). GivesOne kept_view r (IsKeptFrom floats refine document q s before (map planned_view others))) requests gives))

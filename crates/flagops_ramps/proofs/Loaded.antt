@@ -29,21 +29,21 @@ pub not_want : (t : Told) (e : Refused) → t.refusal ≡ Load e.refusal → is_
 not_want t e is no_want = ap is_want (sym is) ∙ no_want
 
 module _ (a : Ramping) where
-  unloaded_at : (at : Holding) (e : Refused) (t : Told) → t.refusal ≡ Load e.refusal → files.GivesOne question_view (Err e) (IsQuestionAt at a.document a.steps a.book) → GivesOne outcome_view (Err t) (IsRampReport at a)
+  unloaded_at : (at : Holding) (e : Refused) (t : Told) → t.refusal ≡ Load e.refusal → files.GivesOne question_view (Err e) (IsQuestionAt a.floats at a.document a.steps a.book) → GivesOne outcome_view (Err t) (IsRampReport at a)
   unfolding IsRampReport
   unloaded_at at e t is asked = λ no_want. (Err e.refusal, asked (not_want t e is no_want), ap Err is)
 
-  pub unloaded : (holding : Option Holding) (e : Refused) (t : Told) → t.refusal ≡ Load e.refusal → IfSome holding (λ at. files.GivesOne question_view (Err e) (IsQuestionAt at a.document a.steps a.book))
+  pub unloaded : (holding : Option Holding) (e : Refused) (t : Told) → t.refusal ≡ Load e.refusal → IfSome holding (λ at. files.GivesOne question_view (Err e) (IsQuestionAt a.floats at a.document a.steps a.book))
       → IfSome holding (λ at. GivesOne outcome_view (Err t) (IsRampReport at a))
   unloaded None e t is asked = tt
   unloaded (Some at) e t is asked = unloaded_at at e t is asked
 
-  loaded_at : (at : Holding) (q : Question) (r : Result Outcome Told) → IsQuestionAt at a.document a.steps a.book (Ok (question_view q)) → GivesOne outcome_view r (IsRampOf a.strict a.refine (Ok (question_view q))) → GivesOne outcome_view r (IsRampReport at a)
+  loaded_at : (at : Holding) (q : Question) (r : Result Outcome Told) → IsQuestionAt a.floats at a.document a.steps a.book (Ok (question_view q)) → GivesOne outcome_view r (IsRampOf a.strict a.refine (Ok (question_view q))) → GivesOne outcome_view r (IsRampReport at a)
   unfolding IsRampReport
   loaded_at at q (Ok o) asked gives = (Ok (question_view q), asked, gives)
   loaded_at at q (Err t) asked gives = λ no_want. (Ok (question_view q), asked, gives no_want)
 
-  pub loaded : (holding : Option Holding) (q : Question) (r : Result Outcome Told) → IfSome holding (λ at. IsQuestionAt at a.document a.steps a.book (Ok (question_view q))) → GivesOne outcome_view r (IsRampOf a.strict a.refine (Ok (question_view q)))
+  pub loaded : (holding : Option Holding) (q : Question) (r : Result Outcome Told) → IfSome holding (λ at. IsQuestionAt a.floats at a.document a.steps a.book (Ok (question_view q))) → GivesOne outcome_view r (IsRampOf a.strict a.refine (Ok (question_view q)))
       → IfSome holding (λ at. GivesOne outcome_view r (IsRampReport at a))
   loaded None q r asked gives = tt
   loaded (Some at) q r asked gives = loaded_at at q r asked gives
@@ -51,22 +51,22 @@ module _ (a : Ramping) where
 -- ---- and of answers
 
 module _ (v : Verifying) where
-  unasked_at : (at : Holding) (e : Refused) (t : Told) → t.refusal ≡ Load e.refusal → files.GivesOne question_view (Err e) (IsQuestionAt at v.rollout.document v.rollout.steps v.rollout.book) → GivesOne answered_view (Err t) (IsFoundAt at v)
+  unasked_at : (at : Holding) (e : Refused) (t : Told) → t.refusal ≡ Load e.refusal → files.GivesOne question_view (Err e) (IsQuestionAt v.rollout.floats at v.rollout.document v.rollout.steps v.rollout.book) → GivesOne answered_view (Err t) (IsFoundAt at v)
   unfolding IsFoundAt
   unasked_at at e t is asked = λ no_want. (Err e.refusal, asked (not_want t e is no_want), ap Err is)
 
-  pub unasked : (holding : Option Holding) (e : Refused) (t : Told) → t.refusal ≡ Load e.refusal → IfSome holding (λ at. files.GivesOne question_view (Err e) (IsQuestionAt at v.rollout.document v.rollout.steps v.rollout.book))
+  pub unasked : (holding : Option Holding) (e : Refused) (t : Told) → t.refusal ≡ Load e.refusal → IfSome holding (λ at. files.GivesOne question_view (Err e) (IsQuestionAt v.rollout.floats at v.rollout.document v.rollout.steps v.rollout.book))
       → IfSome holding (λ at. GivesOne answered_view (Err t) (IsFoundAt at v))
   unasked None e t is asked = tt
   unasked (Some at) e t is asked = unasked_at at e t is asked
 
-  judged_at : (at : Holding) (q : Question) (r : Result RightAnswers Told) → IsQuestionAt at v.rollout.document v.rollout.steps v.rollout.book (Ok (question_view q))
+  judged_at : (at : Holding) (q : Question) (r : Result RightAnswers Told) → IsQuestionAt v.rollout.floats at v.rollout.document v.rollout.steps v.rollout.book (Ok (question_view q))
       → GivesOne answered_view r (IsFoundOf v.rollout.refine (Ok (question_view q)) (answers_at at v.ramp)) → GivesOne answered_view r (IsFoundAt at v)
   unfolding IsFoundAt
   judged_at at q (Ok a) asked gives = (Ok (question_view q), asked, gives)
   judged_at at q (Err t) asked gives = λ no_want. (Ok (question_view q), asked, gives no_want)
 
-  pub judged : (old kept : Option Holding) (q : Question) (r : Result RightAnswers Told) → kept ≡ old → IfSome old (λ at. IsQuestionAt at v.rollout.document v.rollout.steps v.rollout.book (Ok (question_view q)))
+  pub judged : (old kept : Option Holding) (q : Question) (r : Result RightAnswers Told) → kept ≡ old → IfSome old (λ at. IsQuestionAt v.rollout.floats at v.rollout.document v.rollout.steps v.rollout.book (Ok (question_view q)))
       → IfSome kept (λ at. GivesOne answered_view r (IsFoundOf v.rollout.refine (Ok (question_view q)) (answers_at at v.ramp))) → IfSome old (λ at. GivesOne answered_view r (IsFoundAt at v))
   judged None kept q r same asked gives = tt
   judged (Some at) kept q r same asked gives =

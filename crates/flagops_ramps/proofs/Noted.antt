@@ -5,7 +5,7 @@ use Rattle.std.specs.Result.{result_ok}
 use Rattle.file_diagnostics.specs.Named.{Names}
 use Rattle.flag_defs.specs.Document.{Definitions}
 use Rattle.flag_text.specs.Reading.{tree_of}
-use Rattle.flagops_files.specs.Documents.{IsDocumentAt}
+use Rattle.flagops_files.specs.Documents.{IsDocumentAs}
 use Rattle.flagops_files.specs.Loading.{max_text}
 use Rattle.flagops_files.specs.Question.{IsQuestionAt, Question}
 use Rattle.flagops_shell.specs.Diagnostic.{Says}
@@ -58,12 +58,12 @@ module _ (a : Ramping) (q : Question) where
       ramp_of requests answers o.text.items o.remark steps holds (subst (λ (it : Question). Tells (ramp_parts a it requests answers) o.remark) same tells)
   ramp_said made requests answers (Err t) same steps holds tells = tt
 
-  ramp_there : (at : Holding) (r : Result Outcome Told) → IsQuestionAt at a.document a.steps a.book (Ok q) → IfOk r (λ o. TellsRampOf a q o.text.items o.remark) → IfOk r (λ o. TellsRampAt at a o.text.items o.remark)
+  ramp_there : (at : Holding) (r : Result Outcome Told) → IsQuestionAt a.floats at a.document a.steps a.book (Ok q) → IfOk r (λ o. TellsRampOf a q o.text.items o.remark) → IfOk r (λ o. TellsRampAt at a o.text.items o.remark)
   unfolding TellsRampAt
   ramp_there at (Ok o) asked told = (q, asked, told)
   ramp_there at (Err t) asked told = tt
 
-  pub ramp_said_at : (old : Option Holding) (r : Result Outcome Told) → IfSome old (λ at. IsQuestionAt at a.document a.steps a.book (Ok q)) → IfOk r (λ o. TellsRampOf a q o.text.items o.remark) → IfSome old (λ at. IfOk r (λ o. TellsRampAt at a o.text.items o.remark))
+  pub ramp_said_at : (old : Option Holding) (r : Result Outcome Told) → IfSome old (λ at. IsQuestionAt a.floats at a.document a.steps a.book (Ok q)) → IfOk r (λ o. TellsRampOf a q o.text.items o.remark) → IfSome old (λ at. IfOk r (λ o. TellsRampAt at a o.text.items o.remark))
   ramp_said_at None r asked told = tt
   ramp_said_at (Some at) r asked told = ramp_there at r asked told
 
@@ -71,7 +71,7 @@ module _ (a : Ramping) (q : Question) where
 
 module _ (v : Verifying) (a : Answered) (at : Holding) (told : Option Remark) (tells : Tells (doubt_parts_of_steps v.rollout.steps v.rollout.book a.question a.requests) told) where
   abbrev IsAsked : Question → Type 0
-  IsAsked q = IsQuestionAt at v.rollout.document v.rollout.steps v.rollout.book (Ok q)
+  IsAsked q = IsQuestionAt v.rollout.floats at v.rollout.document v.rollout.steps v.rollout.book (Ok q)
 
   by_verdict : (q : Question) (requests : List (List ℕ)) (answers : List Answer) (u : Result (Unit {0}) RampFault) → IsAsked q → steps_of q.request ≡ Ok requests → Ok a ≡ found_as (record { question = q; requests = requests; answers = answers }) u → TellsVerdictAt at v told
   unfolding TellsVerdictAt
@@ -119,27 +119,27 @@ module _ (k : Keeping) (q : Question) where
   keep_said_from None requests answers r read steps told = tt
   keep_said_from (Some at) requests answers r read steps told = keep_from at requests answers r read steps told
 
-  keep_there : (at : Holding) (r : Result Outcome Told) → IsQuestionAt at k.answered.rollout.document k.answered.rollout.steps k.answered.rollout.book (Ok q) → IfOk r (λ o. TellsKeepFrom at k q o.remark) → IfOk r (λ o. TellsKeepAt at k o.remark)
+  keep_there : (at : Holding) (r : Result Outcome Told) → IsQuestionAt k.answered.rollout.floats at k.answered.rollout.document k.answered.rollout.steps k.answered.rollout.book (Ok q) → IfOk r (λ o. TellsKeepFrom at k q o.remark) → IfOk r (λ o. TellsKeepAt at k o.remark)
   unfolding TellsKeepAt
   keep_there at (Ok o) asked told = (q, asked, told)
   keep_there at (Err t) asked told = tt
 
-  pub keep_said_at : (old mid : Option Holding) (r : Result Outcome Told) → mid ≡ old → IfSome old (λ at. IsQuestionAt at k.answered.rollout.document k.answered.rollout.steps k.answered.rollout.book (Ok q)) → IfSome mid (λ at. IfOk r (λ o. TellsKeepFrom at k q o.remark))
+  pub keep_said_at : (old mid : Option Holding) (r : Result Outcome Told) → mid ≡ old → IfSome old (λ at. IsQuestionAt k.answered.rollout.floats at k.answered.rollout.document k.answered.rollout.steps k.answered.rollout.book (Ok q)) → IfSome mid (λ at. IfOk r (λ o. TellsKeepFrom at k q o.remark))
       → IfSome old (λ at. IfOk r (λ o. TellsKeepAt at k o.remark))
   keep_said_at old mid r same asked told = go old asked (subst (λ (h : Option Holding). IfSome h (λ at. IfOk r (λ o. TellsKeepFrom at k q o.remark))) same told)
     where
-      go : (h : Option Holding) → IfSome h (λ at. IsQuestionAt at k.answered.rollout.document k.answered.rollout.steps k.answered.rollout.book (Ok q)) → IfSome h (λ at. IfOk r (λ o. TellsKeepFrom at k q o.remark)) → IfSome h (λ at. IfOk r (λ o. TellsKeepAt at k o.remark))
+      go : (h : Option Holding) → IfSome h (λ at. IsQuestionAt k.answered.rollout.floats at k.answered.rollout.document k.answered.rollout.steps k.answered.rollout.book (Ok q)) → IfSome h (λ at. IfOk r (λ o. TellsKeepFrom at k q o.remark)) → IfSome h (λ at. IfOk r (λ o. TellsKeepAt at k o.remark))
       go None asked told = tt
       go (Some at) asked told = keep_there at r asked told
 
 -- ---- `apply --step`
 
 module _ (a : Applying) (document : List ℕ) (flags : Definitions) where
-  step_of : (answers : List Answer) (answer : Answer) (told : Option Remark) → Some answer ≡ answer_to answers a.step → Tells (applied_parts a.document document flags a.key a.site answer) told → TellsStepOf a document flags answers told
+  step_of : (answers : List Answer) (answer : Answer) (told : Option Remark) → Some answer ≡ answer_to answers a.step → Tells (applied_parts a.floats a.document document flags a.key a.site answer) told → TellsStepOf a document flags answers told
   unfolding TellsStepOf
   step_of answers answer told is tells = (answer, is, tells)
 
-  pub step_said : (answers : List Answer) (answer : Answer) (r : Result Outcome Told) → Some answer ≡ answer_to answers a.step → IfOk r (λ o. Tells (applied_parts a.document document flags a.key a.site answer) o.remark) → IfOk r (λ o. TellsStepOf a document flags answers o.remark)
+  pub step_said : (answers : List Answer) (answer : Answer) (r : Result Outcome Told) → Some answer ≡ answer_to answers a.step → IfOk r (λ o. Tells (applied_parts a.floats a.document document flags a.key a.site answer) o.remark) → IfOk r (λ o. TellsStepOf a document flags answers o.remark)
   step_said answers answer (Ok o) is tells = step_of answers answer o.remark is tells
   step_said answers answer (Err t) is tells = tt
 
@@ -152,16 +152,16 @@ module _ (a : Applying) (document : List ℕ) (flags : Definitions) where
   step_said_from None answers r read told = tt
   step_said_from (Some at) answers r read told = step_from at answers r read told
 
-  step_there : (at : Holding) (r : Result Outcome Told) → load_of at a.document max_text ≡ Ok document → IsDocumentAt at a.document (Ok flags) → IfOk r (λ o. TellsStepFrom at a document flags o.remark) → IfOk r (λ o. TellsStepAt at a o.remark)
+  step_there : (at : Holding) (r : Result Outcome Told) → load_of at a.document max_text ≡ Ok document → IsDocumentAs a.floats at a.document (Ok flags) → IfOk r (λ o. TellsStepFrom at a document flags o.remark) → IfOk r (λ o. TellsStepAt at a o.remark)
   unfolding TellsStepAt
   step_there at (Ok o) bytes loaded told = (document, flags, bytes, loaded, told)
   step_there at (Err t) bytes loaded told = tt
 
-  pub step_said_at : (old mid : Option Holding) (r : Result Outcome Told) → mid ≡ old → IfSome old (λ at. load_of at a.document max_text ≡ Ok document) → IfSome old (λ at. IsDocumentAt at a.document (Ok flags)) → IfSome mid (λ at. IfOk r (λ o. TellsStepFrom at a document flags o.remark))
+  pub step_said_at : (old mid : Option Holding) (r : Result Outcome Told) → mid ≡ old → IfSome old (λ at. load_of at a.document max_text ≡ Ok document) → IfSome old (λ at. IsDocumentAs a.floats at a.document (Ok flags)) → IfSome mid (λ at. IfOk r (λ o. TellsStepFrom at a document flags o.remark))
       → IfSome old (λ at. IfOk r (λ o. TellsStepAt at a o.remark))
   step_said_at old mid r same bytes loaded told = go old bytes loaded (subst (λ (h : Option Holding). IfSome h (λ at. IfOk r (λ o. TellsStepFrom at a document flags o.remark))) same told)
     where
-      go : (h : Option Holding) → IfSome h (λ at. load_of at a.document max_text ≡ Ok document) → IfSome h (λ at. IsDocumentAt at a.document (Ok flags)) → IfSome h (λ at. IfOk r (λ o. TellsStepFrom at a document flags o.remark)) → IfSome h (λ at. IfOk r (λ o. TellsStepAt at a o.remark))
+      go : (h : Option Holding) → IfSome h (λ at. load_of at a.document max_text ≡ Ok document) → IfSome h (λ at. IsDocumentAs a.floats at a.document (Ok flags)) → IfSome h (λ at. IfOk r (λ o. TellsStepFrom at a document flags o.remark)) → IfSome h (λ at. IfOk r (λ o. TellsStepAt at a o.remark))
       go None bytes loaded told = tt
       go (Some at) bytes loaded told = step_there at r bytes loaded told
 

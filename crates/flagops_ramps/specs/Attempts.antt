@@ -1,6 +1,6 @@
 -- The files that the commands on steps read in turn: a person is told of the first that is refused.
 use Rattle.std.specs.Prelude.{◌⊎◌, ℕ, List, [], ◌∷◌, ◌++◌, map}
-use Rattle.flagops_files.specs.Documents.{IsDocumentAt}
+use Rattle.flagops_files.specs.Documents.{IsDocumentAs}
 use Rattle.flagops_files.specs.Loading.{max_rule}
 use Rattle.flagops_files.specs.Question.{question_attempts}
 use Rattle.flagops_files.specs.Refusal.{Attempts}
@@ -22,7 +22,7 @@ answers_file at path = attempt_of (file path) (refused_by Unread (load_of at pat
 
 -- the files of a rollout in steps
 abbrev pub ramp_files : Holding → Ramping → Attempts
-ramp_files at a = question_attempts at a.document a.steps a.book
+ramp_files at a = question_attempts a.floats at a.document a.steps a.book
 
 -- the same, and then the answers
 abbrev pub verify_files : Holding → Verifying → Attempts
@@ -30,4 +30,4 @@ verify_files at v = ramp_files at v.rollout ++ answers_file at v.ramp
 
 -- a document, and then the answers
 abbrev pub step_files : Holding → Applying → Attempts
-step_files at a = attempt (file a.document) (IsDocumentAt at a.document) ∷ answers_file at a.ramp
+step_files at a = attempt (file a.document) (IsDocumentAs a.floats at a.document) ∷ answers_file at a.ramp

@@ -77,4 +77,4 @@ IsFoundOf refine (Ok q) (Ok answers) r = IsFoundOver refine q answers (steps_of 
 -- of the files at the paths
 unfoldable pub IsFoundAt : Holding → Verifying → Found → Type 0
 IsFoundAt at v r =
-    (question : Result Question Refusal) × IsQuestionAt at v.rollout.document v.rollout.steps v.rollout.book question × IsFoundOf v.rollout.refine question (answers_at at v.ramp) r
+    (question : Result Question Refusal) × IsQuestionAt v.rollout.floats at v.rollout.document v.rollout.steps v.rollout.book question × IsFoundOf v.rollout.refine question (answers_at at v.ramp) r

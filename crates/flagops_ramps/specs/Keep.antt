@@ -42,25 +42,25 @@ is_left flags asked (Some (none_exists kind names)) = false
 is_left flags asked (Some (emit rule c)) = has_rule flags asked.flag asked.site rule
 
 -- the document with a rule at the site that is asked for, and all else as it was, where the step before left what stands there
-abbrev pub IsKeptOnto : List ℕ → Definitions → Asked → Entries → Bool → Result Kept RampRefusal → Type 0
-IsKeptOnto document flags asked rule false r = r ≡ Err OtherRule
-IsKeptOnto document flags asked rule true r = Lifts Rollout (IsKeptAt document flags asked.flag asked.site rule) r
+abbrev pub IsKeptOnto : Bool → List ℕ → Definitions → Asked → Entries → Bool → Result Kept RampRefusal → Type 0
+IsKeptOnto floats document flags asked rule false r = r ≡ Err OtherRule
+IsKeptOnto floats document flags asked rule true r = Lifts Rollout (IsKeptAt floats document flags asked.flag asked.site rule) r
 
 -- the same with the rule of an answer to a request; an answer without a rule leaves the document as it is
-abbrev pub IsKeptWith : List ℕ → Definitions → List ℕ → Option Answer → Answer → Result Kept RampRefusal → Type 0
-IsKeptWith document flags request before (emit rule c) r = (asked : Asked) × (asked_of request ≡ Ok asked) × IsKeptOnto document flags asked rule (is_left flags asked before) r
-IsKeptWith document flags request before (none_exists kind names) r = r ≡ Ok None
+abbrev pub IsKeptWith : Bool → List ℕ → Definitions → List ℕ → Option Answer → Answer → Result Kept RampRefusal → Type 0
+IsKeptWith floats document flags request before (emit rule c) r = (asked : Asked) × (asked_of request ≡ Ok asked) × IsKeptOnto floats document flags asked rule (is_left flags asked before) r
+IsKeptWith floats document flags request before (none_exists kind names) r = r ≡ Ok None
 
 -- of the answers that are judged the first is put; why they are not right is why there is no document
-abbrev pub IsKeptBy : List ℕ → Definitions → List (List ℕ) → Option Answer → Answer → Result (Unit {0}) RampFault → Result Kept RampRefusal → Type 0
-IsKeptBy document flags requests before answer (Err e) r = r ≡ Err (refused_as e)
-IsKeptBy document flags requests before answer (Ok u) r = IsKeptWith document flags (first_request requests) before answer r
+abbrev pub IsKeptBy : Bool → List ℕ → Definitions → List (List ℕ) → Option Answer → Answer → Result (Unit {0}) RampFault → Result Kept RampRefusal → Type 0
+IsKeptBy floats document flags requests before answer (Err e) r = r ≡ Err (refused_as e)
+IsKeptBy floats document flags requests before answer (Ok u) r = IsKeptWith floats document flags (first_request requests) before answer r
 
 -- The answers to these steps are judged as `verify-ramp` judges those to a whole rollout, the first on the rule that the document has.
-abbrev pub IsKeptFrom : Option ℕ → List ℕ → Question → List (List ℕ) → Option Answer → List Answer → Result Kept RampRefusal → Type 0
-IsKeptFrom refine document q requests before [] r = r ≡ Err NoStep
-IsKeptFrom refine document q requests before (answer ∷ answers) r =
-    (told : Result (Unit {0}) RampFault) × IsTold (Ok q.flags) refine requests (recorded q.evidence) (answer ∷ answers) told × IsKeptBy document q.flags requests before answer told r
+abbrev pub IsKeptFrom : Bool → Option ℕ → List ℕ → Question → List (List ℕ) → Option Answer → List Answer → Result Kept RampRefusal → Type 0
+IsKeptFrom floats refine document q requests before [] r = r ≡ Err NoStep
+IsKeptFrom floats refine document q requests before (answer ∷ answers) r =
+    (told : Result (Unit {0}) RampFault) × IsTold (Ok q.flags) refine requests (recorded q.evidence) (answer ∷ answers) told × IsKeptBy floats document q.flags requests before answer told r
 
 -- ---- the report
 
@@ -83,7 +83,7 @@ settled k q requests answers = noted_with (is_finer_put q.flags (from_step k.ste
 abbrev pub IsKeepOver : Holding → Option Holding → Keeping → List ℕ → Question → List Answer → Result (List (List ℕ)) StepsFault → Came → Type 0
 IsKeepOver at after k document q answers (Err e) r = (r ≡ Err (Verify (Request (of_steps e)))) × (after ≡ Some at)
 IsKeepOver at after k document q answers (Ok requests) r =
-    (kept : Result Kept RampRefusal) × IsKeptFrom k.answered.rollout.refine document q (from_step k.step requests) (answer_to answers (k.step - 1)) (from_step k.step answers) kept
+    (kept : Result Kept RampRefusal) × IsKeptFrom k.answered.rollout.floats k.answered.rollout.refine document q (from_step k.step requests) (answer_to answers (k.step - 1)) (from_step k.step answers) kept
     × IsPut at after k (settled k q requests answers) kept r
 
 -- of answers that were read, and then of the steps
@@ -99,4 +99,4 @@ IsKeepAsked at after k (Ok q) r = (document : List ℕ) × (load_of at k.answere
 -- what the files at the paths make
 unfoldable pub IsKeepReport : Holding → Option Holding → Keeping → Came → Type 0
 IsKeepReport at after k r =
-    (question : Result Question Refusal) × IsQuestionAt at k.answered.rollout.document k.answered.rollout.steps k.answered.rollout.book question × IsKeepAsked at after k question r
+    (question : Result Question Refusal) × IsQuestionAt k.answered.rollout.floats at k.answered.rollout.document k.answered.rollout.steps k.answered.rollout.book question × IsKeepAsked at after k question r

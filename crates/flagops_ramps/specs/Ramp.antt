@@ -77,4 +77,4 @@ IsRampOf strict refine (Ok q) r = IsRampOver strict refine q (steps_of q.request
 
 -- what the files at the paths make
 unfoldable pub IsRampReport : Holding → Ramping → Came → Type 0
-IsRampReport at a r = (question : Result Question Refusal) × IsQuestionAt at a.document a.steps a.book question × IsRampOf a.strict a.refine question r
+IsRampReport at a r = (question : Result Question Refusal) × IsQuestionAt a.floats at a.document a.steps a.book question × IsRampOf a.strict a.refine question r

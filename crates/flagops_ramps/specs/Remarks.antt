@@ -2,7 +2,7 @@
 use Rattle.std.specs.Prelude.{◌≡◌, ◌++◌, ℕ, List, [], ◌∷◌, unwrap_or, Option, Some, Ok}
 use Rattle.std.specs.Result.{result_ok}
 use Rattle.flag_defs.specs.Document.{Definitions}
-use Rattle.flagops_files.specs.Documents.{IsDocumentAt}
+use Rattle.flagops_files.specs.Documents.{IsDocumentAs}
 use Rattle.flagops_files.specs.Loading.{max_text}
 use Rattle.flagops_files.specs.Question.{Question, IsQuestionAt}
 use Rattle.flagops_shell.specs.Files.{Holding, load_of}
@@ -34,13 +34,13 @@ unfoldable pub TellsRampOf : Ramping → Question → List ℕ → Option Remark
 TellsRampOf a q text told = (requests : List (List ℕ)) × (answers : List Answer) × (steps_of q.request ≡ Ok requests) × Holds answers text × Tells (ramp_parts a q requests answers) told
 
 unfoldable pub TellsRampAt : Holding → Ramping → List ℕ → Option Remark → Type 0
-TellsRampAt at a text told = (q : Question) × IsQuestionAt at a.document a.steps a.book (Ok q) × TellsRampOf a q text told
+TellsRampAt at a text told = (q : Question) × IsQuestionAt a.floats at a.document a.steps a.book (Ok q) × TellsRampOf a q text told
 
 -- ---- `verify-ramp`: each doubt
 
 unfoldable pub TellsVerdictAt : Holding → Verifying → Option Remark → Type 0
 TellsVerdictAt at v told =
-    (q : Question) × (requests : List (List ℕ)) × IsQuestionAt at v.rollout.document v.rollout.steps v.rollout.book (Ok q) × (steps_of q.request ≡ Ok requests) × Tells (doubt_parts_of_steps v.rollout.steps v.rollout.book q requests) told
+    (q : Question) × (requests : List (List ℕ)) × IsQuestionAt v.rollout.floats at v.rollout.document v.rollout.steps v.rollout.book (Ok q) × (steps_of q.request ≡ Ok requests) × Tells (doubt_parts_of_steps v.rollout.steps v.rollout.book q requests) told
 
 -- ---- `apply --step --keep`: each doubt, and that the rule has finer points than the one that stood at the site
 
@@ -57,16 +57,16 @@ unfoldable pub TellsKeepFrom : Holding → Keeping → Question → Option Remar
 TellsKeepFrom at k q told = (requests : List (List ℕ)) × (answers : List Answer) × (answers_at at k.answered.ramp ≡ Ok answers) × (steps_of q.request ≡ Ok requests) × Tells (keep_parts k q requests answers) told
 
 unfoldable pub TellsKeepAt : Holding → Keeping → Option Remark → Type 0
-TellsKeepAt at k told = (q : Question) × IsQuestionAt at k.answered.rollout.document k.answered.rollout.steps k.answered.rollout.book (Ok q) × TellsKeepFrom at k q told
+TellsKeepAt at k told = (q : Question) × IsQuestionAt k.answered.rollout.floats at k.answered.rollout.document k.answered.rollout.steps k.answered.rollout.book (Ok q) × TellsKeepFrom at k q told
 
 -- ---- `apply --step`: what is told beside the document that `apply` prints of the answer to the step
 
 unfoldable pub TellsStepOf : Applying → List ℕ → Definitions → List Answer → Option Remark → Type 0
-TellsStepOf a document flags answers told = (answer : Answer) × (Some answer ≡ answer_to answers a.step) × Tells (applied_parts a.document document flags a.key a.site answer) told
+TellsStepOf a document flags answers told = (answer : Answer) × (Some answer ≡ answer_to answers a.step) × Tells (applied_parts a.floats a.document document flags a.key a.site answer) told
 
 -- of the answers of a file, and of the files at the paths
 unfoldable pub TellsStepFrom : Holding → Applying → List ℕ → Definitions → Option Remark → Type 0
 TellsStepFrom at a document flags told = (answers : List Answer) × (answers_at at a.ramp ≡ Ok answers) × TellsStepOf a document flags answers told
 
 unfoldable pub TellsStepAt : Holding → Applying → Option Remark → Type 0
-TellsStepAt at a told = (document : List ℕ) × (flags : Definitions) × (load_of at a.document max_text ≡ Ok document) × IsDocumentAt at a.document (Ok flags) × TellsStepFrom at a document flags told
+TellsStepAt at a told = (document : List ℕ) × (flags : Definitions) × (load_of at a.document max_text ≡ Ok document) × IsDocumentAs a.floats at a.document (Ok flags) × TellsStepFrom at a document flags told

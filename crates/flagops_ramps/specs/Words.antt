@@ -5,19 +5,20 @@ use Rattle.clap.specs.Simple.{App, new_app, with_rule}
 use Rattle.clap.specs.Walk.{Row, Rule, Text, first_of}
 use Rattle.flagops_words.specs.Alone.{asked_in, faults_in}
 use Rattle.flagops_words.specs.Numbers.{factor_in, max_32}
-use Rattle.flagops_words.specs.Words.{◌>>=◌, doubted_flag, flag, flag_in, is_strict, number, number_at, option_number, refine_in, refine_option, refuses_doubts, required, strict_flag}
+use Rattle.flagops_words.specs.Words.{◌>>=◌, doubted_flag, flag, flag_in, floats_flag, has_floats, is_strict, number, number_at, option_number, refine_in, refine_option, refuses_doubts, required, strict_flag}
 use Rattle.flagops_ramps.specs.declared.asked.Applying as code_apply
 use Rattle.flagops_ramps.specs.declared.asked.Keeping as code_keep
 use Rattle.flagops_ramps.specs.declared.asked.Ramping as code_ramp
 use Rattle.flagops_ramps.specs.declared.asked.Verifying as code_verify
 
--- the paths of a document, steps and a book, the factor of the first step, and whether what is doubted is refused
+-- the paths of a document, steps and a book, the factor of the first step, whether what is doubted is refused, and whether the document may have floats
 pub record Ramping : Type 0 where
   pub document : Text
   pub steps : Text
   pub book : Text
   pub refine : Option ℕ
   pub strict : Bool
+  pub floats : Bool
 
 -- the same, and the path of the answers
 pub record Verifying : Type 0 where
@@ -30,7 +31,7 @@ pub record Keeping : Type 0 where
   pub step : ℕ
   pub write : Bool
 
--- the paths of a document and of answers, a flag with its site, the number of a step, from 1, and whether it is refused that something is left out
+-- the paths of a document and of answers, a flag with its site, the number of a step, from 1, whether it is refused that something is left out, and whether the document may have floats
 pub record Applying : Type 0 where
   pub document : Text
   pub ramp : Text
@@ -38,12 +39,13 @@ pub record Applying : Type 0 where
   pub site : ℕ
   pub step : ℕ
   pub strict : Bool
+  pub floats : Bool
 
 abbrev pub applying_view : code_apply.Applying → Applying
-applying_view a = record { document = a.document.now; ramp = a.ramp.now; key = a.key.now; site = a.site; step = a.step; strict = a.strict }
+applying_view a = record { document = a.document.now; ramp = a.ramp.now; key = a.key.now; site = a.site; step = a.step; strict = a.strict; floats = a.floats }
 
 abbrev pub ramping_view : code_ramp.Ramping → Ramping
-ramping_view r = record { document = r.document.now; steps = r.steps.now; book = r.book.now; refine = option_map (λ m. m.number) r.refine; strict = r.strict }
+ramping_view r = record { document = r.document.now; steps = r.steps.now; book = r.book.now; refine = option_map (λ m. m.number) r.refine; strict = r.strict; floats = r.floats }
 
 abbrev pub verifying_view : code_verify.Verifying → Verifying
 verifying_view v = record { rollout = ramping_view v.rollout; ramp = v.ramp.now }
@@ -55,13 +57,13 @@ keeping_view k = record { answered = verifying_view k.answered; step = k.step; w
 abbrev pub with_steps : App → App
 with_steps a = with_rule (with_rule (with_rule a (required (codes "DOC"))) (required (codes "STEPS"))) (required (codes "BOOK"))
 
--- `ramp DOC STEPS BOOK`, with `--refine M` and `--strict`
+-- `ramp DOC STEPS BOOK`, with `--refine M`, `--strict` and `--floats`
 unfoldable pub ramp_app : App
-ramp_app = with_rule (with_rule (with_steps (new_app (codes "ramp"))) refine_option) strict_flag
+ramp_app = with_rule (with_rule (with_rule (with_steps (new_app (codes "ramp"))) refine_option) strict_flag) floats_flag
 
--- `verify-ramp DOC STEPS BOOK RAMP`, with `--refine M` and `--strict`
+-- `verify-ramp DOC STEPS BOOK RAMP`, with `--refine M`, `--strict` and `--floats`
 unfoldable pub verify_app : App
-verify_app = with_rule (with_rule (with_rule (with_steps (new_app (codes "verify-ramp"))) (required (codes "RAMP"))) refine_option) strict_flag
+verify_app = with_rule (with_rule (with_rule (with_rule (with_steps (new_app (codes "verify-ramp"))) (required (codes "RAMP"))) refine_option) strict_flag) floats_flag
 
 -- `--step N`, which has to be there
 abbrev pub step_option : Rule
@@ -71,9 +73,9 @@ step_option = record (option_number (codes "N") (codes "step") 1 max_32) { requi
 abbrev pub step_words : App
 step_words = with_rule (with_rule (with_rule (with_rule (new_app (codes "apply")) (required (codes "DOC"))) (required (codes "RAMP"))) (required (codes "FLAG"))) (number (codes "SITE") max_32)
 
--- the same with `--step N`, and `--strict`
+-- the same with `--step N`, `--strict` and `--floats`
 unfoldable pub step_app : App
-step_app = with_rule (with_rule step_words step_option) strict_flag
+step_app = with_rule (with_rule (with_rule step_words step_option) strict_flag) floats_flag
 
 -- `apply DOC RAMP STEPS BOOK`
 abbrev pub kept_words : App
@@ -84,9 +86,13 @@ kept_words =
 abbrev pub kept_step : App
 kept_step = with_rule (with_rule kept_words step_option) (flag (codes "keep"))
 
--- `apply --step N --keep DOC RAMP STEPS BOOK`, with `--write`, `--refine M`, `--strict` and `--doubted`
+-- and with `--write` and `--refine M`
+abbrev pub kept_put : App
+kept_put = with_rule (with_rule kept_step (flag (codes "write"))) refine_option
+
+-- `apply --step N --keep DOC RAMP STEPS BOOK`, with `--write`, `--refine M`, `--strict`, `--doubted` and `--floats`
 unfoldable pub keep_app : App
-keep_app = with_rule (with_rule (with_rule (with_rule kept_step (flag (codes "write"))) refine_option) strict_flag) doubted_flag
+keep_app = with_rule (with_rule (with_rule kept_put strict_flag) doubted_flag) floats_flag
 
 -- ---- what the words ask for
 
@@ -96,7 +102,7 @@ ramp_in rows = do
   steps ← first_of (codes "STEPS") rows
   book ← first_of (codes "BOOK") rows
   factor ← refine_in rows
-  Some (record { document = document; steps = steps; book = book; refine = factor; strict = is_strict rows })
+  Some (record { document = document; steps = steps; book = book; refine = factor; strict = is_strict rows; floats = has_floats rows })
 
 abbrev pub verify_in : List Row → Option Verifying
 verify_in rows = do
@@ -126,7 +132,7 @@ step_in rows = do
   key ← first_of (codes "FLAG") rows
   site ← number_at (codes "SITE") 0 max_32 rows
   step ← number_of_step rows
-  Some (record { document = document; ramp = ramp; key = key; site = site; step = step; strict = is_strict rows })
+  Some (record { document = document; ramp = ramp; key = key; site = site; step = step; strict = is_strict rows; floats = has_floats rows })
 
 unfoldable pub ramp_faults : List Text → Kinds
 ramp_faults = faults_in ramp_app ramp_in

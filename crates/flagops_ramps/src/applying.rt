@@ -1,6 +1,7 @@
 //! The command `apply --step`: it prints what `apply` does of the plan that answers the step.
 ghost use Rattle.std.specs.Prelude.{◌≡◌, ◌||◌, false, map, option_map, IfOk, IfSome, Ok, ⊤};
 ghost use Rattle.flag_defs.specs.Flags.{flags_view};
+ghost use Rattle.flag_defs.specs.Floats.{floats_view};
 ghost use Rattle.file_diagnostics.specs.Named.{Names};
 ghost use Rattle.flagops_shell.specs.Diagnostic.{Says};
 ghost use Rattle.flagops_shell.specs.Report.{outcome_view};
@@ -71,7 +72,7 @@ fn applied<F: FileSet>(
     ensures parts { IfSome (F.holding files.old) (λ at. IfOk result (λ o. TellsStepAt at (applying_view asked.now) o.remark)) }
     ensures kept { F.holding files.new ≡ F.holding files.old }
 {
-    match load_document(alloc, files, asked.document) {
+    match load_document(alloc, files, asked.document, asked.floats) {
         Ok(document) => against(alloc, files, asked, &document),
         Err(refused) => Err(Refused::of(refused)),
     }
@@ -84,7 +85,7 @@ fn against<F: FileSet>(
     asked: &Applying<'_>,
     document: &Document,
 ) -> Result<Outcome, Refused<RampRefusal>>
-    ensures exact { IfSome (F.holding files.old) (λ at. GivesOne outcome_view result (IsStepOver (applying_view asked.now) document.now.bytes.items (flags_view document.now.flags) (answers_at at asked.now.ramp.now))) }
+    ensures exact { IfSome (F.holding files.old) (λ at. GivesOne outcome_view result (IsStepOver (applying_view asked.now) document.now.bytes.items (flags_view document.now.flags) (floats_view document.now.flags) (answers_at at asked.now.ramp.now))) }
     ensures failed { F.has_failed files.new ≡ (F.has_failed files.old || is_file_fault result) }
     ensures names { IfSome (F.holding files.old) (λ at. Diagnoses (IsOfFirst (answers_file at asked.now.ramp.now) (IsOfStep (applying_view asked.now))) result) }
     ensures notes { IfOk result (λ o. IfSome o.remark (Says (Names asked.now.document.now))) }
@@ -105,7 +106,7 @@ fn put(
     document: &Document,
     answers: &[Planned],
 ) -> Result<Outcome, Refused<RampRefusal>>
-    ensures exact { GivesOne outcome_view result (IsStepOver (applying_view asked.now) document.now.bytes.items (flags_view document.now.flags) (Ok (map planned_view answers.now))) }
+    ensures exact { GivesOne outcome_view result (IsStepOver (applying_view asked.now) document.now.bytes.items (flags_view document.now.flags) (floats_view document.now.flags) (Ok (map planned_view answers.now))) }
     ensures read { is_file_fault result ≡ false }
     ensures names { Diagnoses (IsOfStep (applying_view asked.now)) result }
     ensures notes { IfOk result (λ o. IfSome o.remark (Says (Names asked.now.document.now))) }
@@ -121,6 +122,7 @@ fn put(
         alloc,
         asked.document,
         document,
+        asked.floats,
         asked.key,
         asked.site,
         asked.ramp,

@@ -10,6 +10,8 @@ pub struct Ramping<'a> {
     pub refine: Option<Factor>,
     /// Whether what is doubted is refused, and not only told.
     pub strict: bool,
+    /// Whether the document may have floats.
+    pub floats: bool,
 }
 
 /// What `apply --step` is asked for: a document with the rule that a step left at a site of a flag.
@@ -22,6 +24,8 @@ pub struct Applying<'a> {
     pub step: u32,
     /// Whether it is refused, and not only told, that what is printed leaves something of the document out.
     pub strict: bool,
+    /// Whether the document may have floats.
+    pub floats: bool,
 }
 
 /// What `apply --step --keep` is asked for: a document with the rule of the answer to a step, and all else as it was.

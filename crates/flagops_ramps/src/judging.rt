@@ -66,6 +66,7 @@ pub fn load_answers<R: Threads + Sync, F: FileSet>(
         alloc,
         files,
         rollout.document,
+        rollout.floats,
         rollout.steps,
         rollout.book,
         factor_of(rollout.refine),

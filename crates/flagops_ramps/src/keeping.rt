@@ -105,6 +105,7 @@ fn keep<R: Threads + Sync, F: FileSet>(
         alloc,
         files,
         rollout.document,
+        rollout.floats,
         rollout.steps,
         rollout.book,
         factor_of(rollout.refine),
@@ -264,7 +265,7 @@ fn kept<R: Threads + Sync>(
     answers: &[Planned],
 ) -> Result<Option<Vec<u8>>, Refused<RampRefusal>>
     requires { length steps.now ≤ most_steps }
-    ensures exact { GivesOne kept_view result (IsKeptFrom (option_map (λ m. m.number) asked.now.answered.rollout.refine) question.now.document.items (question_view question.now) (from_step asked.now.step (requests_view steps.now)) (answer_to (map planned_view answers.now) (asked.now.step - 1)) (from_step asked.now.step (map planned_view answers.now))) }
+    ensures exact { GivesOne kept_view result (IsKeptFrom asked.now.answered.rollout.floats (option_map (λ m. m.number) asked.now.answered.rollout.refine) question.now.document.items (question_view question.now) (from_step asked.now.step (requests_view steps.now)) (answer_to (map planned_view answers.now) (asked.now.step - 1)) (from_step asked.now.step (map planned_view answers.now))) }
     ensures read { is_file_fault result ≡ false }
     ensures names { Diagnoses (IsOfKeep (keeping_view asked.now)) result }
 {
@@ -288,7 +289,7 @@ fn kept_from<R: Threads + Sync>(
     all: &[Planned],
 ) -> Result<Option<Vec<u8>>, Refused<RampRefusal>>
     requires { length steps.now ≤ most_steps }
-    ensures exact { GivesOne kept_view result (IsKeptFrom (option_map (λ m. m.number) asked.now.answered.rollout.refine) question.now.document.items (question_view question.now) (requests_view steps.now) (option_map (λ p. planned_view p.now) before.entry) (map planned_view answers.now)) }
+    ensures exact { GivesOne kept_view result (IsKeptFrom asked.now.answered.rollout.floats (option_map (λ m. m.number) asked.now.answered.rollout.refine) question.now.document.items (question_view question.now) (requests_view steps.now) (option_map (λ p. planned_view p.now) before.entry) (map planned_view answers.now)) }
     ensures read { is_file_fault result ≡ false }
     ensures names { Diagnoses (IsOfKeep (keeping_view asked.now)) result }
 {
@@ -353,7 +354,7 @@ fn kept_by(
     planned: &Planned,
 ) -> Result<Option<Vec<u8>>, Refused<RampRefusal>>
     requires { is_ok (asked_of request.now) ≡ true }
-    ensures exact { GivesOne kept_view result (IsKeptWith question.now.document.items (flags_view question.now.flags) request.now (option_map (λ p. planned_view p.now) before.entry) (planned_view planned.now)) }
+    ensures exact { GivesOne kept_view result (IsKeptWith asked.now.answered.rollout.floats question.now.document.items (flags_view question.now.flags) request.now (option_map (λ p. planned_view p.now) before.entry) (planned_view planned.now)) }
     ensures read { is_file_fault result ≡ false }
     ensures names { Diagnoses (IsOfKeep (keeping_view asked.now)) result }
 {
@@ -378,11 +379,12 @@ fn kept_onto(
     before: Option<&Planned>,
     rule: &Rule,
 ) -> Result<Option<Vec<u8>>, Refused<RampRefusal>>
-    ensures exact { GivesOne kept_view result (IsKeptOnto question.now.document.items (flags_view question.now.flags) request.now rule.now (is_left (flags_view question.now.flags) request.now (option_map (λ p. planned_view p.now) before.entry))) }
+    ensures exact { GivesOne kept_view result (IsKeptOnto asked.now.answered.rollout.floats question.now.document.items (flags_view question.now.flags) request.now rule.now (is_left (flags_view question.now.flags) request.now (option_map (λ p. planned_view p.now) before.entry))) }
     ensures read { is_file_fault result ≡ false }
     ensures names { Diagnoses (IsOfKeep (keeping_view asked.now)) result }
 {
     let (document, ramp) = (asked.answered.rollout.document, asked.answered.ramp);
+    let floats = asked.answered.rollout.floats;
     let (flags, bytes) = (&question.flags, question.document.as_slice());
     let stands = match is_left(alloc, flags, request, before) {
         Ok(stands) => stands,
@@ -395,7 +397,7 @@ fn kept_onto(
         });
     }
     let (key, site) = (request.flag(), request.site());
-    match document_with_rule(alloc, document, ramp, bytes, flags, key, site, rule) {
+    match document_with_rule(alloc, document, ramp, bytes, flags, key, site, rule, floats) {
         Ok(text) => Ok(Some(text)),
         Err(refused) => Err(Refused::of(refused)),
     }

@@ -97,6 +97,7 @@ fn planned<R: Threads + Sync, F: FileSet>(
         alloc,
         files,
         asked.document,
+        asked.floats,
         asked.steps,
         asked.book,
         factor_of(asked.refine),

@@ -3,11 +3,11 @@ ghost use Rattle.std.specs.Prelude.{◌≡◌, IfOk, codes, false};
 ghost use Rattle.clap.specs.Simple.{new_app, with_rule};
 ghost use Rattle.clap.specs.Words.{app_of, rule_of};
 ghost use Rattle.flagops_words.specs.Words.{required};
-ghost use Rattle.flagops_ramps.specs.Words.{keep_app, kept_step, kept_words, ramp_app, step_app, step_option, verify_app, with_steps};
+ghost use Rattle.flagops_ramps.specs.Words.{keep_app, kept_put, kept_step, kept_words, ramp_app, step_app, step_option, verify_app, with_steps};
 
 use clap::builder::ValueParser;
 use clap::{Arg, Command};
-use flagops_words::arguments::{flag, refine, required, site, strict};
+use flagops_words::arguments::{flag, floats, refine, required, site, strict};
 use flagops_words::{LARGEST_32, about};
 use std::alloc::{AllocError, Global};
 
@@ -35,7 +35,11 @@ pub fn ramp<'a>(alloc: Global) -> Result<Command<'a>, AllocError>
         .about(about::RAMP);
     let factor = refine(alloc, REFINED);
     let strict = strict(alloc);
-    with_steps(alloc, command, BOOK)?.arg(factor)?.arg(strict)
+    let floats = floats(alloc);
+    with_steps(alloc, command, BOOK)?
+        .arg(factor)?
+        .arg(strict)?
+        .arg(floats)
 }
 
 /// The command `verify-ramp`. The first of its words is its own name.
@@ -45,7 +49,8 @@ pub fn verify<'a>(alloc: Global) -> Result<Command<'a>, AllocError>
 {
     let factor = refine(alloc, REFINED);
     let strict = strict(alloc);
-    verified(alloc)?.arg(factor)?.arg(strict)
+    let floats = floats(alloc);
+    verified(alloc)?.arg(factor)?.arg(strict)?.arg(floats)
 }
 
 /// The words that `verify-ramp` begins with.
@@ -67,7 +72,12 @@ pub fn step<'a>(alloc: Global) -> Result<Command<'a>, AllocError>
     let site = site(alloc);
     let number = step_number(alloc);
     let strict = strict(alloc);
-    applied(alloc)?.arg(site)?.arg(number)?.arg(strict)
+    let floats = floats(alloc);
+    applied(alloc)?
+        .arg(site)?
+        .arg(number)?
+        .arg(strict)?
+        .arg(floats)
 }
 
 /// The words that `apply --step` begins with.
@@ -92,23 +102,27 @@ fn applied<'a>(alloc: Global) -> Result<Command<'a>, AllocError>
 pub fn keep<'a>(alloc: Global) -> Result<Command<'a>, AllocError>
     ensures { IfOk result (λ c. app_of c ≡ keep_app) }
 {
-    let write = flag(
-        alloc,
-        "write",
-        "Write the text over DOC in place of printing it",
-    );
-    let factor = refine(alloc, "The factor that the first step was planned with");
     let strict = strict(alloc);
     let doubted = flag(
         alloc,
         "doubted",
         "With --write: write what is doubted, too, which is else refused",
     );
-    kept_step(alloc)?
-        .arg(write)?
-        .arg(factor)?
-        .arg(strict)?
-        .arg(doubted)
+    let floats = floats(alloc);
+    kept_put(alloc)?.arg(strict)?.arg(doubted)?.arg(floats)
+}
+
+/// The words that `apply --step --keep` begins with, the step, and what becomes of its text.
+fn kept_put<'a>(alloc: Global) -> Result<Command<'a>, AllocError>
+    ensures { IfOk result (λ c. app_of c ≡ kept_put) }
+{
+    let write = flag(
+        alloc,
+        "write",
+        "Write the text over DOC in place of printing it",
+    );
+    let factor = refine(alloc, "The factor that the first step was planned with");
+    kept_step(alloc)?.arg(write)?.arg(factor)
 }
 
 /// The words that `apply --step --keep` begins with, and the step.

@@ -9,7 +9,7 @@ use crate::usage::{keep, ramp, step, verify};
 use clap::{ArgMatches, Error};
 use flagops_words::Factor;
 use flagops_words::arguments::missing_value;
-use flagops_words::matches::{flag_in, is_strict, refine_in, refuses_doubts, site_in};
+use flagops_words::matches::{flag_in, has_floats, is_strict, refine_in, refuses_doubts, site_in};
 use std::alloc::Global;
 use std::convert::AsStr;
 
@@ -54,6 +54,7 @@ fn ramping_in<'a>(matches: &ArgMatches<'a>) -> Option<Ramping<'a>>
         book,
         refine,
         strict: is_strict(matches),
+        floats: has_floats(matches),
     })
 }
 
@@ -96,6 +97,7 @@ fn applying_in<'a>(matches: &ArgMatches<'a>) -> Option<Applying<'a>>
         site,
         step,
         strict: is_strict(matches),
+        floats: has_floats(matches),
     })
 }
 

@@ -1,5 +1,5 @@
 -- The first of what a command attempts in turn that is refused.
-use Rattle.std.proofs.Common.{◌≡◌, ℕ, false, List, [], ◌∷◌, ◌++◌, map, Option, Some, None, IfSome, inl, inr, refl, sym, subst}
+use Rattle.std.proofs.Common.{◌≡◌, ℕ, Bool, false, List, [], ◌∷◌, ◌++◌, map, Option, Some, None, IfSome, inl, inr, refl, sym, subst}
 use Rattle.std.specs.Prelude.{Result, Ok, Err}
 use Rattle.flag_defs.specs.Document.{Definitions}
 use Rattle.plan_text.specs.Answer.{Answer}
@@ -35,26 +35,26 @@ lifted (Some at) xs e t is said names = told_of_first files.is_want is_want Load
 differ : {X E Y : Type 0} {x : X} {e : E} → Ok x ≡ Err e → Y
 differ same = cc
 
-module _ (document request book : List ℕ) (q : Question) where
-  question_there : (at : Holding) → IsQuestionAt at document request book (Ok q) → AllSucceed (question_attempts at document request book)
+module _ (floats : Bool) (document request book : List ℕ) (q : Question) where
+  question_there : (at : Holding) → IsQuestionAt floats at document request book (Ok q) → AllSucceed (question_attempts floats at document request book)
   unfolding IsQuestionAt
   question_there at (Err e, asked, same) = differ same
-  question_there at (Ok given, asked, same) = succeed_within Load (questions.question_attempts at document request book) (question_succeed at document request book given asked)
+  question_there at (Ok given, asked, same) = succeed_within Load (questions.question_attempts floats at document request book) (question_succeed floats at document request book given asked)
 
-  pub question_read : (old : Option Holding) → IfSome old (λ at. IsQuestionAt at document request book (Ok q)) → HaveSucceeded old (λ at. question_attempts at document request book)
+  pub question_read : (old : Option Holding) → IfSome old (λ at. IsQuestionAt floats at document request book (Ok q)) → HaveSucceeded old (λ at. question_attempts floats at document request book)
   question_read None asked = tt
   question_read (Some at) asked = question_there at asked
 
-pub document_read : (path : List ℕ) (flags : Definitions) (old : Option Holding) → IfSome old (λ at. IsDocumentAt at path (Ok flags)) → HaveSucceeded old (λ at. attempt (file path) (IsDocumentAt at path) ∷ [])
-document_read path flags None there = tt
-document_read path flags (Some at) there = ((flags, there), tt)
+pub document_read : (floats : Bool) (path : List ℕ) (flags : Definitions) (old : Option Holding) → IfSome old (λ at. IsDocumentAt floats at path (Ok flags)) → HaveSucceeded old (λ at. attempt (file path) (IsDocumentAt floats at path) ∷ [])
+document_read floats path flags None there = tt
+document_read floats path flags (Some at) there = ((flags, there), tt)
 
 -- ---- what is refused
 
-pub document_refused : (path : List ℕ) (e : Refused) (old : Option Holding) → IfSome old (λ at. is_want e.refusal ≡ false → IsDocumentAt at path (Err e.refusal)) → (is_want e.refusal ≡ false → Says (NamesSubject (file path)) e.remark)
-    → IsTold old e (λ at. attempt (file path) (IsDocumentAt at path) ∷ [])
-document_refused path e None refused says = tt
-document_refused path e (Some at) refused says = λ wanted. inl (refused wanted, says wanted)
+pub document_refused : (floats : Bool) (path : List ℕ) (e : Refused) (old : Option Holding) → IfSome old (λ at. is_want e.refusal ≡ false → IsDocumentAt floats at path (Err e.refusal)) → (is_want e.refusal ≡ false → Says (NamesSubject (file path)) e.remark)
+    → IsTold old e (λ at. attempt (file path) (IsDocumentAt floats at path) ∷ [])
+document_refused floats path e None refused says = tt
+document_refused floats path e (Some at) refused says = λ wanted. inl (refused wanted, says wanted)
 
 module _ {X : Type 0} (old : Option Holding) (xs : Holding → Attempts) where
   -- one of the first

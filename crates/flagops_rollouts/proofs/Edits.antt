@@ -63,15 +63,15 @@ module _ (path : List ℕ) (q : Question) (m : ℕ) (answer : Answer) where
   planned explain remark (Err e) told holds same is = tt
 
 -- and of the files that they were loaded from
-module _ (document request book : List ℕ) (m : ℕ) (q : Question) where
-  at_one : (at : Holding) (text : List ℕ) (remark : Option Remark) → IsQuestionAt at document request book (Ok q) → IfSome remark (Says (TellsPlanned request q m text)) → IfSome remark (Says (TellsPlannedAt at document request book m text))
+module _ (floats : Bool) (document request book : List ℕ) (m : ℕ) (q : Question) where
+  at_one : (at : Holding) (text : List ℕ) (remark : Option Remark) → IsQuestionAt floats at document request book (Ok q) → IfSome remark (Says (TellsPlanned request q m text)) → IfSome remark (Says (TellsPlannedAt floats at document request book m text))
   unfolding TellsPlannedAt
   at_one at text None asked told = tt
   at_one at text (Some Short) asked told = tt
   at_one at text (Some (Lines lines)) asked told = (q, asked, told)
 
-  pub planned_at : (explain : Bool) (old : Option Holding) (r : Result Outcome Refused) → IfSome old (λ at. IsQuestionAt at document request book (Ok q)) → (explain ≡ true → IfOk r (λ o. IfSome o.remark (Says (TellsPlanned request q m o.text.items))))
-      → explain ≡ true → IfSome old (λ at. IfOk r (λ o. IfSome o.remark (Says (TellsPlannedAt at document request book m o.text.items))))
+  pub planned_at : (explain : Bool) (old : Option Holding) (r : Result Outcome Refused) → IfSome old (λ at. IsQuestionAt floats at document request book (Ok q)) → (explain ≡ true → IfOk r (λ o. IfSome o.remark (Says (TellsPlanned request q m o.text.items))))
+      → explain ≡ true → IfSome old (λ at. IfOk r (λ o. IfSome o.remark (Says (TellsPlannedAt floats at document request book m o.text.items))))
   planned_at explain None r asked told is = tt
   planned_at explain (Some at) (Ok o) asked told is = at_one at o.text.items o.remark asked (told is)
   planned_at explain (Some at) (Err e) asked told is = tt

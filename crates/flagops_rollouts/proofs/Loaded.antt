@@ -19,14 +19,14 @@ use Rattle.flagops_rollouts.specs.Refusal.{Refused, call_of, is_unread, is_want,
 use Rattle.flagops_rollouts.specs.declared.refusal.RolloutRefusal.TheVariants.{Load}
 
 module _ (old : Option Holding) (path : List ℕ) where
-  pub flags_there : (flags : Definitions) → IfSome old (λ at. documents.IsDocumentAt at path (Ok flags)) → IfSome old (λ at. IsDocumentAt at path (Ok flags))
+  pub flags_there : (floats : Bool) (flags : Definitions) → IfSome old (λ at. documents.IsDocumentAs floats at path (Ok flags)) → IfSome old (λ at. IsDocumentAt floats at path (Ok flags))
   unfolding IsDocumentAt
-  flags_there flags loaded = given_one files.is_want is_want Load (λ e. refl) (λ at. documents.IsDocumentAt at path) old flags loaded
+  flags_there floats flags loaded = given_one files.is_want is_want Load (λ e. refl) (λ at. documents.IsDocumentAs floats at path) old flags loaded
 
-  pub no_flags : (e : files.Refused) (t : Refused) → t.refusal ≡ Load e.refusal → IfSome old (λ at. files.is_want e.refusal ≡ false → documents.IsDocumentAt at path (Err e.refusal))
-      → IfSome old (λ at. is_want t.refusal ≡ false → IsDocumentAt at path (Err t.refusal))
+  pub no_flags : (floats : Bool) (e : files.Refused) (t : Refused) → t.refusal ≡ Load e.refusal → IfSome old (λ at. files.is_want e.refusal ≡ false → documents.IsDocumentAs floats at path (Err e.refusal))
+      → IfSome old (λ at. is_want t.refusal ≡ false → IsDocumentAt floats at path (Err t.refusal))
   unfolding IsDocumentAt
-  no_flags e t is loaded = refused_one files.is_want is_want Load (λ e. refl) (λ at. documents.IsDocumentAt at path) old e t is loaded
+  no_flags floats e t is loaded = refused_one files.is_want is_want Load (λ e. refl) (λ at. documents.IsDocumentAs floats at path) old e t is loaded
 
   pub plan_there : (answer : Answer) → IfSome old (λ at. plans.plan_at at path ≡ Ok answer) → IfSome old (λ at. plan_at at path ≡ Ok answer)
   unfolding plan_at
@@ -37,15 +37,15 @@ module _ (old : Option Holding) (path : List ℕ) where
   unfolding plan_at
   no_plan e t is loaded = refused_so files.is_want is_want Load (λ e. refl) (λ at. plans.plan_at at path) old e t is loaded
 
-module _ (old : Option Holding) (document request evidence : List ℕ) where
-  pub question_there : (q : Question) → IfSome old (λ at. questions.IsQuestionAt at document request evidence (Ok q)) → IfSome old (λ at. IsQuestionAt at document request evidence (Ok q))
+module _ (floats : Bool) (old : Option Holding) (document request evidence : List ℕ) where
+  pub question_there : (q : Question) → IfSome old (λ at. questions.IsQuestionAt floats at document request evidence (Ok q)) → IfSome old (λ at. IsQuestionAt floats at document request evidence (Ok q))
   unfolding IsQuestionAt
-  question_there q loaded = given_one files.is_want is_want Load (λ e. refl) (λ at. questions.IsQuestionAt at document request evidence) old q loaded
+  question_there q loaded = given_one files.is_want is_want Load (λ e. refl) (λ at. questions.IsQuestionAt floats at document request evidence) old q loaded
 
-  pub no_question : (e : files.Refused) (t : Refused) → t.refusal ≡ Load e.refusal → IfSome old (λ at. files.is_want e.refusal ≡ false → questions.IsQuestionAt at document request evidence (Err e.refusal))
-      → IfSome old (λ at. is_want t.refusal ≡ false → IsQuestionAt at document request evidence (Err t.refusal))
+  pub no_question : (e : files.Refused) (t : Refused) → t.refusal ≡ Load e.refusal → IfSome old (λ at. files.is_want e.refusal ≡ false → questions.IsQuestionAt floats at document request evidence (Err e.refusal))
+      → IfSome old (λ at. is_want t.refusal ≡ false → IsQuestionAt floats at document request evidence (Err t.refusal))
   unfolding IsQuestionAt
-  no_question e t is loaded = refused_one files.is_want is_want Load (λ e. refl) (λ at. questions.IsQuestionAt at document request evidence) old e t is loaded
+  no_question e t is loaded = refused_one files.is_want is_want Load (λ e. refl) (λ at. questions.IsQuestionAt floats at document request evidence) old e t is loaded
 
 -- ---- a refusal is told as it was
 

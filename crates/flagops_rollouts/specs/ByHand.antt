@@ -84,5 +84,5 @@ unfoldable pub TellsPlanned : List ℕ → Question → ℕ → List ℕ → Lis
 TellsPlanned path q m text lines = (answer : Answer) × Holds answer text × TellsEdit path q m answer lines
 
 -- and of the question of the files at these paths
-unfoldable pub TellsPlannedAt : Holding → List ℕ → List ℕ → List ℕ → ℕ → List ℕ → List ℕ → Type 0
-TellsPlannedAt at document request book m text lines = (q : Question) × IsQuestionAt at document request book (Ok q) × TellsPlanned request q m text lines
+unfoldable pub TellsPlannedAt : Bool → Holding → List ℕ → List ℕ → List ℕ → ℕ → List ℕ → List ℕ → Type 0
+TellsPlannedAt floats at document request book m text lines = (q : Question) × IsQuestionAt floats at document request book (Ok q) × TellsPlanned request q m text lines

@@ -2,7 +2,8 @@
 use Rattle.std.specs.Prelude.{◌≡◌, ◌⊎◌, ℕ, Bool, true, false, List, ◌++◌, length, codes, decimal, option_map, Option, Some, None, Result, Ok, Err, Vec}
 use Rattle.std.specs.declared.alloc.Global.{Global}
 use Rattle.bucket_core.specs.Rule.{Entries}
-use Rattle.flag_defs.specs.Document.{Definitions, DocumentMeans}
+use Rattle.flag_defs.specs.Document.{Definitions}
+use Rattle.flag_defs.specs.Floats.{MeansAs}
 use Rattle.kept_document.specs.Kept.{IsRefused, KeptAt, place_in}
 use Rattle.kept_document.specs.declared.fault.KeepFault.{KeepFault}
 use Rattle.plan_text.specs.Answer.{Answer, emit, none_exists}
@@ -41,38 +42,38 @@ kept_view o = option_map (λ v. v.items) o
 abbrev pub some_view : Vec ℕ Global → Kept
 some_view v = Some v.items
 
--- The document with the rule in place of the buckets at a place and all else as it was, which means these flags; or a refusal.
-abbrev pub IsEdited : List ℕ → SitePlace → Entries → Definitions → Result Kept RolloutRefusal → Type 0
-IsEdited document place rule wanted (Ok None) = ⊥
-IsEdited document place rule wanted (Ok (Some text)) = KeptAt document place rule text × DocumentMeans text (Ok wanted)
-IsEdited document place rule wanted (Err e) = (fault : KeepFault) × IsRefused document place rule wanted fault × (e ≡ Keep (Document fault))
+-- The document with the rule in place of the buckets at a place and all else as it was, which means these flags, read as it was; or a refusal.
+abbrev pub IsEdited : Bool → List ℕ → SitePlace → Entries → Definitions → Result Kept RolloutRefusal → Type 0
+IsEdited floats document place rule wanted (Ok None) = ⊥
+IsEdited floats document place rule wanted (Ok (Some text)) = KeptAt document place rule text × MeansAs floats text (Ok wanted)
+IsEdited floats document place rule wanted (Err e) = (fault : KeepFault) × IsRefused floats document place rule wanted fault × (e ≡ Keep (Document fault))
 
 -- the flags that are wanted are those that `apply` gives
-abbrev pub IsEditedTo : List ℕ → SitePlace → Entries → Result Definitions RolloutFault → Result Kept RolloutRefusal → Type 0
-IsEditedTo document place rule (Err e) r = r ≡ Err (Apply e)
-IsEditedTo document place rule (Ok wanted) r = IsEdited document place rule wanted r
+abbrev pub IsEditedTo : Bool → List ℕ → SitePlace → Entries → Result Definitions RolloutFault → Result Kept RolloutRefusal → Type 0
+IsEditedTo floats document place rule (Err e) r = r ≡ Err (Apply e)
+IsEditedTo floats document place rule (Ok wanted) r = IsEdited floats document place rule wanted r
 
 -- the document with the rule at a site
-abbrev pub IsKeptAt : List ℕ → Definitions → List ℕ → ℕ → Entries → Result Kept RolloutRefusal → Type 0
-IsKeptAt document flags key site rule r = IsEditedTo document (place_in document flags key site) rule (applied flags key site rule) r
+abbrev pub IsKeptAt : Bool → List ℕ → Definitions → List ℕ → ℕ → Entries → Result Kept RolloutRefusal → Type 0
+IsKeptAt floats document flags key site rule r = IsEditedTo floats document (place_in floats document flags key site) rule (applied flags key site rule) r
 
 -- at the site of a request
-abbrev pub IsKeptFor : List ℕ → Question → Entries → Result Kept RolloutRefusal → Type 0
-IsKeptFor document q rule r = (asked : Asked) × (asked_of q.request ≡ Ok asked) × IsKeptAt document q.flags asked.flag asked.site rule r
+abbrev pub IsKeptFor : Bool → List ℕ → Question → Entries → Result Kept RolloutRefusal → Type 0
+IsKeptFor floats document q rule r = (asked : Asked) × (asked_of q.request ≡ Ok asked) × IsKeptAt floats document q.flags asked.flag asked.site rule r
 
 -- by a right answer
-abbrev pub IsKeptWith : List ℕ → Question → Answer → Result Kept RolloutRefusal → Type 0
-IsKeptWith document q (emit rule c) r = IsKeptFor document q rule r
-IsKeptWith document q (none_exists kind names) r = r ≡ Ok None
+abbrev pub IsKeptWith : Bool → List ℕ → Question → Answer → Result Kept RolloutRefusal → Type 0
+IsKeptWith floats document q (emit rule c) r = IsKeptFor floats document q rule r
+IsKeptWith floats document q (none_exists kind names) r = r ≡ Ok None
 
 -- An answer that is not right changes nothing.
-abbrev pub IsKeptBy : List ℕ → Question → Answer → Result (Unit {0}) VerifyFault → Result Kept RolloutRefusal → Type 0
-IsKeptBy document q answer (Err e) r = r ≡ Err (Keep (Verify e))
-IsKeptBy document q answer (Ok u) r = IsKeptWith document q answer r
+abbrev pub IsKeptBy : Bool → List ℕ → Question → Answer → Result (Unit {0}) VerifyFault → Result Kept RolloutRefusal → Type 0
+IsKeptBy floats document q answer (Err e) r = r ≡ Err (Keep (Verify e))
+IsKeptBy floats document q answer (Ok u) r = IsKeptWith floats document q answer r
 
 -- What may become of the document by an answer. Where it is right its rule costs the recorded inputs the least of all that fit.
-abbrev pub MayBeKept : Option ℕ → List ℕ → Question → Answer → Result Kept RolloutRefusal → Type 0
-MayBeKept refine document q answer r = (verdict : Result (Unit {0}) VerifyFault) × MayBeTold refine q answer verdict × IsKeptBy document q answer verdict r
+abbrev pub MayBeKept : Bool → Option ℕ → List ℕ → Question → Answer → Result Kept RolloutRefusal → Type 0
+MayBeKept floats refine document q answer r = (verdict : Result (Unit {0}) VerifyFault) × MayBeTold refine q answer verdict × IsKeptBy floats document q answer verdict r
 
 -- ---- the report
 
@@ -106,20 +107,20 @@ abbrev pub is_finer_there : Question → Answer → Bool
 is_finer_there q answer = is_finer (times_asked q.flags (result_ok (asked_of q.request)) answer) answer
 
 -- The same, of what becomes of the document. A person is told of a doubt, and of finer points.
-abbrev pub IsKeepWith : Holding → Option Holding → List ℕ → Bool → Bool → Option ℕ → List ℕ → Question → Answer → Outcomes
-IsKeepWith at after path write strict refine document q answer r =
-    (kept : Result Kept RolloutRefusal) × MayBeKept refine document q answer kept × IsPut at after path write (noted_with (is_finer_there q answer) (settle call.Apply strict (doubt_of q))) kept r
+abbrev pub IsKeepWith : Bool → Holding → Option Holding → List ℕ → Bool → Bool → Option ℕ → List ℕ → Question → Answer → Outcomes
+IsKeepWith floats at after path write strict refine document q answer r =
+    (kept : Result Kept RolloutRefusal) × MayBeKept floats refine document q answer kept × IsPut at after path write (noted_with (is_finer_there q answer) (settle call.Apply strict (doubt_of q))) kept r
 
 -- The same over what was read.
-abbrev pub IsKeepOf : Holding → Option Holding → List ℕ → Bool → Bool → Option ℕ → Result Question RolloutRefusal → Result Answer RolloutRefusal → Outcomes
-IsKeepOf at after path write strict refine (Err e) answer r = (r ≡ Err e) × (after ≡ Some at)
-IsKeepOf at after path write strict refine (Ok q) (Err e) r = (r ≡ Err e) × (after ≡ Some at)
-IsKeepOf at after path write strict refine (Ok q) (Ok answer) r =
-    (document : List ℕ) × (load_of at path max_text ≡ Ok document) × IsKeepWith at after path write strict refine document q answer r
+abbrev pub IsKeepOf : Bool → Holding → Option Holding → List ℕ → Bool → Bool → Option ℕ → Result Question RolloutRefusal → Result Answer RolloutRefusal → Outcomes
+IsKeepOf floats at after path write strict refine (Err e) answer r = (r ≡ Err e) × (after ≡ Some at)
+IsKeepOf floats at after path write strict refine (Ok q) (Err e) r = (r ≡ Err e) × (after ≡ Some at)
+IsKeepOf floats at after path write strict refine (Ok q) (Ok answer) r =
+    (document : List ℕ) × (load_of at path max_text ≡ Ok document) × IsKeepWith floats at after path write strict refine document q answer r
 
-unfoldable pub IsKeepReport : Holding → Option Holding → List ℕ → List ℕ → List ℕ → List ℕ → Bool → Option ℕ → Bool → Outcomes
-IsKeepReport at after document plan request book write refine strict r =
-    (question : Result Question RolloutRefusal) × IsQuestionAt at document request book question × IsKeepOf at after document write strict refine question (plan_at at plan) r
+unfoldable pub IsKeepReport : Bool → Holding → Option Holding → List ℕ → List ℕ → List ℕ → List ℕ → Bool → Option ℕ → Bool → Outcomes
+IsKeepReport floats at after document plan request book write refine strict r =
+    (question : Result Question RolloutRefusal) × IsQuestionAt floats at document request book question × IsKeepOf floats at after document write strict refine question (plan_at at plan) r
 
 -- The files stay as they are; or they are to be written, and the document alone changes.
 abbrev pub LeavesDocument : Option Holding → Option Holding → List ℕ → Bool → Type 0

@@ -3,12 +3,12 @@ use Rattle.std.specs.Prelude.{◌≡◌, ℕ, Bool, true, false, not, ◌||◌, 
 use Rattle.std.specs.List.{flat_map, list_any}
 use Rattle.std.specs.Str.{bytes_eq}
 use Rattle.flag_defs.specs.Definition.{Definition}
-use Rattle.flag_defs.specs.Document.{Definitions, flags_in, max_bytes, or_no_members}
+use Rattle.flag_defs.specs.Document.{Definitions, flags_in, or_no_members}
 use Rattle.flag_defs.specs.Flag.{is_broken}
-use Rattle.flag_text.specs.Reading.{doc_of}
 use Rattle.flag_text.specs.Shape.{Shape, object, Members, no_members, member}
 use Rattle.flag_text.specs.declared.fault.TextFault.{TextFault}
 use Rattle.file_diagnostics.specs.Named.{Names, quoted}
+use Rattle.kept_document.specs.Kept.{tree_as}
 use Rattle.flagops_rollouts.specs.declared.refusal.RolloutRefusal.{RolloutRefusal}
 use Rattle.flagops_rollouts.specs.declared.refusal.RolloutRefusal.TheVariants.{Omitted}
 
@@ -52,9 +52,9 @@ abbrev pub if_read : Result Shape TextFault → Definitions → Bool
 if_read (Ok t) flags = omits t flags
 if_read (Err e) flags = false
 
--- the bytes of a document, which mean these flags, say something that the printed form of the flags does not
-abbrev pub is_omitting : List ℕ → Definitions → Bool
-is_omitting document flags = if_read (doc_of document max_bytes) flags
+-- the bytes of a document, which may have floats or may not, and mean these flags, say something that the printed form of the flags does not
+abbrev pub is_omitting : Bool → List ℕ → Definitions → Bool
+is_omitting floats document flags = if_read (tree_as floats document) flags
 
 -- whether a person is told of it; with `--strict` it is refused
 abbrev pub settle_omitted : Bool → Bool → Result Bool RolloutRefusal

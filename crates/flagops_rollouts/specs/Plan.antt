@@ -68,6 +68,6 @@ IsPlanOf strict explain refine (Err e) r = r ≡ Err e
 IsPlanOf strict explain refine (Ok q) r =
     (planned : Result Planned RolloutFault) × MayBePlanned refine q planned × (r ≡ report_planned (unwrap_or refine 1) explain (settle call.Plan strict (doubt_of q)) planned) × ReadsBack planned r
 
-unfoldable pub IsPlanReport : Holding → List ℕ → List ℕ → List ℕ → Option ℕ → Bool → Bool → Outcomes
-IsPlanReport at document request book refine strict explain r =
-    (question : Result Question RolloutRefusal) × IsQuestionAt at document request book question × IsPlanOf strict explain refine question r
+unfoldable pub IsPlanReport : Bool → Holding → List ℕ → List ℕ → List ℕ → Option ℕ → Bool → Bool → Outcomes
+IsPlanReport floats at document request book refine strict explain r =
+    (question : Result Question RolloutRefusal) × IsQuestionAt floats at document request book question × IsPlanOf strict explain refine question r

@@ -26,27 +26,27 @@ unfoldable pub TellsPlan : List ℕ → List ℕ → Question → ℕ → Bool �
 TellsPlan request book q m explain text told = (answer : Answer) × Holds answer text × Tells (plan_parts request book q m explain answer) told
 
 -- and of the question of the files at these paths
-unfoldable pub TellsPlanAt : Holding → List ℕ → List ℕ → List ℕ → ℕ → Bool → List ℕ → Option Remark → Type 0
-TellsPlanAt at document request book m explain text told = (q : Question) × IsQuestionAt at document request book (Ok q) × TellsPlan request book q m explain text told
+unfoldable pub TellsPlanAt : Bool → Holding → List ℕ → List ℕ → List ℕ → ℕ → Bool → List ℕ → Option Remark → Type 0
+TellsPlanAt floats at document request book m explain text told = (q : Question) × IsQuestionAt floats at document request book (Ok q) × TellsPlan request book q m explain text told
 
 -- `verify`: each doubt
-unfoldable pub TellsDoubtsAt : Holding → List ℕ → List ℕ → List ℕ → Option Remark → Type 0
-TellsDoubtsAt at document request book told = (q : Question) × IsQuestionAt at document request book (Ok q) × Tells (doubt_parts request book q) told
+unfoldable pub TellsDoubtsAt : Bool → Holding → List ℕ → List ℕ → List ℕ → Option Remark → Type 0
+TellsDoubtsAt floats at document request book told = (q : Question) × IsQuestionAt floats at document request book (Ok q) × Tells (doubt_parts request book q) told
 
 -- `apply --keep`: each doubt, and that the rule has finer points than the one that stood at the site
 abbrev pub keep_parts : List ℕ → List ℕ → Question → Answer → List Part
 keep_parts request book q answer = doubt_parts request book q ++ finer_parts request (times_asked q.flags (result_ok (asked_of q.request)) answer) answer
 
-unfoldable pub TellsKeptAt : Holding → List ℕ → List ℕ → List ℕ → List ℕ → Option Remark → Type 0
-TellsKeptAt at document plan request book told =
-    (q : Question) × (answer : Answer) × IsQuestionAt at document request book (Ok q) × (plan_at at plan ≡ Ok answer) × Tells (keep_parts request book q answer) told
+unfoldable pub TellsKeptAt : Bool → Holding → List ℕ → List ℕ → List ℕ → List ℕ → Option Remark → Type 0
+TellsKeptAt floats at document plan request book told =
+    (q : Question) × (answer : Answer) × IsQuestionAt floats at document request book (Ok q) × (plan_at at plan ≡ Ok answer) × Tells (keep_parts request book q answer) told
 
 -- `apply`: what the printed form of the document leaves out, and that the rule has finer points than the one that stood at the site
-abbrev pub applied_parts : List ℕ → List ℕ → Definitions → List ℕ → ℕ → Answer → List Part
-applied_parts path document flags key site (emit rule c) = part_if (is_omitting document flags) (TellsOmitted path flags) ++ finer_part path (times_at flags key site (total_weight rule)) (total_weight rule)
-applied_parts path document flags key site (none_exists kind names) = []
+abbrev pub applied_parts : Bool → List ℕ → List ℕ → Definitions → List ℕ → ℕ → Answer → List Part
+applied_parts floats path document flags key site (emit rule c) = part_if (is_omitting floats document flags) (TellsOmitted path flags) ++ finer_part path (times_at flags key site (total_weight rule)) (total_weight rule)
+applied_parts floats path document flags key site (none_exists kind names) = []
 
-unfoldable pub TellsAppliedAt : Holding → List ℕ → List ℕ → List ℕ → ℕ → Option Remark → Type 0
-TellsAppliedAt at path plan key site told =
-    (document : List ℕ) × (flags : Definitions) × (answer : Answer) × (load_of at path max_text ≡ Ok document) × IsDocumentAt at path (Ok flags) × (plan_at at plan ≡ Ok answer)
-    × Tells (applied_parts path document flags key site answer) told
+unfoldable pub TellsAppliedAt : Bool → Holding → List ℕ → List ℕ → List ℕ → ℕ → Option Remark → Type 0
+TellsAppliedAt floats at path plan key site told =
+    (document : List ℕ) × (flags : Definitions) × (answer : Answer) × (load_of at path max_text ≡ Ok document) × IsDocumentAt floats at path (Ok flags) × (plan_at at plan ≡ Ok answer)
+    × Tells (applied_parts floats path document flags key site answer) told

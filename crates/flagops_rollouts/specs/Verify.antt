@@ -67,6 +67,6 @@ IsVerdict strict json refine (Ok q) (Err e) r = r ≡ Err e
 IsVerdict strict json refine (Ok q) (Ok answer) r =
     (verdict : Result (Unit {0}) VerifyFault) × MayBeTold refine q answer verdict × (r ≡ told json (settle call.Verify strict (doubt_of q)) answer verdict)
 
-unfoldable pub IsVerifyReport : Holding → List ℕ → List ℕ → List ℕ → List ℕ → Option ℕ → Bool → Bool → Outcomes
-IsVerifyReport at document request book plan refine strict json r =
-    (question : Result Question RolloutRefusal) × IsQuestionAt at document request book question × IsVerdict strict json refine question (plan_at at plan) r
+unfoldable pub IsVerifyReport : Bool → Holding → List ℕ → List ℕ → List ℕ → List ℕ → Option ℕ → Bool → Bool → Outcomes
+IsVerifyReport floats at document request book plan refine strict json r =
+    (question : Result Question RolloutRefusal) × IsQuestionAt floats at document request book question × IsVerdict strict json refine question (plan_at at plan) r

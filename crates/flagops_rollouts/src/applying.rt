@@ -2,8 +2,9 @@
 ghost use Rattle.std.specs.Prelude.{◌≡◌, ◌||◌, [], ◌∷◌, ◌++◌, false, is_some, nat_lt, None, Ok, IfErr, IfOk, IfSome};
 ghost use Rattle.bucket_core.specs.Rule.{total_weight};
 ghost use Rattle.flag_defs.specs.Flags.{flags_view};
+ghost use Rattle.flag_defs.specs.Floats.{floats_view};
 ghost use Rattle.plan_text.specs.Answer.{planned_view};
-ghost use Rattle.flagops_rollouts.specs.Apply.{IsApplyReport, IsLocalReport, document_line, none_report, told_report};
+ghost use Rattle.flagops_rollouts.specs.Apply.{IsApplyReport, IsLocalReport, document_line, none_report, printed_as, told_report};
 ghost use Rattle.flagops_rollouts.specs.Attempts.{TellsOfFirst, apply_attempts};
 ghost use Rattle.flagops_rollouts.specs.Beside.{Tells, noted_with, part_if};
 ghost use Rattle.flagops_rollouts.specs.Calls.{apply_calls, apply_itself};
@@ -25,7 +26,7 @@ use crate::loading::{load_document, load_planned};
 use crate::omitted::settled_omissions;
 use crate::refusal::{Refused, RolloutCall, RolloutRefusal, out_of_memory};
 use bucket_core::Rule;
-use flag_defs::{Flags, print_flags};
+use flag_defs::{Flags, print_flags, print_flags_with_floats};
 use flagops_files::Document;
 use flagops_shell::{FileSet, Outcome, Remark, Status};
 use plan_text::Planned;
@@ -34,29 +35,32 @@ use std::alloc::{AllocError, Global};
 
 /// The document with the rule of a plan file as the buckets of a flag's site, as a line; `none` where the plan has no
 /// rule, whatever the flag and the site are. What the line leaves out of the document is told, or refused where that is asked
-/// for. That the rule has finer points than the one that stood there is told too.
+/// for. That the rule has finer points than the one that stood there is told too. The document may have floats, or may not.
 #[tactic(auto, unfolding(crate::specs::Apply::IsApplyReport))]
 pub fn apply<F: FileSet>(
     alloc: Global,
     files: &mut F,
     document: &str,
+    floats: bool,
     plan: &str,
     key: &str,
     site: u32,
     strict: bool,
 ) -> Result<Outcome, Refused>
-    ensures exact { IfSome (F.holding files.old) (λ at. GivesOne outcome_view result (IsApplyReport at document.now plan.now key.now site strict)) }
+    ensures exact { IfSome (F.holding files.old) (λ at. GivesOne outcome_view result (IsApplyReport floats at document.now plan.now key.now site strict)) }
     ensures calls { ComesFrom apply_calls result }
     ensures failed { F.has_failed files.new ≡ (F.has_failed files.old || is_file_fault result) }
     ensures kept { F.holding files.new ≡ F.holding files.old }
     ensures names { TellsOfOne (apply_subjects document.now plan.now) result }
-    ensures first { IfSome (F.holding files.old) (λ at. TellsOfFirst (apply_attempts at document.now plan.now) result) }
+    ensures first { IfSome (F.holding files.old) (λ at. TellsOfFirst (apply_attempts floats at document.now plan.now) result) }
     ensures notes { IfOk result (λ o. IfSome o.remark (Says (Names document.now))) }
-    ensures parts { IfSome (F.holding files.old) (λ at. IfOk result (λ o. TellsAppliedAt at document.now plan.now key.now site o.remark)) }
+    ensures parts { IfSome (F.holding files.old) (λ at. IfOk result (λ o. TellsAppliedAt floats at document.now plan.now key.now site o.remark)) }
 {
-    let loaded = load_document(alloc, files, document)?;
+    let loaded = load_document(alloc, files, document, floats)?;
     let planned = load_planned(alloc, files, plan)?;
-    applied(alloc, document, &loaded, key, site, plan, &planned, strict)
+    applied(
+        alloc, document, &loaded, floats, key, site, plan, &planned, strict,
+    )
 }
 
 /// The same of a document and an answer that were loaded from these paths.
@@ -65,27 +69,28 @@ pub fn applied(
     alloc: Global,
     path: &str,
     document: &Document,
+    floats: bool,
     key: &str,
     site: u32,
     plan: &str,
     planned: &Planned,
     strict: bool,
 ) -> Result<Outcome, Refused>
-    ensures exact { GivesUnlessWant outcome_view result (told_report document.now.bytes.items (flags_view document.now.flags) key.now site strict (planned_view planned.now)) }
-    ensures local { IfOk result (λ o. IsLocalReport (flags_view document.now.flags) key.now site (planned_view planned.now) (outcome_view o)) }
+    ensures exact { GivesUnlessWant outcome_view result (told_report floats document.now.bytes.items (flags_view document.now.flags) (floats_view document.now.flags) key.now site strict (planned_view planned.now)) }
+    ensures local { IfOk result (λ o. IsLocalReport floats (flags_view document.now.flags) (floats_view document.now.flags) key.now site (planned_view planned.now) (outcome_view o)) }
     ensures calls { ComesFrom apply_itself result }
     ensures read { is_file_fault result ≡ false }
     ensures names { TellsOfOne (applied_subjects path.now plan.now) result }
     ensures notes { IfOk result (λ o. IfSome o.remark (Says (Names path.now))) }
-    ensures parts { IfOk result (λ o. Tells (applied_parts path.now document.now.bytes.items (flags_view document.now.flags) key.now site (planned_view planned.now)) o.remark) }
+    ensures parts { IfOk result (λ o. Tells (applied_parts floats path.now document.now.bytes.items (flags_view document.now.flags) key.now site (planned_view planned.now)) o.remark) }
 {
     match planned {
         Planned::Emit(rule, _) => {
             let flags = &document.flags;
             match rollout::apply(alloc, flags, key, site, rule) {
                 Ok(changed) => {
-                    let remark = noted(alloc, path, document, key, site, rule, strict)?;
-                    printed(alloc, &changed, remark)
+                    let remark = noted(alloc, path, document, floats, key, site, rule, strict)?;
+                    printed(alloc, &changed, floats, remark)
                 }
                 Err(fault) => Err(Refused {
                     refusal: RolloutRefusal::Apply(fault),
@@ -103,19 +108,20 @@ fn noted(
     alloc: Global,
     path: &str,
     document: &Document,
+    floats: bool,
     key: &str,
     site: u32,
     rule: &Rule,
     strict: bool,
 ) -> Result<Option<Remark>, Refused>
-    ensures exact { GivesUnlessWant (λ r. is_some r) result (noted_with (nat_lt 1 (times_at (flags_view document.now.flags) key.now site (total_weight rule.now))) (settle_omitted strict (is_omitting document.now.bytes.items (flags_view document.now.flags)))) }
+    ensures exact { GivesUnlessWant (λ r. is_some r) result (noted_with (nat_lt 1 (times_at (flags_view document.now.flags) key.now site (total_weight rule.now))) (settle_omitted strict (is_omitting floats document.now.bytes.items (flags_view document.now.flags)))) }
     ensures calls { ComesFrom apply_itself result }
     ensures read { is_file_fault result ≡ false }
     ensures names { TellsOfOne ((file path.now, is_of_printed) ∷ []) result }
     ensures notes { IfOk result (λ r. IfSome r (Says (Names path.now))) }
-    ensures parts { IfOk result (Tells (part_if (is_omitting document.now.bytes.items (flags_view document.now.flags)) (TellsOmitted path.now (flags_view document.now.flags)) ++ finer_part path.now (times_at (flags_view document.now.flags) key.now site (total_weight rule.now)) (total_weight rule.now))) }
+    ensures parts { IfOk result (Tells (part_if (is_omitting floats document.now.bytes.items (flags_view document.now.flags)) (TellsOmitted path.now (flags_view document.now.flags)) ++ finer_part path.now (times_at (flags_view document.now.flags) key.now site (total_weight rule.now)) (total_weight rule.now))) }
 {
-    let omitted = settled_omissions(alloc, path, document, strict)?;
+    let omitted = settled_omissions(alloc, path, document, floats, strict)?;
     let points = rule.total();
     match times_at(alloc, &document.flags, key, site, points) {
         Ok(factor) => Ok(with_total(alloc, path, factor, points, omitted)),
@@ -124,12 +130,17 @@ fn noted(
 }
 
 /// The report of the changed document.
-fn printed(alloc: Global, flags: &Flags, remark: Option<Remark>) -> Result<Outcome, Refused>
-    ensures exact { GivesUnlessWant outcome_view result (beside (is_some remark) (done (document_line (flags_view flags.now)))) }
+fn printed(
+    alloc: Global,
+    flags: &Flags,
+    floats: bool,
+    remark: Option<Remark>,
+) -> Result<Outcome, Refused>
+    ensures exact { GivesUnlessWant outcome_view result (beside (is_some remark) (done (document_line floats (flags_view flags.now) (floats_view flags.now)))) }
     ensures wants { IfErr result (λ r. r.refusal ≡ WantOfMemory Apply) }
     ensures remark { IfOk result (λ o. o.remark ≡ remark) }
 {
-    match document_line(alloc, flags) {
+    match document_line(alloc, flags, floats) {
         Ok(text) => Ok(Outcome {
             text,
             status: Status::Done,
@@ -155,10 +166,21 @@ fn none(alloc: Global) -> Result<Outcome, Refused>
     }
 }
 
-fn document_line(alloc: Global, flags: &Flags) -> Result<Vec<u8>, AllocError>
-    ensures { IfOk result (λ v. v.items ≡ document_line (flags_view flags.now)) }
+fn document_line(alloc: Global, flags: &Flags, floats: bool) -> Result<Vec<u8>, AllocError>
+    ensures { IfOk result (λ v. v.items ≡ document_line floats (flags_view flags.now) (floats_view flags.now)) }
 {
-    let mut line = print_flags(alloc, flags)?;
+    let mut line = printed_as(alloc, flags, floats)?;
     line.push(b'\n')?;
     Ok(line)
+}
+
+/// The document of the flags, which may have floats or may not.
+fn printed_as(alloc: Global, flags: &Flags, floats: bool) -> Result<Vec<u8>, AllocError>
+    ensures { IfOk result (λ v. v.items ≡ printed_as floats (flags_view flags.now) (floats_view flags.now)) }
+{
+    if floats {
+        print_flags_with_floats(alloc, flags)
+    } else {
+        print_flags(alloc, flags)
+    }
 }

@@ -35,13 +35,15 @@ use std::thread::Threads;
 
 /// The document with the rule of a plan file, where `verify` tells that it is right, at the site of the request; or the
 /// number of its bytes, once they were written over the document. `none` where the plan has no rule. What is doubted of it is told, or
-/// refused where that is asked for; that the rule has finer points than the one that stood there is told too.
+/// refused where that is asked for; that the rule has finer points than the one that stood there is told too. The document may
+/// have floats, or may not.
 #[tactic(auto, unfolding(crate::specs::Keep::IsKeepReport))]
 pub fn keep<R: Threads + Sync, F: FileSet>(
     rt: &R,
     alloc: Global,
     files: &mut F,
     document: &str,
+    floats: bool,
     plan: &str,
     request: &str,
     book: &str,
@@ -49,17 +51,18 @@ pub fn keep<R: Threads + Sync, F: FileSet>(
     refine: Option<Factor>,
     strict: bool,
 ) -> Result<Outcome, Refused>
-    ensures exact { IfSome (F.holding files.old) (λ at. GivesOne outcome_view result (IsKeepReport at (F.holding files.new) document.now plan.now request.now book.now write (option_map (λ m. m.number) refine) strict)) }
+    ensures exact { IfSome (F.holding files.old) (λ at. GivesOne outcome_view result (IsKeepReport floats at (F.holding files.new) document.now plan.now request.now book.now write (option_map (λ m. m.number) refine) strict)) }
     ensures calls { ComesFrom keep_calls result }
     ensures failed { F.has_failed files.new ≡ (F.has_failed files.old || is_file_fault result) }
     ensures left { LeavesDocument (F.holding files.old) (F.holding files.new) document.now write }
     ensures kept { KeepsUnlessDone (F.holding files.old) (F.holding files.new) result }
     ensures names { TellsOfOne (keep_subjects document.now plan.now request.now book.now) result }
-    ensures first { IfSome (F.holding files.old) (λ at. TellsOfFirst (keep_attempts at document.now plan.now request.now book.now) result) }
+    ensures first { IfSome (F.holding files.old) (λ at. TellsOfFirst (keep_attempts floats at document.now plan.now request.now book.now) result) }
     ensures notes { IfOk result (λ o. IfSome o.remark (Says (NamesDoubted request.now book.now))) }
-    ensures parts { IfSome (F.holding files.old) (λ at. IfOk result (λ o. TellsKeptAt at document.now plan.now request.now book.now o.remark)) }
+    ensures parts { IfSome (F.holding files.old) (λ at. IfOk result (λ o. TellsKeptAt floats at document.now plan.now request.now book.now o.remark)) }
 {
-    let question = load_question(rt, alloc, files, document, request, book, factor_of(refine))?;
+    let factor = factor_of(refine);
+    let question = load_question(rt, alloc, files, document, floats, request, book, factor)?;
     let planned = load_planned(alloc, files, plan)?;
     let paths = Paths {
         request,
@@ -67,7 +70,7 @@ pub fn keep<R: Threads + Sync, F: FileSet>(
         plan,
     };
     answer(
-        rt, alloc, files, document, write, paths, &question, &planned, refine, strict,
+        rt, alloc, files, document, floats, write, paths, &question, &planned, refine, strict,
     )
 }
 
@@ -77,6 +80,7 @@ fn answer<F: FileSet>(
     alloc: Global,
     files: &mut F,
     document: &str,
+    floats: bool,
     write: bool,
     paths: Paths<'_>,
     question: &Question,
@@ -84,7 +88,7 @@ fn answer<F: FileSet>(
     refine: Option<Factor>,
     strict: bool,
 ) -> Result<Outcome, Refused>
-    ensures exact { IfSome (F.holding files.old) (λ at. GivesOne outcome_view result (IsKeepWith at (F.holding files.new) document.now write strict (option_map (λ m. m.number) refine) question.now.document.items (question_view question.now) (planned_view planned.now))) }
+    ensures exact { IfSome (F.holding files.old) (λ at. GivesOne outcome_view result (IsKeepWith floats at (F.holding files.new) document.now write strict (option_map (λ m. m.number) refine) question.now.document.items (question_view question.now) (planned_view planned.now))) }
     ensures calls { ComesFrom puts_document result }
     ensures failed { F.has_failed files.new ≡ (F.has_failed files.old || is_file_fault result) }
     ensures left { LeavesDocument (F.holding files.old) (F.holding files.new) document.now write }
@@ -93,7 +97,9 @@ fn answer<F: FileSet>(
     ensures notes { IfOk result (λ o. IfSome o.remark (Says (NamesDoubted paths.entry.request.now paths.entry.book.now))) }
     ensures parts { IfOk result (λ o. Tells (keep_parts paths.entry.request.now paths.entry.book.now (question_view question.now) (planned_view planned.now)) o.remark) }
 {
-    let text = kept(rt, alloc, document, paths, question, planned, refine)?;
+    let text = kept(
+        rt, alloc, document, paths, question, planned, refine, floats,
+    )?;
     let (request, book) = (paths.request, paths.book);
     let remark = noted(rt, alloc, request, book, question, planned, strict)?;
     put(alloc, files, document, write, text, remark)

@@ -1,7 +1,7 @@
 //! A document with the rule of a right answer at the site of its request, and all else as it was.
 ghost use Rattle.std.specs.Prelude.{◌≡◌, [], ◌∷◌, false, is_ok, true, IfErr, IfOk, Ok, option_map};
 ghost use Rattle.flag_defs.specs.Flags.{flags_view};
-ghost use Rattle.flag_defs.specs.Document.{DocumentMeans};
+ghost use Rattle.flag_defs.specs.Floats.{MeansAs};
 ghost use Rattle.kept_document.specs.Kept.{IsRefused, KeptAt, place_in};
 ghost use Rattle.plan_text.specs.Answer.{planned_view};
 ghost use Rattle.price_core.specs.Request.{asked_of};
@@ -27,7 +27,8 @@ use std::alloc::Global;
 use std::str;
 use std::thread::Threads;
 
-/// The text of the document with the rule of the answer, where the answer is right and has a rule.
+/// The text of the document with the rule of the answer, where the answer is right and has a rule. The document may have floats,
+/// or may not.
 #[tactic(auto, using(flagops_files::proofs::Told::says, crate::proofs::Edited::asked_there))]
 pub fn kept(
     rt: &(impl Threads + Sync),
@@ -37,8 +38,9 @@ pub fn kept(
     question: &Question,
     planned: &Planned,
     refine: Option<Factor>,
+    floats: bool,
 ) -> Result<Option<Vec<u8>>, Refused>
-    ensures exact { GivesOne kept_view result (MayBeKept (option_map (λ m. m.number) refine) question.now.document.items (question_view question.now) (planned_view planned.now)) }
+    ensures exact { GivesOne kept_view result (MayBeKept floats (option_map (λ m. m.number) refine) question.now.document.items (question_view question.now) (planned_view planned.now)) }
     ensures calls { ComesFrom apply_itself result }
     ensures read { is_file_fault result ≡ false }
     ensures names { TellsOfOne ((file paths.entry.request.now, is_of_kept_request) ∷ (file paths.entry.plan.now, is_of_kept_answer) ∷ (file document.now, is_of_kept_document) ∷ []) result }
@@ -46,7 +48,7 @@ pub fn kept(
     match verified(rt, alloc, question, planned, refine) {
         Ok(()) => match planned {
             Planned::Emit(rule, _) => {
-                let text = kept_for(alloc, document, paths.plan, question, rule)?;
+                let text = kept_for(alloc, document, paths.plan, question, rule, floats)?;
                 Ok(Some(text))
             }
             Planned::NoneExists(_) => Ok(None),
@@ -68,9 +70,10 @@ fn kept_for(
     plan: &str,
     question: &Question,
     rule: &Rule,
+    floats: bool,
 ) -> Result<Vec<u8>, Refused>
     requires { is_ok (asked_of question.now.request) ≡ true }
-    ensures exact { GivesOne some_view result (IsKeptFor question.now.document.items (question_view question.now) rule.now) }
+    ensures exact { GivesOne some_view result (IsKeptFor floats question.now.document.items (question_view question.now) rule.now) }
     ensures calls { ComesFrom apply_itself result }
     ensures read { is_file_fault result ≡ false }
     ensures names { TellsOfOne ((file plan.now, is_of_kept_answer) ∷ (file document.now, is_of_kept_document) ∷ []) result }
@@ -87,6 +90,7 @@ fn kept_for(
                 request.flag(),
                 request.site(),
                 rule,
+                floats,
             )
         }
         // A request that was verified asks something.
@@ -105,14 +109,17 @@ pub fn kept_at(
     key: &str,
     site: u32,
     rule: &Rule,
+    floats: bool,
 ) -> Result<Vec<u8>, Refused>
-    ensures exact { GivesOne some_view result (IsKeptAt bytes.now (flags_view flags.now) key.now site rule.now) }
+    ensures exact { GivesOne some_view result (IsKeptAt floats bytes.now (flags_view flags.now) key.now site rule.now) }
     ensures calls { ComesFrom apply_itself result }
     ensures read { is_file_fault result ≡ false }
     ensures names { TellsOfOne ((file plan.now, is_of_kept_answer) ∷ (file document.now, is_of_kept_document) ∷ []) result }
 {
     match rollout::apply(alloc, flags, key, site, rule) {
-        Ok(wanted) => edited(alloc, document, bytes, flags, key, site, rule, &wanted),
+        Ok(wanted) => edited(
+            alloc, document, bytes, flags, key, site, rule, &wanted, floats,
+        ),
         Err(fault) => Err(Refused {
             refusal: RolloutRefusal::Apply(fault),
             remark: Remark::of(of_applied(alloc, plan, flags, key, site, rule, fault)),
@@ -131,13 +138,14 @@ fn edited(
     site: u32,
     rule: &Rule,
     wanted: &Flags,
+    floats: bool,
 ) -> Result<Vec<u8>, Refused>
-    ensures exact { GivesOne some_view result (IsEdited bytes.now (place_in bytes.now (flags_view flags.now) key.now site) rule.now (flags_view wanted.now)) }
+    ensures exact { GivesOne some_view result (IsEdited floats bytes.now (place_in floats bytes.now (flags_view flags.now) key.now site) rule.now (flags_view wanted.now)) }
     ensures calls { ComesFrom apply_itself result }
     ensures read { is_file_fault result ≡ false }
     ensures names { TellsOf (file document.now) result }
 {
-    match kept_text(alloc, bytes, flags, key, site, rule, wanted) {
+    match kept_text(alloc, bytes, flags, key, site, rule, wanted, floats) {
         Ok(text) => Ok(text),
         Err(fault) => Err(Refused {
             refusal: RolloutRefusal::Keep(KeepRefusal::Document(fault)),
@@ -155,13 +163,14 @@ fn kept_text(
     site: u32,
     rule: &Rule,
     wanted: &Flags,
+    floats: bool,
 ) -> Result<Vec<u8>, KeepFault>
-    ensures kept { IfOk result (λ v. KeptAt bytes.now (place_in bytes.now (flags_view flags.now) key.now site) rule.now v.items) }
-    ensures means { IfOk result (λ v. DocumentMeans v.items (Ok (flags_view wanted.now))) }
-    ensures refused { IfErr result (IsRefused bytes.now (place_in bytes.now (flags_view flags.now) key.now site) rule.now (flags_view wanted.now)) }
+    ensures kept { IfOk result (λ v. KeptAt bytes.now (place_in floats bytes.now (flags_view flags.now) key.now site) rule.now v.items) }
+    ensures means { IfOk result (λ v. MeansAs floats v.items (Ok (flags_view wanted.now))) }
+    ensures refused { IfErr result (IsRefused floats bytes.now (place_in floats bytes.now (flags_view flags.now) key.now site) rule.now (flags_view wanted.now)) }
 {
     match str::from_utf8(bytes) {
-        Ok(document) => keep(alloc, document, flags, key, site, rule, wanted),
+        Ok(document) => keep(alloc, document, flags, key, site, rule, wanted, floats),
         // Bytes that are no text mean no flags.
         Err(_) => Err(KeepFault::Differs),
     }

@@ -6,7 +6,7 @@
 //! use flagops_rollouts::plan;
 //!
 //! let mut files = SystemFiles::new(&rt);
-//! match plan(&rt, alloc, &mut files, "flags.json", "request.json", "book.jsonl", None, false, false) {
+//! match plan(&rt, alloc, &mut files, "flags.json", false, "request.json", "book.jsonl", None, false, false) {
 //!     Ok(outcome) => print_all(&rt, outcome.text.as_slice())?,
 //!     Err(refused) => print!(rt; "{}", refused.refusal.line(alloc)?)?,
 //! }
@@ -18,7 +18,7 @@
 //! memory ran out. `plan` and `verify` answer on a tally as on the book whose inputs it counts ([`tallies_answer_as_books`]). What
 //! is doubted of an answer is told, or refused with `--strict` (`specs/Doubts.antt`), and so is what the printed form of a document
 //! leaves out (`specs/Omitted.antt`). What a person is told of a refusal begins with the path or the word that was refused
-//! (`specs/Subjects.antt`).
+//! (`specs/Subjects.antt`). How a document is read, as one that may have floats or may not, stands before the files in each definition.
 #![tactic(auto)]
 
 mod applying;

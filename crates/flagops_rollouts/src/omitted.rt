@@ -15,29 +15,31 @@ ghost use Rattle.flagops_shell.specs.Diagnostic.{Says};
 use crate::refusal::{Refused, RolloutCall, RolloutRefusal, out_of_memory};
 use file_diagnostics::{Lines, Opening, quoted_name};
 use flag_defs::{Flag, Flags};
-use flag_text::{TextFault, Tree, read_doc};
-use flagops_files::{Document, TEXT_LIMIT};
+use flag_text::{TextFault, Tree};
+use flagops_files::Document;
 use flagops_shell::Remark;
+use kept_document::tree_as;
 use std::alloc::{AllocError, Global};
 
 /// The most members that are listed of a document, and the most definitions whose members are.
 const MOST_LISTED: usize = 10;
 
-/// What a person is told beside the printed form of a document, which was loaded from a path; or that it is refused, where it
-/// leaves something out and that is to be refused.
+/// What a person is told beside the printed form of a document, which was loaded from a path and may have floats or may not; or
+/// that it is refused, where it leaves something out and that is to be refused.
 pub fn settled_omissions(
     alloc: Global,
     path: &str,
     document: &Document,
+    floats: bool,
     strict: bool,
 ) -> Result<Option<Remark>, Refused>
-    ensures exact { GivesUnlessWant (λ r. is_some r) result (settle_omitted strict (is_omitting document.now.bytes.items (flags_view document.now.flags))) }
+    ensures exact { GivesUnlessWant (λ r. is_some r) result (settle_omitted strict (is_omitting floats document.now.bytes.items (flags_view document.now.flags))) }
     ensures calls { ComesFrom apply_itself result }
     ensures read { is_file_fault result ≡ false }
     ensures names { TellsOfOne ((file path.now, is_of_printed) ∷ []) result }
     ensures notes { IfOk result (λ r. IfSome r (Says (TellsOmitted path.now (flags_view document.now.flags)))) }
 {
-    match omitted(alloc, path, document) {
+    match omitted(alloc, path, document, floats) {
         Ok(remark) => settle(path, document, remark, strict),
         Err(AllocError) => Err(out_of_memory(RolloutCall::Apply)),
     }
@@ -73,12 +75,17 @@ fn settle(
 
 /// What is told of what the printed form of a document leaves out, where it does.
 #[tactic(auto, using(flagops_files::proofs::Told::says))]
-fn omitted(alloc: Global, path: &str, document: &Document) -> Result<Option<Remark>, AllocError>
-    ensures told { IfOk result (λ r. is_some r ≡ is_omitting document.now.bytes.items (flags_view document.now.flags)) }
+fn omitted(
+    alloc: Global,
+    path: &str,
+    document: &Document,
+    floats: bool,
+) -> Result<Option<Remark>, AllocError>
+    ensures told { IfOk result (λ r. is_some r ≡ is_omitting floats document.now.bytes.items (flags_view document.now.flags)) }
     ensures notes { IfOk result (λ r. IfSome r (Says (TellsOmitted path.now (flags_view document.now.flags)))) }
 {
     let flags = &document.flags;
-    match read_doc(alloc, document.bytes.as_slice(), TEXT_LIMIT as usize) {
+    match tree_as(alloc, document.bytes.as_slice(), floats) {
         Ok(tree) => if omits(&tree, flags) {
             Ok(Some(Remark::of(of_omitted(alloc, path, &tree, flags))))
         } else {

@@ -38,31 +38,33 @@ use std::thread::Threads;
 /// The plan file of the rule that meets a request and costs the recorded inputs the least, or of a set of names which
 /// shows that no rule meets it, as a line. The status tells which of the two. What is doubted of it is told, or refused
 /// where that is asked for; and with `explain` what the rule changes, or what stands in the way of any. That the rule has finer
-/// points than its site is told too, where it was planned by a factor above 1.
+/// points than its site is told too, where it was planned by a factor above 1. The document may have floats, or may not.
 #[tactic(auto, unfolding(crate::specs::Plan::IsPlanReport))]
 pub fn plan<R: Threads + Sync, F: FileSet>(
     rt: &R,
     alloc: Global,
     files: &mut F,
     document: &str,
+    floats: bool,
     request: &str,
     book: &str,
     refine: Option<Factor>,
     strict: bool,
     explain: bool,
 ) -> Result<Outcome, Refused>
-    ensures exact { IfSome (F.holding files.old) (λ at. GivesOne outcome_view result (IsPlanReport at document.now request.now book.now (option_map (λ m. m.number) refine) strict explain)) }
+    ensures exact { IfSome (F.holding files.old) (λ at. GivesOne outcome_view result (IsPlanReport floats at document.now request.now book.now (option_map (λ m. m.number) refine) strict explain)) }
     ensures calls { ComesFrom plan_calls result }
     ensures failed { F.has_failed files.new ≡ (F.has_failed files.old || is_file_fault result) }
     ensures kept { F.holding files.new ≡ F.holding files.old }
     ensures names { TellsOfOne (plan_subjects document.now request.now book.now) result }
-    ensures first { IfSome (F.holding files.old) (λ at. TellsOfFirst (plan_attempts at document.now request.now book.now) result) }
+    ensures first { IfSome (F.holding files.old) (λ at. TellsOfFirst (plan_attempts floats at document.now request.now book.now) result) }
     ensures notes { IfOk result (λ o. IfSome o.remark (Says (NamesDoubted request.now book.now))) }
     ensures finer { IfOk result (λ o. IfSome o.remark (Says (TellsFinerOf request.now (unwrap_or (option_map (λ m. m.number) refine) 1) o.text.items))) }
-    ensures edit { explain ≡ true → IfSome (F.holding files.old) (λ at. IfOk result (λ o. IfSome o.remark (Says (TellsPlannedAt at document.now request.now book.now (unwrap_or (option_map (λ m. m.number) refine) 1) o.text.items)))) }
-    ensures parts { IfSome (F.holding files.old) (λ at. IfOk result (λ o. TellsPlanAt at document.now request.now book.now (unwrap_or (option_map (λ m. m.number) refine) 1) explain o.text.items o.remark)) }
+    ensures edit { explain ≡ true → IfSome (F.holding files.old) (λ at. IfOk result (λ o. IfSome o.remark (Says (TellsPlannedAt floats at document.now request.now book.now (unwrap_or (option_map (λ m. m.number) refine) 1) o.text.items)))) }
+    ensures parts { IfSome (F.holding files.old) (λ at. IfOk result (λ o. TellsPlanAt floats at document.now request.now book.now (unwrap_or (option_map (λ m. m.number) refine) 1) explain o.text.items o.remark)) }
 {
-    let question = load_question(rt, alloc, files, document, request, book, factor_of(refine))?;
+    let factor = factor_of(refine);
+    let question = load_question(rt, alloc, files, document, floats, request, book, factor)?;
     let outcome = answer(rt, alloc, request, book, &question, refine, strict, explain);
     // The program ends soon, and its memory with it.
     mem::forget(question);

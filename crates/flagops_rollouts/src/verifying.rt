@@ -32,13 +32,15 @@ use std::alloc::{AllocError, Global};
 use std::mem;
 use std::thread::Threads;
 
-/// What the answer of a plan file proves, where it is right for the request: a line, or with `json` a JSON text.
+/// What the answer of a plan file proves, where it is right for the request: a line, or with `json` a JSON text. The document may have
+/// floats, or may not.
 #[tactic(auto, unfolding(crate::specs::Verify::IsVerifyReport))]
 pub fn verify<R: Threads + Sync, F: FileSet>(
     rt: &R,
     alloc: Global,
     files: &mut F,
     document: &str,
+    floats: bool,
     request: &str,
     book: &str,
     plan: &str,
@@ -46,16 +48,17 @@ pub fn verify<R: Threads + Sync, F: FileSet>(
     strict: bool,
     json: bool,
 ) -> Result<Outcome, Refused>
-    ensures exact { IfSome (F.holding files.old) (λ at. GivesOne outcome_view result (IsVerifyReport at document.now request.now book.now plan.now (option_map (λ m. m.number) refine) strict json)) }
+    ensures exact { IfSome (F.holding files.old) (λ at. GivesOne outcome_view result (IsVerifyReport floats at document.now request.now book.now plan.now (option_map (λ m. m.number) refine) strict json)) }
     ensures calls { ComesFrom verify_calls result }
     ensures failed { F.has_failed files.new ≡ (F.has_failed files.old || is_file_fault result) }
     ensures kept { F.holding files.new ≡ F.holding files.old }
     ensures names { TellsOfOne (verify_subjects document.now request.now book.now plan.now) result }
-    ensures first { IfSome (F.holding files.old) (λ at. TellsOfFirst (verify_attempts at document.now request.now book.now plan.now) result) }
+    ensures first { IfSome (F.holding files.old) (λ at. TellsOfFirst (verify_attempts floats at document.now request.now book.now plan.now) result) }
     ensures notes { IfOk result (λ o. IfSome o.remark (Says (NamesDoubted request.now book.now))) }
-    ensures parts { IfSome (F.holding files.old) (λ at. IfOk result (λ o. TellsDoubtsAt at document.now request.now book.now o.remark)) }
+    ensures parts { IfSome (F.holding files.old) (λ at. IfOk result (λ o. TellsDoubtsAt floats at document.now request.now book.now o.remark)) }
 {
-    let question = load_question(rt, alloc, files, document, request, book, factor_of(refine))?;
+    let factor = factor_of(refine);
+    let question = load_question(rt, alloc, files, document, floats, request, book, factor)?;
     let planned = load_planned(alloc, files, plan)?;
     let paths = Paths {
         request,

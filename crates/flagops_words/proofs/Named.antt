@@ -184,7 +184,7 @@ refine_read rows p = elim (given_or_not Refine (codes "M") rows p) [
 
 verify_read : (name : Text) (rows : List Row) (document request book file : Text) (refine : Option ℕ) → name ≡ codes "verify"
     → first_of (codes "DOC") rows ≡ Some document → first_of (codes "REQUEST") rows ≡ Some request → first_of (codes "BOOK") rows ≡ Some book → first_of (codes "PLAN") rows ≡ Some file
-    → refine_in rows ≡ Some refine → asked_in (name, rows) ≡ Some (verify document request book file refine (is_strict rows) (is_json rows))
+    → refine_in rows ≡ Some refine → asked_in (name, rows) ≡ Some (verify document request book file refine (is_strict rows) (is_json rows) (has_floats rows))
 verify_read name rows document request book file refine is document_is request_is book_is file_is refine_is =
     rw (is, document_is, request_is, book_is, file_is, refine_is) refl
 
@@ -200,11 +200,11 @@ verify_asks s name stored given words e =
     let book = value_taken Refine (codes "BOOK") rows full all.2 in
     let file = value_taken Refine (codes "PLAN") rows full all.3 in
     let refine = refine_read rows full in
-    inl (verify document.0 request.0 book.0 file.0 refine.0 (is_strict rows) (is_json rows), verify_read s.name rows document.0 request.0 book.0 file.0 refine.0 name document.1 request.1 book.1 file.1 refine.1)
+    inl (verify document.0 request.0 book.0 file.0 refine.0 (is_strict rows) (is_json rows) (has_floats rows), verify_read s.name rows document.0 request.0 book.0 file.0 refine.0 name document.1 request.1 book.1 file.1 refine.1)
 
 plan_read : (name : Text) (rows : List Row) (document request book : Text) (refine : Option ℕ) → name ≡ codes "plan"
     → first_of (codes "DOC") rows ≡ Some document → first_of (codes "REQUEST") rows ≡ Some request → first_of (codes "BOOK") rows ≡ Some book
-    → refine_in rows ≡ Some refine → asked_in (name, rows) ≡ Some (plan document request book refine (is_strict rows) (flag_in (codes "explain") rows))
+    → refine_in rows ≡ Some refine → asked_in (name, rows) ≡ Some (plan document request book refine (is_strict rows) (flag_in (codes "explain") rows) (has_floats rows))
 plan_read name rows document request book refine is document_is request_is book_is refine_is = rw (is, document_is, request_is, book_is, refine_is) refl
 
 plan_asks : (s : Shape) → s.name ≡ codes "plan" → Each (Stores Refine) s.rules
@@ -217,7 +217,7 @@ plan_asks s name stored given words e =
     let request = value_taken Refine (codes "REQUEST") rows full all.1 in
     let book = value_taken Refine (codes "BOOK") rows full all.2 in
     let refine = refine_read rows full in
-    inl (plan document.0 request.0 book.0 refine.0 (is_strict rows) (flag_in (codes "explain") rows), plan_read s.name rows document.0 request.0 book.0 refine.0 name document.1 request.1 book.1 refine.1)
+    inl (plan document.0 request.0 book.0 refine.0 (is_strict rows) (flag_in (codes "explain") rows) (has_floats rows), plan_read s.name rows document.0 request.0 book.0 refine.0 name document.1 request.1 book.1 refine.1)
 
 -- the four words of `apply`, in its form with `--keep` and in the other
 apply_read : (name : Text) (rows : List Row) (document file third fourth : Text) (refine site : Option ℕ) (keeps stray : Bool) → name ≡ codes "apply"
@@ -225,11 +225,11 @@ apply_read : (name : Text) (rows : List Row) (document file third fourth : Text)
     → first_of (codes "SITE|BOOK") rows ≡ Some fourth → refine_in rows ≡ Some refine → number_in 0 max_32 fourth ≡ site → flag_in (codes "keep") rows ≡ keeps → is_stray rows ≡ stray
     → IsRead (Some (name, rows))
 apply_read name rows document file third fourth refine site true stray is document_is file_is third_is fourth_is refine_is site_is keeps_is stray_is =
-    inl (keep document file third fourth (flag_in (codes "write") rows) refine (refuses_doubts rows), rw (is, keeps_is, document_is, file_is, third_is, fourth_is, refine_is) refl)
+    inl (keep document file third fourth (flag_in (codes "write") rows) refine (refuses_doubts rows) (has_floats rows), rw (is, keeps_is, document_is, file_is, third_is, fourth_is, refine_is) refl)
 apply_read name rows document file third fourth refine site false true is document_is file_is third_is fourth_is refine_is site_is keeps_is stray_is =
     inr (rw (is, keeps_is, stray_is) refl)
 apply_read name rows document file third fourth refine (Some site) false false is document_is file_is third_is fourth_is refine_is site_is keeps_is stray_is =
-    inl (apply document file third site (is_strict rows), rw (is, keeps_is, stray_is, document_is, file_is, third_is, fourth_is, site_is) refl)
+    inl (apply document file third site (is_strict rows) (has_floats rows), rw (is, keeps_is, stray_is, document_is, file_is, third_is, fourth_is, site_is) refl)
 apply_read name rows document file third fourth refine None false false is document_is file_is third_is fourth_is refine_is site_is keeps_is stray_is =
     inr (rw (is, keeps_is, stray_is, fourth_is, site_is) refl)
 
@@ -372,7 +372,7 @@ each = (
           (document.0, key.0, kind.0, default.0, context.0, moment.0)),
       (
         λ _ _ _. plan_asks _ refl
-            ((refl, λ v e h. cc), ((refl, λ v e h. cc), ((refl, λ v e h. cc), ((refl, λ v e h. passes _ _ e), ((refl, λ v e h. cc), ((refl, λ v e h. cc), ((refl, λ v e h. cc), tt)))))))
+            ((refl, λ v e h. cc), ((refl, λ v e h. cc), ((refl, λ v e h. cc), ((refl, λ v e h. passes _ _ e), ((refl, λ v e h. cc), ((refl, λ v e h. cc), ((refl, λ v e h. cc), ((refl, λ v e h. cc), tt))))))))
             (λ rows e.
             let document = needed _ _ e in
             let request = needed _ _ document.1 in
@@ -380,7 +380,7 @@ each = (
             (document.0, request.0, book.0)),
         (
           λ _ _ _. verify_asks _ refl
-              ((refl, λ v e h. cc), ((refl, λ v e h. cc), ((refl, λ v e h. cc), ((refl, λ v e h. cc), ((refl, λ v e h. passes _ _ e), ((refl, λ v e h. cc), ((refl, λ v e h. cc), ((refl, λ v e h. cc), tt))))))))
+              ((refl, λ v e h. cc), ((refl, λ v e h. cc), ((refl, λ v e h. cc), ((refl, λ v e h. cc), ((refl, λ v e h. passes _ _ e), ((refl, λ v e h. cc), ((refl, λ v e h. cc), ((refl, λ v e h. cc), ((refl, λ v e h. cc), tt)))))))))
               (λ rows e.
               let document = needed _ _ e in
               let request = needed _ _ document.1 in
@@ -389,7 +389,7 @@ each = (
               (document.0, request.0, book.0, file.0)),
           (
             λ _ _ _. apply_asks _ refl
-                ((refl, λ v e h. cc), ((refl, λ v e h. cc), ((refl, λ v e h. cc), ((refl, λ v e h. cc), ((refl, λ v e h. cc), ((refl, λ v e h. cc), ((refl, λ v e h. passes _ _ e), ((refl, λ v e h. cc), ((refl, λ v e h. cc), ((refl, λ v e h. cc), tt))))))))))
+                ((refl, λ v e h. cc), ((refl, λ v e h. cc), ((refl, λ v e h. cc), ((refl, λ v e h. cc), ((refl, λ v e h. cc), ((refl, λ v e h. cc), ((refl, λ v e h. passes _ _ e), ((refl, λ v e h. cc), ((refl, λ v e h. cc), ((refl, λ v e h. cc), ((refl, λ v e h. cc), tt)))))))))))
                 (λ rows e.
                 let document = needed _ _ e in
                 let file = needed _ _ document.1 in

@@ -80,22 +80,22 @@ refine_option = option_number (codes "M") (codes "refine") 1 max_32
 abbrev pub with_rollout : App → App
 with_rollout a = with_rule (with_rule (with_rule a (required (codes "DOC"))) (required (codes "REQUEST"))) (required (codes "BOOK"))
 
--- `verify DOC REQUEST BOOK PLAN`, with `--refine M`, `--strict` and `--json`
+-- `verify DOC REQUEST BOOK PLAN`, with `--refine M`, `--strict`, `--json` and `--floats`
 unfoldable pub verify_app : App
-verify_app = with_rule (with_rule (with_rule (with_rule (with_rollout (new_app (codes "verify"))) (required (codes "PLAN"))) refine_option) strict_flag) json_flag
+verify_app = with_rule (with_rule (with_rule (with_rule (with_rule (with_rollout (new_app (codes "verify"))) (required (codes "PLAN"))) refine_option) strict_flag) json_flag) floats_flag
 
--- `plan DOC REQUEST BOOK`, with `--refine M`, `--strict` and `--explain`
+-- `plan DOC REQUEST BOOK`, with `--refine M`, `--strict`, `--explain` and `--floats`
 unfoldable pub plan_app : App
-plan_app = with_rule (with_rule (with_rule (with_rollout (new_app (codes "plan"))) refine_option) strict_flag) (flag (codes "explain"))
+plan_app = with_rule (with_rule (with_rule (with_rule (with_rollout (new_app (codes "plan"))) refine_option) strict_flag) (flag (codes "explain"))) floats_flag
 
 -- `apply DOC PLAN FLAG SITE` and `apply --keep DOC PLAN REQUEST BOOK`: the words of both
 abbrev pub apply_begun : App
 apply_begun =
     with_rule (with_rule (with_rule (with_rule (new_app (codes "apply")) (required (codes "DOC"))) (required (codes "PLAN"))) (required (codes "FLAG|REQUEST"))) (required (codes "SITE|BOOK"))
 
--- the same with `--keep`, `--write`, `--refine M`, `--strict` and `--doubted`
+-- the same with `--keep`, `--write`, `--refine M`, `--strict`, `--doubted` and `--floats`
 unfoldable pub apply_app : App
-apply_app = with_rule (with_rule (with_rule (with_rule (with_rule apply_begun (flag (codes "keep"))) (flag (codes "write"))) refine_option) strict_flag) doubted_flag
+apply_app = with_rule (with_rule (with_rule (with_rule (with_rule (with_rule apply_begun (flag (codes "keep"))) (flag (codes "write"))) refine_option) strict_flag) doubted_flag) floats_flag
 
 -- `drive DOC ASKS WORKERS BOOK`
 abbrev pub drive_begun : App
@@ -222,7 +222,7 @@ verify_in rows = do
   book ← first_of (codes "BOOK") rows
   file ← first_of (codes "PLAN") rows
   factor ← refine_in rows
-  Some (verify document request book file factor (is_strict rows) (is_json rows))
+  Some (verify document request book file factor (is_strict rows) (is_json rows) (has_floats rows))
 
 abbrev pub plan_in : List Row → Option Asked
 plan_in rows = do
@@ -230,7 +230,7 @@ plan_in rows = do
   request ← first_of (codes "REQUEST") rows
   book ← first_of (codes "BOOK") rows
   factor ← refine_in rows
-  Some (plan document request book factor (is_strict rows) (flag_in (codes "explain") rows))
+  Some (plan document request book factor (is_strict rows) (flag_in (codes "explain") rows) (has_floats rows))
 
 -- a word is given that goes with `--keep`
 abbrev pub is_stray : List Row → Bool
@@ -245,7 +245,7 @@ applied_in rows = do
   document ← first_of (codes "DOC") rows
   file ← first_of (codes "PLAN") rows
   key ← first_of (codes "FLAG|REQUEST") rows
-  Some (apply document file key site (is_strict rows))
+  Some (apply document file key site (is_strict rows) (has_floats rows))
 
 abbrev pub keep_in : List Row → Option Asked
 keep_in rows = do
@@ -254,7 +254,7 @@ keep_in rows = do
   request ← first_of (codes "FLAG|REQUEST") rows
   book ← first_of (codes "SITE|BOOK") rows
   factor ← refine_in rows
-  Some (keep document file request book (flag_in (codes "write") rows) factor (refuses_doubts rows))
+  Some (keep document file request book (flag_in (codes "write") rows) factor (refuses_doubts rows) (has_floats rows))
 
 -- `--write`, `--refine M` and `--doubted` go with `--keep` alone
 abbrev pub apply_in : List Row → Option Asked

@@ -43,6 +43,8 @@ pub enum Asked<'a> {
         strict: bool,
         /// Whether the answer is printed as JSON.
         json: bool,
+        /// Whether the document may have floats.
+        floats: bool,
     },
     /// The answer of the planner to a request.
     Plan {
@@ -54,6 +56,8 @@ pub enum Asked<'a> {
         strict: bool,
         /// Whether the answer is told in words.
         explain: bool,
+        /// Whether the document may have floats.
+        floats: bool,
     },
     /// The document with the rule of a plan file at a site.
     Apply {
@@ -63,6 +67,8 @@ pub enum Asked<'a> {
         site: u32,
         /// Whether it is refused, and not only told, that what is printed leaves something of the document out.
         strict: bool,
+        /// Whether the document may have floats.
+        floats: bool,
     },
     /// The text of the document with the buckets of the request's site replaced by the rule of a plan file that is right.
     Keep {
@@ -75,6 +81,8 @@ pub enum Asked<'a> {
         refine: Option<Factor>,
         /// Whether what is doubted is refused, and not only told.
         strict: bool,
+        /// Whether the document may have floats.
+        floats: bool,
     },
     /// The resolutions of the asks of a file, and the book of what they reach.
     Drive {

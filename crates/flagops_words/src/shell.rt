@@ -47,15 +47,15 @@ _flagops() {
     case ${COMP_WORDS[1]}:$word in
         check:-*) COMPREPLY=($(compgen -W "--strict --json --floats --help" -- "$word")) ;;
         resolve:-*) COMPREPLY=($(compgen -W "--floats --help" -- "$word")) ;;
-        compare:-*) COMPREPLY=($(compgen -W "--flag --picture --strict --json --help" -- "$word")) ;;
+        compare:-*) COMPREPLY=($(compgen -W "--flag --picture --strict --json --floats --help" -- "$word")) ;;
         bucket:-* | price:-*) COMPREPLY=($(compgen -W "--json --help" -- "$word")) ;;
-        plan:-*) COMPREPLY=($(compgen -W "--refine --strict --explain --picture --help" -- "$word")) ;;
-        picture:-*) COMPREPLY=($(compgen -W "--refine --ramp --help" -- "$word")) ;;
-        verify:-*) COMPREPLY=($(compgen -W "--refine --strict --json --help" -- "$word")) ;;
-        ramp:-* | verify-ramp:-*) COMPREPLY=($(compgen -W "--refine --strict --help" -- "$word")) ;;
+        plan:-*) COMPREPLY=($(compgen -W "--refine --strict --explain --picture --floats --help" -- "$word")) ;;
+        picture:-*) COMPREPLY=($(compgen -W "--refine --ramp --floats --help" -- "$word")) ;;
+        verify:-*) COMPREPLY=($(compgen -W "--refine --strict --json --floats --help" -- "$word")) ;;
+        ramp:-* | verify-ramp:-*) COMPREPLY=($(compgen -W "--refine --strict --floats --help" -- "$word")) ;;
         tally:-*) COMPREPLY=($(compgen -W "--refine --floats --help" -- "$word")) ;;
         record:-*) COMPREPLY=($(compgen -W "--moment --workers --floats --help" -- "$word")) ;;
-        apply:-*) COMPREPLY=($(compgen -W "--keep --write --refine --strict --doubted --step --help" -- "$word")) ;;
+        apply:-*) COMPREPLY=($(compgen -W "--keep --write --refine --strict --doubted --step --floats --help" -- "$word")) ;;
         book:-*) COMPREPLY=($(compgen -W "--torn --replace --help" -- "$word")) ;;
         ofrep:-*) COMPREPLY=($(compgen -W "--listen --admin --allow-stop --access-log --idle --max-body --cors --keys --log --log-points --remember --without-record --stream --workers --poll --broken --help" -- "$word")) ;;
         drive:-*) COMPREPLY=($(compgen -W "--add --replace --strict --json --help" -- "$word")) ;;
@@ -103,7 +103,7 @@ complete -c flagops -n __fish_use_subcommand -f -a completions -d 'Print the com
 complete -c flagops -n __fish_use_subcommand -f -a help -d 'Print the help of a command'
 complete -c flagops -n '__fish_seen_subcommand_from bucket price check compare verify drive' -l json -d 'Print the answer as JSON'
 complete -c flagops -n '__fish_seen_subcommand_from check compare plan verify apply drive ramp verify-ramp' -l strict -d 'Refuse what is else only told'
-complete -c flagops -n '__fish_seen_subcommand_from check resolve record tally serve' -l floats -d 'Take any numbers as variants'
+complete -c flagops -n '__fish_seen_subcommand_from check compare resolve plan verify apply ramp verify-ramp picture record tally serve' -l floats -d 'Take any numbers as variants'
 complete -c flagops -n '__fish_seen_subcommand_from compare' -l flag -x -d 'Only the pages of this flag'
 complete -c flagops -n '__fish_seen_subcommand_from compare' -l picture -r -d 'Write the picture of the pages'
 complete -c flagops -n '__fish_seen_subcommand_from plan' -l explain -d 'Tell the plan in words'
@@ -181,19 +181,25 @@ _flagops() {
         resolve) _arguments '--floats[take any numbers as variants]' '--help[print help]' '*:file:_files' ;;
         compare)
             _arguments '--flag[only the pages of this flag]:KEY:' '--picture[write the picture of the pages]:file:_files' \
-                '--strict[refuse what is else only told]' '--json[print the answer as JSON]' '--help[print help]' '*:file:_files'
+                '--strict[refuse what is else only told]' '--json[print the answer as JSON]' \
+                '--floats[take any numbers as variants]' '--help[print help]' '*:file:_files'
             ;;
         plan)
             _arguments '--refine[plan in finer points]:M:' '--strict[refuse what is else only told]' '--explain[tell the plan in words]' \
-                '--picture[write the picture of the plan]:file:_files' '--help[print help]' '*:file:_files'
-            ;;
-        picture) _arguments '--refine[plan in finer points]:M:' '--ramp[draw the steps of a rollout]' '--help[print help]' '*:file:_files' ;;
-        verify)
-            _arguments '--refine[plan in finer points]:M:' '--strict[refuse what is else only told]' '--json[print the answer as JSON]' \
+                '--picture[write the picture of the plan]:file:_files' '--floats[take any numbers as variants]' \
                 '--help[print help]' '*:file:_files'
             ;;
+        picture)
+            _arguments '--refine[plan in finer points]:M:' '--ramp[draw the steps of a rollout]' '--floats[take any numbers as variants]' \
+                '--help[print help]' '*:file:_files'
+            ;;
+        verify)
+            _arguments '--refine[plan in finer points]:M:' '--strict[refuse what is else only told]' '--json[print the answer as JSON]' \
+                '--floats[take any numbers as variants]' '--help[print help]' '*:file:_files'
+            ;;
         ramp | verify-ramp)
-            _arguments '--refine[plan in finer points]:M:' '--strict[refuse what is else only told]' '--help[print help]' '*:file:_files'
+            _arguments '--refine[plan in finer points]:M:' '--strict[refuse what is else only told]' \
+                '--floats[take any numbers as variants]' '--help[print help]' '*:file:_files'
             ;;
         tally)
             _arguments '--refine[plan in finer points]:M:' '--floats[take any numbers as variants]' '--help[print help]' '*:file:_files'
@@ -206,7 +212,7 @@ _flagops() {
             _arguments '--keep[verify the plan and keep the rest of the text]' '--write[with --keep\: write over the document]' \
                 '--refine[with --keep\: the factor of the plan]:M:' '--strict[refuse what is else only told]' \
                 '--doubted[with --write\: write what is doubted, too]' \
-                '--step[the step whose rule is put]:N:' '--help[print help]' '*:file:_files'
+                '--step[the step whose rule is put]:N:' '--floats[take any numbers as variants]' '--help[print help]' '*:file:_files'
             ;;
         book)
             _arguments '--torn[pass over lines that are no notes]' '--replace[write also where inputs are lost]' \

@@ -142,13 +142,15 @@ const QUESTION: &[Word] = &[
 const PLAN: Usage = Usage {
     name: "plan",
     about: "Prints the rule that a rollout request asks for and that switches the fewest; plan --picture FILE draws it, too",
-    words: &[DOCUMENT, REQUEST, BOOK, REFINE, STRICT, EXPLAIN],
+    words: &[DOCUMENT, REQUEST, BOOK, REFINE, STRICT, EXPLAIN, FLOATS],
 };
 
 const VERIFY: Usage = Usage {
     name: "verify",
     about: "Checks, apart from the planner, that a plan is right and the cheapest for a rollout request",
-    words: &[DOCUMENT, REQUEST, BOOK, PLAN_FILE, REFINE, STRICT, JSON],
+    words: &[
+        DOCUMENT, REQUEST, BOOK, PLAN_FILE, REFINE, STRICT, JSON, FLOATS,
+    ],
 };
 
 const APPLY: Usage = Usage {
@@ -201,6 +203,7 @@ const RULE_AND_PLACE: &[Word] = &[
         "doubted",
         "With --keep --write: write what is doubted, too, which is else refused",
     ),
+    FLOATS,
 ];
 
 const DRIVE: Usage = Usage {

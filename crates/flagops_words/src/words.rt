@@ -130,6 +130,7 @@ fn verify_in<'a>(words: &ArgMatches<'a>) -> Option<Asked<'a>>
         refine,
         strict: is_strict(words),
         json: is_json(words),
+        floats: has_floats(words),
     })
 }
 
@@ -148,6 +149,7 @@ fn plan_in<'a>(words: &ArgMatches<'a>) -> Option<Asked<'a>>
         refine,
         strict: is_strict(words),
         explain: flag_in(words, "explain"),
+        floats: has_floats(words),
     })
 }
 
@@ -186,6 +188,7 @@ fn applied_in<'a>(words: &ArgMatches<'a>) -> Option<Asked<'a>>
         key,
         site,
         strict: is_strict(words),
+        floats: has_floats(words),
     })
 }
 
@@ -206,6 +209,7 @@ fn keep_in<'a>(words: &ArgMatches<'a>) -> Option<Asked<'a>>
         write: flag_in(words, "write"),
         refine,
         strict: refuses_doubts(words),
+        floats: has_floats(words),
     })
 }
 

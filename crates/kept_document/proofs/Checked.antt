@@ -9,7 +9,8 @@ use Rattle.bucket_core.specs.Rule.{Entries}
 use Rattle.logic_ast.specs.Expression.{Expression}
 use Rattle.logic_ast.specs.Writing.{written}
 use Rattle.flag_defs.specs.Document.{Definitions, DocumentMeans, max_bytes, printed}
-use Rattle.flag_defs.proofs.Meanings.{one_meaning}
+use Rattle.flag_defs.specs.Floats.{MeansAs}
+use Rattle.flag_defs.proofs.Meanings.{one_meaning, one_meaning_with_floats}
 use Rattle.flag_defs.specs.declared.fault.DefFault.{DefFault}
 use Rattle.flag_defs.specs.declared.fault.DefFault.TheVariants as document_fault
 use Rattle.text_spans.specs.Path.{Step}
@@ -23,14 +24,18 @@ abbrev definitions_or : Result Definitions DefFault → Definitions → Definiti
 definitions_or (Ok fs) gs = fs
 definitions_or (Err e) gs = gs
 
-pub means_one : (t : List ℕ) (fs gs : Definitions) → DocumentMeans t (Ok fs) → DocumentMeans t (Ok gs) → fs ≡ gs
-means_one t fs gs p q = ap (λ r. definitions_or r fs) (one_meaning t (Ok fs) (Ok gs) p q)
+one_meaning_as : (floats : Bool) (t : List ℕ) (r s : Result Definitions DefFault) → MeansAs floats t r → MeansAs floats t s → r ≡ s
+one_meaning_as true t r s p q = one_meaning_with_floats t r s p q
+one_meaning_as false t r s p q = one_meaning t r s p q
+
+pub means_one : (floats : Bool) (t : List ℕ) (fs gs : Definitions) → MeansAs floats t (Ok fs) → MeansAs floats t (Ok gs) → fs ≡ gs
+means_one floats t fs gs p q = ap (λ r. definitions_or r fs) (one_meaning_as floats t (Ok fs) (Ok gs) p q)
 
 -- flags that are printed alike are the same
 pub same_flags : (fs gs : Definitions) (one other : List ℕ) → one ≡ printed fs → other ≡ printed gs → DocumentMeans one (Ok fs) → DocumentMeans other (Ok gs) → (b : Bool) → (b ≡ true → one ≡ other) → (one ≡ other → b ≡ true)
     → (b ≡ true → fs ≡ gs) × (fs ≡ gs → b ≡ true)
 same_flags fs gs one other p q m n b there back = (
-  λ h. means_one other fs gs (subst (λ (t : List ℕ). DocumentMeans t (Ok fs)) (there h) m) n,
+  λ h. means_one false other fs gs (subst (λ (t : List ℕ). DocumentMeans t (Ok fs)) (there h) m) n,
   λ e. back (p ∙ ap printed e ∙ sym q),
 )
 
@@ -54,41 +59,41 @@ never text_fault.TooLarge e h a b = absurd (b cc)
 never text_fault.TooDeep e h a b = absurd (b cc)
 
 -- a text that is not read as a document
-pub unread : (d : List ℕ) (r : Result Shape TextFault) (key : List ℕ) (o : Option Expression) (n : ℕ) (rule : Entries) (wanted : Definitions) (e : KeepFault) → (e ≢ WantOfMemory → of_reading r ≡ Err e)
-    → IsRefused d (in_tree r key o n) rule wanted e
-unread d r key o n rule wanted WantOfMemory h = tt
-unread d (Ok t) key o n rule wanted Shared h = let is : Ok t ≡ Err Shared = h (λ z. cc) in cc
-unread d (Ok t) key o n rule wanted TooLong h = let is : Ok t ≡ Err TooLong = h (λ z. cc) in cc
-unread d (Ok t) key o n rule wanted Differs h = let is : Ok t ≡ Err Differs = h (λ z. cc) in cc
-unread d (Err f) key o n rule wanted Shared h = never f Shared (h (λ z. cc)) (λ z. cc) (λ z. cc)
-unread d (Err f) key o n rule wanted TooLong h = never f TooLong (h (λ z. cc)) (λ z. cc) (λ z. cc)
-unread d (Err f) key o n rule wanted Differs h = (λ s. s, λ kept s. absurd s)
+pub unread : (floats : Bool) (d : List ℕ) (r : Result Shape TextFault) (key : List ℕ) (o : Option Expression) (n : ℕ) (rule : Entries) (wanted : Definitions) (e : KeepFault) → (e ≢ WantOfMemory → of_reading r ≡ Err e)
+    → IsRefused floats d (in_tree r key o n) rule wanted e
+unread floats d r key o n rule wanted WantOfMemory h = tt
+unread floats d (Ok t) key o n rule wanted Shared h = let is : Ok t ≡ Err Shared = h (λ z. cc) in cc
+unread floats d (Ok t) key o n rule wanted TooLong h = let is : Ok t ≡ Err TooLong = h (λ z. cc) in cc
+unread floats d (Ok t) key o n rule wanted Differs h = let is : Ok t ≡ Err Differs = h (λ z. cc) in cc
+unread floats d (Err f) key o n rule wanted Shared h = never f Shared (h (λ z. cc)) (λ z. cc) (λ z. cc)
+unread floats d (Err f) key o n rule wanted TooLong h = never f TooLong (h (λ z. cc)) (λ z. cc) (λ z. cc)
+unread floats d (Err f) key o n rule wanted Differs h = (λ s. s, λ kept s. absurd s)
 
 -- ---- the text that was made
 
-pub refused_document : (t : List ℕ) (wanted : Definitions) (e : DefFault) (r : KeepFault) → length t ≤ max_bytes → r ≡ of_document e → (e ≢ document_fault.WantOfMemory → DocumentMeans t (Err e)) → IsRefusedText t wanted r
-refused_document t wanted e r fits is means = subst (IsRefusedText t wanted) (sym is) (by e means)
+pub refused_document : (floats : Bool) (t : List ℕ) (wanted : Definitions) (e : DefFault) (r : KeepFault) → length t ≤ max_bytes → r ≡ of_document e → (e ≢ document_fault.WantOfMemory → MeansAs floats t (Err e)) → IsRefusedText floats t wanted r
+refused_document floats t wanted e r fits is means = subst (IsRefusedText floats t wanted) (sym is) (by e means)
   where
-    differs : (f : DefFault) → DocumentMeans t (Err f) → IsOther t wanted
-    differs f p = (fits, λ q. let never : Err f ≡ Ok wanted = one_meaning t (Err f) (Ok wanted) p q in cc)
+    differs : (f : DefFault) → MeansAs floats t (Err f) → IsOther floats t wanted
+    differs f p = (fits, λ q. let never : Err f ≡ Ok wanted = one_meaning_as floats t (Err f) (Ok wanted) p q in cc)
 
-    by : (f : DefFault) → (f ≢ document_fault.WantOfMemory → DocumentMeans t (Err f)) → IsRefusedText t wanted (of_document f)
+    by : (f : DefFault) → (f ≢ document_fault.WantOfMemory → MeansAs floats t (Err f)) → IsRefusedText floats t wanted (of_document f)
     by document_fault.WantOfMemory h = tt
     by document_fault.NotJson h = differs document_fault.NotJson (h (λ z. cc))
     by document_fault.NoFlags h = differs document_fault.NoFlags (h (λ z. cc))
     by document_fault.TooLarge h = differs document_fault.TooLarge (h (λ z. cc))
 
-pub other_flags : (t : List ℕ) (fs wanted : Definitions) (b : Bool) → length t ≤ max_bytes → DocumentMeans t (Ok fs) → (fs ≡ wanted → b ≡ true) → b ≡ false → IsOther t wanted
-other_flags t fs wanted b fits means same differs = (fits, λ m. true≢false (sym (same (means_one t fs wanted means m)) ∙ differs))
+pub other_flags : (floats : Bool) (t : List ℕ) (fs wanted : Definitions) (b : Bool) → length t ≤ max_bytes → MeansAs floats t (Ok fs) → (fs ≡ wanted → b ≡ true) → b ≡ false → IsOther floats t wanted
+other_flags floats t fs wanted b fits means same differs = (fits, λ m. true≢false (sym (same (means_one floats t fs wanted means m)) ∙ differs))
 
 -- the condition of a refusal, where the text with the rule in its place was refused
-pub refused_text : (d : List ℕ) (place : SitePlace) (list : List Step) (first last : ℕ) (rule : Entries) (wanted : Definitions) (kept : List ℕ) (r : Result (Vec ℕ Global) KeepFault)
-    → place ≡ buckets list first last → IsKept d list first last rule kept → IfErr r (IsRefusedText kept wanted) → IfErr r (IsRefused d place rule wanted)
-refused_text d place list first last rule wanted kept (Ok v) is there h = h
-refused_text d place list first last rule wanted kept (Err e) is there h = subst (λ (p : SitePlace). IsRefused d p rule wanted e) (sym is) (by e h)
+pub refused_text : (floats : Bool) (d : List ℕ) (place : SitePlace) (list : List Step) (first last : ℕ) (rule : Entries) (wanted : Definitions) (kept : List ℕ) (r : Result (Vec ℕ Global) KeepFault)
+    → place ≡ buckets list first last → IsKept d list first last rule kept → IfErr r (IsRefusedText floats kept wanted) → IfErr r (IsRefused floats d place rule wanted)
+refused_text floats d place list first last rule wanted kept (Ok v) is there h = h
+refused_text floats d place list first last rule wanted kept (Err e) is there h = subst (λ (p : SitePlace). IsRefused floats d p rule wanted e) (sym is) (by e h)
   where
-    by : (e : KeepFault) → IsRefusedText kept wanted e → IsRefused d (buckets list first last) rule wanted e
+    by : (e : KeepFault) → IsRefusedText floats kept wanted e → IsRefused floats d (buckets list first last) rule wanted e
     by WantOfMemory h = tt
     by Shared h = absurd h
     by TooLong h = (kept, there, h)
-    by Differs h = (λ s. s, λ other k. subst (λ (t : List ℕ). IsOther t wanted) (sym (one_kept d list first last rule kept other there k)) h)
+    by Differs h = (λ s. s, λ other k. subst (λ (t : List ℕ). IsOther floats t wanted) (sym (one_kept d list first last rule kept other there k)) h)

@@ -3,6 +3,7 @@ use Rattle.std.specs.Prelude.{◌≡◌, ◌<◌, ◌≤◌, ◌+◌, ℕ, pos, 
 use Rattle.std.specs.Map.{lookup}
 use Rattle.std.specs.Str.{bytes_eq}
 use Rattle.bucket_core.specs.Rule.{Entries}
+use Rattle.float_variants.specs.Reading.{doc_with_floats}
 use Rattle.flag_text.specs.Printing.{text_of}
 use Rattle.flag_text.specs.Reading.{doc_of}
 use Rattle.flag_text.specs.Shape.{Shape, text, whole}
@@ -10,8 +11,9 @@ use Rattle.flag_text.specs.declared.fault.TextFault.{TextFault}
 use Rattle.flag_text.specs.declared.fault.TextFault.TheVariants as text_fault
 use Rattle.logic_ast.specs.Expression.{Expression}
 use Rattle.logic_ast.specs.Writing.{pair, written}
-use Rattle.flag_defs.specs.Document.{Definitions, DocumentMeans, max_bytes}
+use Rattle.flag_defs.specs.Document.{Definitions, max_bytes}
 use Rattle.flag_defs.specs.Flag.{targeting_in}
+use Rattle.flag_defs.specs.Floats.{MeansAs}
 use Rattle.flag_defs.specs.declared.fault.DefFault.{DefFault}
 use Rattle.flag_defs.specs.declared.fault.DefFault.TheVariants as document_fault
 use Rattle.text_spans.specs.Path.{Stands, Step, index}
@@ -21,14 +23,19 @@ use Rattle.kept_document.specs.declared.fault.KeepFault.TheVariants.{WantOfMemor
 
 -- ---- the place
 
--- the place of site n of the flag of this key in a document that means these flags
+-- the tree of a document that may have floats, or may not
+abbrev pub tree_as : Bool → List ℕ → Result Shape TextFault
+tree_as true document = doc_with_floats document max_bytes
+tree_as false document = doc_of document max_bytes
+
+-- the place of site n of the flag of this key in a document that means these flags, where it may have floats, or may not
 abbrev pub in_tree : Result Shape TextFault → List ℕ → Option Expression → ℕ → SitePlace
 in_tree (Err e) key o n = nowhere
 in_tree (Ok t) key None n = nowhere
 in_tree (Ok t) key (Some e) n = site_place t key (written e) n
 
-abbrev pub place_in : List ℕ → Definitions → List ℕ → ℕ → SitePlace
-place_in document flags key n = in_tree (doc_of document max_bytes) key (option_and_then targeting_in (lookup (bytes_eq key) flags)) n
+abbrev pub place_in : Bool → List ℕ → Definitions → List ℕ → ℕ → SitePlace
+place_in floats document flags key n = in_tree (tree_as floats document) key (option_and_then targeting_in (lookup (bytes_eq key) flags)) n
 
 -- ---- the text
 
@@ -70,13 +77,13 @@ KeptAt document nowhere rule kept = ⊥
 
 -- ---- the refusals
 
--- the text is no longer than a document may be, and does not mean these flags
-abbrev pub IsOther : List ℕ → Definitions → Type 0
-IsOther kept wanted = (length kept ≤ max_bytes) × (DocumentMeans kept (Ok wanted) → ⊥)
+-- the text is no longer than a document may be, and does not mean these flags, as it may have floats, or may not
+abbrev pub IsOther : Bool → List ℕ → Definitions → Type 0
+IsOther floats kept wanted = (length kept ≤ max_bytes) × (MeansAs floats kept (Ok wanted) → ⊥)
 
 -- so is each text with the rule in its place
-abbrev pub AreOthers : List ℕ → SitePlace → Entries → Definitions → Type 0
-AreOthers document place rule wanted = (kept : List ℕ) → KeptAt document place rule kept → IsOther kept wanted
+abbrev pub AreOthers : Bool → List ℕ → SitePlace → Entries → Definitions → Type 0
+AreOthers floats document place rule wanted = (kept : List ℕ) → KeptAt document place rule kept → IsOther floats kept wanted
 
 abbrev pub IsShared : SitePlace → Type 0
 IsShared (buckets list first last) = ⊥
@@ -84,18 +91,18 @@ IsShared (shared name) = Unit {0}
 IsShared nowhere = ⊥
 
 -- the condition of each refusal
-abbrev pub IsRefused : List ℕ → SitePlace → Entries → Definitions → KeepFault → Type 0
-IsRefused document place rule wanted WantOfMemory = Unit {0}
-IsRefused document place rule wanted Shared = IsShared place
-IsRefused document place rule wanted TooLong = (kept : List ℕ) × KeptAt document place rule kept × (max_bytes < length kept)
-IsRefused document place rule wanted Differs = (IsShared place → ⊥) × AreOthers document place rule wanted
+abbrev pub IsRefused : Bool → List ℕ → SitePlace → Entries → Definitions → KeepFault → Type 0
+IsRefused floats document place rule wanted WantOfMemory = Unit {0}
+IsRefused floats document place rule wanted Shared = IsShared place
+IsRefused floats document place rule wanted TooLong = (kept : List ℕ) × KeptAt document place rule kept × (max_bytes < length kept)
+IsRefused floats document place rule wanted Differs = (IsShared place → ⊥) × AreOthers floats document place rule wanted
 
 -- the condition of each refusal of a text that was made
-abbrev pub IsRefusedText : List ℕ → Definitions → KeepFault → Type 0
-IsRefusedText kept wanted WantOfMemory = Unit {0}
-IsRefusedText kept wanted Shared = ⊥
-IsRefusedText kept wanted TooLong = max_bytes < length kept
-IsRefusedText kept wanted Differs = IsOther kept wanted
+abbrev pub IsRefusedText : Bool → List ℕ → Definitions → KeepFault → Type 0
+IsRefusedText floats kept wanted WantOfMemory = Unit {0}
+IsRefusedText floats kept wanted Shared = ⊥
+IsRefusedText floats kept wanted TooLong = max_bytes < length kept
+IsRefusedText floats kept wanted Differs = IsOther floats kept wanted
 
 -- a text that is no document means no flags
 abbrev pub of_document : DefFault → KeepFault

@@ -1,7 +1,7 @@
 //! A rule put into a document in the place of a site's buckets, with all other bytes as they were.
 //!
 //! [`keep`] gives the bytes of the document with the buckets of one site replaced. What is given was read again: it means
-//! the flags that were wanted of it.
+//! the flags that were wanted of it. A document may have floats, or may not, and is read as it was.
 //!
 //! What is proved, over the definitions of `specs/Kept.antt`: what is given is the document up to the first byte of the
 //! site's first bucket, the rule's entries, and the document from the last byte of the site's last bucket on (`kept`); it
@@ -16,4 +16,4 @@ mod fault;
 mod keeping;
 
 pub use fault::KeepFault;
-pub use keeping::keep;
+pub use keeping::{keep, tree_as};

@@ -68,7 +68,7 @@ module _ (reads : BytesReadAsPart) (document : List ℕ) (t : Shape) (document_r
       (in_it key o n rule kept (subst (λ (x : Result Shape TextFault). KeptAt document (in_tree x key o n) rule kept) is k))
 
 pub replaced_read : BytesReadAsPart → (document : List ℕ) (t : Shape) (flags : Definitions) (key : List ℕ) (n : ℕ) (rule : Entries) (kept : List ℕ)
-    → doc_of document max_bytes ≡ Ok t → KeptAt document (place_in document flags key n) rule kept
-    → (path : List Step) × (first : ℕ) × (last : ℕ) × (place_in document flags key n ≡ buckets path first last) × IsPutInto document t path first last rule kept
+    → doc_of document max_bytes ≡ Ok t → KeptAt document (place_in false document flags key n) rule kept
+    → (path : List Step) × (first : ℕ) × (last : ℕ) × (place_in false document flags key n ≡ buckets path first last) × IsPutInto document t path first last rule kept
 replaced_read reads document t flags key n rule kept is k =
     by_reading reads document t is (doc_of document max_bytes) is key (option_and_then targeting_in (lookup (bytes_eq key) flags)) n rule kept k

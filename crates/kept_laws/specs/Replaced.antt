@@ -38,5 +38,5 @@ pub record IsPutInto (document : List ℕ) (t : Shape) (path : List Step) (first
 abbrev pub ReplacedIsRead : Type 0
 ReplacedIsRead =
     (document : List ℕ) (t : Shape) (flags : Definitions) (key : List ℕ) (n : ℕ) (rule : Entries) (kept : List ℕ)
-    → doc_of document max_bytes ≡ Ok t → KeptAt document (place_in document flags key n) rule kept
-    → (path : List Step) × (first : ℕ) × (last : ℕ) × (place_in document flags key n ≡ buckets path first last) × IsPutInto document t path first last rule kept
+    → doc_of document max_bytes ≡ Ok t → KeptAt document (place_in false document flags key n) rule kept
+    → (path : List Step) × (first : ℕ) × (last : ℕ) × (place_in false document flags key n ≡ buckets path first last) × IsPutInto document t path first last rule kept

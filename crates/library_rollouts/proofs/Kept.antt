@@ -43,10 +43,10 @@ no_document : (bytes : List ℕ) → (IsUtf8 bytes → ⊥) → (b : Bool) → n
 no_document bytes other true e = (TooLarge, rw e refl)
 no_document bytes other false e = (NotJson, doc_of-none bytes max_bytes (ltb-false max_bytes (length bytes) e) (λ u. absurd (other u)))
 
-pub not_text : (bytes : List ℕ) (flags : Definitions) (key : List ℕ) (site : ℕ) (rule : Entries) (wanted : Definitions) → (IsUtf8 bytes → ⊥) → IsRefused bytes (place_in bytes flags key site) rule wanted Differs
+pub not_text : (bytes : List ℕ) (flags : Definitions) (key : List ℕ) (site : ℕ) (rule : Entries) (wanted : Definitions) → (IsUtf8 bytes → ⊥) → IsRefused false bytes (place_in false bytes flags key site) rule wanted Differs
 not_text bytes flags key site rule wanted other =
     let none = no_document bytes other (nat_lt max_bytes (length bytes)) refl in
-    subst (λ (r : Result Shape TextFault). IsRefused bytes (in_tree r key (option_and_then targeting_in (lookup (bytes_eq key) flags)) site) rule wanted Differs) (sym none.1) (λ s. s, λ text kept. absurd kept)
+    subst (λ (r : Result Shape TextFault). IsRefused false bytes (in_tree r key (option_and_then targeting_in (lookup (bytes_eq key) flags)) site) rule wanted Differs) (sym none.1) (λ s. s, λ text kept. absurd kept)
 
 -- ---- the changed flags, and the text that means them
 
@@ -54,20 +54,20 @@ module _ (document : List ℕ) (flags : Definitions) (key : List ℕ) (site : �
   abbrev changed : Result Definitions RolloutFault
   changed = applied flags key site rule
 
-  pub edited : (wanted : Definitions) (text : List ℕ) → changed ≡ Ok wanted → KeptAt document (place_in document flags key site) rule text → DocumentMeans text (Ok wanted) → IsKeptAt document flags key site rule (Ok (text, tt))
+  pub edited : (wanted : Definitions) (text : List ℕ) → changed ≡ Ok wanted → KeptAt document (place_in false document flags key site) rule text → DocumentMeans text (Ok wanted) → IsKeptAt document flags key site rule (Ok (text, tt))
   edited wanted text is kept means =
-      subst (λ (x : Result Definitions RolloutFault). IsEditedTo document (place_in document flags key site) rule x (Ok (text, tt))) (sym is) (kept, means)
+      subst (λ (x : Result Definitions RolloutFault). IsEditedTo document (place_in false document flags key site) rule x (Ok (text, tt))) (sym is) (kept, means)
 
   module _ {A : Type 0} (seen : A → List ℕ × Unit {0}) where
     pub unchanged : (f : RolloutFault) (r : Result A RolloutRefusal) → r ≡ Err (of_rollout f) → (f ≢ rollout_fault.WantOfMemory → changed ≡ Err f) → Makes seen (IsKeptAt document flags key site rule) r
     unchanged f r is means =
         refused seen (IsKeptAt document flags key site rule) (of_rollout f) r is (rollout_roomy f)
-        (λ other. subst (λ (x : Result Definitions RolloutFault). IsEditedTo document (place_in document flags key site) rule x (Err (of_rollout f))) (sym (means (λ want. other (ap of_rollout want)))) refl)
+        (λ other. subst (λ (x : Result Definitions RolloutFault). IsEditedTo document (place_in false document flags key site) rule x (Err (of_rollout f))) (sym (means (λ want. other (ap of_rollout want)))) refl)
 
-    pub unedited : (wanted : Definitions) (f : KeepFault) (r : Result A RolloutRefusal) → r ≡ Err (of_keep f) → changed ≡ Ok wanted → IsRefused document (place_in document flags key site) rule wanted f → Makes seen (IsKeptAt document flags key site rule) r
+    pub unedited : (wanted : Definitions) (f : KeepFault) (r : Result A RolloutRefusal) → r ≡ Err (of_keep f) → changed ≡ Ok wanted → IsRefused false document (place_in false document flags key site) rule wanted f → Makes seen (IsKeptAt document flags key site rule) r
     unedited wanted f r is was why =
         refused seen (IsKeptAt document flags key site rule) (of_keep f) r is (keep_roomy f)
-        (λ other. subst (λ (x : Result Definitions RolloutFault). IsEditedTo document (place_in document flags key site) rule x (Err (of_keep f))) (sym was) (f, why, refl))
+        (λ other. subst (λ (x : Result Definitions RolloutFault). IsEditedTo document (place_in false document flags key site) rule x (Err (of_keep f))) (sym was) (f, why, refl))
 
 -- ---- an answer
 

@@ -1,5 +1,5 @@
 -- The document with the rule of a right answer at the site of its request, and all else as it was.
-use Rattle.std.specs.Prelude.{◌≡◌, ℕ, List, Result, Ok, Err}
+use Rattle.std.specs.Prelude.{◌≡◌, ℕ, List, Result, Ok, Err, false}
 use Rattle.bucket_core.specs.Rule.{Entries}
 use Rattle.flag_defs.specs.Document.{Definitions, DocumentMeans}
 use Rattle.kept_document.specs.Kept.{IsRefused, KeptAt, place_in}
@@ -20,7 +20,7 @@ use Rattle.library_rollouts.specs.declared.refusal.RolloutRefusal.TheVariants.{N
 -- The document with the rule in place of the buckets at a place and all else as it was, which means these flags; or a refusal.
 abbrev pub IsEdited : List ℕ → SitePlace → Entries → Definitions → Meaning (Unit {0})
 IsEdited document place rule wanted (Ok made) = KeptAt document place rule made.0 × DocumentMeans made.0 (Ok wanted)
-IsEdited document place rule wanted (Err e) = (fault : KeepFault) × IsRefused document place rule wanted fault × (e ≡ of_keep fault)
+IsEdited document place rule wanted (Err e) = (fault : KeepFault) × IsRefused false document place rule wanted fault × (e ≡ of_keep fault)
 
 -- the flags that are wanted are those with the rule at the site
 abbrev pub IsEditedTo : List ℕ → SitePlace → Entries → Result Definitions RolloutFault → Meaning (Unit {0})
@@ -29,7 +29,7 @@ IsEditedTo document place rule (Ok wanted) r = IsEdited document place rule want
 
 -- the document with the rule at a site
 abbrev pub IsKeptAt : List ℕ → Definitions → List ℕ → ℕ → Entries → Meaning (Unit {0})
-IsKeptAt document flags key site rule r = IsEditedTo document (place_in document flags key site) rule (applied flags key site rule) r
+IsKeptAt document flags key site rule r = IsEditedTo document (place_in false document flags key site) rule (applied flags key site rule) r
 
 -- by a right answer: one without a rule changes nothing
 abbrev pub IsKeptWith : List ℕ → List ℕ → Definitions → Answer → Meaning (Unit {0})

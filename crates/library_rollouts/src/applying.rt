@@ -112,12 +112,12 @@ fn kept_text(
     rule: &Rule,
     wanted: &Flags,
 ) -> Result<Vec<u8>, KeepFault>
-    ensures kept { IfOk result (λ v. KeptAt document.now (place_in document.now (flags_view flags.now) key.now site) rule.now v.items) }
+    ensures kept { IfOk result (λ v. KeptAt document.now (place_in false document.now (flags_view flags.now) key.now site) rule.now v.items) }
     ensures means { IfOk result (λ v. DocumentMeans v.items (Ok (flags_view wanted.now))) }
-    ensures refused { IfErr result (IsRefused document.now (place_in document.now (flags_view flags.now) key.now site) rule.now (flags_view wanted.now)) }
+    ensures refused { IfErr result (IsRefused false document.now (place_in false document.now (flags_view flags.now) key.now site) rule.now (flags_view wanted.now)) }
 {
     match str::from_utf8(document) {
-        Ok(document) => keep(alloc, document, flags, key, site, rule, wanted),
+        Ok(document) => keep(alloc, document, flags, key, site, rule, wanted, false),
         // Bytes that are no text mean no flags.
         Err(_) => Err(KeepFault::Differs),
     }

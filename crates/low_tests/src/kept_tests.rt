@@ -37,7 +37,7 @@ fn kept(alloc: Global, document: &str, wanted: &str) -> Option<Vec<u8>> {
     let wanted = read_flags(alloc, wanted.as_bytes()).ok()?;
     let entries = read_tree(alloc, br#"[["red",3],["blue",7]]"#, 100).ok()?;
     let rule = read_rule(alloc, &entries).ok()?;
-    keep(alloc, document, &flags, "color", 1, &rule, &wanted).ok()
+    keep(alloc, document, &flags, "color", 1, &rule, &wanted, false).ok()
 }
 
 /// Whether the rule makes this text of the document.
@@ -62,7 +62,7 @@ fn is_shared(alloc: Global, document: &str) -> Option<bool> {
     let flags = read_flags(alloc, document.as_bytes()).ok()?;
     let entries = read_tree(alloc, br#"[["red",3],["blue",7]]"#, 100).ok()?;
     let rule = read_rule(alloc, &entries).ok()?;
-    match keep(alloc, document, &flags, "color", 0, &rule, &flags) {
+    match keep(alloc, document, &flags, "color", 0, &rule, &flags, false) {
         Err(KeepFault::Shared) => Some(true),
         _ => Some(false),
     }

@@ -22,7 +22,7 @@ pub returns-in-Drive-clause-names : goal.returns-in-Drive-clause-names
 returns-in-Drive-clause-names g c = as_asked (g.F.FileSet.holding c.args.files.now) _ _ c.drive.result (ap asked_view c.in-Drive.is) c.drive.ensures.names
 
 pub returns-in-Plan-clause-numbers : goal.returns-in-Plan-clause-numbers
-returns-in-Plan-clause-numbers g c = points_told (g.F.FileSet.holding c.args.files.now) _ _ _ _ _ _ _ c.plan.result (ap asked_view c.in-Plan.is) c.plan.ensures.numbers
+returns-in-Plan-clause-numbers g c = points_told (g.F.FileSet.holding c.args.files.now) _ _ _ _ _ _ _ _ c.plan.result (ap asked_view c.in-Plan.is) c.plan.ensures.numbers
 
 pub returns-in-Verify-clause-parts : goal.returns-in-Verify-clause-parts
 returns-in-Verify-clause-parts g c = parts_told (g.F.FileSet.holding c.args.files.now) _ _ c.verify.result (ap asked_view c.in-Verify.is) c.verify.ensures.parts

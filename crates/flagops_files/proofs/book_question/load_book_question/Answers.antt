@@ -7,7 +7,7 @@ pub returns-in_err-book-clause-exact : goal.returns-in_err-book-clause-exact
 returns-in_err-book-clause-exact g c =
     let p = err_from_is_err_and c.from_residual-in_err-book.result c.from_residual-in_err-book.ensures.1 in
     let is : c.from_residual-in_err-book.result ≡ Err c.in_err-book.field-0.0 = p.1 ∙ ap Err p.2 in
-    no_book c.args.document.now c.args.request.now c.args.book.now _ _ c.in_err-book.field-0.0 _ _ _ c.from_residual-in_err-book.result is c.load_document.ensures.kept
+    no_book c.args.floats c.args.document.now c.args.request.now c.args.book.now _ _ c.in_err-book.field-0.0 _ _ _ c.from_residual-in_err-book.result is c.load_document.ensures.kept
     c.load_request.ensures.kept c.in_ok-bytes.ensures.exact c.in_ok-request.ensures.exact c.in_err-book.ensures.exact
 
 pub returns-in_err-book-clause-failed : goal.returns-in_err-book-clause-failed
@@ -20,5 +20,5 @@ pub returns-in_err-book-clause-first : goal.returns-in_err-book-clause-first
 returns-in_err-book-clause-first g c =
     let p = err_from_is_err_and c.from_residual-in_err-book.result c.from_residual-in_err-book.ensures.1 in
     let is : c.from_residual-in_err-book.result ≡ Err c.in_err-book.field-0.0 = p.1 ∙ ap Err p.2 in
-    first_book c.args.document.now c.args.request.now c.args.book.now _ _ c.in_err-book.field-0.0 _ _ _ c.from_residual-in_err-book.result is c.load_document.ensures.kept
+    first_book c.args.floats c.args.document.now c.args.request.now c.args.book.now _ _ c.in_err-book.field-0.0 _ _ _ c.from_residual-in_err-book.result is c.load_document.ensures.kept
     c.load_request.ensures.kept c.in_ok-bytes.ensures.exact c.in_ok-request.ensures.exact c.in_err-book.ensures.exact c.in_err-book.ensures.names

@@ -33,7 +33,7 @@ returns-in_err-question-clause-names g c =
     let a = picturing_view c.args.asked.now in
     let p = err_from_is_err_and c.from_residual.result c.from_residual.ensures.1 in
     let is : c.from_residual.result ≡ Err c.in_err-question.field-0.0 = p.1 ∙ ap Err p.2 in
-    in_question a.document a.request a.book (λ at. plan_read at a.plan (checked_subjects a.request a.plan)) _ c.from_residual.result c.in_err-question.field-0.0 is c.in_err-question.ensures.names
+    in_question a.floats a.document a.request a.book (λ at. plan_read at a.plan (checked_subjects a.request a.plan)) _ c.from_residual.result c.in_err-question.field-0.0 is c.in_err-question.ensures.names
 
 -- ---- a plan file that is refused
 
@@ -74,11 +74,11 @@ returns-in_err-planned-clause-parts g c =
     let a = picturing_view c.args.asked.now in
     let p = err_from_is_err_and c.from_residual-in_err-planned.result c.from_residual-in_err-planned.ensures.1 in
     let is : c.from_residual-in_err-planned.result ≡ Err c.in_err-planned.field-0.0 = p.1 ∙ ap Err p.2 in
-    nothing_said (λ at o. TellsDoubtsAt at a.document a.request a.book o.remark) (g.F.FileSet.holding c.args.files.now) c.in_err-planned.field-0.0 c.from_residual-in_err-planned.result is
+    nothing_said (λ at o. TellsDoubtsAt a.floats at a.document a.request a.book o.remark) (g.F.FileSet.holding c.args.files.now) c.in_err-planned.field-0.0 c.from_residual-in_err-planned.result is
 
 pub returns-in_err-question-clause-parts : goal.returns-in_err-question-clause-parts
 returns-in_err-question-clause-parts g c =
     let a = picturing_view c.args.asked.now in
     let p = err_from_is_err_and c.from_residual.result c.from_residual.ensures.1 in
     let is : c.from_residual.result ≡ Err c.in_err-question.field-0.0 = p.1 ∙ ap Err p.2 in
-    nothing_said (λ at o. TellsDoubtsAt at a.document a.request a.book o.remark) (g.F.FileSet.holding c.args.files.now) c.in_err-question.field-0.0 c.from_residual.result is
+    nothing_said (λ at o. TellsDoubtsAt a.floats at a.document a.request a.book o.remark) (g.F.FileSet.holding c.args.files.now) c.in_err-question.field-0.0 c.from_residual.result is

@@ -45,7 +45,7 @@ pub returns-in_err-question-clause-names : goal.returns-in_err-question-clause-n
 returns-in_err-question-clause-names g c =
     let p = planning_view c.args.asked.now in
     let is : c.from_residual.result ≡ Err c.in_err-question.field-0.0 = search rules in
-    in_question p.document p.request p.book (λ at. by_kind (drawn_subjects p)) _ c.from_residual.result c.in_err-question.field-0.0 is c.in_err-question.ensures.names
+    in_question p.floats p.document p.request p.book (λ at. by_kind (drawn_subjects p)) _ c.from_residual.result c.in_err-question.field-0.0 is c.in_err-question.ensures.names
 
 pub returns-clause-parts : goal.returns-clause-parts
 returns-clause-parts g c =
@@ -56,4 +56,4 @@ pub returns-in_err-question-clause-parts : goal.returns-in_err-question-clause-p
 returns-in_err-question-clause-parts g c =
     let p = planning_view c.args.asked.now in
     let is : c.from_residual.result ≡ Err c.in_err-question.field-0.0 = search rules in
-    nothing_said (λ at o. TellsPlanAt at p.document p.request p.book (unwrap_or p.refine 1) p.explain o.text.items o.remark) (g.F.FileSet.holding c.args.files.now) c.in_err-question.field-0.0 c.from_residual.result is
+    nothing_said (λ at o. TellsPlanAt p.floats at p.document p.request p.book (unwrap_or p.refine 1) p.explain o.text.items o.remark) (g.F.FileSet.holding c.args.files.now) c.in_err-question.field-0.0 c.from_residual.result is

@@ -1,5 +1,6 @@
 use Rattle.std.proofs.Common.{List, Ok, map, subst}
 use Rattle.flag_defs.specs.Flags.{flags_view}
+use Rattle.flag_defs.specs.Floats.{floats_view}
 use Rattle.flagops_shell.specs.Report.{outcome_view}
 use Rattle.plan_text.specs.Answer.{planned_view}
 use Rattle.plan_text.specs.declared.planned.Planned.{Planned}
@@ -23,12 +24,13 @@ returns-in-Ok-clause-exact g c =
     let a = applying_view c.args.asked.now in
     let document = c.args.document.now.bytes.items in
     let flags = flags_view c.args.document.now.flags in
-    let gives = subst (λ (xs : List Planned). GivesOne outcome_view c.put.result (IsStepOver a document flags (Ok (map planned_view xs)))) c.as_slice.ensures.value c.put.ensures.exact in
-    answered_so a document flags (g.F.FileSet.holding c.args.files.now) (map planned_view c.in-Ok.answers.items) c.put.result c.in-Ok.ensures.exact gives
+    let marks = floats_view c.args.document.now.flags in
+    let gives = subst (λ (xs : List Planned). GivesOne outcome_view c.put.result (IsStepOver a document flags marks (Ok (map planned_view xs)))) c.as_slice.ensures.value c.put.ensures.exact in
+    answered_so a document flags marks (g.F.FileSet.holding c.args.files.now) (map planned_view c.in-Ok.answers.items) c.put.result c.in-Ok.ensures.exact gives
 
 pub returns-in-Err-clause-exact : goal.returns-in-Err-clause-exact
 returns-in-Err-clause-exact g c =
-    unanswered (applying_view c.args.asked.now) c.args.document.now.bytes.items (flags_view c.args.document.now.flags) (g.F.FileSet.holding c.args.files.now) c.in-Err.told c.in-Err.ensures.exact
+    unanswered (applying_view c.args.asked.now) c.args.document.now.bytes.items (flags_view c.args.document.now.flags) (floats_view c.args.document.now.flags) (g.F.FileSet.holding c.args.files.now) c.in-Err.told c.in-Err.ensures.exact
 
 pub returns-in-Ok-clause-names : goal.returns-in-Ok-clause-names
 returns-in-Ok-clause-names g c =

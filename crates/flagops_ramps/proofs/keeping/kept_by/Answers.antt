@@ -18,8 +18,8 @@ returns-in-Ok-clause-exact c =
     let flags = flags_view c.args.question.now.flags in
     let request = c.args.request.now in
     let before = option_map (λ p. planned_view p.now) c.args.before in
-    let kept = onto document flags request c.in-Ok.request c.in-Ok.ensures.exact before c.in-Emit.rule (certificate_view c.in-Emit.field-1) c.kept_onto.result c.kept_onto.ensures.exact in
-    subst (λ (it : Planned). GivesOne kept_view c.kept_onto.result (IsKeptWith document flags request before (planned_view it))) (sym c.in-Emit.is) kept
+    let kept = onto c.args.asked.now.answered.rollout.floats document flags request c.in-Ok.request c.in-Ok.ensures.exact before c.in-Emit.rule (certificate_view c.in-Emit.field-1) c.kept_onto.result c.kept_onto.ensures.exact in
+    subst (λ (it : Planned). GivesOne kept_view c.kept_onto.result (IsKeptWith c.args.asked.now.answered.rollout.floats document flags request before (planned_view it))) (sym c.in-Emit.is) kept
 
 pub unreachable-requires : goal.unreachable-requires
 unreachable-requires c =

@@ -7,7 +7,7 @@ use Rattle.flagops_ramps.proofs.keeping.kept_onto.Goals as goal
 
 pub returns-then-not-stands-clause-exact : goal.returns-then-not-stands-clause-exact
 returns-then-not-stands-clause-exact c = λ no_want.
-    onto_other c.args.question.now.document.items (flags_view c.args.question.now.flags) c.args.request.now c.args.rule.now (is_left (flags_view c.args.question.now.flags) c.args.request.now (option_map (λ p. planned_view p.now) c.args.before))
+    onto_other c.args.asked.now.answered.rollout.floats c.args.question.now.document.items (flags_view c.args.question.now.flags) c.args.request.now c.args.rule.now (is_left (flags_view c.args.question.now.flags) c.args.request.now (option_map (λ p. planned_view p.now) c.args.before))
     (sym c.if-not-stands.true ∙ c.in-Ok.ensures)
 
 pub returns-in-Ok-document_with_rule-clause-exact : goal.returns-in-Ok-document_with_rule-clause-exact
@@ -16,8 +16,8 @@ returns-in-Ok-document_with_rule-clause-exact c =
     let flags = flags_view q.flags in
     let asked = c.args.request.now in
     let text = c.in-Ok-document_with_rule.text in
-    onto_left q.document.items flags asked c.args.rule.now (is_left flags asked (option_map (λ p. planned_view p.now) c.args.before)) text (sym c.if-not-stands.false ∙ c.in-Ok.ensures)
-    (at_place q.document.items _ _ flags _ asked c.args.rule.now (Ok (Some text.items)) c.as_slice-bytes.ensures.value c.flag-key.ensures c.site-site.ensures c.in-Ok-document_with_rule.ensures.exact)
+    onto_left c.args.asked.now.answered.rollout.floats q.document.items flags asked c.args.rule.now (is_left flags asked (option_map (λ p. planned_view p.now) c.args.before)) text (sym c.if-not-stands.false ∙ c.in-Ok.ensures)
+    (at_place c.args.asked.now.answered.rollout.floats q.document.items _ _ flags _ asked c.args.rule.now (Ok (Some text.items)) c.as_slice-bytes.ensures.value c.flag-key.ensures c.site-site.ensures c.in-Ok-document_with_rule.ensures.exact)
 
 pub returns-in-Err-document_with_rule-clause-exact : goal.returns-in-Err-document_with_rule-clause-exact
 returns-in-Err-document_with_rule-clause-exact c = λ no_want.
@@ -25,5 +25,5 @@ returns-in-Err-document_with_rule-clause-exact c = λ no_want.
     let flags = flags_view q.flags in
     let asked = c.args.request.now in
     let refused = c.in-Err-document_with_rule.refused in
-    onto_refused q.document.items flags asked c.args.rule.now (is_left flags asked (option_map (λ p. planned_view p.now) c.args.before)) refused c.of-in-Err-document_with_rule.result c.of-in-Err-document_with_rule.ensures.refusal (sym c.if-not-stands.false ∙ c.in-Ok.ensures)
-    (λ wanted. at_place q.document.items _ _ flags _ asked c.args.rule.now (Err refused.refusal) c.as_slice-bytes.ensures.value c.flag-key.ensures c.site-site.ensures (c.in-Err-document_with_rule.ensures.exact wanted)) no_want
+    onto_refused c.args.asked.now.answered.rollout.floats q.document.items flags asked c.args.rule.now (is_left flags asked (option_map (λ p. planned_view p.now) c.args.before)) refused c.of-in-Err-document_with_rule.result c.of-in-Err-document_with_rule.ensures.refusal (sym c.if-not-stands.false ∙ c.in-Ok.ensures)
+    (λ wanted. at_place c.args.asked.now.answered.rollout.floats q.document.items _ _ flags _ asked c.args.rule.now (Err refused.refusal) c.as_slice-bytes.ensures.value c.flag-key.ensures c.site-site.ensures (c.in-Err-document_with_rule.ensures.exact wanted)) no_want

@@ -18,7 +18,7 @@ returns-in-Ok-clause-exact c =
     let site = c.args.site in
     let omitted = c.in_ok-omitted.omitted in
     let times = c.in-Ok.ensures ∙ ap (λ (n : ℕ). times_at flags key site n) c.total-points.ensures.value in
-    noted_so (nat_lt 1 (times_at flags key site (total_weight c.args.rule.now))) (settle_omitted c.args.strict (is_omitting c.args.document.now.bytes.items flags)) (is_some omitted) (is_some c.with_total.result) c.in_ok-omitted.ensures.exact
+    noted_so (nat_lt 1 (times_at flags key site (total_weight c.args.rule.now))) (settle_omitted c.args.strict (is_omitting c.args.floats c.args.document.now.bytes.items flags)) (is_some omitted) (is_some c.with_total.result) c.in_ok-omitted.ensures.exact
     (c.with_total.ensures.told ∙ ap (λ (m : ℕ). is_some omitted || nat_lt 1 m) times)
 
 pub returns-in-Ok-clause-notes : goal.returns-in-Ok-clause-notes
@@ -37,8 +37,8 @@ returns-in-Ok-clause-parts c =
     let omitted = c.in_ok-omitted.omitted in
     let shown = c.with_total.result in
     let times = c.in-Ok.ensures ∙ ap (λ (n : ℕ). times_at flags key site n) c.total-points.ensures.value in
-    tells_behind (part_if (is_omitting document flags) (TellsOmitted path flags)) (finer_part path (times_at flags key site total) total) omitted shown
-    (omitted_told path document flags c.args.strict omitted c.in_ok-omitted.ensures.exact c.in_ok-omitted.ensures.notes)
+    tells_behind (part_if (is_omitting c.args.floats document flags) (TellsOmitted path flags)) (finer_part path (times_at flags key site total) total) omitted shown
+    (omitted_told c.args.floats path document flags c.args.strict omitted c.in_ok-omitted.ensures.exact c.in_ok-omitted.ensures.notes)
     (subst (λ (m : ℕ). AreBehind (finer_part path m total) omitted shown) times
     (subst (λ (n : ℕ). AreBehind (finer_part path c.in-Ok.factor n) omitted shown) c.total-points.ensures.value c.with_total.ensures.beside))
 
@@ -46,5 +46,5 @@ pub returns-in_err-omitted-clause-exact : goal.returns-in_err-omitted-clause-exa
 returns-in_err-omitted-clause-exact c =
     let flags = flags_view c.args.document.now.flags in
     let is : c.from_residual.result ≡ Err c.in_err-omitted.field-0.0 = search rules in
-    not_noted (nat_lt 1 (times_at flags c.args.key.now c.args.site (total_weight c.args.rule.now))) (settle_omitted c.args.strict (is_omitting c.args.document.now.bytes.items flags)) c.in_err-omitted.field-0.0 c.from_residual.result is
+    not_noted (nat_lt 1 (times_at flags c.args.key.now c.args.site (total_weight c.args.rule.now))) (settle_omitted c.args.strict (is_omitting c.args.floats c.args.document.now.bytes.items flags)) c.in_err-omitted.field-0.0 c.from_residual.result is
     c.in_err-omitted.ensures.exact

@@ -18,20 +18,20 @@ pub returns-in_err-text-clause-exact : goal.returns-in_err-text-clause-exact
 returns-in_err-text-clause-exact g c =
     let files = g.F.FileSet.holding c.args.files.now in
     let is : c.from_residual.result ≡ Err c.in_err-text.field-0.0 = search rules in
-    not_kept c.args.document.now c.args.write c.args.strict (option_map (λ m. m.number) c.args.refine) c.args.question.now.document.items (question_view c.args.question.now) (planned_view c.args.planned.now)
+    not_kept c.args.floats c.args.document.now c.args.write c.args.strict (option_map (λ m. m.number) c.args.refine) c.args.question.now.document.items (question_view c.args.question.now) (planned_view c.args.planned.now)
     files files c.in_err-text.field-0.0 c.from_residual.result is refl c.in_err-text.ensures.exact
 
 pub returns-in_err-remark-clause-exact : goal.returns-in_err-remark-clause-exact
 returns-in_err-remark-clause-exact g c =
     let files = g.F.FileSet.holding c.args.files.now in
     let told =
-    not_settled c.args.document.now c.args.write c.args.strict (option_map (λ m. m.number) c.args.refine) c.args.question.now.document.items (question_view c.args.question.now) (planned_view c.args.planned.now)
+    not_settled c.args.floats c.args.document.now c.args.write c.args.strict (option_map (λ m. m.number) c.args.refine) c.args.question.now.document.items (question_view c.args.question.now) (planned_view c.args.planned.now)
     files files (kept_view c.in_ok-text.text) c.in_err-remark.field-0.0 refl c.in_err-remark.ensures.exact c.in_ok-text.ensures.exact in
     search rules
 
 pub returns-clause-exact : goal.returns-clause-exact
 returns-clause-exact g c =
-    kept_put c.args.document.now c.args.write c.args.strict (option_map (λ m. m.number) c.args.refine) c.args.question.now.document.items (question_view c.args.question.now) (planned_view c.args.planned.now) _ _
+    kept_put c.args.floats c.args.document.now c.args.write c.args.strict (option_map (λ m. m.number) c.args.refine) c.args.question.now.document.items (question_view c.args.question.now) (planned_view c.args.planned.now) _ _
     (kept_view c.in_ok-text.text) (is_some c.in_ok-remark.remark) c.put.result c.in_ok-remark.ensures.exact c.in_ok-text.ensures.exact c.put.ensures.exact
 
 pub returns-in_err-text-clause-names : goal.returns-in_err-text-clause-names

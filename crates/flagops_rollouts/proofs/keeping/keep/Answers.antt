@@ -21,7 +21,7 @@ use Rattle.flagops_rollouts.proofs.keeping.keep.Goals as goal
 pub returns-in_err-question-clause-exact : goal.returns-in_err-question-clause-exact
 returns-in_err-question-clause-exact g c =
     let told =
-    no_question c.args.document.now c.args.plan.now c.args.request.now c.args.book.now c.args.write c.args.strict (option_map (λ m. m.number) c.args.refine) _ _ c.in_err-question.field-0.0 c.load_question.ensures.kept
+    no_question c.args.floats c.args.document.now c.args.plan.now c.args.request.now c.args.book.now c.args.write c.args.strict (option_map (λ m. m.number) c.args.refine) _ _ c.in_err-question.field-0.0 c.load_question.ensures.kept
     c.in_err-question.ensures.exact in
     search rules
 
@@ -35,7 +35,7 @@ pub returns-in_err-planned-clause-exact : goal.returns-in_err-planned-clause-exa
 returns-in_err-planned-clause-exact g c =
     let p = err_from_is_err_and c.from_residual-in_err-planned.result c.from_residual-in_err-planned.ensures.1 in
     let is : c.from_residual-in_err-planned.result ≡ Err c.in_err-planned.field-0.0 = p.1 ∙ ap Err p.2 in
-    no_plan_so c.args.document.now c.args.plan.now c.args.request.now c.args.book.now c.args.write c.args.strict (option_map (λ m. m.number) c.args.refine) (question_view c.in_ok-question.question) _ _ _
+    no_plan_so c.args.floats c.args.document.now c.args.plan.now c.args.request.now c.args.book.now c.args.write c.args.strict (option_map (λ m. m.number) c.args.refine) (question_view c.in_ok-question.question) _ _ _
     c.in_err-planned.field-0.0 c.from_residual-in_err-planned.result is c.load_question.ensures.kept c.load_planned.ensures.kept c.in_ok-question.ensures.exact c.in_err-planned.ensures.exact
 
 pub returns-in_err-planned-clause-failed : goal.returns-in_err-planned-clause-failed
@@ -63,7 +63,7 @@ returns-in_err-planned-clause-kept g c = inl (c.load_planned.ensures.kept ∙ c.
 
 pub returns-clause-exact : goal.returns-clause-exact
 returns-clause-exact g c =
-    kept_whole c.args.document.now c.args.plan.now c.args.request.now c.args.book.now c.args.write c.args.strict (option_map (λ m. m.number) c.args.refine) (question_view c.in_ok-question.question)
+    kept_whole c.args.floats c.args.document.now c.args.plan.now c.args.request.now c.args.book.now c.args.write c.args.strict (option_map (λ m. m.number) c.args.refine) (question_view c.in_ok-question.question)
     c.in_ok-question.question.document.items (planned_view c.in_ok-planned.planned) _ _ _ _ c.answer.result c.load_question.ensures.kept c.load_planned.ensures.kept c.in_ok-question.ensures.exact
     c.in_ok-question.ensures.bytes c.in_ok-planned.ensures.exact c.answer.ensures.exact
 
@@ -84,7 +84,7 @@ returns-in_err-question-clause-first g c =
     let made : Subjects = (file request, is_of_kept_request) ∷ (file c.args.plan.now, is_of_kept_answer) ∷ (file document, is_of_kept_document) ∷ doubt_subjects request book in
     let p = err_from_is_err_and c.from_residual.result c.from_residual.ensures.1 in
     let is : c.from_residual.result ≡ Err c.in_err-question.field-0.0 = p.1 ∙ ap Err p.2 in
-    at_first (g.F.FileSet.holding c.args.files.now) (λ at. question_attempts at document request book) (λ at. plan_read at c.args.plan.now made) c.in_err-question.field-0.0 c.from_residual.result is
+    at_first (g.F.FileSet.holding c.args.files.now) (λ at. question_attempts c.args.floats at document request book) (λ at. plan_read at c.args.plan.now made) c.in_err-question.field-0.0 c.from_residual.result is
     c.in_err-question.ensures.first
 
 pub returns-in_err-planned-clause-first : goal.returns-in_err-planned-clause-first
@@ -96,8 +96,8 @@ returns-in_err-planned-clause-first g c =
     let made : Subjects = (file request, is_of_kept_request) ∷ (file c.args.plan.now, is_of_kept_answer) ∷ (file document, is_of_kept_document) ∷ doubt_subjects request book in
     let p = err_from_is_err_and c.from_residual-in_err-planned.result c.from_residual-in_err-planned.ensures.1 in
     let is : c.from_residual-in_err-planned.result ≡ Err c.in_err-planned.field-0.0 = p.1 ∙ ap Err p.2 in
-    plan_refused old (λ at. question_attempts at document request book) _ c.load_question.ensures.kept c.args.plan.now made c.in_err-planned.field-0.0 c.from_residual-in_err-planned.result is
-    (question_read document request book (question_view c.in_ok-question.question) old c.in_ok-question.ensures.exact) c.in_err-planned.ensures.exact c.in_err-planned.ensures.names
+    plan_refused old (λ at. question_attempts c.args.floats at document request book) _ c.load_question.ensures.kept c.args.plan.now made c.in_err-planned.field-0.0 c.from_residual-in_err-planned.result is
+    (question_read c.args.floats document request book (question_view c.in_ok-question.question) old c.in_ok-question.ensures.exact) c.in_err-planned.ensures.exact c.in_err-planned.ensures.names
 
 pub returns-clause-first : goal.returns-clause-first
 returns-clause-first g c =
@@ -106,16 +106,16 @@ returns-clause-first g c =
     let book = c.args.book.now in
     let old = g.F.FileSet.holding c.args.files.now in
     let made : Subjects = (file request, is_of_kept_request) ∷ (file c.args.plan.now, is_of_kept_answer) ∷ (file document, is_of_kept_document) ∷ doubt_subjects request book in
-    behind_plan old (λ at. question_attempts at document request book) _ c.load_question.ensures.kept c.args.plan.now made (planned_view c.in_ok-planned.planned) c.answer.result
-    (question_read document request book (question_view c.in_ok-question.question) old c.in_ok-question.ensures.exact) c.in_ok-planned.ensures.exact c.answer.ensures.names
+    behind_plan old (λ at. question_attempts c.args.floats at document request book) _ c.load_question.ensures.kept c.args.plan.now made (planned_view c.in_ok-planned.planned) c.answer.result
+    (question_read c.args.floats document request book (question_view c.in_ok-question.question) old c.in_ok-question.ensures.exact) c.in_ok-planned.ensures.exact c.answer.ensures.names
 
 pub returns-clause-parts : goal.returns-clause-parts
 returns-clause-parts g c =
-    kept_said_at c.args.document.now c.args.request.now c.args.book.now (question_view c.in_ok-question.question) c.args.plan.now (planned_view c.in_ok-planned.planned) (g.F.FileSet.holding c.args.files.now) (g.F.FileSet.holding c.load_question.new.files)
+    kept_said_at c.args.floats c.args.document.now c.args.request.now c.args.book.now (question_view c.in_ok-question.question) c.args.plan.now (planned_view c.in_ok-planned.planned) (g.F.FileSet.holding c.args.files.now) (g.F.FileSet.holding c.load_question.new.files)
     c.answer.result c.load_question.ensures.kept c.in_ok-question.ensures.exact c.in_ok-planned.ensures.exact c.answer.ensures.parts
 
 pub returns-in_err-planned-clause-parts : goal.returns-in_err-planned-clause-parts
 returns-in_err-planned-clause-parts g c =
     let p = err_from_is_err_and c.from_residual-in_err-planned.result c.from_residual-in_err-planned.ensures.1 in
     let is : c.from_residual-in_err-planned.result ≡ Err c.in_err-planned.field-0.0 = p.1 ∙ ap Err p.2 in
-    nothing_said (λ at o. TellsKeptAt at c.args.document.now c.args.plan.now c.args.request.now c.args.book.now o.remark) (g.F.FileSet.holding c.args.files.now) c.in_err-planned.field-0.0 c.from_residual-in_err-planned.result is
+    nothing_said (λ at o. TellsKeptAt c.args.floats at c.args.document.now c.args.plan.now c.args.request.now c.args.book.now o.remark) (g.F.FileSet.holding c.args.files.now) c.in_err-planned.field-0.0 c.from_residual-in_err-planned.result is

@@ -16,14 +16,14 @@ use Rattle.flagops_rollouts.proofs.verifying.verify.Goals as goal
 
 pub returns-clause-exact : goal.returns-clause-exact
 returns-clause-exact g c =
-    verified c.args.document.now c.args.request.now c.args.book.now c.args.plan.now (option_map (λ m. m.number) c.args.refine) c.args.strict c.args.json (question_view c.in_ok-question.question)
+    verified c.args.floats c.args.document.now c.args.request.now c.args.book.now c.args.plan.now (option_map (λ m. m.number) c.args.refine) c.args.strict c.args.json (question_view c.in_ok-question.question)
     (planned_view c.in_ok-planned.planned) _ _ c.verdict-outcome.result c.load_question.ensures.kept c.in_ok-question.ensures.exact c.in_ok-planned.ensures.exact c.verdict-outcome.ensures.exact
 
 pub returns-in_err-planned-clause-exact : goal.returns-in_err-planned-clause-exact
 returns-in_err-planned-clause-exact g c =
     let p = err_from_is_err_and c.from_residual-in_err-planned.result c.from_residual-in_err-planned.ensures.1 in
     let is : c.from_residual-in_err-planned.result ≡ Err c.in_err-planned.field-0.0 = p.1 ∙ ap Err p.2 in
-    unanswered c.args.document.now c.args.request.now c.args.book.now c.args.plan.now (option_map (λ m. m.number) c.args.refine) c.args.strict c.args.json (question_view c.in_ok-question.question) c.in_err-planned.field-0.0 _ _
+    unanswered c.args.floats c.args.document.now c.args.request.now c.args.book.now c.args.plan.now (option_map (λ m. m.number) c.args.refine) c.args.strict c.args.json (question_view c.in_ok-question.question) c.in_err-planned.field-0.0 _ _
     c.from_residual-in_err-planned.result is c.load_question.ensures.kept c.in_ok-question.ensures.exact c.in_err-planned.ensures.exact
 
 pub returns-in_err-planned-clause-failed : goal.returns-in_err-planned-clause-failed
@@ -40,7 +40,7 @@ returns-in_err-question-clause-first g c =
     let made : Subjects = (file request, is_of_request) ∷ (file c.args.plan.now, is_of_answer) ∷ doubt_subjects request book in
     let p = err_from_is_err_and c.from_residual.result c.from_residual.ensures.1 in
     let is : c.from_residual.result ≡ Err c.in_err-question.field-0.0 = p.1 ∙ ap Err p.2 in
-    at_first (g.F.FileSet.holding c.args.files.now) (λ at. question_attempts at document request book) (λ at. plan_read at c.args.plan.now made) c.in_err-question.field-0.0 c.from_residual.result is
+    at_first (g.F.FileSet.holding c.args.files.now) (λ at. question_attempts c.args.floats at document request book) (λ at. plan_read at c.args.plan.now made) c.in_err-question.field-0.0 c.from_residual.result is
     c.in_err-question.ensures.first
 
 pub returns-in_err-planned-clause-first : goal.returns-in_err-planned-clause-first
@@ -52,8 +52,8 @@ returns-in_err-planned-clause-first g c =
     let made : Subjects = (file request, is_of_request) ∷ (file c.args.plan.now, is_of_answer) ∷ doubt_subjects request book in
     let p = err_from_is_err_and c.from_residual-in_err-planned.result c.from_residual-in_err-planned.ensures.1 in
     let is : c.from_residual-in_err-planned.result ≡ Err c.in_err-planned.field-0.0 = p.1 ∙ ap Err p.2 in
-    plan_refused old (λ at. question_attempts at document request book) _ c.load_question.ensures.kept c.args.plan.now made c.in_err-planned.field-0.0 c.from_residual-in_err-planned.result is
-    (question_read document request book (question_view c.in_ok-question.question) old c.in_ok-question.ensures.exact) c.in_err-planned.ensures.exact c.in_err-planned.ensures.names
+    plan_refused old (λ at. question_attempts c.args.floats at document request book) _ c.load_question.ensures.kept c.args.plan.now made c.in_err-planned.field-0.0 c.from_residual-in_err-planned.result is
+    (question_read c.args.floats document request book (question_view c.in_ok-question.question) old c.in_ok-question.ensures.exact) c.in_err-planned.ensures.exact c.in_err-planned.ensures.names
 
 pub returns-clause-first : goal.returns-clause-first
 returns-clause-first g c =
@@ -62,15 +62,15 @@ returns-clause-first g c =
     let book = c.args.book.now in
     let old = g.F.FileSet.holding c.args.files.now in
     let made : Subjects = (file request, is_of_request) ∷ (file c.args.plan.now, is_of_answer) ∷ doubt_subjects request book in
-    behind_plan old (λ at. question_attempts at document request book) _ c.load_question.ensures.kept c.args.plan.now made (planned_view c.in_ok-planned.planned) c.verdict-outcome.result
-    (question_read document request book (question_view c.in_ok-question.question) old c.in_ok-question.ensures.exact) c.in_ok-planned.ensures.exact c.verdict-outcome.ensures.names
+    behind_plan old (λ at. question_attempts c.args.floats at document request book) _ c.load_question.ensures.kept c.args.plan.now made (planned_view c.in_ok-planned.planned) c.verdict-outcome.result
+    (question_read c.args.floats document request book (question_view c.in_ok-question.question) old c.in_ok-question.ensures.exact) c.in_ok-planned.ensures.exact c.verdict-outcome.ensures.names
 
 pub returns-clause-parts : goal.returns-clause-parts
 returns-clause-parts g c =
-    doubts_said_at c.args.document.now c.args.request.now c.args.book.now (question_view c.in_ok-question.question) (g.F.FileSet.holding c.args.files.now) c.verdict-outcome.result c.in_ok-question.ensures.exact c.verdict-outcome.ensures.parts
+    doubts_said_at c.args.floats c.args.document.now c.args.request.now c.args.book.now (question_view c.in_ok-question.question) (g.F.FileSet.holding c.args.files.now) c.verdict-outcome.result c.in_ok-question.ensures.exact c.verdict-outcome.ensures.parts
 
 pub returns-in_err-planned-clause-parts : goal.returns-in_err-planned-clause-parts
 returns-in_err-planned-clause-parts g c =
     let p = err_from_is_err_and c.from_residual-in_err-planned.result c.from_residual-in_err-planned.ensures.1 in
     let is : c.from_residual-in_err-planned.result ≡ Err c.in_err-planned.field-0.0 = p.1 ∙ ap Err p.2 in
-    nothing_said (λ at o. TellsDoubtsAt at c.args.document.now c.args.request.now c.args.book.now o.remark) (g.F.FileSet.holding c.args.files.now) c.in_err-planned.field-0.0 c.from_residual-in_err-planned.result is
+    nothing_said (λ at o. TellsDoubtsAt c.args.floats at c.args.document.now c.args.request.now c.args.book.now o.remark) (g.F.FileSet.holding c.args.files.now) c.in_err-planned.field-0.0 c.from_residual-in_err-planned.result is
