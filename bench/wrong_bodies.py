@@ -18,7 +18,7 @@ PAGE = os.path.join(TOP, "docs", "WRONG_BODIES.md")
 TRIED = os.path.join(TOP, "bench", "wrong_tried.txt")
 HEAD = """# Wrong bodies
 
-Each line is an edit of one function that the prover has to refuse, since a clause of a contract is false of it. `rt ci` tries those of the gate, `bench/wrong.sh [CRATE ..]` the others; [CHECKS.md](CHECKS.md#wrong-bodies) says more of both. Of these the third column has the day of the last trial, where it was noted; "answer" stands beside it where an answer in a proof file, which mentions what the edit takes away, was refused before any clause, so that it shows less. A clause is named as "clause of function", or by the function alone where it has only one. This page is written by `bench/wrong_bodies.py`.
+Each line is an edit of one function that the prover has to refuse, since it makes a clause of a contract false. `rt ci` tries those of the gate, `bench/wrong.sh [CRATE ..]` the others; [CHECKS.md](CHECKS.md#wrong-bodies) says more about both. For the others the third column has the day of the last trial, where it was noted; "answer" beside it means that an answer in a proof file, which mentions what the edit removes, was refused before any clause, so that the trial shows less. A clause is named as "clause of function", or by the function alone where it has only one. `bench/wrong_bodies.py` writes this page from the edits.
 """
 
 
