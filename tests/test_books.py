@@ -224,7 +224,7 @@ class Unions(ProgramTest):
                     for words in (["one"], ["one", "none"], ["o"]):
                         ran = self.assert_ends(["book", "o", *words], files, 1, f"refused read_book {fault}\n")
                         self.assertEqual(ran.files, files)
-                        self.assertTrue(ran.err.startswith('error: "o" is a file that is no book, and stays as it is'), ran.err)
+                        self.assertTrue(ran.err.startswith('error: "o" is a file that is not a book, and stays as it is'), ran.err)
                 else:
                     ran = self.assert_ends(["book", "o", "one"], files, 0, "inputs 1\nfiles 1\n")
                     self.assertEqual(ran.files, {**files, "o": files["one"]})
