@@ -385,7 +385,7 @@ class Notes(ProgramTest):
     def test_a_byte_order_mark_is_told(self):
         for text in (note(), EMPTY_BOOK):
             ran = self.assert_ends(["book", "o", "n"], {"n": "\ufeff" + text}, 1, 'refused book 1 Line "n" 1\n')
-            self.assertTrue(ran.err.startswith('error: "n": line 1 is no note, as the file begins with a byte order mark'), ran.err)
+            self.assertTrue(ran.err.startswith('error: "n": line 1 is not a note, as the file begins with a byte order mark'), ran.err)
 
     def test_a_last_line_without_its_end(self):
         whole = note(text="a") + note(text="b")
