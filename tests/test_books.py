@@ -224,7 +224,7 @@ class Unions(ProgramTest):
                     for words in (["one"], ["one", "none"], ["o"]):
                         ran = self.assert_ends(["book", "o", *words], files, 1, f"refused read_book {fault}\n")
                         self.assertEqual(ran.files, files)
-                        self.assertTrue(ran.err.startswith('error: "o" is a file that is no book, and stays as it is'), ran.err)
+                        self.assertTrue(ran.err.startswith('error: "o" is a file that is not a book, and stays as it is'), ran.err)
                 else:
                     ran = self.assert_ends(["book", "o", "one"], files, 0, "inputs 1\nfiles 1\n")
                     self.assertEqual(ran.files, {**files, "o": files["one"]})
@@ -385,7 +385,7 @@ class Notes(ProgramTest):
     def test_a_byte_order_mark_is_told(self):
         for text in (note(), EMPTY_BOOK):
             ran = self.assert_ends(["book", "o", "n"], {"n": "\ufeff" + text}, 1, 'refused book 1 Line "n" 1\n')
-            self.assertTrue(ran.err.startswith('error: "n": line 1 is no note, as the file begins with a byte order mark'), ran.err)
+            self.assertTrue(ran.err.startswith('error: "n": line 1 is not a note, as the file begins with a byte order mark'), ran.err)
 
     def test_a_last_line_without_its_end(self):
         whole = note(text="a") + note(text="b")

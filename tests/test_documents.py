@@ -148,12 +148,12 @@ NEVER = "has a targeting that never gives a variant (Never)"
 
 def weighed(place):
     """What is told of weights, with the place of the operation and what it weighs."""
-    return f"has a fractional that gives nobody a variant: {place} (Weight)"
+    return f"has a fractional that gives no variant to anybody: {place} (Weight)"
 
 
 def foreign(place):
     """What is told of a result, with its place and what stands there."""
-    return f"can come to what names none of its variants: {place} (Variant)"
+    return f"can result in what is not one of its variants: {place} (Variant)"
 
 
 def repeated(place):
@@ -167,23 +167,23 @@ DOUBTS = [
     (r'{"flags":{"color":{},"col\u006fr":{"state":"ENABLED","variants":{"red":1}}}}', ["stands more than once, and its last definition counts (Doubled)"]),
     (colored("{}", ',"defaultvarient":"red"'), ['has a member that is not read: "defaultvarient" (perhaps "defaultVariant" is meant) (Unread)']),
     (colored("{}", ',"colour":1,"x":2'), ['has a member that is not read: "colour" "x" (Unread)']),
-    (colored('{"fractional":[["red",2147483648],["blue",1]]}'), ["has a fractional that gives nobody a variant: targeting.fractional[0] weighs no whole number from 0 to 2147483647 (Weight)"]),
-    (colored('{"fractional":[{"var":"k"},["red",1],["blue",-1]]}'), ["has a fractional that gives nobody a variant: targeting.fractional[2] weighs no whole number from 0 to 2147483647 (Weight)"]),
-    (colored('{"if":[{"==":[{"fractional":[["a",-1]]},"a"]},"red","blue"]}'), ["has a fractional that gives nobody a variant: targeting.if[0].==[0].fractional[0] weighs no whole number from 0 to 2147483647 (Weight)"]),
-    (colored('{"fractional":[["red",1],["blu",1]]}'), ['can come to what names none of its variants: targeting.fractional[1] is "blu" (Variant)']),
-    (colored('{"if":[{"var":"a"},"red",{"var":"b"},{"fractional":[{"var":"k"},["blu",1],["red",1]]},"blue"]}'), ['can come to what names none of its variants: targeting.if[3].fractional[1] is "blu" (Variant)']),
-    (colored('{"if":[{"var":"a"},"red",7]}'), ["can come to what names none of its variants: targeting.if[2] is no name (Variant)"]),
+    (colored('{"fractional":[["red",2147483648],["blue",1]]}'), ["has a fractional that gives no variant to anybody: targeting.fractional[0][1] is 2147483648, above 2147483647; weights are whole numbers from 0 to 2147483647 (Weight)"]),
+    (colored('{"fractional":[{"var":"k"},["red",1],["blue",-1]]}'), ["has a fractional that gives no variant to anybody: targeting.fractional[2][1] is -1, below 0; weights are whole numbers from 0 to 2147483647 (Weight)"]),
+    (colored('{"if":[{"==":[{"fractional":[["a",-1]]},"a"]},"red","blue"]}'), ["has a fractional that gives no variant to anybody: targeting.if[0].==[0].fractional[0][1] is -1, below 0; weights are whole numbers from 0 to 2147483647 (Weight)"]),
+    (colored('{"fractional":[["red",1],["blu",1]]}'), ['can result in what is not one of its variants: targeting.fractional[1] is "blu" (Variant)']),
+    (colored('{"if":[{"var":"a"},"red",{"var":"b"},{"fractional":[{"var":"k"},["blu",1],["red",1]]},"blue"]}'), ['can result in what is not one of its variants: targeting.if[3].fractional[1] is "blu" (Variant)']),
+    (colored('{"if":[{"var":"a"},"red",7]}'), ["can result in what is not one of its variants: targeting.if[2] is not a name (Variant)"]),
     (
         colored('{"if":[{"var":"a"},"blu"]}'),
-        ['can come to what names none of its variants: targeting.if[1] is "blu" (Variant)', "has a targeting that never gives a variant (Never)"],
+        ['can result in what is not one of its variants: targeting.if[1] is "blu" (Variant)', "has a targeting that never gives a variant (Never)"],
     ),
     (colored('{"if":[{"var":"a"},null]}'), ["has a targeting that never gives a variant (Never)"]),
     (
         colored('{"fractional":[["blu",-1]]}', ',"y":0'),
         [
             'has a member that is not read: "y" (Unread)',
-            "has a fractional that gives nobody a variant: targeting.fractional[0] weighs no whole number from 0 to 2147483647 (Weight)",
-            'can come to what names none of its variants: targeting.fractional[0] is "blu" (Variant)',
+            "has a fractional that gives no variant to anybody: targeting.fractional[0][1] is -1, below 0; weights are whole numbers from 0 to 2147483647 (Weight)",
+            'can result in what is not one of its variants: targeting.fractional[0] is "blu" (Variant)',
             "has a targeting that never gives a variant (Never)",
         ],
     ),
@@ -197,11 +197,20 @@ DOUBTS = [
     (colored('{"fractional":[]}'), [weighed("targeting.fractional weighs 0"), NEVER]),
     # Operations that give no name of a variant, whatever their arguments are.
     (colored('{"==":[{"var":"a"},1]}'), [foreign("targeting is true or false"), NEVER]),
-    (colored('{"+":[{"var":"a"},1]}'), [foreign("targeting is no name"), NEVER]),
-    (colored('{"map":[{"var":"a"},"red"]}'), [foreign("targeting is no name"), NEVER]),
+    (colored('{"+":[{"var":"a"},1]}'), [foreign("targeting is not a name"), NEVER]),
+    (colored('{"map":[{"var":"a"},"red"]}'), [foreign("targeting is not a name"), NEVER]),
     (colored('{"if":[{"var":"a"},"red",{"in":["b",{"var":"c"}]}]}'), [foreign("targeting.if[2] is true or false")]),
     (colored('{"and":[{"!":[{"var":"a"}]},"red"]}'), [foreign("targeting.and[0] is true or false")]),
-    (colored('{"fractional":[["red",1],[{"max":[1,2]},1]]}'), [foreign("targeting.fractional[1] is no name")]),
+    (colored('{"fractional":[["red",1],[{"max":[1,2]},1]]}'), [foreign("targeting.fractional[1] is not a name")]),
+    # Two operators in one object.
+    (
+        colored('{"fractional":[["red",1]],"if":[{"var":"a"},"red"]}'),
+        [foreign("targeting is an object of 2 members; an operation has one, its operator"), NEVER],
+    ),
+    (
+        colored('{"fractional":[["red","5"]]}'),
+        [weighed('targeting.fractional[0][1] is "5", a text: write the number alone, without quotes or sign; weights are whole numbers from 0 to 2147483647')],
+    ),
     # Both branches of a test that is no literal; of a literal test the one that it takes.
     (colored('{"if":[{"var":"a"},"red","blu"]}'), [foreign('targeting.if[2] is "blu"')]),
     (colored('{"if":[{"==":[1,1]},"red","blu"]}'), [foreign('targeting.if[2] is "blu"')]),
@@ -215,12 +224,12 @@ DOUBTS = [
     (colored('{"if":[false,"nope",{"if":[1,{"if":[null,"nope","blu"]},"nope"]}]}'), [foreign('targeting.if[2].if[1].if[2] is "blu"'), NEVER]),
     # `or` results in its first argument that counts as true and `and` in its first that counts as false, else in the last.
     (colored('{"or":["blu","red"]}'), [foreign('targeting.or[0] is "blu"'), NEVER]),
-    (colored('{"or":[[0],"red"]}'), [foreign("targeting.or[0] is no name"), NEVER]),
+    (colored('{"or":[[0],"red"]}'), [foreign("targeting.or[0] is not a name"), NEVER]),
     (colored('{"or":["",0,""]}'), [foreign('targeting.or[2] is ""'), NEVER]),
     (colored('{"or":["",{"var":"a"},"blu","red"]}'), [foreign('targeting.or[2] is "blu"')]),
     (colored('{"and":["","red"]}'), [foreign('targeting.and[0] is ""'), NEVER]),
     (colored('{"and":["red","blu"]}'), [foreign('targeting.and[1] is "blu"'), NEVER]),
-    (colored('{"and":["nope",{"var":"a"},[],"red"]}'), [foreign("targeting.and[2] is no name")]),
+    (colored('{"and":["nope",{"var":"a"},[],"red"]}'), [foreign("targeting.and[2] is not a name")]),
     (colored('{"and":[null,"red"]}'), [NEVER]),
     # A bucket of which the weight is computed, and one without weight.
     (colored('{"fractional":[["red",1],["blu",{"var":"n"}]]}'), [foreign('targeting.fractional[1] is "blu"')]),
@@ -348,7 +357,7 @@ class Documents(ProgramTest):
         truth = '{"flags":{"color":{"state":"ENABLED","variants":{"%s":1,"off":2},"defaultVariant":"off","targeting":%s}}}'
         for targetings, doubts, others in [
             (TESTS, [foreign("targeting is true or false"), NEVER], []),
-            (NUMBERS_AND_LISTS, [foreign("targeting is no name"), NEVER], [foreign("targeting is no name"), NEVER]),
+            (NUMBERS_AND_LISTS, [foreign("targeting is not a name"), NEVER], [foreign("targeting is not a name"), NEVER]),
             (COMPUTED, [], []),
         ]:
             for targeting in targetings:

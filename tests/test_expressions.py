@@ -54,10 +54,10 @@ FAULTS = [
     ('{"!":[{"nand":1},2]}', ': the operator "!" does not take 2 arguments'),
     ('{"+":[{"nand":1},{"!":[]}]}', '["+"][0]: the operator "nand" is unknown'),
     ('{"cat":[{"!":[]},{"nand":1}]}', '.cat[0]: the operator "!" does not take 0 arguments'),
-    ('{"fractional":[{"nand":1},2]}', ': argument 1 of "fractional" is no bucket [name, weight]'),
-    ('{"fractional":[{"nand":1},[]]}', ': argument 1 of "fractional" is no bucket [name, weight]'),
-    ('{"fractional":[["a",1,2]]}', ': argument 0 of "fractional" is no bucket [name, weight]'),
-    ('{"fractional":[["a"],"b"]}', ': argument 1 of "fractional" is no bucket [name, weight]'),
+    ('{"fractional":[{"nand":1},2]}', ': argument 1 of "fractional" is not a bucket [name, weight]'),
+    ('{"fractional":[{"nand":1},[]]}', ': argument 1 of "fractional" is not a bucket [name, weight]'),
+    ('{"fractional":[["a",1,2]]}', ': argument 0 of "fractional" is not a bucket [name, weight]'),
+    ('{"fractional":[["a"],"b"]}', ': argument 1 of "fractional" is not a bucket [name, weight]'),
     ('{"fractional":[{"nand":1},["a"]]}', '.fractional[0]: the operator "nand" is unknown'),
     ('{"fractional":[["a"],[{"!":[]},{"nand":1}]]}', '.fractional[1][0]: the operator "!" does not take 0 arguments'),
 ]
@@ -180,12 +180,15 @@ BUCKETS = [
 
 # The buckets of a site, one of which is none that a plan can take, and what is told of it.
 COMPUTED = [
-    ('["on",2147483648]', 'bucket 1, "on", weighs 2147483648'),
-    ('["blue",1],["on",-1]', 'bucket 2, "on", weighs -1'),
-    ('["on","1"]', 'bucket 1, "on", has a weight that is no number'),
-    ("[5]", "bucket 1 has a name that is no text"),
-    ('["on",{"+":[1,1]}]', "bucket 1 has a weight that is computed"),
-    ('["on",1],[{"var":"k"}]', "bucket 2 has a name that is computed"),
+    ('["on",2147483648]', 'argument 1 of "fractional", the bucket "on", has the weight 2147483648, above 2147483647'),
+    ('["blue",1],["on",-1]', 'argument 2 of "fractional", the bucket "on", has the weight -1, below 0'),
+    (
+        '["on","1"]',
+        'argument 1 of "fractional", the bucket "on", has the weight "1", a text: write the number alone, without quotes or sign',
+    ),
+    ("[5]", 'argument 1 of "fractional" has the name 5, which is not a text'),
+    ('["on",{"+":[1,1]}]', 'argument 1 of "fractional" has a weight that is computed'),
+    ('["on",1],[{"var":"k"}]', 'argument 2 of "fractional" has a name that is computed'),
 ]
 
 NAMES = ["blue", "p", "red", "u", "v", "x", "y"]

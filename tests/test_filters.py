@@ -131,7 +131,7 @@ class FiltersTest(ProgramTest):
             (tally(note("a") + "\ufeff" + note("b")), "tally"),
         ]:
             self.assertTrue(ran.out.endswith(f"refused {call} 1 Line 2\n"), ran.out)
-            self.assertNotIn("mark", ran.err)
+            self.assertNotIn(", as it begins with a byte order mark\n", ran.err)
 
     def test_refused_line(self):
         """What was printed before stays, the line of the refusal is the last, and later lines are not looked at."""
@@ -238,7 +238,7 @@ class FiltersTest(ProgramTest):
                 self.assertRegex(ran.err, "^" + told + "$")
         ran = record(context("a") + "[]\n", document=document, key="timed")
         self.assertEqual((len(ran.out.splitlines()), ran.status), (2, 1))
-        self.assertRegex(ran.err, "^error: the standard input: [^\n]*line 2[^\n]*\n" + told + "$")
+        self.assertRegex(ran.err, "^error: the standard input: line 2 is a list, not a context\n(  [^\n]*\n)*" + told + "$")
 
     def test_why_nothing_is_recorded(self):
         """Where no line is noted of any context it is told why, each context by one cause; where one is, nothing of it."""
@@ -349,8 +349,8 @@ class FiltersTest(ProgramTest):
         """What `join` tells of a file that is empty, begins with a byte order mark, or was cut."""
         whole = printed([note("a")], TOTAL)
         for text, told in [
-            ("", 'error: "a" is empty, and no tally\n'),
-            ("\ufeff" + whole, 'error: "a" begins with a byte order mark, and is no tally\n'),
+            ("", 'error: "a" is empty, which is not a tally\n'),
+            ("\ufeff" + whole, 'error: "a" begins with a byte order mark, so it is not a tally\n'),
             (whole[:-1], "its last line has no line feed"),
         ]:
             with self.subTest(text=text[:20]):

@@ -328,7 +328,7 @@ class PictureTest(ProgramTest):
         for words in (["picture", "doc", "request", "book", "plan"], ["picture", "--ramp", "doc", "steps", "book", "ramp"]):
             ran = run(words, given)
             self.assertEqual((ran.status, ran.err.count("note: ")), (0, 1))
-            self.assertIn("none of its flag: 1 of 1 do not begin with its key", ran.err)
+            self.assertIn("not of its flag: 1 of 1 do not begin with its key", ran.err)
 
 
 if __name__ == "__main__":

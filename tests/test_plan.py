@@ -181,7 +181,7 @@ class Plan(ProgramTest):
 
     def test_the_variants_are_told_beside_a_name_that_is_none(self):
         files = {"d": document(), "r": request('"red":3,"blue":6,"pink":0'), "b": BOOK}
-        self.assertIn('there are "blue", "green", "red"\n', run(["plan", "d", "r", "b"], files).err)
+        self.assertIn('known variants: "blue", "green", "red"\n', run(["plan", "d", "r", "b"], files).err)
 
     def test_many_names(self):
         """The points that stay are those with the most inputs: of seven inputs on five points of 4 names, one of which may

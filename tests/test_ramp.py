@@ -180,9 +180,9 @@ class RampTest(ProgramTest):
         """It is told of a text that is no JSON as of a request, and else that there are no steps."""
         asked = steps('"red":4,"blue":6')
         for text, told in [
-            ("", '"steps" is empty, and no JSON\n'),
-            ("\ufeff" + asked, '"steps" begins with a byte order mark, and is no JSON\n  save it as UTF-8 without the mark\n'),
-            (asked[:-1], '"steps" is no JSON: '),
+            ("", '"steps" is empty, which is not valid JSON\n'),
+            ("\ufeff" + asked, '"steps" begins with a byte order mark, so it is not valid JSON\n  save it as UTF-8 without the mark\n'),
+            (asked[:-1], '"steps" is not valid JSON: '),
             ("{}", '"steps": it is no request with "steps", a list of 1 to 100 totals, '),
         ]:
             given = {**self.files(text), "ramp": ""}
@@ -221,7 +221,7 @@ class RampTest(ProgramTest):
         totals = ('"red":4,"blue":6', '"red":2,"blue":8')
         given = {"doc": KEYED, "steps": steps(*totals), "book": f'{{"book":1}}\n{KEYED_PAGE}\n"ann"\n"colorann"\n'}
         given["ramp"] = run(["ramp", "doc", "steps", "book"], given).out
-        note = 'note: "book" has inputs on the page of the request that are none of its flag: 1 of 2 do not begin with its key\n'
+        note = 'note: "book" has inputs on the page of the request that are not of its flag: 1 of 2 do not begin with its key\n'
         for words in (["ramp", "doc", "steps", "book"], ["verify-ramp", "doc", "steps", "book", "ramp"]):
             with self.subTest(words=words):
                 ran = run(words, given)

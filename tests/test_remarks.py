@@ -30,18 +30,18 @@ REFUSED = [
     (
         "request",
         '{"plan":1,"flag":"a","totals":{"on":[1,2]}}',
-        'error: the request "f": totals.on is a list, no number from 0 to 2147483647 '
-        '(a range [LOW,HIGH] only with "plan":2)',
+        'error: the request "f": totals.on is a list; a total is a number from 0 to 2147483647 '
+        '(or with "plan":2 a range [LOW,HIGH])',
     ),
     (
         "request",
         '{"plan":2,"flag":"a","totals":{"on":[1]}}',
-        'error: the request "f": totals.on is a list, no number from 0 to 2147483647 nor a range [LOW,HIGH]',
+        'error: the request "f": totals.on is a list; a total is a number from 0 to 2147483647 or a range [LOW,HIGH]',
     ),
     (
         "request",
         '{"plan":1,"flag":"a","totals":{},"forbid":[["on"]]}',
-        'error: the request "f": forbid[0] is no [FROM,TO]',
+        'error: the request "f": forbid[0] is not [FROM,TO]',
     ),
     (
         "request",
@@ -68,53 +68,147 @@ REFUSED = [
         '{"plan":2,"flag":"a","totals":{"on":[5,4]}}',
         'error: the request "f": totals.on is [5,4]; the low limit stands first',
     ),
-    ("request", '{"plan":1,"totals":{"a b":0.5}}', 'error: "f": the number at totals["a b"] is not whole'),
-    ("plan", "[]", 'error: "f" is no plan: it is a list'),
-    ("plan", '{"plan":1,"alpha":[],"beta":[],"cost":0}', 'error: "f" is no plan: "rule" is missing'),
-    ("plan", '{"plan":1,"none":"on"}', 'error: "f" is no plan: "none" is "on"'),
+    ("request", '{"plan":1,"totals":{"a b":0.5}}', 'error: "f": totals["a b"] is 0.5, a number that is not whole'),
+    ("plan", "[]", 'error: "f" is not a plan: it is a list'),
+    ("plan", '{"plan":1,"alpha":[],"beta":[],"cost":0}', 'error: "f" is not a plan: "rule" is missing'),
+    ("plan", '{"plan":1,"none":"on"}', 'error: "f" is not a plan: "none" is "on"'),
     (
         "plan",
         '{"plan":1,"none":["b","a"]}',
-        'error: "f" is no plan: a list is out of order, or an item misshaped',
+        'error: "f" is not a plan: a list is out of order, or an item has the wrong form',
     ),
-    ("plan", '{"plan":1,"none":["a",1]}', 'error: "f" is no plan: none[1] is no name of a variant'),
+    ("plan", '{"plan":1,"none":["a",1]}', 'error: "f" is not a plan: none[1] is not the name of a variant'),
     (
         "plan",
         '{"plan":1,"alpha":[["a",0,0],["a",1]],"beta":[],"cost":0,"rule":[]}',
-        'error: "f" is no plan: alpha[1] is no [VARIANT,USERS,n]',
+        'error: "f" is not a plan: alpha[1] is not [VARIANT,USERS,n]',
     ),
     (
         "plan",
         '{"plan":1,"alpha":[["a",-1,0]],"beta":[],"cost":"x","rule":[]}',
-        'error: "f" is no plan: "cost" is "x"',
+        'error: "f" is not a plan: "cost" is "x"',
     ),
     (
         "plan",
         '{"plan":3,"alpha":[["a",-1,0]],"beta":[["a",0,0]],"cost":0,"rule":[]}',
-        'error: "f" is no plan: beta[0] is no [VARIANT,n]',
+        'error: "f" is not a plan: beta[0] is not [VARIANT,n]',
     ),
     (
         "plan",
         '{"plan":1,"alpha":[],"beta":[],"cost":-1,"rule":[["a"],["b",1,1]]}',
-        'error: "f" is no plan: rule[1] is no bucket [VARIANT,WEIGHT]',
+        'error: "f" is not a plan: rule[1] is not a bucket [VARIANT,WEIGHT]',
     ),
     (
         "plan",
         '{"plan":1,"alpha":[["a",-1,0]],"beta":[],"cost":0,"rule":[["a",1]]}',
-        'error: "f" is no plan: a list is out of order, or an item misshaped',
+        'error: "f" is not a plan: a list is out of order, or an item has the wrong form',
     ),
-    ("document", "", 'error: "f" is empty, and no JSON'),
-    ("document", "\ufeff{}", 'error: "f" begins with a byte order mark, and is no JSON'),
-    ("document", '{"flags":[]}', 'error: "f" is no flag document: "flags" is a list, no object'),
-    ("document", '{"flag":{}}', 'error: "f" is no flag document: it has no "flags"'),
+    ("document", "", 'error: "f" is empty, which is not valid JSON'),
+    ("document", "\ufeff{}", 'error: "f" begins with a byte order mark, so it is not valid JSON'),
+    ("document", '{"flags":[]}', 'error: "f" is not a flag document: "flags" is a list, not an object'),
+    ("document", '{"flag":{}}', 'error: "f" is not a flag document: it has no "flags"'),
     (
         "rule",
         "[" * 121 + "]" * 121,
         'error: "f": lists and objects nest deeper than 120 levels, at [0][0][0][0][0][0][0][0][0][0][0][0][0][0]..',
     ),
-    ("rule", '{"on":5}', 'error: "f" is no rule: it is an object'),
-    ("rule", '[["on"],"off"]', 'error: "f" is no rule: its item [1] is no bucket'),
-    ("rule", '[["on",5],["off",-0]]', 'error: "f": the number at [1][1] is not whole'),
+    ("rule", '{"on":5}', 'error: "f" is not a rule: it is an object'),
+    ("rule", '[["on"],"off"]', 'error: "f" is not a rule: its item [1] is "off", not a bucket'),
+    ("rule", '[["on",5],["off",-0]]', 'error: "f": [1][1] is -0: write 0'),
+]
+
+NUMBERS = "numbers are whole, from -(2^53-1) to 2^53-1, without point or exponent: use a smaller unit (cents), or a text"
+WEIGHTS = "a rule is a list of buckets [name, weight] with weights from 0 to 2147483647"
+ORDER = "check the order of the arguments"
+
+# What reads the file, the file, and the lines that say what is wrong with it and what to do.
+ADVISED = [
+    ("rule", '[["on",1.0]]', ['error: "f": [0][1] is 1.0: write 1', NUMBERS]),
+    ("rule", '[["on",1e2]]', ['error: "f": [0][1] is 1e2, a number with an exponent: write its digits', NUMBERS]),
+    (
+        "rule",
+        '[["on",10000000000000000000]]',
+        ['error: "f": [0][1] is 10000000000000000000, a number out of range', NUMBERS],
+    ),
+    (
+        "rule",
+        '[["on","5%"]]',
+        ['error: "f" is not a rule: the weight at [0][1] is "5%", a text: write the number alone, without quotes or sign', WEIGHTS],
+    ),
+    ("rule", '[["on",-5]]', ['error: "f" is not a rule: the weight at [0][1] is -5, below 0', WEIGHTS]),
+    ("rule", "[[5,5]]", ['error: "f" is not a rule: the name at [0][0] is 5, not a text', WEIGHTS]),
+    (
+        "request",
+        '{"plan":1,"flag":"a","totals":{"on":10.5}}',
+        [
+            'error: "f": totals.on is 10.5, a number that is not whole',
+            NUMBERS,
+            "for tenths of a point give --refine 10, and ten times each total",
+        ],
+    ),
+    (
+        "document",
+        b"\x1f\x8b\x08\x00",
+        ['error: "f" is not valid JSON: its bytes are not UTF-8', "it looks like gzip: decompress it first"],
+    ),
+    (
+        "document",
+        "# of the shop\nflags:\n  a: 1\n",
+        ['error: "f" is not valid JSON: invalid JSON at line 1 column 1', "it looks like YAML: write it as JSON"],
+    ),
+    (
+        "document",
+        '{"book":1}\n',
+        ['error: "f" is not a flag document: it has no "flags"', f"it looks like a book: {ORDER}"],
+    ),
+    (
+        "document",
+        '{"tally":1}\n',
+        ['error: "f" is not a flag document: it has no "flags"', f"it looks like a tally: {ORDER}"],
+    ),
+    (
+        "document",
+        '{"plan":1,"none":["a"]}',
+        ['error: "f" is not a flag document: it has no "flags"', f"it looks like a plan: {ORDER}"],
+    ),
+    (
+        "document",
+        '{"plan":1,"flag":"a","totals":{}}',
+        ['error: "f" is not a flag document: it has no "flags"', f"it looks like a rollout request: {ORDER}"],
+    ),
+    (
+        "document",
+        '{"state":"ENABLED","variants":{"on":1}}',
+        [
+            'error: "f" is not a flag document: it has no "flags"',
+            'it looks like the definition of one flag: put it into "flags", under its key',
+        ],
+    ),
+]
+
+# The targeting of a flag, and what is told of it where its flag is broken.
+TARGETINGS = [
+    (
+        '{"fractional":[["on",5.5]]}',
+        "fractional[0][1] is 5.5, a number that is not whole; multiply all weights alike until each is whole (TargetingPart)",
+    ),
+    ('{"if":[{"==":[1,1.0]},"on"]}', 'if[0]["=="][1] is 1.0: write 1 (TargetingPart)'),
+    (
+        '{"if":[{"==":[1,10000000000000000000]},"on"]}',
+        'if[0]["=="][1] is 10000000000000000000, a number out of range (TargetingPart)',
+    ),
+    ('{"if":[{"/":[1,1]},"on"]}', "if[0]: JsonLogic's operator \"/\" is left out here (Expression)"),
+    ('{"if":[{"?:":[1,1]},"on"]}', "if[0]: JsonLogic's operator \"?:\" is left out here (Expression)"),
+]
+
+# A document of a flag with ten and ninety points, and what is told of totals for it.
+SHARED = (
+    '{"flags":{"a":{"state":"ENABLED","variants":{"off":0,"on":1},"defaultVariant":"off",'
+    '"targeting":{"fractional":[["on",10],["off",90]]}}}}'
+)
+TOTALS = [
+    ('{"on":100,"off":900}', "the totals are of 10 times as many: give --refine 10, or divide each total by 10"),
+    ('{"on":1,"off":9}', "that is 10 times as many: multiply each total by 10"),
 ]
 
 # Evaluators, and what is told of a flag that refers to `e`.
@@ -129,11 +223,11 @@ BROKEN = [
     ),
     (
         '{"e":{"==":[1,{"$ref":"lost"}]}}',
-        'broken: flags.a.targeting refers to $evaluators.e["=="][1], which refers to "lost", no evaluator; there are "e" (Reference)',
+        'broken: flags.a.targeting refers to $evaluators.e["=="][1], which refers to "lost", not an evaluator; known evaluators: "e" (Reference)',
     ),
     (
         '{"e":{"+":[1,1.5]}}',
-        'broken: flags.a.targeting refers to $evaluators.e["+"][1], which is a number that is not whole (TargetingPart)',
+        'broken: flags.a.targeting refers to $evaluators.e["+"][1], which is 1.5, a number that is not whole (TargetingPart)',
     ),
     (
         '{"e":{"!":{"$ref":"e"}}}',
@@ -146,7 +240,7 @@ CHAINS = [
     ('{"$ref":"0"}', ', or what it refers to (first "0"), has a $ref back to itself, or to no evaluator (Reference)'),
     (
         '{"$ref":"lost"}',
-        ' refers to $evaluators.99999, which refers to "lost", no evaluator; there are "0", "1", "10", "100", "1000", '
+        ' refers to $evaluators.99999, which refers to "lost", not an evaluator; known evaluators: "0", "1", "10", "100", "1000", '
         '"10000", "10001", "10002", "10003", "10004" and 99990 more (Reference)',
     ),
     ('{"nand":[1]}', ' refers to $evaluators.99999: the operator "nand" is unknown (Expression)'),
@@ -182,6 +276,36 @@ class Remarks(ProgramTest):
                 ran = run(WORDS[reader], {"d": DOCUMENT, "b": '{"book":1}\n', "f": text})
                 self.assertEqual(ran.status, 1)
                 self.assert_told(ran, told)
+
+    def test_of_what_to_do(self):
+        for reader, text, told in ADVISED:
+            with self.subTest(reader=reader, text=text):
+                ran = run(WORDS[reader], {"d": DOCUMENT, "b": '{"book":1}\n', "f": text})
+                self.assertEqual(ran.status, 1)
+                self.assertEqual([line.strip() for line in ran.err.splitlines()[: len(told)]], told)
+
+    def test_of_targetings(self):
+        for targeting, told in TARGETINGS:
+            with self.subTest(targeting=targeting):
+                flag = f'{{"state":"ENABLED","variants":{{"on":1}},"targeting":{targeting}}}'
+                ran = run(["check", "f"], {"f": f'{{"flags":{{"a":{flag}}}}}'})
+                self.assertEqual((ran.status, ran.out), (0, '"a" broken\n'))
+                self.assert_told(ran, f"broken: flags.a.targeting.{told}")
+
+    def test_of_totals_of_another_factor(self):
+        for totals, told in TOTALS:
+            with self.subTest(totals=totals):
+                files = {"d": SHARED, "b": '{"book":1}\n', "f": f'{{"plan":1,"flag":"a","totals":{totals}}}'}
+                ran = run(WORDS["request"], files)
+                self.assertEqual((ran.status, ran.out), (1, "refused plan 6 TotalsSum\n"))
+                self.assertEqual(ran.err.splitlines()[2].strip(), told)
+
+    def test_of_a_tally_of_another_factor(self):
+        files = {"d": SHARED, "f": '{"plan":1,"flag":"a","totals":{"on":200,"off":800}}'}
+        made = run(["tally", "d", "a", "0"], files, input='["a",0,null,"aann"]\n')
+        ran = run(["plan", "--refine", "10", "d", "f", "t"], {**files, "t": made.out})
+        self.assertEqual((made.status, ran.status, ran.out), (0, 1, "refused plan 11 OtherTally\n"))
+        self.assertIn("the tally was made without --refine: ", ran.err)
 
     def test_of_flags_that_are_broken(self):
         for evaluators, told in BROKEN:

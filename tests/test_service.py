@@ -24,7 +24,7 @@ FLAGS = "/ofrep/v1/evaluate/flags"
 JSON = "application/json"
 
 # What is told of a document that cannot be read again, or is broken.
-KEPT = "what was accepted of it last"
+KEPT = "the last version that was accepted stays in use"
 
 # A flag for each answer: one variant by a rule, one always, one of another kind, and those that have none.
 DOCUMENT = {
@@ -534,10 +534,10 @@ class Keys(ServiceTest):
         self.put("k", self.OTHER)
         wait_until(lambda: self.asked(X_API_Key=self.OTHER)[0] == 200, "the new key is not taken")
         wait_until(lambda: self.asked(X_API_Key=self.ONE)[0] == 401, "the old key is taken still")
-        for text, part in ((f"{self.ONE}\nshort\n", 'ofrep: line 2 of "k" is no key'), ("", 'ofrep: "k" has no keys')):
+        for text, part in ((f"{self.ONE}\nshort\n", 'ofrep: line 2 of "k" is not a key'), ("", 'ofrep: "k" has no keys')):
             self.put("k", text)
             self.told(child, part)
-            self.told(child, "the keys that were read of it last stay")
+            self.told(child, "the keys that were read last stay in use")
         self.assertEqual(self.asked(X_API_Key=self.OTHER)[0], 200)
         self.assertEqual([self.asked(X_API_Key=key)[0] for key in (self.ONE, "short")], [401, 401])
 
@@ -563,10 +563,10 @@ class Keys(ServiceTest):
             with self.subTest(text):
                 told = run(["ofrep", "--keys", "k", "d"], {"d": compact(DOCUMENT), "k": text.encode()})
                 self.assertEqual((told.out, told.status), ("refused keys 4 BadKey\n", 1))
-                self.assertIn(f'line {line} of "k" is no key', told.err)
+                self.assertIn(f'line {line} of "k" is not a key', told.err)
         told = run(["ofrep", "--keys", "k", "d"], {"d": compact(DOCUMENT), "k": b"0123456789abcde\xff\n"})
         self.assertEqual((told.out, told.status), ("refused keys 4 BadKey\n", 1))
-        self.assertIn('"k" is no text in UTF-8', told.err)
+        self.assertIn('"k" is not a text in UTF-8', told.err)
 
 
 class Operations(ServiceTest):
@@ -695,11 +695,18 @@ class Operations(ServiceTest):
         with socket.socket() as taken:
             taken.bind(("127.0.0.1", 0))
             taken.listen()
-            for address in ("nowhere", "localhost", "127.0.0.1", f"127.0.0.1:{taken.getsockname()[1]}"):
+            port = taken.getsockname()[1]
+            for address, why in (
+                ("nowhere", "is not ADDRESS:PORT"),
+                ("localhost", "is not ADDRESS:PORT"),
+                ("127.0.0.1", "is not ADDRESS:PORT"),
+                (f"127.0.0.1:{port}", "is in use"),
+                (f"localhost:{port}", "is in use"),
+            ):
                 with self.subTest(address):
                     told = run(["ofrep", "--listen", "127.0.0.1:0", "--admin", address, "d"], {"d": compact(DOCUMENT)})
                     self.assertEqual((told.out, told.status), ("refused bind 1 Unbound\n", 1))
-                    self.assertNotEqual(told.err, "")
+                    self.assertIn(f'error: the address "{address}" of --admin {why}\n', told.err)
 
     def test_a_line_for_each_request(self):
         child = self.operated("--access-log")
@@ -1254,7 +1261,7 @@ class BadEdits(Changing):
     def test_a_flag_is_not_lost_behind_a_second_member_of_flags(self):
         first = compact({"flags": self.GOOD})
         text = first[:-1] + "," + compact({"flags": {"size": self.GOOD["size"]}})[1:]
-        self.edited(lambda: self.put("d", text), "still, and no flag of this key")
+        self.edited(lambda: self.put("d", text), "but no flag of this key")
 
     def test_the_text_of_before_mends_it(self):
         wrong = {**self.GOOD["color"], "state": "ON"}
@@ -1306,7 +1313,7 @@ class BadEdits(Changing):
         child = self.start("--poll", "1", documents=("d", "over"))
         os.remove(os.path.join(self.folder, "over"))
         os.mkfifo(os.path.join(self.folder, "over"))
-        self.told(child, "is no plain file")
+        self.told(child, "is not a plain file")
         self.put("d", self.changed("one"))
         self.until(1)
 
@@ -1382,6 +1389,7 @@ class Streaming(Changing):
             port = str(taken.getsockname()[1])
             ran = run(["ofrep", "--listen", "127.0.0.1:0", "--stream", port, "d"], {"d": compact(DOCUMENT)})
         self.assertEqual((ran.out, ran.status), ("refused bind 1 Unbound\n", 1))
+        self.assertIn(f"error: the port {port} of --stream is in use\n", ran.err)
 
 
 class Refusals(ServiceTest):
@@ -1403,13 +1411,18 @@ class Refusals(ServiceTest):
                 self.assertEqual("No such file or directory" in ran.err, words == ["none"])
 
     def test_addresses_and_logs(self):
-        for words, line in [
-            (["--listen", "nowhere", "d"], "refused bind 1 Unbound\n"),
-            (["--listen", "127.0.0.1:0", "--log", "d", "d"], "refused log 1 Unopened\n"),
+        for words, line, told in [
+            (["--listen", "nowhere", "d"], "bind 1 Unbound", 'the address "nowhere" of --listen is not ADDRESS:PORT'),
+            (["--listen", "8016", "d"], "bind 1 Unbound", 'the address "8016" of --listen is not ADDRESS:PORT'),
+            (["--listen", ":8016", "d"], "bind 1 Unbound", 'the address ":8016" of --listen is not ADDRESS:PORT'),
+            (["--listen", "127.0.0.1:80000", "d"], "bind 1 Unbound", 'the address "127.0.0.1:80000" of --listen is not ADDRESS:PORT'),
+            (["--listen", "192.0.2.1:8016", "d"], "bind 1 Unbound", 'the address "192.0.2.1:8016" of --listen is not an address of this machine'),
+            (["--listen", "127.0.0.1:0", "--log", "d", "d"], "log 1 Unopened", 'the folder "d" of --log cannot be used: '),
         ]:
             with self.subTest(words):
                 ran = self.refused(*words)
-                self.assertEqual((ran.out, ran.status), (line, 1))
+                self.assertEqual((ran.out, ran.status), (f"refused {line}\n", 1))
+                self.assertIn(f"error: {told}", ran.err)
                 self.assertNotEqual(ran.err, "")
 
     def test_mistakes(self):

@@ -17,8 +17,8 @@ EDITS = [
     ("a default variant that is none", compact({"flags": {**GOOD, "color": {**GOOD["color"], "defaultVariant": "green"}}}), "broken: flags.color.defaultVariant"),
     ("an operator that is none", compact({"flags": {**GOOD, "color": {**GOOD["color"], "targeting": {"fractonal": []}}}}), "broken: flags.color.targeting"),
     ("a flag without variants", compact({"flags": {**GOOD, "size": {"state": "ENABLED"}}}), "broken: flags.size.variants"),
-    ("a comma too many", compact({"flags": GOOD})[:-2] + ",}}", '"d" is no JSON'),
-    ("an empty file", "", '"d" is empty, and no JSON'),
+    ("a comma too many", compact({"flags": GOOD})[:-2] + ",}}", '"d" is not valid JSON'),
+    ("an empty file", "", '"d" is empty, which is not valid JSON'),
     ("a flag within another", compact({"flags": {"size": {**GOOD["size"], "color": GOOD["color"]}}}), 'it has "color" still'),
 ]
 

@@ -309,7 +309,7 @@ class Streams(unittest.TestCase):
         follower = self.start("follow", port, "1000")
         self.assert_ends(follower, "snapshot 1 flags 10\nended\n", 0)
         told = self.assert_ends(server, "refused set 4 Refused 1 NotJson\n", 1)
-        self.assertIn('error: "2.json" is no JSON: ', told)
+        self.assertIn('error: "2.json" is not valid JSON: ', told)
         self.assertTrue(told.endswith("  the subscribers have what was published before it\n"), told)
 
     def test_documents_that_will_be_refused_are_told_beforehand(self):
@@ -324,7 +324,7 @@ class Streams(unittest.TestCase):
             told.append(server.stderr.readline())
         warned = [line for line in told if line.startswith("serve: document ")]
         self.assertEqual(warned, ["serve: document 2 will be refused\n", "serve: document 4 will be refused\n"])
-        self.assertIn('error: "bad" is no JSON: ', "".join(told))
+        self.assertIn('error: "bad" is not valid JSON: ', "".join(told))
         self.assertIn('error: "flagless"', "".join(told))
         self.assert_ends(self.start("follow", port, "1000"), "snapshot 1 flags 1\nended\n", 0)
         self.assert_ends(server, "refused set 4 Refused 1 NotJson\n", 1)
@@ -332,7 +332,7 @@ class Streams(unittest.TestCase):
     def test_a_first_document_is_refused_before_anybody_is_waited_for(self):
         self.put("d", '{"flags":{},\n')
         told = self.assert_ends(self.start("serve", self.free_port(), "1", "d"), "refused set 4 Refused 1 NotJson\n", 1)
-        self.assertTrue(told.startswith('error: "d" is no JSON: '), told)
+        self.assertTrue(told.startswith('error: "d" is not valid JSON: '), told)
 
     def test_who_does_not_come_in_time(self):
         """Those who have come are served, and the others are counted; where none has come there is nobody to serve."""

@@ -61,9 +61,9 @@ def files(asked, book):
 def foreign_note(count, first):
     """What is told of so many inputs that do not begin with the flag's key."""
     return (
-        f'note: "book" has inputs on the page of the request that are none of its flag: {count} do not begin with its key\n'
+        f'note: "book" has inputs on the page of the request that are not of its flag: {count} do not begin with its key\n'
         f'  flag "color", "site":0, "by":null; the first is "{first}"\n'
-        '  where "by" is null an input is the flag\'s key with the targeting key behind it\n'
+        '  where "by" is null an input is the flag\'s key followed by the targeting key\n'
     )
 
 

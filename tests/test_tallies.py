@@ -177,7 +177,7 @@ class Tallies(ProgramTest):
             ]:
                 with self.subTest(tally=tally, words=front):
                     ran = self.assert_ends([*front, "t", *back], self.files(tally), 1, f"refused read_tally {refusal}\n")
-                    self.assertTrue(ran.err.startswith('error: "t" is no tally: '), ran.err)
+                    self.assertTrue(ran.err.startswith('error: "t" is not a tally: '), ran.err)
                     is_cut = not tally.endswith("\n") and refusal.startswith("3 Line")
                     self.assertEqual("its last line has no line feed" in ran.err, is_cut, ran.err)
 

@@ -11,8 +11,8 @@ REQUEST = '{"plan":1,"flag":"color","totals":{"red":10}}'
 
 # A file that is given as a book, and what is told of it.
 NO_BOOKS = [
-    ("", '"f" is empty, and no book'),
-    ("\ufeff" + BOOK, '"f" begins with a byte order mark, and is no book'),
+    ("", '"f" is empty, which is not a book'),
+    ("\ufeff" + BOOK, '"f" begins with a byte order mark, so it is not a book'),
     (BOOK[:-1], "its last line has no line feed"),
     (document(), "a book begins with the line"),
 ]
@@ -147,7 +147,7 @@ class Drives(ProgramTest):
                 ran = run(["drive", "d", "a", "1", "b"], {"d": document(), "a": asks(["color"]), "b": text})
                 self.assertEqual(ran.status, 1)
                 self.assertIn("refused read_book ", ran.out)
-                self.assertIn('"b" is a file that is no book, and stays as it is', ran.err)
+                self.assertIn('"b" is a file that is not a book, and stays as it is', ran.err)
                 self.assertEqual(ran.files["b"], text)
 
     def test_a_book_and_an_empty_file_are(self):

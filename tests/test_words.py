@@ -4,6 +4,7 @@ import re
 import shlex
 import shutil
 import subprocess
+import tempfile
 import unittest
 
 from program import PROGRAM, ROOT, SECONDS, ProgramTest, run
@@ -125,6 +126,19 @@ class Words(ProgramTest):
             )
             ran = subprocess.run(["bash", "-c", script], cwd=ROOT, capture_output=True, text=True, timeout=SECONDS, check=True)
             self.assertEqual(ran.stdout.split(), want, line)
+
+    @unittest.skipUnless(shutil.which("bash"), "no bash is here")
+    def test_bash_completes_names_with_blanks(self):
+        with tempfile.TemporaryDirectory() as folder:
+            with open(os.path.join(folder, "two words.json"), "w", encoding="utf-8"):
+                pass
+            for line in (["flagops", "check", "two"], ["flagops", "resolve", "two"]):
+                script = (
+                    f"source <({shlex.quote(PROGRAM)} completions bash); COMP_WORDS=({' '.join(line)}); COMP_CWORD={len(line) - 1}; "
+                    "_flagops; printf '%s\\n' \"${COMPREPLY[@]}\""
+                )
+                ran = subprocess.run(["bash", "-c", script], cwd=folder, capture_output=True, text=True, timeout=SECONDS, check=True)
+                self.assertEqual(ran.stdout, "two words.json\n", line)
 
     def test_the_man_page_has_each_word(self):
         with open(os.path.join(ROOT, "release", "flagops.1"), encoding="utf-8") as file:

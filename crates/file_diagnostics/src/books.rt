@@ -8,7 +8,7 @@ use book_core::BookFileFault;
 use std::alloc::{AllocError, Global};
 use std::fmt::Display;
 
-/// Explains why the file at `path`, whose ends are known, is no book.
+/// Explains why the file at `path`, whose ends are known, is not a book.
 pub fn of_book(
     alloc: Global,
     path: &str,
@@ -23,10 +23,10 @@ pub fn of_book(
     };
     let mut lines = Lines::new(alloc);
     match ends {
-        Ends::Empty => write!(lines, " is empty, and no book\n"),
+        Ends::Empty => write!(lines, " is empty, which is not a book\n"),
         Ends::Marked => write!(
             lines,
-            " begins with a byte order mark, and is no book\n  save it as UTF-8 without the mark\n",
+            " begins with a byte order mark, so it is not a book\n  save it as UTF-8 without the mark\n",
         ),
         _ => put_misread(&mut lines, "book", is_cut, fault, taken(fault)),
     }
@@ -45,10 +45,10 @@ pub(crate) fn put_misread<F: Display + Drop>(
     if is_cut {
         write!(
             lines,
-            " is no {what}: its last line has no line feed ({fault})\n  was it cut off? each line of a {what} has its line end, the last one too\n",
+            " is not a {what}: its last line has no line feed ({fault})\n  was it cut off? each line of a {what} ends with a line feed, the last one too\n",
         );
     } else {
-        write!(lines, " is no {what}: {fault}\n  {taken}\n");
+        write!(lines, " is not a {what}: {fault}\n  {taken}\n");
     }
 }
 
@@ -57,26 +57,26 @@ fn taken(fault: BookFileFault) -> &'static str {
     match fault {
         BookFileFault::Header => "a book begins with the line {\"book\":1}",
         BookFileFault::Line(_) => {
-            "a page is {\"by\":null,\"flag\":\"KEY\",\"site\":0}, an input a text on a line, each with its line end"
+            "a page is {\"by\":null,\"flag\":\"KEY\",\"site\":0}, an input a JSON text, each on a line of its own with a line feed"
         }
         BookFileFault::Order(_) => {
             "pages are sorted by flag, site and by, inputs by their bytes, each once"
         }
         BookFileFault::InputTooLong(_) | BookFileFault::PageFull(_) => {
-            "leave inputs out, or make the book by the program"
+            "leave inputs out, or have the program write the book"
         }
-        BookFileFault::WantOfMemory => "there was no memory to read it",
+        BookFileFault::WantOfMemory => "memory ran out as it was read",
     }
 }
 
-/// Explains why the file at `path` is not replaced by a book: it is no book.
+/// Explains why the file at `path` is not replaced by a book: it is not one itself.
 pub fn of_other_file(alloc: Global, path: &str, fault: BookFileFault) -> Result<String, AllocError>
     ensures names { IfOk result (λ s. Names path.now (string_bytes s)) }
 {
     let mut lines = Lines::new(alloc);
     write!(
         lines,
-        " is a file that is no book, and stays as it is: {fault}\n  give the path of a book, of an empty file, or of no file yet\n",
+        " is a file that is not a book, and stays as it is: {fault}\n  give the path of a book, of an empty file, or a path where no file is yet\n",
     );
     lines.headed(Opening::Error, path)
 }

@@ -16,6 +16,7 @@ use flag_text::{TextFault, Tree, read_doc};
 use float_variants::read_with_floats;
 use limits::TEXT_BYTES;
 use std::alloc::{AllocError, Global};
+use text_spans::Step;
 
 /// A line for each broken flag of the document that the bytes are, in the order of the keys: the first rule that it
 /// breaks, and where. The document may have floats, or may not; of a flag that only lacks that it says so.
@@ -27,7 +28,7 @@ pub fn of_definition_errors(alloc: Global, bytes: &[u8], floats: bool) -> Result
         return Err(AllocError);
     };
     let found = definition_errors(alloc, &document)?;
-    let mut causes = Causes::new(alloc, members_in(&document, "$evaluators"), floats);
+    let mut causes = Causes::new(alloc, bytes, members_in(&document, "$evaluators"), floats);
     let flags = members_in(&document, "flags");
     lines_of(alloc, flags, &mut causes, found.as_slice())
 }
@@ -59,12 +60,17 @@ struct Causes<'a> {
 }
 
 impl<'a> Causes<'a> {
-    fn new(alloc: Global, evaluators: &'a [(String, Tree)], floats: bool) -> Causes<'a> {
+    fn new(
+        alloc: Global,
+        bytes: &'a [u8],
+        evaluators: &'a [(String, Tree)],
+        floats: bool,
+    ) -> Causes<'a> {
         Causes {
-            numbers: Referred::new(alloc, &[], Sought::NotWhole),
-            unknown: Referred::new(alloc, evaluators, Sought::Unknown(evaluators)),
-            parts: Referred::new(alloc, evaluators, Sought::NotWhole),
-            misuses: Referred::new(alloc, evaluators, Sought::Misuse),
+            numbers: Referred::new(alloc, bytes, &[], Sought::NotWhole),
+            unknown: Referred::new(alloc, bytes, evaluators, Sought::Unknown(evaluators)),
+            parts: Referred::new(alloc, bytes, evaluators, Sought::NotWhole),
+            misuses: Referred::new(alloc, bytes, evaluators, Sought::Misuse),
             floats,
         }
     }
@@ -93,30 +99,31 @@ fn lines_of(
 
 /// The line of a broken flag.
 #[tactic(auto, unfolding(crate::specs::Broken::IsBrokenLine))]
-fn line(
+fn line<'x>(
     alloc: Global,
-    key: &str,
-    definition: &Tree,
+    key: &'x str,
+    definition: &'x Tree,
     causes: &mut Causes<'_>,
     definition_error: DefinitionError,
 ) -> Result<String, AllocError>
     ensures { IfOk result (λ s. IsBrokenLine key.now definition_error (string_bytes s)) }
 {
-    let why = why(alloc, definition, causes, definition_error)?;
+    let why = why(alloc, key, definition, causes, definition_error)?;
     let flag = quoted_step(alloc, key)?;
     let (member, rule) = (rule_member(definition_error), rule_name(definition_error));
     format!(in alloc; "broken: flags{flag}{member}{why} ({rule})\n")
 }
 
 /// What is wrong with a flag, after the member that the rule is about.
-fn why(
+fn why<'x>(
     alloc: Global,
-    definition: &Tree,
+    key: &'x str,
+    definition: &'x Tree,
     causes: &mut Causes<'_>,
     definition_error: DefinitionError,
 ) -> Result<String, AllocError> {
     let mut lines = Lines::new(alloc);
-    put_definition_error(&mut lines, definition, causes, definition_error)?;
+    put_definition_error(&mut lines, key, definition, causes, definition_error)?;
     lines.finish()
 }
 
@@ -171,48 +178,64 @@ fn members_in<'a>(tree: &'a Tree, name: &str) -> &'a [(String, Tree)]
 }
 
 /// What is wrong by the rule that a definition breaks, and where in the member that it is about.
-fn put_definition_error(
+fn put_definition_error<'x>(
     lines: &mut Lines,
-    definition: &Tree,
+    key: &'x str,
+    definition: &'x Tree,
     causes: &mut Causes<'_>,
     definition_error: DefinitionError,
 ) -> Result<(), AllocError> {
-    let value = match rule_member(definition_error).strip_prefix(".") {
-        Some(name) => definition.member(name),
-        None => Some(definition),
+    let Some(name) = rule_member(definition_error).strip_prefix(".") else {
+        put_other(lines, Some(definition), "not an object");
+        return Ok(());
     };
+    let value = definition.member(name);
+    let path = [Step::Name("flags"), Step::Name(key), Step::Name(name)];
+    let path = path.as_slice();
     match definition_error {
-        DefinitionError::Definition => put_other(lines, value, "no object"),
+        DefinitionError::Kinds => {
+            let variants = members_in(definition, "variants");
+            put_kinds(lines, key, variants, &mut causes.numbers)?;
+            put_floats(lines, variants, causes.floats);
+        }
+        DefinitionError::VariantNumber => {
+            causes.numbers.put(lines, path, value)?;
+            put_floats(lines, members_in(definition, "variants"), causes.floats);
+        }
+        DefinitionError::Reference => causes.unknown.put(lines, path, value)?,
+        DefinitionError::TargetingPart => causes.parts.put(lines, path, value)?,
+        DefinitionError::Expression => causes.misuses.put(lines, path, value)?,
+        _ => put_member(lines, definition, value, definition_error)?,
+    }
+    Ok(())
+}
+
+/// What is wrong with a member, where it shows on the member itself.
+fn put_member(
+    lines: &mut Lines,
+    definition: &Tree,
+    value: Option<&Tree>,
+    definition_error: DefinitionError,
+) -> Result<(), AllocError> {
+    match definition_error {
         DefinitionError::State => put_other(lines, value, "neither \"ENABLED\" nor \"DISABLED\""),
         DefinitionError::Variants => match value {
             Some(Tree::Object(members)) => {
                 write!(lines, " has {} members, not 1 to 64", members.len());
             }
-            _ => put_other(lines, value, "no object of 1 to 64 variants"),
+            _ => put_other(lines, value, "not an object of 1 to 64 variants"),
         },
-        DefinitionError::Kinds => {
-            let variants = members_in(definition, "variants");
-            put_kinds(lines, variants);
-            put_floats(lines, variants, causes.floats);
-        }
-        DefinitionError::VariantNumber => {
-            causes.numbers.put(lines, value)?;
-            put_floats(lines, members_in(definition, "variants"), causes.floats);
-        }
         DefinitionError::VariantLevels => write!(lines, " nests deeper than 100 levels"),
         DefinitionError::DefaultVariant => {
             let variants = lines.listed(members_in(definition, "variants"));
-            let what = format!(in lines.alloc; "no variant; there are {variants}")?;
+            let what = format!(in lines.alloc; "not a variant; known variants: {variants}")?;
             put_other(lines, value, what.as_str());
         }
-        DefinitionError::Targeting => put_other(lines, value, "no object, or refers to none"),
-        DefinitionError::Reference => causes.unknown.put(lines, value)?,
         DefinitionError::TargetingSize => write!(
             lines,
             " has more than 10,000 nodes or 100 levels, with its references replaced",
         ),
-        DefinitionError::TargetingPart => causes.parts.put(lines, value)?,
-        DefinitionError::Expression => causes.misuses.put(lines, value)?,
+        _ => put_other(lines, value, "not an object, nor a reference to one"),
     }
     Ok(())
 }
@@ -226,29 +249,59 @@ fn put_other(lines: &mut Lines, value: Option<&Tree>, what: &str) {
 }
 
 /// The first variant that is of none of the four kinds, or of another kind than the first.
-fn put_kinds(lines: &mut Lines, variants: &[(String, Tree)]) {
+fn put_kinds<'x>(
+    lines: &mut Lines,
+    key: &'x str,
+    variants: &'x [(String, Tree)],
+    numbers: &mut Referred<'_>,
+) -> Result<(), AllocError> {
     let mut first: Option<Kind> = None;
     for (name, value) in variants {
-        let (step, shown) = (lines.step(name.as_str()), lines.value(value));
+        let name = name.as_str();
         match (Kind::of(value), first) {
             (Some(kind), None) => first = Some(kind),
             (Some(kind), Some(other)) if kind == other => {}
-            (Some(kind), Some(other)) => return write!(
-                lines,
-                "{step} is {} and the first variant {}; all are of one kind",
-                in_words(kind),
-                in_words(other),
-            ),
-            (None, _) if matches!(value, Tree::Other) => {
-                return write!(lines, "{step} is {shown}");
+            (Some(kind), Some(other)) => {
+                write!(
+                    lines,
+                    "{} is {} and the first variant {}; all are of one kind",
+                    lines.step(name),
+                    in_words(kind),
+                    in_words(other),
+                );
+                return Ok(());
             }
-            (None, _) => return write!(
-                lines,
-                "{step} is {shown}, no boolean, text, whole number or object",
-            ),
+            (None, _) => return put_kindless(lines, key, name, value, numbers),
         }
     }
     write!(lines, " are not of one kind");
+    Ok(())
+}
+
+/// A variant that is of none of the four kinds.
+fn put_kindless<'x>(
+    lines: &mut Lines,
+    key: &'x str,
+    name: &'x str,
+    value: &Tree,
+    numbers: &mut Referred<'_>,
+) -> Result<(), AllocError> {
+    write!(lines, "{}", lines.step(name));
+    if matches!(value, Tree::Other) {
+        let path = [
+            Step::Name("flags"),
+            Step::Name(key),
+            Step::Name("variants"),
+            Step::Name(name),
+        ];
+        return numbers.put_number(lines, path.as_slice());
+    }
+    write!(
+        lines,
+        " is {}, not a boolean, a text, a whole number or an object",
+        lines.value(value),
+    );
+    Ok(())
 }
 
 /// That `--floats` reads these variants, where that may be and was not asked for: all are numbers, or all objects.

@@ -3,6 +3,7 @@ ghost use Rattle.std.specs.Prelude.{◌≢◌, IfOk, string_bytes};
 ghost use Rattle.file_diagnostics.specs.Named.{Names};
 
 use crate::lines::{Lines, Opening};
+use crate::looks::{look_of, look_of_tree};
 use crate::texts::{put_not_json, tree_or_none};
 use flag_defs::DefFault;
 use flag_text::{Tree, read_doc};
@@ -26,9 +27,9 @@ pub fn of_document(
         DefFault::WantOfMemory => return String::from_str(alloc, "error: out of memory\n"),
         DefFault::NotJson => put_not_json(&mut lines, bytes)?,
         DefFault::NoFlags => {
-            write!(lines, " is no flag document: ");
+            write!(lines, " is not a flag document: ");
             put_no_flags(&mut lines, bytes)?;
-            write!(lines, "\n  it begins as {LOOK}\n");
+            write!(lines, "\n  a document looks like {LOOK}\n");
         }
         DefFault::TooLarge => {
             write!(lines, " is too large: ");
@@ -42,19 +43,23 @@ pub fn of_document(
     lines.headed(Opening::Error, path)
 }
 
-/// What stands in the place of the flags.
+/// What stands in the place of the flags, and what the file looks like.
 fn put_no_flags(lines: &mut Lines, bytes: &[u8]) -> Result<(), AllocError> {
-    let document = tree_or_none(read_doc(lines.alloc, bytes, TEXT_BYTES))?;
-    let Some(document) = document else {
+    let Some(document) = tree_or_none(read_doc(lines.alloc, bytes, TEXT_BYTES))? else {
         write!(lines, "it has no \"flags\"");
         return Ok(());
     };
     match (&document, document.member("flags")) {
         (Tree::Object(_), Some(flags)) => {
-            write!(lines, "\"flags\" is {}, no object", lines.value(flags));
+            write!(lines, "\"flags\" is {}, not an object", lines.value(flags));
         }
-        (Tree::Object(_), None) => write!(lines, "it has no \"flags\""),
-        (other, _) => write!(lines, "it is {}, no object", lines.value(other)),
+        (Tree::Object(_), None) => {
+            write!(lines, "it has no \"flags\"");
+            if let Some(look) = look_of(bytes).or(look_of_tree(&document)) {
+                write!(lines, "\n  it looks like {look}");
+            }
+        }
+        (other, _) => write!(lines, "it is {}, not an object", lines.value(other)),
     }
     Ok(())
 }

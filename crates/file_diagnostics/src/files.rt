@@ -17,7 +17,7 @@ pub fn of_unreadable(
     ensures names { IfOk result (λ s. Names path.now (string_bytes s)) }
 {
     let causes =
-        "it is missing, is a folder, or may not be read; paths are taken from where the program runs";
+        "it is missing, is a folder, or may not be read; paths are relative to where the program runs";
     of_trouble(alloc, path, "cannot be read", trouble, causes)
 }
 
@@ -56,14 +56,11 @@ pub fn of_long_book(alloc: Global, path: &str) -> Result<String, AllocError>
     ensures names { IfOk result (λ s. Names path.now (string_bytes s)) }
 {
     let mut lines = Lines::new(alloc);
-    write!(
-        lines,
-        " has more than 2^40 bytes, and counts as one that cannot be read\n",
-    );
+    write!(lines, " has more than 2^40 bytes, so it is not read\n",);
     lines.headed(Opening::File, path)
 }
 
-/// Explains why a text is no rule; `tree` is what it was read as, unless it is too large to be looked into.
+/// Explains why a text is not a rule; `tree` is what it was read as, unless it is too large to be looked into.
 pub fn of_rule(
     alloc: Global,
     path: &str,
@@ -75,13 +72,13 @@ pub fn of_rule(
     let mut lines = Lines::new(alloc);
     match fault {
         RuleFault::BadRule => {
-            write!(lines, " is no rule: ");
+            write!(lines, " is not a rule: ");
             match tree {
                 Some(tree) => put_wrong_bucket(&mut lines, tree),
                 None => {
                     write!(
                         lines,
-                        "an item is no bucket (the file is too large to say which)"
+                        "an item is not a bucket (the file is too large to say which)"
                     );
                 }
             }
@@ -104,17 +101,61 @@ pub fn of_rule(
     lines.headed(Opening::Error, path)
 }
 
-/// The first item that is no bucket.
+/// The first item that is not a bucket, and why.
 fn put_wrong_bucket(lines: &mut Lines, tree: &Tree) {
     let Tree::List(items) = tree else {
         return write!(lines, "it is {}", lines.value(tree));
     };
     for (place, item) in items.iter().enumerate() {
         if !is_bucket(item) {
-            return write!(lines, "its item [{place}] is no bucket");
+            return put_bucket_fault(lines, place, item);
         }
     }
-    write!(lines, "its buckets are not sound");
+    write!(lines, "its buckets have the wrong form");
+}
+
+/// Why the item at a place is not a bucket.
+fn put_bucket_fault(lines: &mut Lines, place: usize, item: &Tree) {
+    let Tree::List(parts) = item else {
+        return write!(
+            lines,
+            "its item [{place}] is {}, not a bucket",
+            lines.value(item)
+        );
+    };
+    match parts.as_slice() {
+        [Tree::Text(_), weight] => {
+            write!(lines, "the weight at [{place}][1] is ");
+            put_weight_fault(lines, weight);
+        }
+        [name] => put_name_fault(lines, place, name),
+        [name, _] => put_name_fault(lines, place, name),
+        _ => write!(
+            lines,
+            "its item [{place}] has {} parts, not a name and a weight",
+            parts.len(),
+        ),
+    }
+}
+
+/// What stands in the place of the name of a bucket.
+fn put_name_fault(lines: &mut Lines, place: usize, name: &Tree) {
+    let name = lines.value(name);
+    write!(lines, "the name at [{place}][0] is {name}, not a text");
+}
+
+/// What stands in the place of a weight, and what to write.
+pub fn put_weight_fault(lines: &mut Lines, weight: &Tree) {
+    write!(lines, "{}", lines.value(weight));
+    match weight {
+        Tree::Text(_) => write!(
+            lines,
+            ", a text: write the number alone, without quotes or sign"
+        ),
+        Tree::Whole(weight) if *weight < 0 => write!(lines, ", below 0"),
+        Tree::Whole(_) => write!(lines, ", above 2147483647"),
+        _ => {}
+    }
 }
 
 fn is_bucket(tree: &Tree) -> bool {

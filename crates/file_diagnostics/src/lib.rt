@@ -8,7 +8,7 @@
 //! let bytes = b"[\"ann\",]";
 //! if let Err(fault) = read_tree(alloc, bytes, 1000) {
 //!     let lines = of_text(alloc, "keys.json", bytes, 1000, fault)?;
-//!     assert!(rt; lines.as_str().starts_with("error: \"keys.json\" is no JSON: "));
+//!     assert!(rt; lines.as_str().starts_with("error: \"keys.json\" is not valid JSON: "));
 //! }
 //! ```
 //!
@@ -29,6 +29,8 @@ mod evaluators;
 mod files;
 mod lines;
 mod listing;
+mod looks;
+mod numbers;
 mod parts;
 mod plans;
 mod quoting;
@@ -43,12 +45,13 @@ pub use books::{of_book, of_full_book, of_other_file};
 pub use definition_errors::of_definition_errors;
 pub use documents::of_document;
 pub use ends::Ends;
-pub use files::{of_long_book, of_rule, of_unreadable, of_unwritable};
+pub use files::{of_long_book, of_rule, of_unreadable, of_unwritable, put_weight_fault};
 pub use lines::{Lines, Opening};
 pub use listing::{Listed, NameList};
+pub use looks::look_of;
 pub use parts::{Name, Step, Value};
 pub use plans::of_plan_file;
 pub use quoting::{quoted, quoted_name};
 pub use tallies::of_tally;
-pub use texts::{of_text, of_word, tree_or_none};
+pub use texts::{of_text, of_word, put_text_fault, tree_or_none};
 pub use unread::{of_unread, put_meant};

@@ -9,7 +9,7 @@ use limits::FILE_BYTES;
 use plan_text::{ItemFault, Misfit, PlanFileFault, PlanList};
 use std::alloc::{AllocError, Global};
 
-/// Explains why `bytes` are no plan.
+/// Explains why `bytes` are not a plan.
 pub fn of_plan_file(
     alloc: Global,
     path: &str,
@@ -19,7 +19,7 @@ pub fn of_plan_file(
     ensures names { IfOk result (λ s. Names path.now (string_bytes s)) }
 {
     let mut lines = Lines::new(alloc);
-    write!(lines, " is no plan: ");
+    write!(lines, " is not a plan: ");
     if fault == PlanFileFault::BadPlan {
         match read_tree(alloc, bytes, FILE_BYTES) {
             Ok(tree) => put_misfit(&mut lines, &tree),
@@ -30,7 +30,7 @@ pub fn of_plan_file(
     }
     write!(
         lines,
-        "\n  take a file that \"flagops plan\" printed; it has at most 67,108,864 bytes\n",
+        "\n  give a file that \"flagops plan\" printed; it has at most 67,108,864 bytes\n",
     );
     lines.headed(Opening::Error, path)
 }
@@ -43,7 +43,10 @@ fn put_misfit(lines: &mut Lines, tree: &Tree) {
         Some(Misfit::NoList(list)) => put_member(lines, tree, list.name()),
         Some(Misfit::Cost) => put_member(lines, tree, "cost"),
         Some(Misfit::Item(ItemFault::Misshapen, list, place)) => put_item(lines, list, place),
-        _ => write!(lines, "a list is out of order, or an item misshaped"),
+        _ => write!(
+            lines,
+            "a list is out of order, or an item has the wrong form"
+        ),
     }
 }
 
@@ -59,10 +62,10 @@ fn put_member(lines: &mut Lines, tree: &Tree, name: &str) {
 fn put_item(lines: &mut Lines, list: PlanList, place: usize) {
     let name = list.name();
     let form = match list {
-        PlanList::Names => "name of a variant",
+        PlanList::Names => "the name of a variant",
         PlanList::Alpha => "[VARIANT,USERS,n]",
         PlanList::Beta => "[VARIANT,n]",
-        PlanList::Buckets => "bucket [VARIANT,WEIGHT]",
+        PlanList::Buckets => "a bucket [VARIANT,WEIGHT]",
     };
-    write!(lines, "{name}[{place}] is no {form}");
+    write!(lines, "{name}[{place}] is not {form}");
 }

@@ -55,7 +55,7 @@ fn front(text: &str) -> Option<&str>
 }
 
 /// Whether a name is a word of letters, digits, `_`, `-` and `$`, and is shown whole.
-fn is_plain(name: &str) -> bool
+pub(crate) fn is_plain(name: &str) -> bool
     ensures { result ≡ is_plain name.now }
 {
     are_plain(name.as_bytes()) && !name.is_empty() && name.len() <= MOST_CHARACTERS

@@ -1,16 +1,28 @@
 //! The diagnostic of what is wrong in a flag's member, or in the evaluators that it refers to.
 use crate::evaluators::{Causes, references};
 use crate::lines::Lines;
+use crate::numbers::{put_number, spelled_at};
 use crate::search::{Sought, Wrong, first_wrong};
 use crate::way::Way;
 use flag_text::Tree;
 use logic_ast::Misuse;
 use std::alloc::{AllocError, Global};
 use std::collections::BTreeMap;
+use text_spans::Step;
+
+/// How many numbers of a document are shown as they are spelled: for each the document is read again.
+const MOST_SPELLED: usize = 8;
+
+/// The operators of JsonLogic that are not taken.
+const LEFT_OUT: &[&str] = &["/", "?:", "log"];
 
 /// What is sought in the members of flags and in the evaluators that they refer to.
 #[derive(Drop)]
 pub(crate) struct Referred<'a> {
+    /// The document.
+    bytes: &'a [u8],
+    /// How many more numbers are shown as they are spelled.
+    spellings: usize,
     sought: Sought<'a>,
     evaluators: &'a [(String, Tree)],
     /// The nearest to each evaluator, once a flag refers to what is sought.
@@ -22,10 +34,13 @@ pub(crate) struct Referred<'a> {
 impl<'a> Referred<'a> {
     pub(crate) fn new(
         alloc: Global,
+        bytes: &'a [u8],
         evaluators: &'a [(String, Tree)],
         sought: Sought<'a>,
     ) -> Referred<'a> {
         Referred {
+            bytes,
+            spellings: MOST_SPELLED,
             sought,
             evaluators,
             causes: None,
@@ -33,19 +48,19 @@ impl<'a> Referred<'a> {
         }
     }
 
-    /// The first place at which something is wrong in a member, or in the evaluators that it refers to.
-    pub(crate) fn put(
+    /// The first place at which something is wrong in the member at this path, or in the evaluators that it refers to.
+    pub(crate) fn put<'x>(
         &mut self,
         lines: &mut Lines,
-        member: Option<&Tree>,
+        path: &[Step<'x>],
+        member: Option<&'x Tree>,
     ) -> Result<(), AllocError> {
         if let Some(tree) = member {
             let mut way = Way::new();
             if let Some(wrong) = first_wrong(tree, self.sought, &mut way) {
-                let way = way.text(lines.alloc, usize::MAX)?;
-                write!(lines, "{way}");
-                put_wrong(lines, wrong, "", self.evaluators);
-                return Ok(());
+                let shown = way.text(lines.alloc, usize::MAX)?;
+                write!(lines, "{shown}");
+                return self.put_wrong(lines, path, &way, wrong, "");
             }
             if let Some(place) = self.nearest(lines.alloc, tree)? {
                 return self.put_evaluator(lines, place);
@@ -83,40 +98,77 @@ impl<'a> Referred<'a> {
         Ok(())
     }
 
-    fn text_at(&self, alloc: Global, place: usize) -> Result<String, AllocError> {
+    fn text_at(&mut self, alloc: Global, place: usize) -> Result<String, AllocError> {
+        let evaluators = self.evaluators;
         let mut lines = Lines::new(alloc);
-        if let Some((key, tree)) = self.evaluators.get(place) {
+        if let Some((key, tree)) = evaluators.get(place) {
+            let key = key.as_str();
             let mut way = Way::new();
             if let Some(wrong) = first_wrong(tree, self.sought, &mut way) {
-                let way = way.text(alloc, usize::MAX)?;
-                let evaluator = lines.step(key.as_str());
-                write!(lines, " refers to $evaluators{evaluator}{way}");
-                put_wrong(&mut lines, wrong, ", which", self.evaluators);
+                let shown = way.text(alloc, usize::MAX)?;
+                write!(lines, " refers to $evaluators{}{shown}", lines.step(key));
+                let path = [Step::Name("$evaluators"), Step::Name(key)];
+                self.put_wrong(&mut lines, path.as_slice(), &way, wrong, ", which")?;
             }
         }
         lines.finish()
     }
-}
 
-/// What is wrong, after a word for the place.
-fn put_wrong(lines: &mut Lines, wrong: Wrong<'_>, which: &str, evaluators: &[(String, Tree)]) {
-    match wrong {
-        Wrong::Number => write!(lines, "{which} is a number that is not whole"),
-        Wrong::Reference(name) => write!(
-            lines,
-            "{which} refers to {}, no evaluator; there are {}",
-            lines.name(name),
-            lines.listed(evaluators),
-        ),
-        Wrong::Misuse(name, misuse) => put_misuse(lines, name, misuse),
-        Wrong::Levels => write!(lines, "{which} nests too deep"),
+    /// What is wrong at the end of a way from the value at a path, after a word for the place.
+    fn put_wrong<'x>(
+        &mut self,
+        lines: &mut Lines,
+        path: &[Step<'x>],
+        way: &Way<'x>,
+        wrong: Wrong<'_>,
+        which: &str,
+    ) -> Result<(), AllocError> {
+        match wrong {
+            Wrong::Number => {
+                let path = way.path(lines.alloc, path)?;
+                write!(lines, "{which}");
+                self.put_number(lines, path.as_slice())?;
+                if way.ends_at_weight() {
+                    write!(lines, "; multiply all weights alike until each is whole");
+                }
+            }
+            Wrong::Reference(name) => write!(
+                lines,
+                "{which} refers to {}, not an evaluator; known evaluators: {}",
+                lines.name(name),
+                lines.listed(self.evaluators),
+            ),
+            Wrong::Misuse(name, misuse) => put_misuse(lines, name, misuse),
+            Wrong::Levels => write!(lines, "{which} nests too deep"),
+        }
+        Ok(())
+    }
+
+    /// Why the number at a path of the document is not taken.
+    pub(crate) fn put_number(
+        &mut self,
+        lines: &mut Lines,
+        path: &[Step<'_>],
+    ) -> Result<(), AllocError> {
+        let spelled = if self.spellings > 0 {
+            self.spellings -= 1;
+            spelled_at(lines.alloc, self.bytes, path)?
+        } else {
+            None
+        };
+        put_number(lines, spelled);
+        Ok(())
     }
 }
 
 /// What is wrong with the operation of this name itself.
 fn put_misuse(lines: &mut Lines, name: &str, misuse: Misuse) {
+    let is_left_out = LEFT_OUT.iter().any(|operator| *operator == name);
     let name = lines.name(name);
     match misuse {
+        Misuse::Operator if is_left_out => {
+            write!(lines, ": JsonLogic's operator {name} is left out here");
+        }
         Misuse::Operator => write!(lines, ": the operator {name} is unknown"),
         Misuse::Arguments(count) => {
             write!(
@@ -127,7 +179,7 @@ fn put_misuse(lines: &mut Lines, name: &str, misuse: Misuse) {
         Misuse::Bucket(place) => {
             write!(
                 lines,
-                ": argument {place} of {name} is no bucket [name, weight]"
+                ": argument {place} of {name} is not a bucket [name, weight]"
             );
         }
     }
@@ -136,9 +188,9 @@ fn put_misuse(lines: &mut Lines, name: &str, misuse: Misuse) {
 /// What is wrong where no place was found.
 fn unplaced(sought: Sought<'_>) -> &'static str {
     match sought {
-        Sought::NotWhole => "a number that is not whole, or a $ref that is none",
+        Sought::NotWhole => "a number that is not whole, or a $ref to no evaluator",
         Sought::Unknown(_) => "a $ref back to itself, or to no evaluator",
         Sought::Misuse => "an operator that is unknown or has wrong arguments",
-        Sought::Within(_) => "what is not taken",
+        Sought::Within(_) => "too many levels",
     }
 }

@@ -8,7 +8,7 @@ use crate::lines::{Lines, Opening};
 use std::alloc::{AllocError, Global};
 use tally_text::TallyFileFault;
 
-/// Explains why the file at `path`, which begins as a tally, is none.
+/// Explains why the file at `path`, which begins as a tally, is not one.
 pub fn of_tally(
     alloc: Global,
     path: &str,
@@ -30,16 +30,16 @@ pub fn of_tally(
 fn taken(fault: TallyFileFault) -> &'static str {
     match fault {
         TallyFileFault::Header => {
-            "it begins with the line {\"tally\":1}, and a book with {\"book\":1}"
+            "a tally begins with the line {\"tally\":1}, a book with {\"book\":1}"
         }
         TallyFileFault::Page => {
             "docs/FORMATS.md has its members; it is spelled without blanks, and ends with a line feed"
         }
         TallyFileFault::Line(_) => {
-            "a point is [POINT,INPUTS], POINT below the total and INPUTS above 0, with its line end"
+            "a point is [POINT,INPUTS], POINT below the total and INPUTS above 0, on a line of its own with a line feed"
         }
-        TallyFileFault::Order(_) => "points rise, each stands once",
+        TallyFileFault::Order(_) => "the points are sorted, each once",
         TallyFileFault::Inputs => "the file may be cut short; tally the notes again",
-        TallyFileFault::WantOfMemory => "there was no memory to read it",
+        TallyFileFault::WantOfMemory => "memory ran out as it was read",
     }
 }

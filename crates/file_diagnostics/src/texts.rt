@@ -4,6 +4,8 @@ ghost use Rattle.file_diagnostics.specs.Named.{Names, NamesWord};
 
 use crate::ends::BYTE_ORDER_MARK;
 use crate::lines::{Lines, Opening};
+use crate::looks::look_of;
+use crate::numbers::{put_number, spelled_at};
 use crate::search::{Sought, first_wrong};
 use crate::way::Way;
 use flag_text::{TREE_LEVELS, TextFault, Tree, read_doc};
@@ -28,7 +30,7 @@ pub fn of_text(
     ensures names { IfOk result (λ s. Names path.now (string_bytes s)) }
 {
     let mut lines = Lines::new(alloc);
-    put_fault(&mut lines, bytes, limit, fault)?;
+    put_text_fault(&mut lines, bytes, limit, fault)?;
     lines.headed(Opening::Error, path)
 }
 
@@ -43,7 +45,7 @@ pub fn of_word(
     ensures names { IfOk result (λ s. NamesWord name.now (string_bytes s)) }
 {
     let mut lines = Lines::new(alloc);
-    put_fault(&mut lines, bytes, limit, fault)?;
+    put_text_fault(&mut lines, bytes, limit, fault)?;
     if fault == TextFault::NotJson {
         write!(
             lines,
@@ -53,8 +55,8 @@ pub fn of_word(
     lines.after_word(name)
 }
 
-/// The fault, after the name of the text.
-fn put_fault(
+/// Why a text is not read as JSON, after its name.
+pub fn put_text_fault(
     lines: &mut Lines,
     bytes: &[u8],
     limit: usize,
@@ -65,47 +67,68 @@ fn put_fault(
         TextFault::NotJson => put_not_json(lines, bytes)?,
         TextFault::TooLarge => write!(lines, " has more than {limit} bytes\n"),
         TextFault::NotWhole => {
-            if bytes.len() > LOOKED_INTO {
-                write!(lines, ": a number in it");
-            } else {
-                let place = place_of(lines.alloc, bytes, limit, Sought::NotWhole, usize::MAX)?;
-                write!(lines, ": the number at {place}");
-            }
+            write!(lines, ": ");
+            put_not_whole(lines, bytes, limit)?;
             write!(
                 lines,
-                " is not whole\n  numbers are from -(2^53-1) to 2^53-1, without fraction or exponent: give cents, or a text\n",
+                "\n  numbers are whole, from -(2^53-1) to 2^53-1, without point or exponent: use a smaller unit (cents), or a text\n",
             );
         }
         TextFault::TooDeep => {
             write!(lines, ": lists and objects nest deeper than 120 levels");
-            if bytes.len() <= LOOKED_INTO {
-                let sought = Sought::Within(TREE_LEVELS);
-                let place = place_of(lines.alloc, bytes, limit, sought, MOST_OF_WAY)?;
-                write!(lines, ", at {place}");
-            }
+            put_too_deep(lines, bytes, limit)?;
             write!(lines, "\n");
         }
     }
     Ok(())
 }
 
-/// Of a text that is no JSON: that nothing stands there, that a mark stands before it, or the line and the column at which it
-/// goes wrong.
+/// The first number that is not taken, where it stands and why.
+fn put_not_whole(lines: &mut Lines, bytes: &[u8], limit: usize) -> Result<(), AllocError> {
+    match looked_into(lines.alloc, bytes, limit)? {
+        Some(tree) => {
+            let mut way = Way::new();
+            let _wrong = first_wrong(&tree, Sought::NotWhole, &mut way);
+            let path = way.path(lines.alloc, &[])?;
+            let spelled = spelled_at(lines.alloc, bytes, path.as_slice())?;
+            write!(lines, "{}", place_at(lines.alloc, &way, usize::MAX)?);
+            put_number(lines, spelled);
+        }
+        None => write!(lines, "a number in it is not whole, or out of range"),
+    }
+    Ok(())
+}
+
+/// The first place that nests too deep.
+fn put_too_deep(lines: &mut Lines, bytes: &[u8], limit: usize) -> Result<(), AllocError> {
+    if let Some(tree) = looked_into(lines.alloc, bytes, limit)? {
+        let mut way = Way::new();
+        let _wrong = first_wrong(&tree, Sought::Within(TREE_LEVELS), &mut way);
+        write!(lines, ", at {}", place_at(lines.alloc, &way, MOST_OF_WAY)?);
+    }
+    Ok(())
+}
+
+/// Of a text that is not JSON: that nothing stands there, that a mark stands before it, or the line and the column at which it
+/// goes wrong, and what it looks like.
 pub(crate) fn put_not_json(lines: &mut Lines, bytes: &[u8]) -> Result<(), AllocError> {
     if bytes.is_empty() {
-        write!(lines, " is empty, and no JSON\n");
+        write!(lines, " is empty, which is not valid JSON\n");
     } else if bytes.starts_with(BYTE_ORDER_MARK) {
         write!(
             lines,
-            " begins with a byte order mark, and is no JSON\n  save it as UTF-8 without the mark\n",
+            " begins with a byte order mark, so it is not valid JSON\n  save it as UTF-8 without the mark\n",
         );
     } else {
-        write!(lines, " is no JSON: ");
+        write!(lines, " is not valid JSON: ");
         put_json_fault(lines, bytes)?;
-        write!(
-            lines,
-            "\n  no trailing comma, no comment; names and texts stand in double quotes\n",
-        );
+        match look_of(bytes) {
+            Some(look) => write!(lines, "\n  it looks like {look}\n"),
+            None => write!(
+                lines,
+                "\n  no trailing comma, no comment; names and texts stand in double quotes\n",
+            ),
+        }
     }
     Ok(())
 }
@@ -131,19 +154,16 @@ fn put_json_fault(lines: &mut Lines, bytes: &[u8]) -> Result<(), AllocError> {
     Ok(())
 }
 
-/// The first place in a text that has what is sought. No further step is shown after the most bytes.
-fn place_of(
-    alloc: Global,
-    bytes: &[u8],
-    limit: usize,
-    sought: Sought<'_>,
-    most: usize,
-) -> Result<String, AllocError> {
-    let Some(tree) = tree_or_none(read_doc(alloc, bytes, limit))? else {
-        return Ok(String::new(alloc));
-    };
-    let mut way = Way::new();
-    let _wrong = first_wrong(&tree, sought, &mut way);
+/// What a text is read as, none where it is too long to be looked into.
+fn looked_into(alloc: Global, bytes: &[u8], limit: usize) -> Result<Option<Tree>, AllocError> {
+    if bytes.len() > LOOKED_INTO {
+        return Ok(None);
+    }
+    tree_or_none(read_doc(alloc, bytes, limit))
+}
+
+/// The place to which a way leads from the root. No further step is shown after the most bytes.
+fn place_at(alloc: Global, way: &Way<'_>, most: usize) -> Result<String, AllocError> {
     let way = way.text(alloc, most)?;
     let shown = way.as_str();
     let shown = if shown.is_empty() {

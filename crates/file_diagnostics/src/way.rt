@@ -1,5 +1,6 @@
 //! The way from the root of a tree to a place in it.
 use crate::quoting::quoted_step;
+use logic_ast::is_fractional;
 use std::alloc::{AllocError, Global};
 use text_spans::Step;
 
@@ -28,6 +29,34 @@ impl<'a> Way<'a> {
         if self.count < MOST_STEPS {
             self.steps[self.count] = step;
             self.count += 1;
+        }
+    }
+
+    /// The steps behind others: a path from the root where those lead from it to where the way begins.
+    pub(crate) fn path(
+        &self,
+        alloc: Global,
+        before: &[Step<'a>],
+    ) -> Result<Vec<Step<'a>>, AllocError> {
+        let mut path = Vec::new(alloc);
+        for step in before {
+            path.push(*step)?;
+        }
+        for n in (0..self.count).rev() {
+            if let Some(step) = self.steps.get(n) {
+                path.push(*step)?;
+            }
+        }
+        Ok(path)
+    }
+
+    /// Whether it leads to the weight of a bucket.
+    pub(crate) fn ends_at_weight(&self) -> bool {
+        match (self.steps.get(0), self.steps.get(2)) {
+            (Some(Step::Index(1)), Some(Step::Name(name))) => {
+                self.count >= 3 && is_fractional(name)
+            }
+            _ => false,
         }
     }
 

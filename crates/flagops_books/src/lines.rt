@@ -27,10 +27,10 @@ pub(crate) fn stray_remark(
     let name = quoted(alloc, path)?;
     match ends {
         Ends::Marked => format!(in alloc;
-            "error: {name}: line {n} is no note, as the file begins with a byte order mark\n  save it as UTF-8 without the mark\n"
+            "error: {name}: line {n} is not a note, as the file begins with a byte order mark\n  save it as UTF-8 without the mark\n"
         ),
         _ => format!(in alloc;
-            "error: {name}: line {n} is no note\n  a note line is [FLAG,SITE,BY,INPUT], spelled as record and ofrep write it; --torn passes over others\n"
+            "error: {name}: line {n} is not a note\n  a note line is [FLAG,SITE,BY,INPUT], spelled as record and ofrep write it; --torn skips other lines\n"
         ),
     }
 }

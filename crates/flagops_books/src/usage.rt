@@ -16,13 +16,9 @@ pub fn usage<'a>(alloc: Global) -> Result<Command<'a>, AllocError>
     let torn = flag(
         alloc,
         "torn",
-        "Pass over each line of a file of note lines that is none",
+        "Skip each line of a file of note lines that is not a note",
     );
-    let replace = flag(
-        alloc,
-        "replace",
-        "Write OUT also where inputs that it had are lost",
-    );
+    let replace = flag(alloc, "replace", "Write OUT even if it loses inputs");
     begun(alloc)?.arg(torn)?.arg(replace)
 }
 
@@ -37,7 +33,7 @@ fn begun<'a>(alloc: Global) -> Result<Command<'a>, AllocError>
     let files = some_words(
         alloc,
         "FILE",
-        "The files that are read: books, and note lines as record and ofrep write them",
+        "The files to merge: books, and note lines as record and ofrep write them",
     );
     command.arg(out)?.arg(files)
 }

@@ -3,6 +3,7 @@ ghost use Rattle.std.specs.Prelude.{◌≡◌, false};
 ghost use Rattle.flag_defs.specs.Flag.{flag_view, is_broken};
 
 use bucket_core::weight_of;
+use file_diagnostics::{Lines, put_weight_fault};
 use flag_defs::Flag;
 use flag_doubts::{
     Given, are_too_heavy, are_weightless, given_by, has_truth, is_weightless, literal_truth,
@@ -12,7 +13,7 @@ use flagops_files::quoted;
 use logic_ast::{Bucket, Node, Operator};
 use std::alloc::{AllocError, Global};
 
-/// The first place in an expression that gives what names no variant of a flag.
+/// The first place in an expression whose result does not name a variant of a flag.
 #[cycle(foreign)]
 pub(crate) fn foreign_in(
     alloc: Global,
@@ -148,8 +149,20 @@ fn foreign_literal(alloc: Global, tree: &Tree, flag: &Flag) -> Result<Option<Str
         Tree::Text(name) => foreign_name(alloc, name.as_str(), flag),
         Tree::Bool(true) => foreign_name(alloc, "true", flag),
         Tree::Bool(false) => foreign_name(alloc, "false", flag),
+        Tree::Object(members) => foreign_object(alloc, members.len()),
         _ => is_no_name(alloc),
     }
+}
+
+/// An object of so many members, which is no operation.
+fn foreign_object(alloc: Global, members: usize) -> Result<Option<String>, AllocError> {
+    if members < 2 {
+        return is_no_name(alloc);
+    }
+    let shown = format!(in alloc;
+        " is an object of {members} members; an operation has one, its operator"
+    )?;
+    Ok(Some(shown))
 }
 
 fn foreign_name(alloc: Global, name: &str, flag: &Flag) -> Result<Option<String>, AllocError>
@@ -164,7 +177,7 @@ fn foreign_name(alloc: Global, name: &str, flag: &Flag) -> Result<Option<String>
 }
 
 fn is_no_name(alloc: Global) -> Result<Option<String>, AllocError> {
-    told(alloc, " is no name")
+    told(alloc, " is not a name")
 }
 
 fn told(alloc: Global, text: &str) -> Result<Option<String>, AllocError> {
@@ -246,8 +259,7 @@ fn ill_weights(
     first: usize,
 ) -> Result<Option<String>, AllocError> {
     for i in 0..buckets.len() {
-        if has_no_weight(&buckets[i]) {
-            let place = String::from_str(alloc, " weighs no whole number from 0 to 2147483647")?;
+        if let Some(place) = ill_weight(alloc, &buckets[i])? {
             return at(alloc, i.saturating_add(first), place);
         }
     }
@@ -260,18 +272,23 @@ fn ill_weights(
     Ok(None)
 }
 
-fn has_no_weight(bucket: &Bucket<Node>) -> bool {
+/// The literal weight of a bucket, where it is not one.
+fn ill_weight(alloc: Global, bucket: &Bucket<Node>) -> Result<Option<String>, AllocError> {
     match bucket {
-        Bucket::Literal(_, _) => false,
-        Bucket::Computed(_, weight) => is_no_weight(weight),
+        Bucket::Computed(_, Node::Literal(weight)) if weight_of(weight).is_none() => {
+            Ok(Some(weight_fault(alloc, weight)?))
+        }
+        _ => Ok(None),
     }
 }
 
-fn is_no_weight(weight: &Node) -> bool {
-    match weight {
-        Node::Literal(tree) => weight_of(tree).is_none(),
-        _ => false,
-    }
+/// What stands in the place of the weight of a bucket, and what is taken there.
+fn weight_fault(alloc: Global, weight: &Tree) -> Result<String, AllocError> {
+    let mut lines = Lines::new(alloc);
+    write!(lines, "[1] is ");
+    put_weight_fault(&mut lines, weight);
+    write!(lines, "; weights are whole numbers from 0 to 2147483647");
+    lines.finish()
 }
 
 /// A place below an operation of this name.

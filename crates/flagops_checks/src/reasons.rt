@@ -75,13 +75,13 @@ fn weight(alloc: Global, flag: &Flag) -> Result<String, AllocError> {
         None => None,
     };
     let place = placed(alloc, place)?;
-    format!(in alloc; "has a fractional that gives nobody a variant{place}")
+    format!(in alloc; "has a fractional that gives no variant to anybody{place}")
 }
 
 fn variant(alloc: Global, flag: &Flag) -> Result<String, AllocError> {
     let place = foreign_of(alloc, flag)?;
     let place = placed(alloc, place)?;
-    format!(in alloc; "can come to what names none of its variants{place}")
+    format!(in alloc; "can result in what is not one of its variants{place}")
 }
 
 fn foreign_of(alloc: Global, flag: &Flag) -> Result<Option<String>, AllocError> {

@@ -18,7 +18,7 @@ pub fn usage<'a>(alloc: Global) -> Result<Command<'a>, AllocError>
     let json = flag(
         alloc,
         "json",
-        "Print a JSON text for each document, in a line",
+        "Print a JSON text for each document, one a line",
     );
     begun(alloc)?.arg(json)?.arg(floats(alloc))
 }
@@ -31,7 +31,7 @@ fn begun<'a>(alloc: Global) -> Result<Command<'a>, AllocError>
     let strict = flag(
         alloc,
         "strict",
-        "End with status 1 where a flag is broken or doubted, or a member of a document is not read",
+        "Treat warnings as errors: end with status 1 if a flag is broken or doubted, or a member of a document is not read",
     );
     Command::new(alloc, "check")
         .bin_name("flagops check")?

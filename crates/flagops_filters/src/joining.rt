@@ -222,7 +222,7 @@ fn read(alloc: Global, path: &str, bytes: &[u8]) -> Result<PageTally, Refused<Fi
     }
 }
 
-/// A file that is no tally.
+/// A file that is not a tally.
 #[tactic(auto, using(flagops_files::proofs::Told::says))]
 fn unread(alloc: Global, path: &str, ends: Ends, fault: TallyFileFault) -> Refused<FilterRefusal>
     ensures refusal { result.refusal ≡ Load (ReadTally fault) }
@@ -244,11 +244,11 @@ fn read_line(
     ensures { IfOk result (λ s. NamesPath path.now (string_bytes s)) }
 {
     match ends {
-        Ends::Empty => whole_line(alloc, path, "is empty, and no tally"),
+        Ends::Empty => whole_line(alloc, path, "is empty, which is not a tally"),
         Ends::Marked => whole_line(
             alloc,
             path,
-            "begins with a byte order mark, and is no tally\n  save it as UTF-8 without the mark",
+            "begins with a byte order mark, so it is not a tally\n  save it as UTF-8 without the mark",
         ),
         _ => of_tally(alloc, path, ends, fault),
     }

@@ -30,6 +30,7 @@ mod asked;
 mod clock;
 mod joining;
 mod laws;
+mod misread;
 mod moment;
 mod opening;
 mod recording;

@@ -1,17 +1,20 @@
-//! What a standard input began with, which a person is told.
+//! What a standard input began with, for diagnostics.
 ghost use Rattle.std.specs.Prelude.{◌≡◌};
 
 use file_diagnostics::Ends;
 use line_batches::Inlet;
 use std::io;
 
-/// The bytes of a byte order mark.
-const MARK: usize = 3;
+/// How many of the first bytes are kept.
+const KEPT: usize = 4096;
 
 /// Where bytes were read from, and what these began with. It is for people.
 pub trait Opening {
     /// What is seen at the beginning of the bytes that were read: that there were none, or a byte order mark.
     fn opening(&self) -> Ends;
+
+    /// The first bytes that were read, at most 4,096.
+    fn first_bytes(&self) -> &[u8];
 }
 
 /// An inlet that keeps the first bytes that were read.
@@ -30,7 +33,7 @@ impl<I: Inlet> OpenedInlet<I> {
         OpenedInlet {
             inlet,
             front: Front {
-                bytes: [0; MARK],
+                bytes: [0; KEPT],
                 count: 0,
             },
         }
@@ -57,12 +60,16 @@ impl<I> Opening for OpenedInlet<I> {
     fn opening(&self) -> Ends {
         Ends::of(self.front.kept())
     }
+
+    fn first_bytes(&self) -> &[u8] {
+        self.front.kept()
+    }
 }
 
 /// The first bytes that were read, and how many there were.
 #[derive(Drop)]
 struct Front {
-    bytes: [u8; MARK],
+    bytes: [u8; KEPT],
     count: usize,
 }
 

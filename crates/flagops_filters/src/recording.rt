@@ -17,6 +17,7 @@ ghost use Rattle.record_lines.specs.View.{outcomes_view};
 
 use crate::asked::Recording;
 use crate::clock::second;
+use crate::misread::no_context_lines;
 use crate::opening::Opening;
 use crate::refusal::FilterRefusal;
 use crate::remarks::{clock_line, counted_lines, flag_line, input_line, is_noted, marked_line};
@@ -138,7 +139,14 @@ fn stream<R: Threads + Sync, I: Inlet + Opening, O: Outlet, E: Outlet>(
             tell_counted(alloc, start, counted, &mut console.err);
             0
         }
-        Err(stop) => give_up(alloc, stop, start, input.opening(), console),
+        Err(stop) => give_up(
+            alloc,
+            stop,
+            start,
+            input.opening(),
+            input.first_bytes(),
+            console,
+        ),
     }
 }
 
@@ -148,6 +156,7 @@ fn give_up<O: Outlet, E: Outlet>(
     stop: RecordStop,
     start: Start,
     opening: FileEnds,
+    first_bytes: &[u8],
     console: &mut Console<O, E>,
 ) -> u8
     requires broken { console.old.is_broken ≡ is_broken_off stop }
@@ -157,7 +166,12 @@ fn give_up<O: Outlet, E: Outlet>(
     if is_broken_off(&stop) {
         return 1;
     }
-    refuse(alloc, stopped(alloc, stop, start, opening), RECORD, console)
+    refuse(
+        alloc,
+        stopped(alloc, stop, start, opening, first_bytes),
+        RECORD,
+        console,
+    )
 }
 
 /// Whether the output has failed.
@@ -213,13 +227,14 @@ fn stopped(
     stop: RecordStop,
     start: Start,
     opening: FileEnds,
+    first_bytes: &[u8],
 ) -> Refused<FilterRefusal>
     ensures refusal { result.refusal ≡ Record stop }
     ensures names { Says NamesInput result.remark }
 {
     Refused {
         refusal: FilterRefusal::Record(stop),
-        remark: Remark::of(stop_lines(alloc, stop, start, opening)),
+        remark: Remark::of(stop_lines(alloc, stop, start, opening, first_bytes)),
     }
 }
 
@@ -230,22 +245,31 @@ fn stop_lines(
     stop: RecordStop,
     start: Start,
     opening: FileEnds,
+    first_bytes: &[u8],
 ) -> Result<String, AllocError>
     ensures { IfOk result (λ s. NamesInput (string_bytes s)) }
 {
-    let line = stop_line(alloc, stop, opening)?;
+    let line = stop_line(alloc, stop, opening, first_bytes)?;
     let clock = clock_line(alloc, start.clock)?;
     format!(in alloc; "{line}{clock}")
 }
 
 /// What is told of it, by what the input began with.
-fn stop_line(alloc: Global, stop: RecordStop, opening: FileEnds) -> Result<String, AllocError>
+fn stop_line(
+    alloc: Global,
+    stop: RecordStop,
+    opening: FileEnds,
+    first_bytes: &[u8],
+) -> Result<String, AllocError>
     ensures { IfOk result (λ s. NamesInput (string_bytes s)) }
 {
-    let reason = format!(in alloc; "{stop}")?;
     match (stop, opening) {
-        (RecordStop::Line(1), FileEnds::Marked) => marked_line(alloc, reason.as_str()),
-        _ => input_line(alloc, reason.as_str()),
+        (RecordStop::Line(1), FileEnds::Marked) => { marked_line(alloc, "line 1 is not a context") }
+        (RecordStop::Line(number), _) => no_context_lines(alloc, number, first_bytes),
+        _ => {
+            let reason = format!(in alloc; "{stop}")?;
+            input_line(alloc, reason.as_str())
+        }
     }
 }
 

@@ -1,4 +1,4 @@
-//! What a person is told of a filter.
+//! The diagnostics of a filter.
 ghost use Rattle.std.specs.Prelude.{◌≡◌, IfOk, string_bytes};
 ghost use Rattle.file_diagnostics.specs.Named.{NamesWord};
 ghost use Rattle.flagops_files.specs.Lines.{NamesFile};
@@ -13,7 +13,7 @@ use note_streams::Counted;
 use std::alloc::{AllocError, Global};
 
 /// The words for the standard input.
-const INPUT: &str = "the standard input";
+pub(crate) const INPUT: &str = "the standard input";
 
 /// A line on the flag of a document that is refused.
 pub(crate) fn flag_line(

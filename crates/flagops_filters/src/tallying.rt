@@ -20,6 +20,7 @@ ghost use Rattle.flagops_filters.specs.declared.refusal.FilterRefusal.TheVariant
 ghost use Rattle.flagops_filters.specs.Words.{tallying_view};
 
 use crate::asked::Tallying;
+use crate::misread::no_note_lines;
 use crate::opening::Opening;
 use crate::refusal::FilterRefusal;
 use crate::remarks::{flag_line, input_line, marked_line};
@@ -152,8 +153,8 @@ fn over<I: Inlet + Opening>(
 {
     let Target { page, total, .. } = target;
     match tally_stream(alloc, page, total, input) {
-        Ok(came) => printed(alloc, &came, input.opening()),
-        Err(stop) => Err(stopped(alloc, stop, input.opening())),
+        Ok(came) => printed(alloc, &came, input.opening(), input.first_bytes()),
+        Err(stop) => Err(stopped(alloc, stop, input.opening(), input.first_bytes())),
     }
 }
 
@@ -162,6 +163,7 @@ fn printed(
     alloc: Global,
     came: &StreamTally,
     opening: FileEnds,
+    first_bytes: &[u8],
 ) -> Result<Outcome, Refused<FilterRefusal>>
     ensures prints { PrintsTally came.now result }
     ensures stops { IfErr result (λ told. IsStopped told) }
@@ -175,7 +177,7 @@ fn printed(
         }),
         Err(AllocError) => {
             let stop = TallyStop::Filter(FilterFault::WantOfMemory);
-            Err(stopped(alloc, stop, opening))
+            Err(stopped(alloc, stop, opening, first_bytes))
         }
     }
 }
@@ -210,26 +212,47 @@ fn note_line(alloc: Global, words: &str) -> Result<String, AllocError>
 
 /// A stream that is not tallied to its end.
 #[tactic(auto, using(flagops_files::proofs::Told::says))]
-fn stopped(alloc: Global, stop: TallyStop, opening: FileEnds) -> Refused<FilterRefusal>
+fn stopped(
+    alloc: Global,
+    stop: TallyStop,
+    opening: FileEnds,
+    first_bytes: &[u8],
+) -> Refused<FilterRefusal>
     ensures refusal { result.refusal ≡ Tally stop }
     ensures names { Says NamesInput result.remark }
 {
     Refused {
         refusal: FilterRefusal::Tally(stop),
-        remark: Remark::of(stop_line(alloc, stop, opening)),
+        remark: Remark::of(stop_line(alloc, stop, opening, first_bytes)),
     }
 }
 
 /// What is told of it, by what the input began with.
-fn stop_line(alloc: Global, stop: TallyStop, opening: FileEnds) -> Result<String, AllocError>
+fn stop_line(
+    alloc: Global,
+    stop: TallyStop,
+    opening: FileEnds,
+    first_bytes: &[u8],
+) -> Result<String, AllocError>
     ensures { IfOk result (λ s. NamesInput (string_bytes s)) }
 {
-    let reason = format!(in alloc; "{stop}")?;
     match (stop, opening) {
         (TallyStop::Filter(FilterFault::Line(1)), FileEnds::Marked) => {
-            marked_line(alloc, reason.as_str())
+            marked_line(alloc, "line 1 is not a note line")
         }
-        _ => input_line(alloc, reason.as_str()),
+        (TallyStop::Filter(FilterFault::Line(number)), _) => {
+            no_note_lines(alloc, number, first_bytes)
+        }
+        (TallyStop::Filter(FilterFault::Order(_)), _) => {
+            let reason = format!(in alloc;
+                "{stop}\n  sort the lines: pipe them through 'LC_ALL=C sort -u'"
+            )?;
+            input_line(alloc, reason.as_str())
+        }
+        _ => {
+            let reason = format!(in alloc; "{stop}")?;
+            input_line(alloc, reason.as_str())
+        }
     }
 }
 

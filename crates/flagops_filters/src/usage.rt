@@ -95,7 +95,7 @@ fn moment<'a>(alloc: Global) -> Arg<'a>
         alloc,
         "MOMENT",
         "moment",
-        "The time of the evaluations, in seconds since 1970; without it the clock's, where the targeting reads it",
+        "The time of the evaluations, in seconds since 1970 [default: the clock's, where the targeting reads it]",
         0,
         LATEST_MOMENT,
     )
@@ -110,7 +110,7 @@ fn workers<'a>(alloc: Global) -> Arg<'a>
         alloc,
         "WORKERS",
         "workers",
-        "The most threads that evaluate the contexts, from 1 to 64, else 4; the output is the same for any number",
+        "The most threads that evaluate contexts, from 1 to 64; the output is the same for any number [default: 4]",
         1,
         MOST_WORKERS,
     )

@@ -57,7 +57,7 @@ pub(crate) fn plan<'a>(alloc: Global) -> Result<Command<'a>, AllocError>
     ensures { IfOk result (λ c. app_of c ≡ plan_app) }
 {
     let command = Command::new(alloc, "plan").bin_name("flagops plan")?.about(
-        "Prints the rule that a rollout request asks for and that switches the fewest, and writes its picture",
+        "Prints the rule that a rollout request asks for and that switches the fewest users, and writes its picture",
     );
     let picture = picture_file(alloc);
     let command = rollout(alloc, command)?
@@ -73,7 +73,7 @@ fn told<'a>(alloc: Global, command: Command<'a>) -> Result<Command<'a>, AllocErr
     let explain = flag(
         alloc,
         "explain",
-        "Tell in words, beside the plan, what it changes, or what stands in the way of any",
+        "Explain on standard error what the plan changes, or why no rule fits",
     );
     command.arg(strict(alloc))?.arg(explain)?.arg(floats(alloc))
 }
@@ -95,9 +95,7 @@ fn steps<'a>(alloc: Global) -> Result<Command<'a>, AllocError>
 {
     let command = Command::new(alloc, "picture")
         .bin_name("flagops picture")?
-        .about(
-            "Prints the pictures of a rollout in steps as SVG: what each moves, and what it costs",
-        );
+        .about("Draws the steps of a rollout as SVG: what each moves, and what it costs");
     with_steps(alloc, command, BOOK)
 }
 

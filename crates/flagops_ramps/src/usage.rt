@@ -90,7 +90,7 @@ fn applied<'a>(alloc: Global) -> Result<Command<'a>, AllocError>
     Command::new(alloc, "apply")
         .bin_name("flagops apply")?
         .about(
-            "Prints a document with the rule that a step of a rollout left at a site of a flag; with --keep nothing else of its text is changed",
+            "Prints a document with the rule that a step of a rollout left at a site of a flag; with --keep nothing else of its text changes",
         )
         .arg(document)?
         .arg(ramp)?
@@ -106,7 +106,7 @@ pub fn keep<'a>(alloc: Global) -> Result<Command<'a>, AllocError>
     let doubted = flag(
         alloc,
         "doubted",
-        "With --write: write what is doubted, too, which is else refused",
+        "With --write: write in spite of doubts, which are errors otherwise",
     );
     let floats = floats(alloc);
     kept_put(alloc)?.arg(strict)?.arg(doubted)?.arg(floats)
@@ -119,7 +119,7 @@ fn kept_put<'a>(alloc: Global) -> Result<Command<'a>, AllocError>
     let write = flag(
         alloc,
         "write",
-        "Write the text over DOC in place of printing it",
+        "Write the document over DOC instead of printing it",
     );
     let factor = refine(alloc, "The factor that the first step was planned with");
     kept_step(alloc)?.arg(write)?.arg(factor)
@@ -133,7 +133,7 @@ fn kept_step<'a>(alloc: Global) -> Result<Command<'a>, AllocError>
     let keep = flag(
         alloc,
         "keep",
-        "Verify the steps from this one on, and keep the text of the document but for the buckets that are replaced",
+        "Verify the steps from this one on, and change nothing in the text of the document but the buckets",
     );
     kept_words(alloc)?.arg(number)?.arg(keep)
 }
@@ -155,9 +155,7 @@ fn kept_files<'a>(alloc: Global) -> Result<Command<'a>, AllocError>
     let ramp = required(alloc, "RAMP", RAMP);
     Command::new(alloc, "apply")
         .bin_name("flagops apply")?
-        .about(
-            "Puts the rule of a step of a rollout into a document of which nothing else is changed",
-        )
+        .about("Puts the rule of a step of a rollout into a document of which nothing else changes")
         .arg(document)?
         .arg(ramp)
 }

@@ -25,7 +25,7 @@ pub fn serve<'a>(alloc: Global) -> Result<Command<'a>, AllocError>
     serve_begun(alloc)?
         .arg(wait(
             alloc,
-            "How many seconds are given to the subscribers to come, and to each to be served, at most 86400; 0 is for ever",
+            "How many seconds to wait for the subscribers, and for each to take its snapshots, at most 86400; 0 is for ever",
         ))?
         .arg(floats(alloc))
 }
@@ -45,7 +45,7 @@ fn serve_begun<'a>(alloc: Global) -> Result<Command<'a>, AllocError>
     let subscribers = number(
         alloc,
         "SUBSCRIBERS",
-        "How many subscribers are waited for, from 1 to 64",
+        "How many subscribers to wait for, from 1 to 64",
         1,
         MOST_SUBSCRIBERS,
     );
@@ -77,7 +77,7 @@ pub fn follow<'a>(alloc: Global) -> Result<Command<'a>, AllocError>
     let turns = number(
         alloc,
         "TURNS",
-        "How often the stream is read at most, from 1 to 1000000",
+        "The most reads of the stream, from 1 to 1000000",
         1,
         MOST_TURNS,
     );
@@ -88,7 +88,7 @@ pub fn follow<'a>(alloc: Global) -> Result<Command<'a>, AllocError>
         .arg(turns)?
         .arg(wait(
             alloc,
-            "How many seconds a read waits, at most 86400; 0 is for ever",
+            "How many seconds a read waits for data, at most 86400; 0 is for ever",
         ))
 }
 

@@ -68,10 +68,10 @@ _flagops() {
             if [ "$COMP_CWORD" -eq 4 ]; then
                 COMPREPLY=($(compgen -W "bool text whole object float boolean string integer" -- "$word"))
             else
-                COMPREPLY=($(compgen -f -- "$word"))
+                mapfile -t COMPREPLY < <(compgen -f -- "$word")
             fi
             ;;
-        *) COMPREPLY=($(compgen -f -- "$word")) ;;
+        *) mapfile -t COMPREPLY < <(compgen -f -- "$word") ;;
     esac
 }
 complete -o filenames -F _flagops flagops
@@ -86,56 +86,56 @@ complete -c flagops -n __fish_use_subcommand -f -a check -d 'Which flags of a do
 complete -c flagops -n __fish_use_subcommand -f -a compare -d 'What an edit of a document switches'
 complete -c flagops -n __fish_use_subcommand -f -a resolve -d 'What a flag resolves to in a context'
 complete -c flagops -n __fish_use_subcommand -f -a plan -d 'The rule that switches the fewest users'
-complete -c flagops -n __fish_use_subcommand -f -a verify -d 'Check a plan apart from the planner'
+complete -c flagops -n __fish_use_subcommand -f -a verify -d 'Check a plan independently of the planner'
 complete -c flagops -n __fish_use_subcommand -f -a apply -d 'A document with the rule of a plan'
-complete -c flagops -n __fish_use_subcommand -f -a drive -d 'Answer asks and write the book of what they reach'
-complete -c flagops -n __fish_use_subcommand -f -a book -d 'Write the book of several books'
+complete -c flagops -n __fish_use_subcommand -f -a drive -d 'Evaluate asks and write the book of what they reach'
+complete -c flagops -n __fish_use_subcommand -f -a book -d 'Merge books and note lines into one book'
 complete -c flagops -n __fish_use_subcommand -f -a ramp -d 'Plan a rollout in steps'
 complete -c flagops -n __fish_use_subcommand -f -a verify-ramp -d 'Check the plans of a rollout in steps'
 complete -c flagops -n __fish_use_subcommand -f -a picture -d 'Draw a plan as SVG'
 complete -c flagops -n __fish_use_subcommand -f -a record -d 'Print the hash inputs that contexts reach'
 complete -c flagops -n __fish_use_subcommand -f -a tally -d 'Count sorted hash inputs by their points'
-complete -c flagops -n __fish_use_subcommand -f -a join -d 'Make one tally of several'
-complete -c flagops -n __fish_use_subcommand -f -a ofrep -d 'Answer evaluations over HTTP'
+complete -c flagops -n __fish_use_subcommand -f -a join -d 'Join tallies into one'
+complete -c flagops -n __fish_use_subcommand -f -a ofrep -d 'Serve evaluations over HTTP'
 complete -c flagops -n __fish_use_subcommand -f -a serve -d 'Publish documents to subscribers'
 complete -c flagops -n __fish_use_subcommand -f -a follow -d 'Print the snapshots that come'
 complete -c flagops -n __fish_use_subcommand -f -a completions -d 'Print the completion of a shell'
 complete -c flagops -n __fish_use_subcommand -f -a help -d 'Print the help of a command'
-complete -c flagops -n '__fish_seen_subcommand_from bucket price check compare verify drive' -l json -d 'Print the answer as JSON'
-complete -c flagops -n '__fish_seen_subcommand_from check compare plan verify apply drive ramp verify-ramp' -l strict -d 'Refuse what is else only told'
-complete -c flagops -n '__fish_seen_subcommand_from check compare resolve plan verify apply ramp verify-ramp picture record tally serve' -l floats -d 'Take any numbers as variants'
+complete -c flagops -n '__fish_seen_subcommand_from bucket price check compare verify drive' -l json -d 'Print the result as JSON'
+complete -c flagops -n '__fish_seen_subcommand_from check compare plan verify apply drive ramp verify-ramp' -l strict -d 'Treat warnings as errors'
+complete -c flagops -n '__fish_seen_subcommand_from check compare resolve plan verify apply ramp verify-ramp picture record tally serve' -l floats -d 'Accept any numbers as variants'
 complete -c flagops -n '__fish_seen_subcommand_from compare' -l flag -x -d 'Only the pages of this flag'
 complete -c flagops -n '__fish_seen_subcommand_from compare' -l picture -r -d 'Write the picture of the pages'
-complete -c flagops -n '__fish_seen_subcommand_from plan' -l explain -d 'Tell the plan in words'
+complete -c flagops -n '__fish_seen_subcommand_from plan' -l explain -d 'Explain the plan in words'
 complete -c flagops -n '__fish_seen_subcommand_from plan verify ramp verify-ramp picture tally' -l refine -x -d 'Plan in finer points'
 complete -c flagops -n '__fish_seen_subcommand_from plan' -l picture -r -d 'Write the picture of the plan'
 complete -c flagops -n '__fish_seen_subcommand_from picture' -l ramp -d 'Draw the steps of a rollout'
 complete -c flagops -n '__fish_seen_subcommand_from record' -l moment -x -d 'The time of the evaluations'
 complete -c flagops -n '__fish_seen_subcommand_from record' -l workers -x -d 'The most threads that evaluate'
-complete -c flagops -n '__fish_seen_subcommand_from apply' -l step -x -d 'The step whose rule is put'
-complete -c flagops -n '__fish_seen_subcommand_from book' -l torn -d 'Pass over lines that are no notes'
+complete -c flagops -n '__fish_seen_subcommand_from apply' -l step -x -d 'The step whose rule is applied'
+complete -c flagops -n '__fish_seen_subcommand_from book' -l torn -d 'Skip lines that are not notes'
 complete -c flagops -n '__fish_seen_subcommand_from ofrep' -l stream -x -d 'The port of the stream of snapshots'
 complete -c flagops -n '__fish_seen_subcommand_from ofrep' -l listen -x -d 'The address and port of the service'
 complete -c flagops -n '__fish_seen_subcommand_from ofrep' -l admin -x -d 'The address and port of health and metrics'
 complete -c flagops -n '__fish_seen_subcommand_from ofrep' -l allow-stop -d 'Let POST /stop there end the service'
-complete -c flagops -n '__fish_seen_subcommand_from ofrep' -l access-log -d 'Tell a line of each request'
+complete -c flagops -n '__fish_seen_subcommand_from ofrep' -l access-log -d 'Write a line for each request'
 complete -c flagops -n '__fish_seen_subcommand_from ofrep' -l idle -x -d 'The seconds for which an idle connection is kept'
 complete -c flagops -n '__fish_seen_subcommand_from ofrep' -l max-body -x -d 'The most bytes of a body'
 complete -c flagops -n '__fish_seen_subcommand_from ofrep' -l cors -x -d 'An origin whose web pages may ask'
-complete -c flagops -n '__fish_seen_subcommand_from ofrep' -l keys -r -d 'The file of keys of which each request shows one'
+complete -c flagops -n '__fish_seen_subcommand_from ofrep' -l keys -r -d 'The file of keys, one of which each request needs'
 complete -c flagops -n '__fish_seen_subcommand_from ofrep' -l log -r -d 'The folder of the logs'
-complete -c flagops -n '__fish_seen_subcommand_from ofrep' -l log-points -d 'Record hashes in the place of hash inputs'
+complete -c flagops -n '__fish_seen_subcommand_from ofrep' -l log-points -d 'Record hashes instead of hash inputs'
 complete -c flagops -n '__fish_seen_subcommand_from ofrep' -l remember -x -d 'The lines of the logs that are remembered'
-complete -c flagops -n '__fish_seen_subcommand_from ofrep' -l without-record -x -a 'answer refuse' -d 'What becomes of answers that cannot be recorded'
+complete -c flagops -n '__fish_seen_subcommand_from ofrep' -l without-record -x -a 'answer refuse' -d 'What to do with answers that cannot be recorded'
 complete -c flagops -n '__fish_seen_subcommand_from ofrep' -l workers -x -d 'The threads that answer'
 complete -c flagops -n '__fish_seen_subcommand_from ofrep' -l poll -x -d 'The seconds between two readings of the documents'
-complete -c flagops -n '__fish_seen_subcommand_from ofrep' -l broken -x -a 'refuse serve' -d 'What becomes of documents with broken flags'
+complete -c flagops -n '__fish_seen_subcommand_from ofrep' -l broken -x -a 'refuse serve' -d 'What to do with documents that break flags'
 complete -c flagops -n '__fish_seen_subcommand_from apply' -l keep -d 'Verify the plan and keep the rest of the text'
 complete -c flagops -n '__fish_seen_subcommand_from apply' -l write -d 'With --keep: write over the document'
 complete -c flagops -n '__fish_seen_subcommand_from apply' -l refine -x -d 'With --keep: the factor of the plan'
-complete -c flagops -n '__fish_seen_subcommand_from apply' -l doubted -d 'With --write: write what is doubted, too'
+complete -c flagops -n '__fish_seen_subcommand_from apply' -l doubted -d 'With --write: write in spite of doubts'
 complete -c flagops -n '__fish_seen_subcommand_from drive' -l add -d 'Keep what the book has'
-complete -c flagops -n '__fish_seen_subcommand_from drive book' -l replace -d 'Write also where inputs are lost'
+complete -c flagops -n '__fish_seen_subcommand_from drive book' -l replace -d 'Write even if inputs are lost'
 complete -c flagops -n '__fish_seen_subcommand_from serve follow' -l wait -x -d 'The most seconds to wait'
 complete -c flagops -n '__fish_seen_subcommand_from completions' -f -a 'bash fish zsh'
 "#;
@@ -151,17 +151,17 @@ _flagops() {
         'compare:what an edit of a document switches'
         'resolve:what a flag resolves to in a context'
         'plan:the rule that switches the fewest users'
-        'verify:check a plan apart from the planner'
+        'verify:check a plan independently of the planner'
         'apply:a document with the rule of a plan'
-        'drive:answer asks and write the book of what they reach'
-        'book:write the book of several books'
+        'drive:evaluate asks and write the book of what they reach'
+        'book:merge books and note lines into one book'
         'ramp:plan a rollout in steps'
         'verify-ramp:check the plans of a rollout in steps'
         'picture:draw a plan as SVG'
         'record:print the hash inputs that contexts reach'
         'tally:count sorted hash inputs by their points'
-        'join:make one tally of several'
-        'ofrep:answer evaluations over HTTP'
+        'join:join tallies into one'
+        'ofrep:serve evaluations over HTTP'
         'serve:publish documents to subscribers'
         'follow:print the snapshots that come'
         'completions:print the completion of a shell'
@@ -173,72 +173,72 @@ _flagops() {
         return
     fi
     case $words[2] in
-        bucket | price) _arguments '--json[print the answer as JSON]' '--help[print help]' '*:file:_files' ;;
+        bucket | price) _arguments '--json[print the result as JSON]' '--help[print help]' '*:file:_files' ;;
         check)
-            _arguments '--strict[refuse what is else only told]' '--json[print the answer as JSON]' \
-                '--floats[take any numbers as variants]' '--help[print help]' '*:file:_files'
+            _arguments '--strict[treat warnings as errors]' '--json[print the result as JSON]' \
+                '--floats[accept any numbers as variants]' '--help[print help]' '*:file:_files'
             ;;
-        resolve) _arguments '--floats[take any numbers as variants]' '--help[print help]' '*:file:_files' ;;
+        resolve) _arguments '--floats[accept any numbers as variants]' '--help[print help]' '*:file:_files' ;;
         compare)
             _arguments '--flag[only the pages of this flag]:KEY:' '--picture[write the picture of the pages]:file:_files' \
-                '--strict[refuse what is else only told]' '--json[print the answer as JSON]' \
-                '--floats[take any numbers as variants]' '--help[print help]' '*:file:_files'
+                '--strict[treat warnings as errors]' '--json[print the result as JSON]' \
+                '--floats[accept any numbers as variants]' '--help[print help]' '*:file:_files'
             ;;
         plan)
-            _arguments '--refine[plan in finer points]:M:' '--strict[refuse what is else only told]' '--explain[tell the plan in words]' \
-                '--picture[write the picture of the plan]:file:_files' '--floats[take any numbers as variants]' \
+            _arguments '--refine[plan in finer points]:M:' '--strict[treat warnings as errors]' '--explain[explain the plan in words]' \
+                '--picture[write the picture of the plan]:file:_files' '--floats[accept any numbers as variants]' \
                 '--help[print help]' '*:file:_files'
             ;;
         picture)
-            _arguments '--refine[plan in finer points]:M:' '--ramp[draw the steps of a rollout]' '--floats[take any numbers as variants]' \
+            _arguments '--refine[plan in finer points]:M:' '--ramp[draw the steps of a rollout]' '--floats[accept any numbers as variants]' \
                 '--help[print help]' '*:file:_files'
             ;;
         verify)
-            _arguments '--refine[plan in finer points]:M:' '--strict[refuse what is else only told]' '--json[print the answer as JSON]' \
-                '--floats[take any numbers as variants]' '--help[print help]' '*:file:_files'
+            _arguments '--refine[plan in finer points]:M:' '--strict[treat warnings as errors]' '--json[print the result as JSON]' \
+                '--floats[accept any numbers as variants]' '--help[print help]' '*:file:_files'
             ;;
         ramp | verify-ramp)
-            _arguments '--refine[plan in finer points]:M:' '--strict[refuse what is else only told]' \
-                '--floats[take any numbers as variants]' '--help[print help]' '*:file:_files'
+            _arguments '--refine[plan in finer points]:M:' '--strict[treat warnings as errors]' \
+                '--floats[accept any numbers as variants]' '--help[print help]' '*:file:_files'
             ;;
         tally)
-            _arguments '--refine[plan in finer points]:M:' '--floats[take any numbers as variants]' '--help[print help]' '*:file:_files'
+            _arguments '--refine[plan in finer points]:M:' '--floats[accept any numbers as variants]' '--help[print help]' '*:file:_files'
             ;;
         record)
             _arguments '--moment[the time of the evaluations]:MOMENT:' '--workers[the most threads that evaluate]:WORKERS:' \
-                '--floats[take any numbers as variants]' '--help[print help]' '*:file:_files'
+                '--floats[accept any numbers as variants]' '--help[print help]' '*:file:_files'
             ;;
         apply)
             _arguments '--keep[verify the plan and keep the rest of the text]' '--write[with --keep\: write over the document]' \
-                '--refine[with --keep\: the factor of the plan]:M:' '--strict[refuse what is else only told]' \
-                '--doubted[with --write\: write what is doubted, too]' \
-                '--step[the step whose rule is put]:N:' '--floats[take any numbers as variants]' '--help[print help]' '*:file:_files'
+                '--refine[with --keep\: the factor of the plan]:M:' '--strict[treat warnings as errors]' \
+                '--doubted[with --write\: write in spite of doubts]' \
+                '--step[the step whose rule is applied]:N:' '--floats[accept any numbers as variants]' '--help[print help]' '*:file:_files'
             ;;
         book)
-            _arguments '--torn[pass over lines that are no notes]' '--replace[write also where inputs are lost]' \
+            _arguments '--torn[skip lines that are not notes]' '--replace[write even if inputs are lost]' \
                 '--help[print help]' '*:file:_files'
             ;;
         ofrep)
             _arguments '--listen[the address and port of the service]:ADDRESS\:PORT:' '--log[the folder of the logs]:folder:_files -/' \
                 '--admin[the address and port of health and metrics]:ADDRESS\:PORT:' \
-                '--allow-stop[let POST /stop there end the service]' '--access-log[tell a line of each request]' \
-                '--log-points[record hashes in the place of hash inputs]' \
+                '--allow-stop[let POST /stop there end the service]' '--access-log[write a line for each request]' \
+                '--log-points[record hashes instead of hash inputs]' \
                 '--idle[the seconds for which an idle connection is kept]:S:' '--max-body[the most bytes of a body]:BYTES:' \
-                '*--cors[an origin whose web pages may ask]:ORIGIN:' '--keys[the file of keys of which each request shows one]:file:_files' \
+                '*--cors[an origin whose web pages may ask]:ORIGIN:' '--keys[the file of keys, one of which each request needs]:file:_files' \
                 '--remember[the lines of the logs that are remembered]:N:' \
-                '--without-record[what becomes of answers that cannot be recorded]:what:(answer refuse)' \
+                '--without-record[what to do with answers that cannot be recorded]:what:(answer refuse)' \
                 '--stream[the port of the stream of snapshots]:PORT:' \
                 '--workers[the threads that answer]:N:' '--poll[the seconds between two readings of the documents]:SECONDS:' \
-                '--broken[what becomes of documents with broken flags]:what:(refuse serve)' \
+                '--broken[what to do with documents that break flags]:what:(refuse serve)' \
                 '--help[print help]' '*:file:_files'
             ;;
         drive)
-            _arguments '--add[keep what the book has]' '--replace[write also where inputs are lost]' \
-                '--strict[refuse what is else only told]' '--json[print the answer as JSON]' \
+            _arguments '--add[keep what the book has]' '--replace[write even if inputs are lost]' \
+                '--strict[treat warnings as errors]' '--json[print the result as JSON]' \
                 '--help[print help]' '*:file:_files'
             ;;
         serve)
-            _arguments '--wait[the most seconds to wait]:S:' '--floats[take any numbers as variants]' '--help[print help]' '*:file:_files'
+            _arguments '--wait[the most seconds to wait]:S:' '--floats[accept any numbers as variants]' '--help[print help]' '*:file:_files'
             ;;
         follow) _arguments '--wait[the most seconds to wait]:S:' '--help[print help]' '*:file:_files' ;;
         completions) _arguments '--help[print help]' '2:shell:(bash fish zsh)' ;;

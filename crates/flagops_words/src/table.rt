@@ -31,28 +31,28 @@ const BOOK: Word = Word::Text("BOOK", "The book of the hash inputs that were rec
 
 /// What `--strict` does to a command that tells what it doubts.
 pub const STRICT_HELP: &str =
-    "End with status 1 where something is else only told: docs/REFUSALS.md has the table";
+    "Treat warnings as errors: end with status 1 (docs/REFUSALS.md lists them)";
 
 /// What `--floats` does to a command that reads a document.
 pub const FLOATS_HELP: &str =
-    "Take any numbers as variants: a flag with one that is not whole is of the kind float";
+    "Accept any numbers as variants: a flag with one that is not whole is of the kind float";
 
 const FLOATS: Word = Word::Flag("floats", FLOATS_HELP);
 
 const STRICT: Word = Word::Flag("strict", STRICT_HELP);
 
-const JSON: Word = Word::Flag("json", "Print the answer as JSON, a text a line");
+const JSON: Word = Word::Flag("json", "Print the result as JSON, one text a line");
 
 const EXPLAIN: Word = Word::Flag(
     "explain",
-    "Tell in words, beside the plan, what it changes, or what stands in the way of any",
+    "Explain on standard error what the plan changes, or why no rule fits",
 );
 
 const PLAN_FILE: Word = Word::Text("PLAN", "The plan file");
 
 const REFINE: Word = Word::Option(
     "M",
-    "Plan in finer points: multiply each weight of the rule by M first, as 10 for tenths of a percent",
+    "Plan in finer points: multiply each weight of the rule by M first; 10 gives tenths of a percent",
     "refine",
     1,
     LARGEST_32,
@@ -94,7 +94,7 @@ const BUCKET: Usage = Usage {
 
 const PRICE: Usage = Usage {
     name: "price",
-    about: "Prints the totals of a new rule and what it costs the keys of a file",
+    about: "Prints the totals of a new rule, and its cost over the keys of a file",
     words: &[
         Word::Text("OLD", "The file of the old rule"),
         Word::Text("NEW", "The file of the new rule, of the same total"),
@@ -128,7 +128,7 @@ const QUESTION: &[Word] = &[
     ),
     Word::Text(
         "DEFAULT",
-        "What is given where the flag gives nothing, as JSON",
+        "What to return where the flag gives nothing, as JSON",
     ),
     Word::Text("CONTEXT", "The file of the evaluation context"),
     Word::Number(
@@ -141,13 +141,13 @@ const QUESTION: &[Word] = &[
 
 const PLAN: Usage = Usage {
     name: "plan",
-    about: "Prints the rule that a rollout request asks for and that switches the fewest; plan --picture FILE draws it, too",
+    about: "Prints the rule that a rollout request asks for and that switches the fewest users; plan --picture FILE draws it, too",
     words: &[DOCUMENT, REQUEST, BOOK, REFINE, STRICT, EXPLAIN, FLOATS],
 };
 
 const VERIFY: Usage = Usage {
     name: "verify",
-    about: "Checks, apart from the planner, that a plan is right and the cheapest for a rollout request",
+    about: "Checks, independently of the planner, that a plan is valid and the cheapest for a rollout request",
     words: &[
         DOCUMENT, REQUEST, BOOK, PLAN_FILE, REFINE, STRICT, JSON, FLOATS,
     ],
@@ -167,7 +167,7 @@ pub const APPLY_ALONE: Usage = Usage {
 };
 
 const APPLIES: &str =
-    "Prints a document with the rule of a plan at a site of a flag; with --keep nothing else of its text is changed; apply --step N takes a step of a ramp";
+    "Prints a document with the rule of a plan at a site of a flag; with --keep nothing else of its text changes; apply --step N takes a step of a ramp";
 
 const RULE_AND_PLACE: &[Word] = &[
     DOCUMENT,
@@ -182,11 +182,11 @@ const RULE_AND_PLACE: &[Word] = &[
     ),
     Word::Flag(
         "keep",
-        "Verify the plan first, and keep the text of the document but for the buckets that the plan replaces",
+        "Verify the plan first, and change nothing in the text of the document but the buckets of the plan",
     ),
     Word::Flag(
         "write",
-        "With --keep: write the text over DOC in place of printing it",
+        "With --keep: write the document over DOC instead of printing it",
     ),
     Word::Option(
         "M",
@@ -197,32 +197,29 @@ const RULE_AND_PLACE: &[Word] = &[
     ),
     Word::Flag(
         "strict",
-        "Refuse what is else only told: with --keep what is doubted, and without it what is printed without it",
+        "Treat warnings as errors: with --keep doubts, and without it whatever is left out of the document",
     ),
     Word::Flag(
         "doubted",
-        "With --keep --write: write what is doubted, too, which is else refused",
+        "With --keep --write: write in spite of doubts, which are errors otherwise",
     ),
     FLOATS,
 ];
 
 const DRIVE: Usage = Usage {
     name: "drive",
-    about: "Prints what the asks of a file resolve to, and writes the book of what they reach",
+    about: "Prints what the asks of a file resolve to, and writes a book of the hash inputs that they reach",
     words: &[
         DOCUMENT,
         Word::Text("ASKS", "The file of the asks"),
         Word::Number(
             "WORKERS",
-            "How many threads answer the asks, from 1 to 64",
+            "How many threads evaluate the asks, from 1 to 64",
             LARGEST_16,
         ),
         Word::Text("BOOK", "The book file that is written"),
-        Word::Flag("add", "Read BOOK first, and write it with what it had"),
-        Word::Flag(
-            "replace",
-            "Write BOOK also where inputs that it had are lost",
-        ),
+        Word::Flag("add", "Add to what BOOK has already"),
+        Word::Flag("replace", "Write BOOK even if it loses inputs"),
         STRICT,
         JSON,
     ],
@@ -241,7 +238,7 @@ pub const COMPLETIONS_ALONE: Usage = Usage {
     words: SHELL,
 };
 
-const COMPLETES: &str = "Prints the script by which a shell completes these words";
+const COMPLETES: &str = "Prints the completion script of a shell";
 
 const SHELL: &[Word] = &[Word::Text("SHELL", "bash, fish or zsh")];
 

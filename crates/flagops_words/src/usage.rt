@@ -70,9 +70,9 @@ pub fn read_elsewhere(alloc: Global) -> Result<Error, AllocError>
     )
 }
 
-/// What the help of the program ends with: where each command tells its words, and the statuses.
+/// What the help of the program ends with: how to ask for a command's arguments, and the statuses.
 const STATUSES: &str =
-    "Each command tells its words with --help, as 'flagops ramp --help'.\n\nStatus: 0 done, 1 refused, a broken or doubted flag at check --strict, or the output failed, 2 words that are no command, 3 no rule fits.\nWhat was refused, where, and what to change is told on the error outlet; docs/REFUSALS.md has each line\nthat begins with 'refused', docs/FORMATS.md the files with examples, demo/README.md a first rollout.";
+    "Run 'flagops COMMAND --help' for the arguments of a command, as 'flagops ramp --help'.\n\nStatus: 0 done, 1 refused, a broken or doubted flag at check --strict, or the output failed, 2 not a command, 3 no rule fits.\nStandard error says what was refused, where, and what to change; docs/REFUSALS.md explains each line\nthat begins with 'refused', docs/FORMATS.md has the files with examples, demo/README.md a first rollout.";
 
 /// The version of the program, and the kit that it is proved with (`rt version`), a line each.
 const VERSION: &str = "0.1.0\nproved with rattle-kit-13b logic dac8208d650f15bf";

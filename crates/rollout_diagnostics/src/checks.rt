@@ -1,4 +1,4 @@
-//! Diagnostics of a plan that is no right answer to a request.
+//! Diagnostics of a plan that is not a right answer to a request.
 ghost use Rattle.std.specs.Prelude.{IfOk, string_bytes};
 ghost use Rattle.file_diagnostics.specs.Named.{Names};
 
@@ -12,7 +12,7 @@ use rollout_checks::RequestFile;
 use std::alloc::{AllocError, Global};
 use transport_instance::{Certificate, CheckFault};
 
-/// Explains why the plan in a file is no right answer to the request.
+/// Explains why the plan in a file is not a right answer to the request.
 pub fn of_check(
     alloc: Global,
     path: &str,
@@ -132,7 +132,7 @@ fn put_totals(
     match asked.totals(lines.alloc, variants) {
         Ok(totals) => put_passed_limit(lines, totals.entries(), rule),
         Err(PriceFault::WantOfMemory) => return Err(AllocError),
-        Err(_) => write!(lines, "the request names what is no variant"),
+        Err(_) => write!(lines, "the request names what is not a variant"),
     }
     Ok(())
 }
@@ -153,7 +153,7 @@ fn put_passed_limit(lines: &mut Lines, limits: &[Limit], rule: &Rule) {
             return;
         }
     }
-    write!(lines, "its rule names what is no variant of the flag");
+    write!(lines, "its rule names what is not a variant of the flag");
 }
 
 /// The change at a point.

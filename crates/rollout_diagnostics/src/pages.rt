@@ -41,7 +41,7 @@ pub fn of_foreign(
     let mut lines = Lines::new(alloc);
     write!(
         lines,
-        " has inputs on the page of the request that are none of its flag: {} of {} do not begin with its key\n  {}",
+        " has inputs on the page of the request that are not of its flag: {} of {} do not begin with its key\n  {}",
         inputs
             .iter()
             .filter(|input| is_foreign(input.as_str(), key))
@@ -54,7 +54,7 @@ pub fn of_foreign(
     }
     write!(
         lines,
-        "\n  where \"by\" is null an input is the flag's key with the targeting key behind it\n",
+        "\n  where \"by\" is null an input is the flag's key followed by the targeting key\n",
     );
     lines.headed(Opening::Note, path)
 }

@@ -1,9 +1,9 @@
-//! Diagnostics of bytes that are no request.
+//! Diagnostics of bytes that are not a request.
 ghost use Rattle.std.specs.Prelude.{IfOk, string_bytes};
 ghost use Rattle.file_diagnostics.specs.Named.{Names};
 
-use file_diagnostics::{Lines, Opening, of_text};
-use flag_text::{Tree, read_tree};
+use file_diagnostics::{Lines, Opening, put_text_fault, put_weight_fault, tree_or_none};
+use flag_text::{TextFault, Tree, read_doc, read_tree};
 use limits::TEXT_BYTES;
 use price_core::{Misfit, PriceFault, RequestError, change_in, limit_of};
 use rollout_checks::RequestFile;
@@ -12,7 +12,7 @@ use std::alloc::{AllocError, Global};
 /// What a request looks like.
 const LOOK: &str = "{\"plan\":1,\"flag\":\"KEY\",\"site\":0,\"totals\":{\"NAME\":n,..}}";
 
-/// Explains why `bytes`, read from the file at `path`, are no request, or are refused as one.
+/// Explains why `bytes`, read from the file at `path`, are not a request, or are refused as one.
 pub fn of_request(
     alloc: Global,
     path: &str,
@@ -23,7 +23,7 @@ pub fn of_request(
 {
     match read_tree(alloc, bytes, TEXT_BYTES) {
         Ok(tree) => of_tree(alloc, path, &tree, fault),
-        Err(fault) => of_text(alloc, path, bytes, TEXT_BYTES, fault),
+        Err(fault) => of_unread(alloc, path, bytes, fault),
     }
 }
 
@@ -38,7 +38,44 @@ pub(crate) fn of_request_file(
 {
     match request.tree() {
         Ok(tree) => of_tree(alloc, path, tree, fault),
-        Err(fault) => of_text(alloc, path, request.bytes(), TEXT_BYTES, fault),
+        Err(fault) => of_unread(alloc, path, request.bytes(), fault),
+    }
+}
+
+/// Of a file that is not read as JSON; of totals with a fraction, that a finer rule takes them.
+fn of_unread(
+    alloc: Global,
+    path: &str,
+    bytes: &[u8],
+    fault: TextFault,
+) -> Result<String, AllocError>
+    ensures names { IfOk result (λ s. Names path.now (string_bytes s)) }
+{
+    let mut lines = Lines::new(alloc);
+    put_text_fault(&mut lines, bytes, TEXT_BYTES, fault)?;
+    if fault == TextFault::NotWhole && has_other_total(alloc, bytes)? {
+        write!(
+            lines,
+            "  for tenths of a point give --refine 10, and ten times each total\n",
+        );
+    }
+    lines.headed(Opening::Error, path)
+}
+
+/// Whether a total, or a limit of one, is a number that is not taken.
+fn has_other_total(alloc: Global, bytes: &[u8]) -> Result<bool, AllocError> {
+    match tree_or_none(read_doc(alloc, bytes, TEXT_BYTES))? {
+        Some(tree) => Ok(totals(&tree).iter().any(|(_, total)| is_other(total))),
+        None => Ok(false),
+    }
+}
+
+/// Whether this is a number that is not taken, or a range with one.
+fn is_other(total: &Tree) -> bool {
+    match total {
+        Tree::Other => true,
+        Tree::List(limits) => limits.iter().any(|limit| matches!(limit, Tree::Other)),
+        _ => false,
     }
 }
 
@@ -88,8 +125,8 @@ fn put_misfit(lines: &mut Lines, tree: &Tree, misfit: Misfit) {
         Misfit::Prices => put_member(lines, tree, "prices", "a list, or left out"),
         Misfit::Forbid => put_member(lines, tree, "forbid", "a list, or left out"),
         Misfit::Total(place) => put_total(lines, tree, place),
-        Misfit::PricesItem(place) => write!(lines, "prices[{place}] is no [FROM,TO,n]"),
-        Misfit::ForbidItem(place) => write!(lines, "forbid[{place}] is no [FROM,TO]"),
+        Misfit::PricesItem(place) => write!(lines, "prices[{place}] is not [FROM,TO,n]"),
+        Misfit::ForbidItem(place) => write!(lines, "forbid[{place}] is not [FROM,TO]"),
         Misfit::PricesTwice(place) => put_doubled(lines, tree, "prices", place),
         Misfit::ForbidTwice(place) => put_doubled(lines, tree, "forbid", place),
     }
@@ -106,20 +143,22 @@ fn put_member(lines: &mut Lines, tree: &Tree, name: &str, what: &str) {
     }
 }
 
-/// A total that is no number of points, nor a range where these are taken.
+/// A total that is not a number of points, nor a range where these are taken.
 fn put_total(lines: &mut Lines, tree: &Tree, place: usize) {
     if let Some((name, total)) = totals(tree).get(place) {
-        write!(
-            lines,
-            "totals{} is {}, no number from 0 to 2147483647 {}",
-            lines.step(name.as_str()),
-            lines.value(total),
-            if matches!(tree.member("plan"), Some(Tree::Whole(2))) {
-                "nor a range [LOW,HIGH]"
-            } else {
-                "(a range [LOW,HIGH] only with \"plan\":2)"
-            },
-        );
+        write!(lines, "totals{} is ", lines.step(name.as_str()));
+        put_weight_fault(lines, total);
+        if matches!(tree.member("plan"), Some(Tree::Whole(2))) {
+            write!(
+                lines,
+                "; a total is a number from 0 to 2147483647 or a range [LOW,HIGH]"
+            );
+        } else {
+            write!(
+                lines,
+                "; a total is a number from 0 to 2147483647 (or with \"plan\":2 a range [LOW,HIGH])"
+            );
+        }
     }
 }
 

@@ -80,7 +80,7 @@ fn put_place(lines: &mut Lines, place: Place<'_>, fault: RolloutFault) {
     match fault {
         RolloutFault::UnknownFlag => write!(
             lines,
-            "the document has no flag {}\n  there are {}",
+            "the document has no flag {}\n  known flags: {}",
             lines.name(place.key),
             lines.listed(place.flags),
         ),
@@ -105,12 +105,12 @@ fn put_no_site(lines: &mut Lines, place: Place<'_>) {
     let key = lines.name(place.key);
     let number = place.number;
     let Some(flag) = place.flags.get(place.key) else {
-        return write!(lines, "there is no flag {key}");
+        return write!(lines, "the document has no flag {key}");
     };
     if flag.is_broken() {
         return write!(
             lines,
-            "the flag {key} is broken\n  \"flagops check\" tells why"
+            "the flag {key} is broken\n  \"flagops check\" says why"
         );
     }
     let count = match flag.targeting() {
@@ -130,12 +130,12 @@ fn put_unknown_asked(
     request: &RequestFile,
 ) -> Result<(), AllocError> {
     if place.flags.get(place.key).is_none() {
-        write!(lines, "there is no such flag");
+        write!(lines, "the document has no such flag");
         return Ok(());
     }
     match request.tree() {
         Ok(tree) => put_unknown(lines, place, tree, place.entries()?.as_slice())?,
-        Err(_) => write!(lines, "a name is none of the variants"),
+        Err(_) => write!(lines, "a name is not one of the variants"),
     }
     Ok(())
 }
@@ -175,7 +175,7 @@ fn put_no_variant(lines: &mut Lines, key: &str, variants: &[String], name: Optio
     }
     write!(
         lines,
-        " is no variant of {}\n  there are {}",
+        " is not a variant of {}\n  known variants: {}",
         lines.name(key),
         lines.listed(variants),
     );
@@ -253,21 +253,35 @@ fn put_sums(
             lines,
             ",\n  and the rule at {place} has {total} points (a variant that is not named gets none)",
         );
-        if let Some(times) = times_as_many(low, high, total) {
-            write!(
-                lines,
-                "\n  that is {times} times as many: multiply each total by {times}",
-            );
-        }
+        put_times(lines, low, high, total, u128::from(factor.max(1)));
     }
     Ok(())
 }
 
-/// How many times as many points a rule has as totals sum to, where they sum to a part of it that goes into it without a rest.
-fn times_as_many(low: u128, high: u128, total: u128) -> Option<u128> {
-    if low == 0 || low != high || total % low != 0 {
+/// By how much to multiply the totals, or which factor to plan with, where one of the sums is a multiple of the other.
+fn put_times(lines: &mut Lines, low: u128, high: u128, total: u128, factor: u128) {
+    if low != high {
+        return;
+    }
+    if let Some(times) = times_as_many(low, total) {
+        write!(
+            lines,
+            "\n  that is {times} times as many: multiply each total by {times}",
+        );
+    } else if let Some(times) = times_as_many(total, low) {
+        write!(
+            lines,
+            "\n  the totals are of {times} times as many: give --refine {}, or divide each total by {times}",
+            times.saturating_mul(factor),
+        );
+    }
+}
+
+/// How many times a number of points goes into a larger one, where nothing is left over.
+fn times_as_many(points: u128, others: u128) -> Option<u128> {
+    if points == 0 || others % points != 0 {
         return None;
     }
-    let times = total / low;
+    let times = others / points;
     if times > 1 { Some(times) } else { None }
 }

@@ -1,4 +1,4 @@
-//! Diagnostics of a tally that has no input, or is of another page or total than a request.
+//! Diagnostics of a tally that has no input, or is for another page or total than a request.
 ghost use Rattle.std.specs.Prelude.{IfOk, string_bytes};
 ghost use Rattle.file_diagnostics.specs.Named.{Names};
 
@@ -25,7 +25,7 @@ pub fn of_empty_tally(alloc: Global, path: &str, page: &Page) -> Result<String, 
     lines.headed(Opening::Note, path)
 }
 
-/// Explains why the tally at `tally_path` doesn't serve the request at `path`: it is of another page or total.
+/// Explains why the tally at `tally_path` doesn't serve the request at `path`: it is for another page or total.
 pub fn of_other_tally(
     alloc: Global,
     path: &str,
@@ -42,15 +42,17 @@ pub fn of_other_tally(
         " is for another page or total than the tally {}:\n",
         lines.name(tally_path),
     );
-    if let Ok(asked) = request.asked() {
-        put_asked(&mut lines, Place::of(alloc, flags, asked))?;
-    }
     write!(
         lines,
-        "  the tally is of {}, at {} points\n  tally the page of the request, with the --refine that it is planned with\n",
+        "  the tally is for {}, at {} points\n",
         whole_page(alloc, &tally.page)?,
         tally.total,
     );
+    if let Ok(asked) = request.asked() {
+        let place = Place::of(alloc, flags, asked);
+        put_asked(&mut lines, place)?;
+        put_advice(&mut lines, tally.total, place.total()?);
+    }
     lines.headed(Opening::Request, path)
 }
 
@@ -62,7 +64,7 @@ fn put_asked(lines: &mut Lines, place: Place<'_>) -> Result<(), AllocError> {
     match Page::of(lines.alloc, place.key, targeting, place.number) {
         Ok(page) => write!(
             lines,
-            "  it is for {}, at {} points (with --refine M: M times as many)\n",
+            "  the request is for {}, at {} points (with --refine M: M times as many)\n",
             whole_page(lines.alloc, &page)?,
             place.total()?,
         ),
@@ -70,4 +72,24 @@ fn put_asked(lines: &mut Lines, place: Place<'_>) -> Result<(), AllocError> {
         Err(_) => {}
     }
     Ok(())
+}
+
+/// With which factor the tally was made, where its points are a multiple of the rule's; and what to do.
+fn put_advice(lines: &mut Lines, tallied: u32, total: u128) {
+    let tallied = u128::from(tallied);
+    if total > 0 && tallied % total == 0 {
+        match tallied / total {
+            1 => write!(lines, "  the tally was made without --refine"),
+            times => write!(lines, "  the tally was made with --refine {times}"),
+        }
+        write!(
+            lines,
+            ": tally the page of the request as it is planned, with the same --refine\n"
+        );
+    } else {
+        write!(
+            lines,
+            "  tally the page of the request, with the --refine that it is planned with\n",
+        );
+    }
 }

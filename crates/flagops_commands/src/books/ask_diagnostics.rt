@@ -17,12 +17,12 @@ const MANY: u128 = 20;
 const NOTHING: &str =
     "  nothing was recorded: no ask reached a \"fractional\" with an input of at most 1,024 bytes\n  check the keys and the contexts\n";
 
-/// Explains why `tree`, read from the file at `path`, is no list of asks.
+/// Explains why `tree`, read from the file at `path`, is not a list of asks.
 pub fn of_asks(alloc: Global, path: &str, tree: &Tree) -> Result<String, AllocError>
     ensures names { IfOk result (λ s. Names path.now (string_bytes s)) }
 {
     let mut lines = Lines::new(alloc);
-    write!(lines, " is no list of asks: ");
+    write!(lines, " is not a list of asks: ");
     match Misfit::of(tree) {
         Some(misfit) => put_misfit(&mut lines, tree, misfit),
         None => write!(lines, "{}", DriveRefusal::BadAsks),
@@ -48,7 +48,7 @@ fn put_misfit(lines: &mut Lines, tree: &Tree, misfit: Misfit) {
 /// A member that is there and not of its form.
 fn put_misshapen(lines: &mut Lines, tree: &Tree, place: usize, name: &str) {
     if let Some(value) = member_at(tree, place, name) {
-        write!(lines, "at [{place}].{name} stands {}", lines.value(value));
+        write!(lines, "[{place}].{name} is {}", lines.value(value));
     }
 }
 
@@ -95,7 +95,7 @@ pub fn of_workers(alloc: Global, workers: usize, fault: &str) -> Result<String, 
     } else {
         write!(
             lines,
-            " drove no asks: {fault}\n  docs/REFUSALS.md, part Asks, tells what to do\n",
+            " drove no asks: {fault}\n  docs/REFUSALS.md, part Asks, says what to do\n",
         );
     }
     lines.after_word("WORKERS")

@@ -18,8 +18,8 @@ pub fn of_keys(
 {
     let mut lines = Lines::new(alloc);
     match place {
-        Some(place) => write!(lines, " is no list of keys: its item [{place}]"),
-        None => write!(lines, " is no list of keys: it"),
+        Some(place) => write!(lines, " is not a list of keys: its item [{place}]"),
+        None => write!(lines, " is not a list of keys: it"),
     }
     write!(
         lines,
