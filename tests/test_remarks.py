@@ -334,6 +334,11 @@ class Remarks(ProgramTest):
                 self.assertTrue(lines[0].startswith(told[0]), ran.err)
                 self.assertEqual(lines[1:], told[1:])
 
+    def test_of_lines_of_other_pages(self):
+        ran = run(["tally", "d", "a", "0"], {"d": SHARED}, input='["b",0,null,"bann"]\n')
+        told = "no line is of the page of this site, and nothing is counted; 'cut -d, -f1-3' shows the pages of lines"
+        self.assertEqual((ran.status, ran.err), (0, f"tally: {told}\n"))
+
     def test_of_totals_of_another_factor(self):
         for totals, told in TOTALS:
             with self.subTest(totals=totals):
