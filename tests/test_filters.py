@@ -51,6 +51,8 @@ def tally(lines, *more, document=DOCUMENT, key="color", site="0"):
     return run(["tally", "d", key, site, *more], {"d": document}, input=lines)
 
 
+NONE = "tally: no line is of the page of this site, and nothing is counted; 'cut -d, -f1-3' shows the pages of lines\n"
+
 NO_KEY = why(1, "1 without a targetingKey")
 
 WORKERS = ("1", "2", "3", "4", "64")
@@ -115,7 +117,7 @@ class FiltersTest(ProgramTest):
         for ran, out in [(record(""), ""), (tally(""), printed([], TOTAL))]:
             self.assertEqual((ran.out, ran.status), (out, 0))
             self.assertIn(": the standard input is empty, and nothing is ", ran.err)
-        for ran, out, told in [(record("\n"), "", why(0)), (tally("\n"), printed([], TOTAL), "")]:
+        for ran, out, told in [(record("\n"), "", why(0)), (tally("\n"), printed([], TOTAL), NONE)]:
             self.assertEqual((ran.out, ran.status, ran.err), (out, 0, told))
 
     def test_a_byte_order_mark(self):

@@ -183,7 +183,7 @@ class RampTest(ProgramTest):
             ("", '"steps" is empty, which is not valid JSON\n'),
             ("\ufeff" + asked, '"steps" begins with a byte order mark, so it is not valid JSON\n  save it as UTF-8 without the mark\n'),
             (asked[:-1], '"steps" is not valid JSON: '),
-            ("{}", '"steps": it is no request with "steps", a list of 1 to 100 totals, '),
+            ("{}", '"steps": it is not a request with "steps", a list of 1 to 100 totals, '),
         ]:
             given = {**self.files(text), "ramp": ""}
             for words, line in [

@@ -1,4 +1,5 @@
 """What a person is told of a file that is refused, or of a flag that is broken: the place in it, and what stands there."""
+import tempfile
 import unittest
 
 from program import ProgramTest, cheap, run
@@ -211,6 +212,36 @@ TOTALS = [
     ('{"on":1,"off":9}', "that is 10 times as many: multiply each total by 10"),
 ]
 
+CONTEXT = "a context is a JSON object, each on a line of its own"
+COMMAS = "no trailing comma, no comment; names and texts stand in double quotes"
+UNREAD = "read by itself, is not valid JSON: "
+
+# The command and its words, the standard input, and the lines that say what is wrong with it and what to do.
+INPUTS = [
+    (["record", "d", "a"], b"[1]\n", ["error: the standard input: line 1 is a list, not a context", CONTEXT]),
+    (["record", "d", "a"], b"{}\n7\n", ["error: the standard input: line 2 is 7, not a context", CONTEXT]),
+    (["record", "d", "a"], b'{}\n{"a":1,}\n', [f"error: the standard input: line 2, {UNREAD}", COMMAS, CONTEXT]),
+    (["record", "d", "a"], b'{\n"flags":{}}\n', [f"error: the standard input: line 1, {UNREAD}", COMMAS, CONTEXT]),
+    (
+        ["record", "d", "a"],
+        b"\x1f\x8b\x08\x00\n",
+        ["error: the standard input: line 1 is not a context", "the input looks like gzip: decompress it first"],
+    ),
+    (
+        ["tally", "d", "a", "0"],
+        b'["a",0,null,"ab"]\n["a",0,null,"aa"]\n',
+        ["error: the standard input: line 2 is not above the one before it", "sort the lines: pipe them through 'LC_ALL=C sort -u'"],
+    ),
+    (
+        ["tally", "d", "a", "0"],
+        b"{}\n",
+        [
+            "error: the standard input: line 1 is not a note line",
+            "a note line is [FLAG,SITE,BY,INPUT], spelled as record and ofrep write it",
+        ],
+    ),
+]
+
 # Evaluators, and what is told of a flag that refers to `e`.
 BROKEN = [
     (
@@ -291,6 +322,22 @@ class Remarks(ProgramTest):
                 ran = run(["check", "f"], {"f": f'{{"flags":{{"a":{flag}}}}}'})
                 self.assertEqual((ran.status, ran.out), (0, '"a" broken\n'))
                 self.assert_told(ran, f"broken: flags.a.targeting.{told}")
+
+    def test_of_standard_inputs(self):
+        for words, text, told in INPUTS:
+            with self.subTest(words=words, text=text), tempfile.TemporaryFile() as given:
+                given.write(text)
+                given.seek(0)
+                ran = run(words, {"d": SHARED}, stdin=given)
+                self.assertEqual(ran.status, 1)
+                lines = [line.strip() for line in ran.err.splitlines()[: len(told)]]
+                self.assertTrue(lines[0].startswith(told[0]), ran.err)
+                self.assertEqual(lines[1:], told[1:])
+
+    def test_of_lines_of_other_pages(self):
+        ran = run(["tally", "d", "a", "0"], {"d": SHARED}, input='["b",0,null,"bann"]\n')
+        told = "no line is of the page of this site, and nothing is counted; 'cut -d, -f1-3' shows the pages of lines"
+        self.assertEqual((ran.status, ran.err), (0, f"tally: {told}\n"))
 
     def test_of_totals_of_another_factor(self):
         for totals, told in TOTALS:

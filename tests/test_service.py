@@ -1392,6 +1392,21 @@ class Streaming(Changing):
         self.assertIn(f"error: the port {port} of --stream is in use\n", ran.err)
 
 
+class Addresses(ServiceTest):
+    """Where it listens."""
+
+    def test_the_port_that_the_system_gave(self):
+        for host in ("127.0.0.1", "localhost"):
+            with self.subTest(host):
+                words = [PROGRAM, "ofrep", "--listen", f"{host}:0", "d"]
+                child = subprocess.Popen(words, stdout=subprocess.PIPE, stderr=subprocess.PIPE, text=True, cwd=self.folder)
+                self.addCleanup(child.communicate)
+                self.addCleanup(child.kill)
+                told = self.told(child, "listens on ")
+                self.port = int(re.search(r"listens on 127\.0\.0\.1:([1-9]\d*), ", told)[1])
+                self.assertEqual(self.flag("color", context("mallory")), (200, color_of("mallory")))
+
+
 class Refusals(ServiceTest):
     """Runs that answer nobody."""
 

@@ -14,7 +14,7 @@ use Rattle.flagops_shell.specs.declared.outcome.Outcome.{Outcome}
 use Rattle.flagops_shell.specs.declared.refused.Remark.{Remark}
 use Rattle.flagops_filters.specs.Command.{tally_description}
 use Rattle.flagops_filters.specs.Refusal.{is_unread, is_want, line_of}
-use Rattle.flagops_filters.specs.Beside.{Reads, tally_beside}
+use Rattle.flagops_filters.specs.Beside.{IsBesideTally}
 use Rattle.flagops_filters.specs.Remarks.{NamesRefused, RemarksUnjoinedOf, join_remark, tally_remark}
 use Rattle.flagops_filters.specs.Report.{Told}
 use Rattle.flagops_filters.specs.Tally.{IsTallyReport, tally_call}
@@ -106,12 +106,12 @@ module _ (old new : Shown) (status : ℕ) (a : Tallying) (is_cut : Bool) (after 
       go None says puts some = cc
       go (Some remark) says puts some = (remark, says, puts)
 
-  pub reported : (holding : Option Holding) (given : Option (List ℕ)) (o : Outcome) → IfSome holding (λ at. IfSome given (λ bytes. IsTallyReport at a bytes is_cut (Ok (outcome_view o)))) → IfSome given (λ bytes. IfSome o.remark (Says (Reads (tally_beside bytes))))
+  pub reported : (holding : Option Holding) (given : Option (List ℕ)) (o : Outcome) → IfSome holding (λ at. IfSome given (λ bytes. IsTallyReport at a bytes is_cut (Ok (outcome_view o)))) → IfSome given (λ bytes. IfSome o.remark (Says (IsBesideTally bytes o.text.items)))
       → ShowsReport old new status (outcome_view o) → PutsRemark old.reported new.reported new.is_mute o.remark → Comes holding given
   reported None None o is says shows puts = tt
   reported None (Some bytes) o is says shows puts = tt
   reported (Some at) None o is says shows puts = tt
-  reported (Some at) (Some bytes) o is says shows puts = inl (Ok (outcome_view o), (is, λ none. absurd none), (shows, noted (Reads (tally_beside bytes)) o says puts))
+  reported (Some at) (Some bytes) o is says shows puts = inl (Ok (outcome_view o), (is, λ none. absurd none), (shows, noted (IsBesideTally bytes o.text.items) o says puts))
 
   refused_at : (at : Holding) (bytes : List ℕ) (t : Told) → (is_want t.refusal ≡ false → IsTallyReport at a bytes is_cut (Err t.refusal)) → (is_unread t.refusal ≡ true → has_failed ≡ true) → (is_want t.refusal ≡ false → Says (NamesRefused a.document t.refusal) t.remark)
       → ShowsRefusal old new status is_want line_of tally_call t.refusal t.remark → Ends old new status line_of (λ n. n ≡ tally_call) (tally_remark bytes a.document) (MayRun (tally_description bytes is_cut) is_unread a at after has_failed)

@@ -5,6 +5,8 @@ use Rattle.flag_defs.specs.Document.{Definitions}
 use Rattle.flagops_shell.specs.Diagnostic.{Says}
 use Rattle.flagops_shell.specs.Report.{Report}
 use Rattle.flagops_shell.specs.declared.outcome.Outcome.{Outcome}
+use Rattle.flagops_shell.specs.declared.refused.Remark.{Remark}
+use Rattle.flagops_shell.specs.declared.refused.Remark.TheVariants.{Lines, Short}
 use Rattle.line_tally.specs.Lines.{finished, untallied}
 use Rattle.note_streams.specs.Rest.{is_empty, is_torn}
 use Rattle.note_streams.specs.Tallied.{TalliesStream}
@@ -17,7 +19,7 @@ use Rattle.tally_core.specs.Tally.{PageTally}
 use Rattle.tally_filters.specs.declared.fault.FilterFault.{FilterFault}
 use Rattle.tally_filters.specs.declared.fault.FilterFault.TheVariants.{WantOfMemory}
 use Rattle.tally_text.specs.File.{tally_text}
-use Rattle.flagops_filters.specs.Beside.{Reads, is_beside, tally_beside, tally_lines}
+use Rattle.flagops_filters.specs.Beside.{Reads, IsBesideTally, has_none, is_beside, tally_beside, tally_lines}
 use Rattle.flagops_filters.specs.Place.{PrintsTally}
 use Rattle.flagops_filters.specs.Refusal.{is_want}
 use Rattle.flagops_filters.specs.Report.{GivesOne, Told}
@@ -34,7 +36,7 @@ module _ (target : Target) (is_cut : Bool) where
 
   printed_at : (bytes : List ℕ) (t : StreamTally) (r : Result Outcome Told) → Came bytes (Ok t) → PrintsTally t r → GivesOne r (IsTallyOver target bytes is_cut)
   printed_at bytes t (Ok o) tallies prints =
-      let made : PageTally → Bool → Bool → Report = λ p empty torn. record { text = tally_text p; status = 0; is_told = is_beside empty torn } in
+      let made : PageTally → Bool → Bool → Report = λ p empty torn. record { text = tally_text p; status = 0; is_told = is_beside empty (has_none p) torn } in
       let last = finished tallies.0 in
       let same = ap (λ (p : PageTally). made p t.empty t.torn) tallies.2 ∙ ap (λ (torn : Bool). made last t.empty torn) tallies.3 ∙ ap (λ (empty : Bool). made last empty (is_torn bytes)) tallies.4 in
       inl (tallies.0, tallies.1, ap Ok (prints ∙ same))
@@ -44,14 +46,21 @@ module _ (target : Target) (is_cut : Bool) where
   printed None t r tallies prints = tt
   printed (Some bytes) t r tallies prints = printed_at bytes t r tallies prints
 
+  -- a remark that reads so is one beside the text of this tally
+  of_tally : (bytes text : List ℕ) (p : PageTally) (m : Option Remark) → text ≡ tally_text p → IfSome m (Says (Reads (tally_beside bytes p))) → IfSome m (Says (IsBesideTally bytes text))
+  of_tally bytes text p None is says = tt
+  of_tally bytes text p (Some Short) is says = tt
+  of_tally bytes text p (Some (Lines lines)) is says = (p, is, says)
+
   -- what is told is of these bytes
-  pub told_beside : (given : Option (List ℕ)) (t : StreamTally) (r : Result Outcome Told) → IfSome given (λ bytes. Came bytes (Ok t)) → IfOk r (λ o. IfSome o.remark (Says (Reads (tally_lines t.empty t.torn))))
-      → IfOk r (λ o. IfSome given (λ bytes. IfSome o.remark (Says (Reads (tally_beside bytes)))))
-  told_beside given t (Err e) tallies says = tt
-  told_beside None t (Ok o) tallies says = tt
-  told_beside (Some bytes) t (Ok o) tallies says =
-      subst (λ (torn : Bool). IfSome o.remark (Says (Reads (tally_lines (is_empty bytes) torn)))) tallies.3
-      (subst (λ (empty : Bool). IfSome o.remark (Says (Reads (tally_lines empty t.torn)))) tallies.4 says)
+  pub told_beside : (given : Option (List ℕ)) (t : StreamTally) (r : Result Outcome Told) → IfSome given (λ bytes. Came bytes (Ok t)) → PrintsTally t r
+      → IfOk r (λ o. IfSome o.remark (Says (Reads (tally_lines t.empty (has_none t.tally) t.torn)))) → IfOk r (λ o. IfSome given (λ bytes. IfSome o.remark (Says (IsBesideTally bytes o.text.items))))
+  told_beside given t (Err e) tallies prints says = tt
+  told_beside None t (Ok o) tallies prints says = tt
+  told_beside (Some bytes) t (Ok o) tallies prints says =
+      of_tally bytes o.text.items t.tally o.remark (ap (λ (r : Report). r.text) prints)
+      (subst (λ (torn : Bool). IfSome o.remark (Says (Reads (tally_lines (is_empty bytes) (has_none t.tally) torn)))) tallies.3
+      (subst (λ (empty : Bool). IfSome o.remark (Says (Reads (tally_lines empty (has_none t.tally) t.torn)))) tallies.4 says))
 
   stopped_at : (bytes : List ℕ) (stop : TallyStop) (told : Told) → Came bytes (Err stop) → told.refusal ≡ Tally stop → GivesOne (Err told) (IsTallyOver target bytes is_cut)
   stopped_at bytes (Filter fault) told tallies is = λ no_want.

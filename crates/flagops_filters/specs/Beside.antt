@@ -4,6 +4,8 @@ use Rattle.flagops_shell.specs.Diagnostic.{PutsRemark, Says}
 use Rattle.flagops_shell.specs.declared.refused.Remark.{Remark}
 use Rattle.note_streams.specs.Rest.{is_empty, is_torn}
 use Rattle.record_lines.specs.Outcomes.{Outcomes, contexts}
+use Rattle.tally_core.specs.Tally.{PageTally}
+use Rattle.tally_text.specs.File.{tally_text}
 use Rattle.flagops_filters.specs.declared.start.Start.{Start}
 
 -- lines are this text
@@ -19,19 +21,37 @@ torn_words = codes "the last line has no end and is passed over"
 abbrev pub tally_line : List ℕ → List ℕ
 tally_line words = codes "tally: " ++ (words ++ codes "\n")
 
--- where the standard input is empty, or has a torn line
-abbrev pub tally_lines : Bool → Bool → List ℕ
-tally_lines true torn = tally_line (codes "the standard input is empty, and nothing is counted")
-tally_lines false true = tally_line torn_words
-tally_lines false false = []
+-- no line is of the page
+abbrev pub none_words : List ℕ
+none_words = codes "no line is of the page of this site, and nothing is counted; 'cut -d, -f1-3' shows the pages of lines"
 
--- of a standard input of these bytes
-abbrev pub tally_beside : List ℕ → List ℕ
-tally_beside bytes = tally_lines (is_empty bytes) (is_torn bytes)
+-- the same, where the last line is torn
+abbrev pub none_torn_words : List ℕ
+none_torn_words = codes "no line is of the page of this site, and nothing is counted; the last line has no end and is passed over"
+
+-- where the standard input is empty, has no line of the page, or has a torn line
+abbrev pub tally_lines : Bool → Bool → Bool → List ℕ
+tally_lines true none torn = tally_line (codes "the standard input is empty, and nothing is counted")
+tally_lines false true false = tally_line none_words
+tally_lines false true true = tally_line none_torn_words
+tally_lines false false true = tally_line torn_words
+tally_lines false false false = []
+
+-- the tally has no input
+abbrev pub has_none : PageTally → Bool
+has_none t = nat_eq t.inputs 0
+
+-- of a standard input of these bytes, whose tally this is
+abbrev pub tally_beside : List ℕ → PageTally → List ℕ
+tally_beside bytes t = tally_lines (is_empty bytes) (has_none t) (is_torn bytes)
 
 -- there is such a line
-abbrev pub is_beside : Bool → Bool → Bool
-is_beside empty torn = empty || torn
+abbrev pub is_beside : Bool → Bool → Bool → Bool
+is_beside empty none torn = empty || (none || torn)
+
+-- lines are those beside a text, which is the file of the tally of a standard input of these bytes
+abbrev pub IsBesideTally : List ℕ → List ℕ → List ℕ → Type 0
+IsBesideTally bytes text lines = (t : PageTally) × (text ≡ tally_text t) × (lines ≡ tally_beside bytes t)
 
 -- ---- `record`
 

@@ -6,7 +6,7 @@ use Rattle.flagops_shell.specs.Report.{outcome_view}
 use Rattle.flagops_shell.specs.declared.outcome.Outcome.{Outcome}
 use Rattle.note_streams.specs.declared.tallying.StreamTally.{StreamTally}
 use Rattle.tally_text.specs.File.{tally_text}
-use Rattle.flagops_filters.specs.Beside.{is_beside}
+use Rattle.flagops_filters.specs.Beside.{has_none, is_beside}
 use Rattle.flagops_filters.specs.Refusal.{is_want}
 use Rattle.flagops_filters.specs.Tally.{Target}
 use Rattle.flagops_filters.specs.Report.{Told}
@@ -21,5 +21,5 @@ place_view p = (entries_view p.entries.items, p.page)
 
 -- the file of a tally is printed, unless memory ran out
 abbrev pub PrintsTally : StreamTally → Result Outcome Told → Type 0
-PrintsTally t (Ok o) = outcome_view o ≡ record { text = tally_text t.tally; status = 0; is_told = is_beside t.empty t.torn }
+PrintsTally t (Ok o) = outcome_view o ≡ record { text = tally_text t.tally; status = 0; is_told = is_beside t.empty (has_none t.tally) t.torn }
 PrintsTally t (Err told) = is_want told.refusal ≡ true

@@ -6,7 +6,7 @@ use Rattle.flagops_shell.specs.Diagnostic.{Says}
 use Rattle.flagops_shell.specs.Files.{Holding}
 use Rattle.flagops_shell.specs.declared.refused.Remark.{Remark}
 use Rattle.tally_core.specs.Tally.{PageTally}
-use Rattle.flagops_filters.specs.Beside.{Reads, tally_beside}
+use Rattle.flagops_filters.specs.Beside.{IsBesideTally}
 use Rattle.flagops_filters.specs.Join.{IsTallyOf}
 use Rattle.flagops_filters.specs.Joined.{JoinsNext}
 use Rattle.flagops_filters.specs.Refusal.{is_want}
@@ -36,7 +36,7 @@ NamesRefused document (Join e) lines = ⊥
 
 -- of `tally` over a standard input of these bytes
 abbrev pub tally_remark : List ℕ → List ℕ → Came → Remark → Type 0
-tally_remark bytes document (Ok report) remark = Says (Reads (tally_beside bytes)) remark
+tally_remark bytes document (Ok report) remark = Says (IsBesideTally bytes report.text) remark
 tally_remark bytes document (Err e) remark = Says (NamesRefused document e) remark
 
 -- of files that are joined to one in turn, the first that is refused so: it has no tally, or one that does not join those before it

@@ -18,7 +18,7 @@ use Rattle.rollout_checks.specs.declared.fault.RolloutFault.TheVariants.{NoWeigh
 use Rattle.tally_filters.specs.declared.fault.FilterFault.{FilterFault}
 use Rattle.tally_filters.specs.declared.fault.FilterFault.TheVariants.{WantOfMemory}
 use Rattle.tally_text.specs.File.{tally_text}
-use Rattle.flagops_filters.specs.Beside.{is_beside}
+use Rattle.flagops_filters.specs.Beside.{has_none, is_beside}
 use Rattle.flagops_filters.specs.Report.{Came}
 use Rattle.flagops_filters.specs.Words.{Tallying}
 use Rattle.flagops_filters.specs.declared.refusal.FilterRefusal.TheVariants.{Load, Flag, Tally}
@@ -47,10 +47,10 @@ target_at m (entries, page) = and_then (points_of (total_weight entries) m) (λ 
 abbrev pub target_of : Definitions → List ℕ → ℕ → ℕ → Result Target RolloutFault
 target_of flags key site m = and_then (site_of (place_of flags key site)) (target_at m)
 
--- the tally of all lines, with a line for a person where there were none or one was torn; or the first refusal of one; or a read failed, or the stream is too long
+-- the tally of all lines, with a line for a person where there were none, none was of the page, or one was torn; or the first refusal of one; or a read failed, or the stream is too long
 abbrev pub IsTallyOver : Target → List ℕ → Bool → Came → Type 0
 IsTallyOver target bytes is_cut r =
-    ((last : Tallied) × Tallies (untallied target.page target.total) 0 (parts_of bytes) (Ok last) × (r ≡ Ok (record { text = tally_text (finished last); status = 0; is_told = is_beside (is_empty bytes) (is_torn bytes) })))
+    ((last : Tallied) × Tallies (untallied target.page target.total) 0 (parts_of bytes) (Ok last) × (r ≡ Ok (record { text = tally_text (finished last); status = 0; is_told = is_beside (is_empty bytes) (has_none (finished last)) (is_torn bytes) })))
     ⊎ ((fault : FilterFault) × (fault ≢ WantOfMemory) × Tallies (untallied target.page target.total) 0 (parts_of bytes) (Err fault) × (r ≡ Err (Tally (Filter fault))))
     ⊎ ((is_cut ≡ true) × (r ≡ Err (Tally Unreadable)))
     ⊎ ((most_bytes < length bytes) × (r ≡ Err (Tally TooLong)))

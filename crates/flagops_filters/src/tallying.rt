@@ -11,7 +11,7 @@ ghost use Rattle.flagops_filters.specs.Command.{tally_description};
 ghost use Rattle.flagops_filters.specs.Ended.{AnswersTally, TellsTally, UnreadTally};
 ghost use Rattle.flagops_filters.specs.Place.{PrintsTally, place_view, target_view};
 ghost use Rattle.flagops_filters.specs.Refusal.{is_unread, line_of};
-ghost use Rattle.flagops_filters.specs.Beside.{Reads, is_beside, tally_beside, tally_line, tally_lines};
+ghost use Rattle.flagops_filters.specs.Beside.{IsBesideTally, Reads, has_none, is_beside, tally_line, tally_lines};
 ghost use Rattle.flagops_filters.specs.Remarks.{NamesInput, NamesPath, NamesRefused, RemarksBy, tally_remark};
 ghost use Rattle.flagops_filters.specs.Report.{GivesOne, is_file_fault};
 ghost use Rattle.flagops_filters.specs.Stopping.{IsStopped};
@@ -113,7 +113,7 @@ fn tallied<I: Inlet + Opening, F: FileSet>(
     ensures failed { F.has_failed files.new ≡ (F.has_failed files.old || is_file_fault result) }
     ensures kept { F.holding files.new ≡ F.holding files.old }
     ensures names { RemarksBy (NamesRefused asked.now.document.now) result }
-    ensures notes { IfOk result (λ o. IfSome (I.bytes input.old) (λ bytes. IfSome o.remark (Says (Reads (tally_beside bytes))))) }
+    ensures notes { IfOk result (λ o. IfSome (I.bytes input.old) (λ bytes. IfSome o.remark (Says (IsBesideTally bytes o.text.items)))) }
 {
     match load_flags_as(alloc, files, asked.document, asked.floats) {
         Ok(flags) => within(alloc, asked, &flags, input),
@@ -132,7 +132,7 @@ fn within<I: Inlet + Opening>(
     ensures exact { IfSome (I.bytes input.old) (λ bytes. GivesOne result (IsTallyIn (Ok (flags_view flags.now)) (tallying_view asked.now) bytes (I.is_broken input.new))) }
     ensures read { is_file_fault result ≡ false }
     ensures names { RemarksBy (NamesRefused asked.now.document.now) result }
-    ensures notes { IfOk result (λ o. IfSome (I.bytes input.old) (λ bytes. IfSome o.remark (Says (Reads (tally_beside bytes))))) }
+    ensures notes { IfOk result (λ o. IfSome (I.bytes input.old) (λ bytes. IfSome o.remark (Says (IsBesideTally bytes o.text.items)))) }
 {
     match target_of(alloc, flags, asked.key, asked.site, factor_of(asked.refine)) {
         Ok(target) => over(alloc, target, input),
@@ -149,7 +149,7 @@ fn over<I: Inlet + Opening>(
     requires { I.is_broken input.old ≡ false }
     ensures exact { IfSome (I.bytes input.old) (λ bytes. GivesOne result (IsTallyOver (target_view target) bytes (I.is_broken input.new))) }
     ensures stops { IfErr result (λ told. IsStopped told) }
-    ensures notes { IfOk result (λ o. IfSome (I.bytes input.old) (λ bytes. IfSome o.remark (Says (Reads (tally_beside bytes))))) }
+    ensures notes { IfOk result (λ o. IfSome (I.bytes input.old) (λ bytes. IfSome o.remark (Says (IsBesideTally bytes o.text.items)))) }
 {
     let Target { page, total, .. } = target;
     match tally_stream(alloc, page, total, input) {
@@ -167,13 +167,13 @@ fn printed(
 ) -> Result<Outcome, Refused<FilterRefusal>>
     ensures prints { PrintsTally came.now result }
     ensures stops { IfErr result (λ told. IsStopped told) }
-    ensures notes { IfOk result (λ o. IfSome o.remark (Says (Reads (tally_lines came.now.empty came.now.torn)))) }
+    ensures notes { IfOk result (λ o. IfSome o.remark (Says (Reads (tally_lines came.now.empty (has_none came.now.tally) came.now.torn)))) }
 {
     match print_tally(alloc, &came.tally) {
         Ok(text) => Ok(Outcome {
             text: text.into_bytes(),
             status: Status::Done,
-            remark: beside(alloc, came.empty, came.torn),
+            remark: beside(alloc, came.empty, came.tally.inputs == 0, came.torn),
         }),
         Err(AllocError) => {
             let stop = TallyStop::Filter(FilterFault::WantOfMemory);
@@ -182,18 +182,24 @@ fn printed(
     }
 }
 
-/// What is told where there was no line at all, or bytes stood behind the last one.
-fn beside(alloc: Global, empty: bool, torn: bool) -> Option<Remark>
-    ensures told { is_some result ≡ is_beside empty torn }
-    ensures says { IfSome result (Says (Reads (tally_lines empty torn))) }
+/// What is told where there was no line at all, or none of the page, or bytes stood behind the last one.
+fn beside(alloc: Global, empty: bool, none: bool, torn: bool) -> Option<Remark>
+    ensures told { is_some result ≡ is_beside empty none torn }
+    ensures says { IfSome result (Says (Reads (tally_lines empty none torn))) }
 {
-    if empty {
-        return Some(note(alloc, "the standard input is empty, and nothing is counted"));
+    match (empty, none, torn) {
+        (true, _, _) => Some(note(alloc, "the standard input is empty, and nothing is counted")),
+        (false, true, false) => Some(note(
+            alloc,
+            "no line is of the page of this site, and nothing is counted; 'cut -d, -f1-3' shows the pages of lines",
+        )),
+        (false, true, true) => Some(note(
+            alloc,
+            "no line is of the page of this site, and nothing is counted; the last line has no end and is passed over",
+        )),
+        (false, false, true) => Some(note(alloc, "the last line has no end and is passed over")),
+        (false, false, false) => None,
     }
-    if torn {
-        return Some(note(alloc, "the last line has no end and is passed over"));
-    }
-    None
 }
 
 /// A line of `tally` beside its output.

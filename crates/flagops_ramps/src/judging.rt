@@ -278,11 +278,12 @@ fn path_of<'a>(asked: &Verifying<'a>, fault: &VerifyFault) -> &'a str
     }
 }
 
-/// What to do about a request that is refused; nothing of an answer that is not right.
+/// What to do about a request that is refused, or about a plan that is not right.
 fn advice_of(fault: &VerifyFault) -> &'static str {
     match fault {
         VerifyFault::Request(fault) => advice_on(*fault),
-        VerifyFault::Check(_) => "",
+        VerifyFault::Check(_) =>
+            "\n  plan the steps again with this document, file of steps and book",
     }
 }
 
@@ -300,7 +301,7 @@ fn of_ramp(
         Ends::Marked => whole_line(
             alloc,
             path,
-            "begins with a byte order mark, and has no answers to steps\n  save it as UTF-8 without the mark",
+            "begins with a byte order mark, so it is not a file of plans\n  save it as UTF-8 without the mark",
         ),
         _ => file_line(alloc, path, reason.as_str()),
     }

@@ -10,7 +10,7 @@ use std::alloc::{AllocError, Global};
 
 /// What a file that has no steps lacks.
 const LOOK: &str =
-    "it is no request with \"steps\", a list of 1 to 100 totals, in the place of \"totals\"; docs/FORMATS.md has all of it";
+    "it is not a request with \"steps\", a list of 1 to 100 totals, in the place of \"totals\"; docs/FORMATS.md has all of it";
 
 /// Of the steps of a file, by its text: what is wrong with one that is no tree, what steps look like where there are none, and
 /// else the step that is refused.
