@@ -1,5 +1,5 @@
 -- What was recorded is not loaded for a question.
-use Rattle.std.proofs.Common.{◌≡◌, ◌∙◌, ◌||◌, ap, ℕ, Bool, true, false, List, Option, Some, None, IfSome, inl, inr, refl, sym, subst}
+use Rattle.std.proofs.Common.{◌≡◌, ◌∙◌, ◌||◌, ap, ℕ, Bool, true, false, List, Option, Some, None, IfOk, IfSome, inl, inr, refl, sym, subst}
 use Rattle.std.specs.Prelude.{Result, Ok, Err}
 use Rattle.flag_defs.specs.Document.{Definitions}
 use Rattle.flagops_shell.specs.Files.{Holding, load_of}
@@ -24,6 +24,11 @@ pub failed_last : {X : Type 0} (start first second last : Bool) (e : Refused) (r
 failed_last {X} start first second last e r is a b c =
     let failed : last ≡ (start || is_unread e.refusal) = c ∙ ap (λ (x : Bool). x || is_unread e.refusal) (b ∙ (or_false first ∙ (a ∙ or_false start))) in
     subst (λ (s : Result X Refused). last ≡ (start || is_file_fault s)) (sym is) failed
+
+-- of a refusal nothing has to hold that is said of what was loaded
+pub refused_holds : {X : Type 0} (held : Option Holding) (holds : Holding → X → Type 0) (e : Refused) (r : Result X Refused) → r ≡ Err e → IfSome held (λ at. IfOk r (holds at))
+refused_holds None holds e r is = tt
+refused_holds {X} (Some at) holds e r is = subst (λ (s : Result X Refused). IfOk s (holds at)) (sym is) tt
 
 module _ (floats : Bool) (path request recorded : List ℕ) (flags : Definitions) (bytes : List ℕ) (e : Refused) where
   no_evidence_at : (at : Holding) → IsDocumentAs floats at path (Ok flags) → refused_by Load (load_of at request max_text) ≡ Ok bytes → (is_want e.refusal ≡ false → IsEvidenceAt at recorded (Err e.refusal))
