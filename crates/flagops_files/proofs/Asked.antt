@@ -1,6 +1,6 @@
 -- What was recorded is not loaded for a question.
 use Rattle.std.proofs.Common.{◌≡◌, ◌∙◌, ◌||◌, ap, ℕ, Bool, true, false, List, Option, Some, None, IfSome, inl, inr, refl, sym, subst}
-use Rattle.std.specs.Prelude.{Result, Ok, Err}
+use Rattle.std.specs.Prelude.{IfOk, Result, Ok, Err}
 use Rattle.flag_defs.specs.Document.{Definitions}
 use Rattle.flagops_shell.specs.Files.{Holding, load_of}
 use Rattle.flagops_shell.specs.Outcomes.{refused_by}
@@ -24,6 +24,11 @@ pub failed_last : {X : Type 0} (start first second last : Bool) (e : Refused) (r
 failed_last {X} start first second last e r is a b c =
     let failed : last ≡ (start || is_unread e.refusal) = c ∙ ap (λ (x : Bool). x || is_unread e.refusal) (b ∙ (or_false first ∙ (a ∙ or_false start))) in
     subst (λ (s : Result X Refused). last ≡ (start || is_file_fault s)) (sym is) failed
+
+-- what is refused has no document
+pub no_bytes : (path : List ℕ) (old : Option Holding) (e : Refused) (r : Result program.Question Refused) → r ≡ Err e → IfSome old (λ at. IfOk r (λ q. load_of at path max_text ≡ Ok q.document.items))
+no_bytes path None e r is = tt
+no_bytes path (Some at) e r is = subst (λ (s : Result program.Question Refused). IfOk s (λ q. load_of at path max_text ≡ Ok q.document.items)) (sym is) tt
 
 module _ (floats : Bool) (path request recorded : List ℕ) (flags : Definitions) (bytes : List ℕ) (e : Refused) where
   no_evidence_at : (at : Holding) → IsDocumentAs floats at path (Ok flags) → refused_by Load (load_of at request max_text) ≡ Ok bytes → (is_want e.refusal ≡ false → IsEvidenceAt at recorded (Err e.refusal))
