@@ -30,16 +30,20 @@ const REFINED: &str =
 pub fn ramp<'a>(alloc: Global) -> Result<Command<'a>, AllocError>
     ensures { IfOk result (λ c. app_of c ≡ ramp_app) }
 {
-    let command = Command::new(alloc, "ramp")
-        .bin_name("flagops ramp")?
-        .about(about::RAMP);
     let factor = refine(alloc, REFINED);
     let strict = strict(alloc);
     let floats = floats(alloc);
-    with_steps(alloc, command, BOOK)?
-        .arg(factor)?
-        .arg(strict)?
-        .arg(floats)
+    ramped(alloc)?.arg(factor)?.arg(strict)?.arg(floats)
+}
+
+/// The words that `ramp` begins with.
+fn ramped<'a>(alloc: Global) -> Result<Command<'a>, AllocError>
+    ensures { IfOk result (λ c. app_of c ≡ with_steps (new_app (codes "ramp"))) }
+{
+    let command = Command::new(alloc, "ramp")
+        .bin_name("flagops ramp")?
+        .about(about::RAMP);
+    with_steps(alloc, command, BOOK)
 }
 
 /// The command `verify-ramp`. The first of its words is its own name.
