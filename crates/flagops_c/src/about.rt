@@ -6,5 +6,5 @@ ghost use Rattle.flagops_c.specs.About.{about_text};
 pub(crate) fn about() -> &'static str
     ensures { result.now ≡ about_text }
 {
-    "libflagops 0.1.0\nproved with rattle-kit-13f logic dac8208d650f15bf\nsources 994eaa8dd40b9e831699736b28fceddcd033900577d76d324af79852c64d6406\n"
+    "libflagops 0.1.0\nproved with rattle-kit-13b logic dac8208d650f15bf\nsources 09929271b271303fefe08d7af1622fd3c7bfe7ca09041fb2b2c74e0a14c2282b\n"
 }
