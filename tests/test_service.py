@@ -1256,7 +1256,7 @@ class BadEdits(Changing):
         """It moved into its neighbour, where nobody reads it."""
         flags = {key: flag for key, flag in self.GOOD.items() if key != "color"}
         flags["size"] = {**flags["size"], "color": self.GOOD["color"]}
-        self.edited(lambda: self.put("d", compact({"flags": flags})), 'it has "color" still')
+        self.edited(lambda: self.put("d", compact({"flags": flags})), 'it still has "color"')
 
     def test_a_flag_is_not_lost_behind_a_second_member_of_flags(self):
         first = compact({"flags": self.GOOD})

@@ -19,7 +19,7 @@ EDITS = [
     ("a flag without variants", compact({"flags": {**GOOD, "size": {"state": "ENABLED"}}}), "broken: flags.size.variants"),
     ("a comma too many", compact({"flags": GOOD})[:-2] + ",}}", '"d" is not valid JSON'),
     ("an empty file", "", '"d" is empty, which is not valid JSON'),
-    ("a flag within another", compact({"flags": {"size": {**GOOD["size"], "color": GOOD["color"]}}}), 'it has "color" still'),
+    ("a flag within another", compact({"flags": {"size": {**GOOD["size"], "color": GOOD["color"]}}}), 'it still has "color"'),
 ]
 
 
