@@ -1,0 +1,90 @@
+//! Where the first line stands that is neither blank nor that of a note.
+ghost use Rattle.std.specs.Prelude.{◌≡◌, false, true, IfOk, MatchOption};
+ghost use Rattle.note_lines.specs.Hashed.{has_hash};
+ghost use Rattle.log_tallies.specs.Lines.{files_view, lines_in};
+ghost use Rattle.log_tallies.specs.Stray.{AreKept, HasStray, IsFirstIn, IsFirstStray, IsTold, SaysWhether};
+ghost use Rattle.tally_filters.specs.Blank.{is_blank};
+
+use crate::file::LogFile;
+use line_batches::cut_line;
+use note_lines::{has_hash, read_hashed_note, read_note};
+use std::alloc::{AllocError, Global};
+
+/// The file, from 0, and the line, from 1, of the first stray line. The condition is that there is one.
+pub(crate) fn first_stray(alloc: Global, files: &[LogFile<'_>]) -> Result<(usize, u64), AllocError>
+    requires { HasStray (files_view files.now) }
+    ensures { IfOk result (λ r. IsFirstStray (files_view files.now) r.0 r.1) }
+{
+    'files: for at in 0..files.len() {
+        if let Some(line) = stray_in(alloc, files[at].bytes)? {
+            return Ok((at, line));
+        }
+    }
+    unreachable!()
+}
+
+/// The line of a file, from 1, that is its first stray one, where it has one.
+fn stray_in(alloc: Global, bytes: &[u8]) -> Result<Option<u64>, AllocError>
+    ensures { IfOk result (λ r. MatchOption r (AreKept (lines_in bytes.now)) (IsFirstIn (lines_in bytes.now))) }
+{
+    let mut rest = bytes;
+    let mut lines = 0u64;
+    'cuts: while let Some((line, behind)) = cut_line(rest) {
+        lines += 1;
+        if is_stray(alloc, line)? {
+            return Ok(Some(lines));
+        }
+        rest = behind;
+    }
+    Ok(None)
+}
+
+/// Whether a line, with its line feed, is neither blank nor that of a note.
+fn is_stray(alloc: Global, line: &[u8]) -> Result<bool, AllocError>
+    ensures { IfOk result (IsTold line.now) }
+{
+    if is_blank(line) {
+        return Ok(false);
+    }
+    if is_noted(alloc, line)? {
+        Ok(false)
+    } else {
+        Ok(true)
+    }
+}
+
+/// Whether a line is that of a note, with an input or without.
+fn is_noted(alloc: Global, line: &[u8]) -> Result<bool, AllocError>
+    ensures { IfOk result (SaysWhether line.now) }
+{
+    if has_hash(line) {
+        is_hashed_note(alloc, line)
+    } else {
+        is_input_note(alloc, line)
+    }
+}
+
+/// The same of a line of the kind without an input.
+#[tactic(auto, using(crate::proofs::Strays::hash_told))]
+fn is_hashed_note(alloc: Global, line: &[u8]) -> Result<bool, AllocError>
+    requires { has_hash line.now ≡ true }
+    ensures { IfOk result (SaysWhether line.now) }
+{
+    Ok(read_hashed_note(alloc, line)?.is_some())
+}
+
+/// The same of one of the other kind.
+#[tactic(auto, using(crate::proofs::Strays::input_told))]
+fn is_input_note(alloc: Global, line: &[u8]) -> Result<bool, AllocError>
+    requires { has_hash line.now ≡ false }
+    ensures { IfOk result (SaysWhether line.now) }
+{
+    Ok(read_note(alloc, line)?.is_some())
+}
+
+/// Whether a line has nothing but blanks.
+fn is_blank(line: &[u8]) -> bool
+    ensures { result ≡ is_blank line.now }
+{
+    line.iter().all(|b| *b == b' ' || *b == b'\t' || *b == b'\r' || *b == b'\n')
+}
