@@ -1,5 +1,7 @@
 -- What a request to a listener for operations asks of rollouts (RFC 9110, 9.1: methods; RFC 3986, 2.1: percent-encoding).
-use Rattle.std.specs.Prelude.{ℕ, ◌==◌, List, length, take, drop, codes, Option, Some, None, Result, Ok, Err, if◌then◌else◌, option_and_then, position, string_bytes}
+use denote.Ref.{Bor}
+use Rattle.std.specs.Prelude.{ℕ, ◌==◌, Bool, List, length, take, drop, codes, Option, Some, None, Result, Ok, Err, if◌then◌else◌, option_and_then, option_map, string_bytes}
+use Rattle.std.specs.List.{position}
 use Rattle.std.specs.Str.{is_utf8, bytes_eq}
 use Rattle.flag_text.specs.Reading.{tree_of}
 use Rattle.flag_text.specs.Shape.{Shape}
@@ -37,6 +39,29 @@ method_at Elsewhere = None
 
 -- ---- the query of a record: flag=KEY&site=N
 
+-- the key and the number, as they are spelled
+pub record Parts : Type 0 where
+  pub key : List ℕ
+  pub digits : List ℕ
+
+-- what stands behind a beginning
+abbrev pub behind : List ℕ → List ℕ → Option (List ℕ)
+behind begin text = if bytes_eq (take (length begin) text) begin then Some (drop (length begin) text) else None
+
+abbrev pub parts_at : List ℕ → ℕ → Option Parts
+parts_at rest end = option_map (λ digits. record { key = take end rest; digits = digits }) (behind (codes "&site=") (drop end rest))
+
+abbrev pub is_ampersand : ℕ → Bool
+is_ampersand b = b == 38
+
+-- the key ends at the first ampersand
+abbrev pub parts_behind : List ℕ → Option Parts
+parts_behind rest = option_and_then (parts_at rest) (position is_ampersand rest)
+
+abbrev pub parts_of : List ℕ → Option Parts
+parts_of query = option_and_then parts_behind (behind (codes "flag=") query)
+
+-- a flag's key, and the number of a site
 pub record RecordAsked : Type 0 where
   pub flag : List ℕ
   pub site : ℕ
@@ -63,21 +88,16 @@ abbrev pub both : Option (List ℕ) → Option ℕ → Option RecordAsked
 both (Some flag) (Some site) = Some (record { flag = flag; site = site })
 both flag site = None
 
--- what stands behind a beginning
-abbrev pub behind : List ℕ → List ℕ → Option (List ℕ)
-behind begin text = if bytes_eq (take (length begin) text) begin then Some (drop (length begin) text) else None
-
-abbrev pub at_site : List ℕ → List ℕ → Option RecordAsked
-at_site key rest = option_and_then (λ digits. both (text_in key) (number_in digits)) (behind (codes "&site=") rest)
-
--- the key ends at the first ampersand
-abbrev pub at_key : List ℕ → Option RecordAsked
-at_key rest = option_and_then (λ end. at_site (take end rest) (drop end rest)) (position (λ b. b == 38) rest)
+abbrev pub asked_of : List ℕ → List ℕ → Option RecordAsked
+asked_of key digits = both (text_in key) (number_in digits)
 
 abbrev pub record_of : List ℕ → Option RecordAsked
-record_of query = option_and_then at_key (behind (codes "flag=") query)
+record_of query = option_and_then (λ parts. asked_of parts.key parts.digits) (parts_of query)
 
 -- ---- of the program
 
 abbrev pub asked_view : program.RecordAsked → RecordAsked
 asked_view a = record { flag = string_bytes a.flag; site = a.site }
+
+abbrev pub parts_view : Bor (List ℕ) × Bor (List ℕ) → Parts
+parts_view parts = record { key = parts.0.now; digits = parts.1.now }

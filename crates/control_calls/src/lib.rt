@@ -5,8 +5,8 @@
 //! [`ControlPlace::of`] says what the path of a request leads to, [`ControlPlace::method`] the one method that is taken there, and
 //! [`record_asked`] which site's record a query asks for.
 //!
-//! Stated, over the definitions of `specs/Calls` (the proofs are not checked yet): all three answers are exact, the last unless memory
-//! runs out.
+//! Proved, over the definitions of `specs/Calls`: all three answers are exact, the last unless memory runs out; that a query has other
+//! parts takes none.
 #![tactic(auto)]
 
 mod place;

@@ -1,12 +1,12 @@
 //! The site whose record is asked for.
-ghost use Rattle.std.specs.Prelude.{◌≡◌, IfOk, option_map, string_bytes};
-ghost use Rattle.control_calls.specs.Calls.{asked_view, at_key, at_site, number_in, record_of, text_in};
+ghost use Rattle.std.specs.Prelude.{◌≡◌, ◌<◌, length, None, Ok, IfOk, IfSome, option_map, string_bytes};
+ghost use Rattle.std.specs.List.{position};
+ghost use Rattle.control_calls.specs.Calls.{asked_of, asked_view, is_ampersand, number_in, parts_at, parts_behind, parts_of, parts_view, record_of, text_in};
 
 use book_core::site_of;
 use flag_text::{TextFault, read_tree};
 use percent_encoding::percent_decode;
 use std::alloc::{AllocError, Global};
-use std::str;
 
 const FLAG: &[u8] = b"flag=";
 
@@ -24,33 +24,54 @@ pub struct RecordAsked {
     pub site: u32,
 }
 
-/// The site that a query `flag=KEY&site=N` asks for, the escapes of its key decoded; none where the query is no such one.
+/// The site that a query `flag=KEY&site=N` asks for, the escapes of its key decoded; none where the query is no such one. That its
+/// parts are others takes no memory.
 pub fn record_asked(alloc: Global, query: &str) -> Result<Option<RecordAsked>, AllocError>
-    ensures { IfOk result (λ o. option_map asked_view o ≡ record_of query.now) }
+    ensures exact { IfOk result (λ asked. option_map asked_view asked ≡ record_of query.now) }
+    ensures other { parts_of query.now ≡ None → result ≡ Ok None }
 {
-    match query.as_bytes().strip_prefix(FLAG) {
-        Some(rest) => at_key(alloc, rest),
+    match parts_of(query.as_bytes()) {
+        Some((key, digits)) => asked_of(alloc, key, digits),
         None => Ok(None),
     }
 }
 
-/// The same behind `flag=`.
-fn at_key(alloc: Global, rest: &[u8]) -> Result<Option<RecordAsked>, AllocError>
-    ensures { IfOk result (λ o. option_map asked_view o ≡ at_key rest.now) }
+/// The key and the number of a query, as they are spelled.
+fn parts_of(query: &[u8]) -> Option<(&[u8], &[u8])>
+    ensures { option_map parts_view result ≡ parts_of query.now }
 {
-    match rest.iter().position(|b| *b == b'&') {
-        Some(end) => at_site(alloc, &rest[..end], &rest[end..]),
-        None => Ok(None),
-    }
+    parts_behind(query.strip_prefix(FLAG)?)
 }
 
-/// The same of a key and what stands behind it.
-fn at_site(alloc: Global, key: &[u8], behind: &[u8]) -> Result<Option<RecordAsked>, AllocError>
-    ensures { IfOk result (λ o. option_map asked_view o ≡ at_site key.now behind.now) }
+/// The same of what stands behind `flag=`. The key ends at the first ampersand.
+fn parts_behind(rest: &[u8]) -> Option<(&[u8], &[u8])>
+    ensures { option_map parts_view result ≡ parts_behind rest.now }
 {
-    let Some(digits) = behind.strip_prefix(SITE) else {
-        return Ok(None);
-    };
+    parts_at(rest, ampersand_at(rest)?)
+}
+
+/// The same where the key ends there.
+fn parts_at(rest: &[u8], end: usize) -> Option<(&[u8], &[u8])>
+    requires { end < length rest.now }
+    ensures { option_map parts_view result ≡ parts_at rest.now end }
+{
+    let (key, behind) = rest.split_at(end);
+    let digits = behind.strip_prefix(SITE)?;
+    Some((key, digits))
+}
+
+/// Where the first ampersand stands.
+fn ampersand_at(bytes: &[u8]) -> Option<usize>
+    ensures at { result ≡ position is_ampersand bytes.now }
+    ensures within { IfSome result (λ at. at < length bytes.now) }
+{
+    bytes.iter().position(|b| *b == b'&')
+}
+
+/// The site that a key and a number ask for.
+fn asked_of(alloc: Global, key: &[u8], digits: &[u8]) -> Result<Option<RecordAsked>, AllocError>
+    ensures { IfOk result (λ asked. option_map asked_view asked ≡ asked_of key.now digits.now) }
+{
     let Some(site) = number_in(alloc, digits)? else {
         return Ok(None);
     };
@@ -73,12 +94,12 @@ fn number_in(alloc: Global, digits: &[u8]) -> Result<Option<u32>, AllocError>
 
 /// The text that is spelled so, where it is UTF-8.
 fn text_in(alloc: Global, spelled: &[u8]) -> Result<Option<String>, AllocError>
-    ensures { IfOk result (λ o. option_map string_bytes o ≡ text_in spelled.now) }
+    ensures { IfOk result (λ text. option_map string_bytes text ≡ text_in spelled.now) }
 {
     let mut bytes = Vec::new(alloc);
     percent_decode(spelled).append_to(&mut bytes)?;
-    match str::from_utf8(bytes.as_slice()) {
-        Ok(text) => Ok(Some(String::from_str(alloc, text)?)),
+    match String::from_utf8(bytes) {
+        Ok(text) => Ok(Some(text)),
         Err(_) => Ok(None),
     }
 }
