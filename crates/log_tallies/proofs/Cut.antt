@@ -41,6 +41,10 @@ more_files files i file old new here is =
     ∙ append_assoc old (lines_in file.bytes.now) (all_lines (files_view (drop (i + 1) files)))
     ∙ ap (λ (fs : List program.LogFile). old ++ all_lines (files_view fs)) (sym here)
 
+-- no file more
+pub all_cut : (files : List program.LogFile) (i : ℕ) (lines : List (List ℕ)) → drop i files ≡ [] → lines ≡ lines ++ all_lines (files_view (drop i files))
+all_cut files i lines none = sym (ap (λ (fs : List program.LogFile). lines ++ all_lines (files_view fs)) none ∙ append-nil lines)
+
 -- the first of what is left
 pub next_item : {X : Type 0} (xs : List X) (i : ℕ) (x : X) → i < length xs → x ≡ get_or xs i x → drop i xs ≡ x ∷ drop (i + 1) xs
 next_item xs i x below is =

@@ -1,6 +1,6 @@
 mod Among
 mod Crowded
-mod Cut
+pub mod Cut
 mod Held
 mod Members
 mod Once

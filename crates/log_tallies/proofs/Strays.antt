@@ -1,15 +1,16 @@
 -- Lines that are looked at one after another.
-use Rattle.std.proofs.Common.{◌≡◌, ◌+◌, ℕ, suc, true, false, List, [], ◌∷◌, Option, Some, None, is_some, refl, sym, ◌∙◌, subst, inl, inr, arith}
+use Rattle.std.proofs.Common.{◌≡◌, ◌+◌, ℕ, suc, true, false, List, [], ◌∷◌, Option, Some, None, is_some, refl, sym, ◌∙◌, subst, inl, inr, arith, Bool, not}
 use Rattle.line_batches.specs.Lines.{HasNoFeed, IsFirst}
 use Rattle.line_tally.proofs.Refused.{no_hash, no_input}
 use Rattle.line_tally.specs.Lines.{of_hash, of_input}
 use Rattle.note_lines.specs.Hashed.{Hashed, has_hash}
 use Rattle.note_lines.specs.Note.{Noted}
 use Rattle.note_lines.specs.Reading.{Reads, ReadsHashed}
+use Rattle.tally_filters.specs.Blank.{is_blank}
 use Rattle.log_tallies.proofs.Among.{all_both}
 use Rattle.log_tallies.proofs.Cut.{lines_first, lines_none}
 use Rattle.log_tallies.specs.Lines.{all_lines, lines_in}
-use Rattle.log_tallies.specs.Stray.{AreKept, IsFirstIn, IsFirstStray, IsKept, IsStray, SaysWhether}
+use Rattle.log_tallies.specs.Stray.{AreKept, IsFirstIn, IsFirstStray, IsKept, IsStray, IsTold, SaysWhether}
 use Rattle.log_tallies.specs.declared.file.LogFile as program
 
 differs : {Y : Type 0} → true ≡ false → Y
@@ -23,6 +24,14 @@ hash_told line None kind reads = no_hash line kind reads
 pub input_told : (line : List ℕ) (r : Option Noted) → has_hash line ≡ false → Reads line r → SaysWhether line (is_some r)
 input_told line (Some note) kind reads = (of_input note, reads.0, reads.1)
 input_told line None kind reads = no_input line kind reads
+
+-- what is told of a blank line, and of another one by whether it says something
+pub blank_told : (line : List ℕ) → is_blank line ≡ true → IsTold line false
+blank_told line blank = inl blank
+
+pub noted_told : (line : List ℕ) (noted : Bool) → is_blank line ≡ false → SaysWhether line noted → IsTold line (not noted)
+noted_told line true some says = inr says
+noted_told line false some says = record { some = some; none = says }
 
 -- no line is both
 pub not_both : (line : List ℕ) → IsKept line → IsStray line → ⊥

@@ -27,7 +27,7 @@ fn all_lines<'a>(alloc: Global, files: &[LogFile<'a>]) -> Result<Vec<&'a [u8]>, 
     ensures { IfOk result (λ v. lines_view v.items ≡ all_lines (files_view files.now)) }
 {
     let mut lines = Vec::with_capacity(alloc, line_count(files))?;
-    'files: for file in files {
+    for file in files {
         add_lines(&mut lines, file.bytes)?;
     }
     Ok(lines)

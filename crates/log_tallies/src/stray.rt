@@ -17,7 +17,7 @@ pub(crate) fn first_stray(
 ) -> Result<Option<(usize, u64)>, AllocError>
     ensures { IfOk result (λ r. MatchOption r (AreKept (all_lines (files_view files.now))) (λ place. IsFirstStray (files_view files.now) place.0 place.1)) }
 {
-    'files: for at in 0..files.len() {
+    for at in 0..files.len() {
         if let Some(line) = stray_in(alloc, files[at].bytes)? {
             return Ok(Some((at, line)));
         }
@@ -42,17 +42,14 @@ fn stray_in(alloc: Global, bytes: &[u8]) -> Result<Option<u64>, AllocError>
 }
 
 /// Whether a line, with its line feed, is neither blank nor that of a note.
+#[tactic(auto, using(crate::proofs::Strays::blank_told, crate::proofs::Strays::noted_told))]
 fn is_stray(alloc: Global, line: &[u8]) -> Result<bool, AllocError>
     ensures { IfOk result (IsTold line.now) }
 {
     if is_blank(line) {
         return Ok(false);
     }
-    if is_noted(alloc, line)? {
-        Ok(false)
-    } else {
-        Ok(true)
-    }
+    Ok(!is_noted(alloc, line)?)
 }
 
 /// Whether a line is that of a note, with an input or without.

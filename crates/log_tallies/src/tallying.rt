@@ -57,7 +57,7 @@ fn tally_lines(
     ensures { TalliesLines page total (lines_view lines.now) result }
 {
     let mut filter = TallyFilter::new(alloc, page, total)?;
-    'lines: for line in lines {
+    for line in lines {
         filter.take(alloc, line)?;
     }
     Ok(filter.finish())

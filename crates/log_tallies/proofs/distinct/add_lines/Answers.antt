@@ -1,4 +1,4 @@
-use Rattle.std.proofs.Common.{◌≡◌, ◌∙◌, ◌∷◌, [], ◌++◌, sym, refl, rules}
+use Rattle.std.proofs.Common.{◌≡◌, ◌∙◌, ◌∷◌, [], ◌++◌, sym, refl}
 use Rattle.log_tallies.proofs.Cut.{more_lines, no_more}
 use Rattle.log_tallies.proofs.distinct.add_lines.Goals as goal
 
@@ -9,7 +9,7 @@ pub cuts-preserved : goal.cuts-preserved
 cuts-preserved c =
     let old = c.cuts.lines.items in
     let new = c.push.new.self.items in
-    let is : new ≡ old ++ c.in-Some.line ∷ [] = search rules in
+    let is : new ≡ old ++ c.in-Some.line ∷ [] = c.in_ok-push.ensures.items in
     more_lines old new c.in-Some.line c.cuts.rest.now c.in-Some.behind.now is c.in-Some.ensures.parts ∙ c.cuts.invariant
 
 pub returns : goal.returns

@@ -1,4 +1,4 @@
-use Rattle.std.proofs.Common.{◌≡◌, ◌∙◌, sym, subst}
+use Rattle.std.proofs.Common.{◌∙◌, sym, subst}
 use Rattle.line_batches.specs.Lines.{lines_view}
 use Rattle.log_tallies.proofs.Refusals.{mixed_told, no_mixture, no_stray, one_kind}
 use Rattle.log_tallies.specs.Lines.{files_view}

@@ -1,4 +1,4 @@
-use Rattle.std.proofs.Common.{◌≡◌, sym, subst, List, ℕ}
+use Rattle.std.proofs.Common.{sym, subst, List, ℕ}
 use denote.Ref.{Bor}
 use Rattle.line_batches.specs.Lines.{lines_view}
 use Rattle.log_tallies.proofs.Held.{tallied_all}
