@@ -38,7 +38,7 @@ found test lines some =
     let any = Any-from_list_any (λ (line : Bor (List ℕ)). test line.now) lines some in
     (any.1.now, map_in (λ (line : Bor (List ℕ)). line.now) lines any.1 (to_in lines any.1 (any.0, any.2, any.3)), any.4)
 
--- one that does not is there
+-- and one that is there and passes
 some_passes : (test : List ℕ → Bool) (lines : List (Bor (List ℕ))) (line : List ℕ) → In line (lines_view lines) → test line ≡ true → list_any (λ (l : Bor (List ℕ)). test l.now) lines ≡ true
 some_passes test lines line there passes =
     let one = in_map (λ (l : Bor (List ℕ)). l.now) lines line there in

@@ -42,14 +42,14 @@ fn stray_in(alloc: Global, bytes: &[u8]) -> Result<Option<u64>, AllocError>
 }
 
 /// Whether a line, with its line feed, is neither blank nor that of a note.
-#[tactic(auto, using(crate::proofs::Strays::blank_told, crate::proofs::Strays::noted_told))]
 fn is_stray(alloc: Global, line: &[u8]) -> Result<bool, AllocError>
     ensures { IfOk result (IsTold line.now) }
 {
     if is_blank(line) {
         return Ok(false);
     }
-    Ok(!is_noted(alloc, line)?)
+    let noted = is_noted(alloc, line)?;
+    Ok(!noted)
 }
 
 /// Whether a line is that of a note, with an input or without.
@@ -64,21 +64,21 @@ fn is_noted(alloc: Global, line: &[u8]) -> Result<bool, AllocError>
 }
 
 /// The same of a line of the kind without an input.
-#[tactic(auto, using(crate::proofs::Strays::hash_told))]
 fn is_hashed_note(alloc: Global, line: &[u8]) -> Result<bool, AllocError>
     requires { has_hash line.now ≡ true }
     ensures { IfOk result (SaysWhether line.now) }
 {
-    Ok(read_hashed_note(alloc, line)?.is_some())
+    let note = read_hashed_note(alloc, line)?;
+    Ok(note.is_some())
 }
 
 /// The same of one of the other kind.
-#[tactic(auto, using(crate::proofs::Strays::input_told))]
 fn is_input_note(alloc: Global, line: &[u8]) -> Result<bool, AllocError>
     requires { has_hash line.now ≡ false }
     ensures { IfOk result (SaysWhether line.now) }
 {
-    Ok(read_note(alloc, line)?.is_some())
+    let note = read_note(alloc, line)?;
+    Ok(note.is_some())
 }
 
 /// Whether a line has nothing but blanks.

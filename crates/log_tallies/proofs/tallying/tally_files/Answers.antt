@@ -2,10 +2,13 @@ use Rattle.std.proofs.Common.{sym, subst, List, ℕ}
 use denote.Ref.{Bor}
 use Rattle.line_batches.specs.Lines.{lines_view}
 use Rattle.log_tallies.proofs.Held.{tallied_all}
-use Rattle.log_tallies.proofs.Refusals.{told_of}
+use Rattle.log_tallies.proofs.Refusals.{refused_for, told_of}
 use Rattle.log_tallies.specs.Lines.{files_view}
 use Rattle.log_tallies.specs.Sorted.{AreDistinct}
 use Rattle.log_tallies.proofs.tallying.tally_files.Goals as goal
+
+pub fault_of-requires-clause-refused : goal.fault_of-requires-clause-refused
+fault_of-requires-clause-refused c = refused_for c.args.page c.args.total (lines_view c.as_slice.result.now) c.in-Err.refused c.in-Err.ensures
 
 pub returns-in-Ok : goal.returns-in-Ok
 returns-in-Ok c =
