@@ -1,0 +1,6 @@
+mod Applied
+mod Checked
+mod Planned
+mod Recorded
+mod Tallied
+mod Turns

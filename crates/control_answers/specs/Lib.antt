@@ -1,0 +1,16 @@
+pub use Rattle.bucket_core.specs.Rule
+pub use Rattle.book_core.specs.Page
+pub use Rattle.tally_core.specs.Tally
+pub mod Refusal
+pub mod Target
+pub mod Turns
+pub mod Record
+pub mod Check
+pub mod Body
+pub mod Token
+pub mod View
+pub mod Plan
+pub mod Apply
+pub mod Held
+pub mod History
+pub mod Law

@@ -1,0 +1,96 @@
+//! Whether an answer is right on what is recorded.
+ghost use Rattle.std.specs.Prelude.{◌≡◌, IfOk, string_bytes};
+ghost use Rattle.flag_defs.specs.Flags.{flags_view};
+ghost use Rattle.log_tallies.specs.Lines.{files_view};
+ghost use Rattle.plan_text.specs.Answer.{planned_view};
+ghost use Rattle.control_answers.specs.Check.{IsCheckAnswer, IsVerdictOn, valid_text};
+ghost use Rattle.control_answers.specs.Target.{target_of, target_view};
+ghost use Rattle.control_answers.specs.Turns.{Gives, OfFiles, WithTarget};
+
+use crate::place::target_of;
+use crate::refusal::{ControlRefusal, of_read};
+use crate::target::Target;
+use flag_defs::Flags;
+use log_tallies::{LogFile, tally_files};
+use plan_text::{Planned, read_planned};
+use rollout_checks::{RequestFile, verify_file_on_tally};
+use std::alloc::{AllocError, Global};
+use tally_core::PageTally;
+
+/// That the answer of a plan file is right on what log files hold, with its cost, as JSON.
+///
+/// The refusals come in the order of the plan file, the request, its site, the files, the request on their tally, and the check.
+pub fn check_answer(
+    alloc: Global,
+    flags: &Flags,
+    request: &[u8],
+    plan: &[u8],
+    files: &[LogFile<'_>],
+) -> Result<String, ControlRefusal>
+    ensures { Gives string_bytes (IsCheckAnswer (flags_view flags.now) request.now plan.now (files_view files.now)) result }
+{
+    let planned = match read_planned(alloc, plan) {
+        Ok(planned) => planned,
+        Err(fault) => return Err(of_read(fault)),
+    };
+    check_planned(alloc, flags, request, &planned, files)
+}
+
+/// The same of an answer that was read.
+fn check_planned(
+    alloc: Global,
+    flags: &Flags,
+    request: &[u8],
+    planned: &Planned,
+    files: &[LogFile<'_>],
+) -> Result<String, ControlRefusal>
+    ensures { Gives string_bytes (WithTarget (λ target. OfFiles (files_view files.now) target (IsVerdictOn (flags_view flags.now) request.now (planned_view planned.now))) (target_of (flags_view flags.now) request.now)) result }
+{
+    let bytes = request.to_vec(alloc)?;
+    let request = RequestFile::read(alloc, bytes)?;
+    let target = target_of(alloc, flags, &request)?;
+    check_recorded(alloc, flags, &request, planned, target, files)
+}
+
+/// The same on what is held of a target.
+fn check_recorded(
+    alloc: Global,
+    flags: &Flags,
+    request: &RequestFile,
+    planned: &Planned,
+    target: Target,
+    files: &[LogFile<'_>],
+) -> Result<String, ControlRefusal>
+    ensures { Gives string_bytes (OfFiles (files_view files.now) (target_view target) (IsVerdictOn (flags_view flags.now) request.now (planned_view planned.now))) result }
+{
+    let tally = tally_files(alloc, target.page, target.total, files)?;
+    check_on(alloc, flags, request, planned, &tally)
+}
+
+/// The same on a tally.
+fn check_on(
+    alloc: Global,
+    flags: &Flags,
+    request: &RequestFile,
+    planned: &Planned,
+    tally: &PageTally,
+) -> Result<String, ControlRefusal>
+    ensures { Gives string_bytes (IsVerdictOn (flags_view flags.now) request.now (planned_view planned.now) tally.now) result }
+{
+    verify_file_on_tally(alloc, flags, request, tally, planned, None)?;
+    Ok(valid_text(alloc, planned)?)
+}
+
+/// What is told of a right answer.
+#[tactic(auto, unfolding(crate::specs::Check::valid_text))]
+fn valid_text(alloc: Global, planned: &Planned) -> Result<String, AllocError>
+    ensures { IfOk result (λ s. string_bytes s ≡ valid_text (planned_view planned.now)) }
+{
+    match planned {
+        Planned::Emit(_, certificate) => {
+            let cost = certificate.cost;
+            format!(in alloc; "{{\"cost\":{cost},\"valid\":true}}\n")
+        }
+        Planned::NoneExists(_) => String::from_str(alloc, "{\"cost\":null,\"valid\":true}\n"),
+    }
+}

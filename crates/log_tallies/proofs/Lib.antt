@@ -1,0 +1,9 @@
+mod Among
+mod Crowded
+pub mod Cut
+mod Held
+mod Members
+mod Once
+mod Refusals
+mod Strays
+mod Taken

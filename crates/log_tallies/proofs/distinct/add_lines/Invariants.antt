@@ -1,0 +1,11 @@
+use Rattle.std.proofs.Common.{◌≡◌, ◌++◌, length}
+use Rattle.line_batches.specs.Lines.{lines_view}
+use Rattle.log_tallies.specs.Lines.{lines_in}
+use Rattle.log_tallies.proofs.distinct.add_lines.Given as goal
+
+-- the lines so far, and those of the rest, are those before and those of all
+abbrev pub invariant-cuts : goal.invariant-cuts
+invariant-cuts l = lines_view l.lines.items ++ lines_in l.rest ≡ lines_view l.fn.lines.items ++ lines_in l.bytes
+
+abbrev pub decreases-cuts : goal.decreases-cuts
+decreases-cuts l = length l.rest

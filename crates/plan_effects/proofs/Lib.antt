@@ -1,0 +1,3 @@
+mod Drawings
+mod Planned
+mod Texts
