@@ -1,0 +1,3 @@
+mod Kinds
+mod Pages
+mod Rows
