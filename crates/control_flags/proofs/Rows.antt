@@ -1,5 +1,5 @@
 -- Rows that grow with each flag.
-use Rattle.std.proofs.Common.{◌≡◌, ◌+◌, ◌++◌, ◌∙◌, ℕ, zero, suc, List, [], ◌∷◌, Some, ap, append-nil, get_or, map, refl, slice_get, take}
+use Rattle.std.proofs.Common.{◌≡◌, ◌+◌, ◌++◌, ◌∙◌, ℕ, zero, suc, List, [], ◌∷◌, Some, ap, append-nil, append_assoc, get_or, map, refl, slice_get, take}
 use Rattle.std.specs.List.{flat_map, join_by, zip}
 use Rattle.std.proofs.lemmas.Grind.{flat_map-append}
 use Rattle.std.proofs.lemmas.List.{take_more}
@@ -12,6 +12,11 @@ module _ {X A : Type 0} (f : X → List A) (xs : List X) (i : ℕ) (x : X) where
 
   pub one_more : slice_get xs i ≡ Some x → flat_map f (take (i + 1) xs) ≡ flat_map f (take i xs) ++ f x
   one_more is = from_parts (take_more xs i x (slice_get_within xs i x is) ∙ ap (λ (y : X). take i xs ++ y ∷ []) (get_or_from_slice_get xs i x x is))
+
+-- what three pushes add
+pub three : {A : Type 0} (a b c d x y z : List A) → b ≡ a ++ x → c ≡ b ++ y → d ≡ c ++ z → d ≡ a ++ (x ++ (y ++ z))
+three a b c d x y z first second third =
+    third ∙ ap (λ l. l ++ z) (second ∙ ap (λ l. l ++ y) first) ∙ append_assoc (a ++ x) y z ∙ append_assoc a x (y ++ z)
 
 -- what stands at a place of two lists side by side
 pub zip-at : {A B : Type 0} (xs : List A) (ys : List B) (i : ℕ) (a : A) (b : B) → slice_get xs i ≡ Some a → slice_get ys i ≡ Some b → slice_get (zip xs ys) i ≡ Some (a, b)

@@ -41,7 +41,6 @@ pub fn flags_answer(alloc: Global, asked: &FlagsAsked<'_>) -> Result<Vec<u8>, Al
 }
 
 /// What stands before the merged flags.
-#[tactic(auto, unfolding(crate::specs::Flags::rows_text))]
 fn rows_text(alloc: Global, asked: &FlagsAsked<'_>) -> Result<String, AllocError>
     ensures { IfOk result (λ s. string_bytes s ≡ rows_text asked.now) }
 {
@@ -55,7 +54,6 @@ fn rows_text(alloc: Global, asked: &FlagsAsked<'_>) -> Result<String, AllocError
 }
 
 /// What stands before the sites.
-#[tactic(auto, unfolding(crate::specs::Flags::head_text))]
 fn head_text(alloc: Global, asked: &FlagsAsked<'_>) -> Result<String, AllocError>
     ensures { IfOk result (λ s. string_bytes s ≡ head_text asked.now) }
 {

@@ -5,14 +5,13 @@ ghost use Rattle.flag_defs.specs.Flag.{flag_view};
 ghost use Rattle.flag_defs.specs.Flags.{flags_view};
 ghost use Rattle.control_flags.specs.Doubts.{doubt_rows, doubts_text, row_if};
 
-use crate::joined::{joined, pair_text};
+use crate::joined::{joined, push_pair};
 use flag_defs::{Flag, Flags};
 use flag_doubts::{Doubt, doubts_of};
 use flag_text::Tree;
 use std::alloc::{AllocError, Global};
 
 /// The doubts of flags by their targetings, as lists of a key and the doubt's name, in the order of the keys.
-#[tactic(auto, unfolding(crate::specs::Doubts::doubts_text))]
 pub(crate) fn doubts_text(alloc: Global, flags: &Flags) -> Result<String, AllocError>
     ensures { IfOk result (λ s. string_bytes s ≡ doubts_text (flags_view flags.now)) }
 {
@@ -59,8 +58,7 @@ fn push_if(
     ensures { OnOk result (map string_bytes rows.new.items ≡ map string_bytes rows.old.items ++ row_if is key.now doubt) }
 {
     if is {
-        let row = pair_text(alloc, key, doubt.name())?;
-        rows.push(row)
+        push_pair(alloc, rows, key, doubt.name())
     } else {
         Ok(())
     }

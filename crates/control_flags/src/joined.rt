@@ -1,5 +1,5 @@
 //! Texts, and lists of them.
-ghost use Rattle.std.specs.Prelude.{◌≡◌, false, IfOk, map, option_map, string_bytes};
+ghost use Rattle.std.specs.Prelude.{◌≡◌, ◌++◌, ◌∷◌, [], false, IfOk, OnOk, map, option_map, string_bytes};
 ghost use Rattle.control_flags.specs.Joined.{comma_if, joined, names_text, number_or_null, pair_text, quoted, text_or_null};
 
 use flag_text::push_string;
@@ -33,11 +33,32 @@ pub(crate) fn number_or_null(alloc: Global, number: Option<u64>) -> Result<Strin
 }
 
 /// A list of a key and a word about its flag.
-pub(crate) fn pair_text(alloc: Global, key: &str, word: &str) -> Result<String, AllocError>
+fn pair_text(alloc: Global, key: &str, word: &str) -> Result<String, AllocError>
     ensures { IfOk result (λ s. string_bytes s ≡ pair_text key.now word.now) }
 {
     let key = quoted(alloc, key)?;
     format!(in alloc; "[{key},\"{word}\"]")
+}
+
+/// Adds a row.
+pub(crate) fn push_row(rows: &mut Vec<String>, row: String) -> Result<(), AllocError>
+    ensures { OnOk result (map string_bytes rows.new.items ≡ map string_bytes rows.old.items ++ string_bytes row ∷ []) }
+{
+    rows.push(row)?;
+    Ok(())
+}
+
+/// Adds the row of a key and a word about its flag.
+pub(crate) fn push_pair(
+    alloc: Global,
+    rows: &mut Vec<String>,
+    key: &str,
+    word: &str,
+) -> Result<(), AllocError>
+    ensures { OnOk result (map string_bytes rows.new.items ≡ map string_bytes rows.old.items ++ pair_text key.now word.now ∷ []) }
+{
+    let row = pair_text(alloc, key, word)?;
+    push_row(rows, row)
 }
 
 /// Rows with commas between.

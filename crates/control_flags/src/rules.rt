@@ -18,7 +18,8 @@ pub(crate) fn rule_with_total(
 ) -> Result<String, AllocError>
     ensures { IfOk result (λ s. string_bytes s ≡ rule_with_total (rule_at (view targeting.now) number)) }
 {
-    match rule_of(alloc, targeting, number)? {
+    let rule = rule_of(alloc, targeting, number)?;
+    match &rule {
         Some(entries) => with_total(alloc, entries.as_slice()),
         None => String::from_str(alloc, "null,\"total\":null"),
     }

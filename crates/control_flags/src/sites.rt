@@ -7,7 +7,7 @@ ghost use Rattle.logic_ast.specs.Expr.{view};
 ghost use Rattle.control_flags.specs.Joined.{number_or_null};
 ghost use Rattle.control_flags.specs.Sites.{pages_in, recorded_on, site_row, site_rows, sites_text};
 
-use crate::joined::{joined, number_or_null, quoted, text_or_null};
+use crate::joined::{joined, number_or_null, push_row, quoted, text_or_null};
 use crate::rules::rule_with_total;
 use book_core::Page;
 use flag_defs::{Flag, Flags};
@@ -17,7 +17,6 @@ use std::alloc::{AllocError, Global};
 use std::collections::BTreeMap;
 
 /// The rows of all sites, in the order of the flags' keys and of the sites.
-#[tactic(auto, unfolding(crate::specs::Sites::sites_text))]
 pub(crate) fn sites_text(
     alloc: Global,
     flags: &Flags,
@@ -101,7 +100,7 @@ fn push_site(
     ensures { OnOk result (map string_bytes rows.new.items ≡ map string_bytes rows.old.items ++ site_row recorded.now.entries (view targeting.now) page.now ∷ []) }
 {
     let row = site_row(alloc, page, targeting, recorded)?;
-    rows.push(row)
+    push_row(rows, row)
 }
 
 /// The row of a page: the page, its rule where its buckets are literal, and how many inputs are recorded there.
