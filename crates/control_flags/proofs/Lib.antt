@@ -1,3 +1,3 @@
-mod Kinds
+mod First
 mod Pages
 mod Rows

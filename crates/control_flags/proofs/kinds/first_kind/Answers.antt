@@ -1,6 +1,6 @@
 use Rattle.std.proofs.Common.{sym}
 use Rattle.flag_defs.specs.Flag.{flag_view}
-use Rattle.control_flags.proofs.Kinds.{of_broken}
+use Rattle.control_flags.proofs.First.{of_broken}
 use Rattle.control_flags.proofs.kinds.first_kind.Goals as goal
 
 pub returns-then-is_broken : goal.returns-then-is_broken

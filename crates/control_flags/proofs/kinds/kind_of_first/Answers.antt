@@ -2,7 +2,7 @@ use Rattle.std.proofs.Common.{ℕ, List, Some, None, ◌∙◌, ap}
 use Rattle.std.specs.Prelude.{option_and_then}
 use Rattle.flag_defs.specs.Flag.{flag_view, variant_of, variants_in}
 use Rattle.flag_defs.specs.Kind.{kind_of}
-use Rattle.control_flags.proofs.Kinds.{of_first}
+use Rattle.control_flags.proofs.First.{of_first}
 use Rattle.control_flags.proofs.kinds.kind_of_first.Goals as goal
 
 pub returns-in-Some : goal.returns-in-Some
