@@ -17,13 +17,13 @@ page_among key n ss i = with_by key (n + i) (if_site (slice_get ss i) (λ s. Ok 
 same_page : (p q : PageName) → ◌≡◌ {A = Result PageName LogicFault} (Ok p) (Ok q) → p ≡ q
 same_page p q e = cc
 
-no_page : {A : Type 0} (p : PageName) → ◌≡◌ {A = Result PageName LogicFault} (Ok p) (Err NoSite) → A
+no_page : (p : PageName) → ◌≡◌ {A = Result PageName LogicFault} (Ok p) (Err NoSite) → ⊥
 no_page p e = cc
 
 are_from : (key : List ℕ) (n : ℕ) (ss : List Site) (pages : List PageName) → ((i : ℕ) → or_no_site (slice_get pages i) ≡ page_among key n ss i) → pages ≡ pages_from key n ss
 are_from key n [] [] at = refl
-are_from key n [] (p ∷ ps) at = no_page p (at 0)
-are_from key n (s ∷ ss) [] at = no_page _ (sym (at 0))
+are_from key n [] (p ∷ ps) at = absurd (no_page p (at 0))
+are_from key n (s ∷ ss) [] at = absurd (no_page _ (sym (at 0)))
 are_from key n (s ∷ ss) (p ∷ ps) at =
     let one : PageName = record { flag = key; site = n; by = by_text s.bucketing } in
     let whole : n + 0 ≡ n = omega arith in
@@ -33,4 +33,6 @@ are_from key n (s ∷ ss) (p ∷ ps) at =
 
 pub are_pages_in : (key : List ℕ) (targeting : Expression) (pages : List PageName) → ArePages key targeting pages → pages ≡ pages_in key targeting
 unfolding page_at
-are_pages_in key targeting pages are = are_from key 0 (preorder targeting) pages are
+are_pages_in key targeting pages are =
+    are_from key 0 (preorder targeting) pages
+    (λ i. let same : i ≡ 0 + i = omega arith in are i ∙ ap (λ (k : ℕ). with_by key k (if_site (slice_get (preorder targeting) i) (λ s. Ok (by_text s.bucketing)))) same)

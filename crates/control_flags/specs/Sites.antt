@@ -35,7 +35,7 @@ pages_in key targeting = pages_from key 0 (preorder targeting)
 
 -- the entries of a site, where its buckets are literal
 abbrev pub entries_in : Result (By × Entries) LogicFault → Option Entries
-entries_in (Ok (by, entries)) = Some entries
+entries_in (Ok (bucketing, entries)) = Some entries
 entries_in (Err e) = None
 
 abbrev pub rule_at : Expression → ℕ → Option Entries
