@@ -1,5 +1,5 @@
 -- Rows that grow with each flag.
-use Rattle.std.proofs.Common.{◌≡◌, ◌+◌, ◌++◌, ◌∙◌, ℕ, zero, suc, List, [], ◌∷◌, Some, ap, append-nil, append_assoc, get_or, map, refl, slice_get, take}
+use Rattle.std.proofs.Common.{◌≡◌, ◌≤◌, ◌+◌, ◌++◌, ◌∙◌, ℕ, zero, suc, List, [], ◌∷◌, Some, ap, append-nil, append_assoc, arith, length, map, refl, slice_get, take}
 use Rattle.std.specs.List.{flat_map, join_by, zip}
 use Rattle.std.proofs.lemmas.Grind.{flat_map-append}
 use Rattle.std.proofs.lemmas.List.{take_more}
@@ -24,6 +24,11 @@ zip-at [] ys i a b here there = cc
 zip-at (x ∷ xs) [] i a b here there = cc
 zip-at (x ∷ xs) (y ∷ ys) zero a b here there = let first : x ≡ a = cc in let second : y ≡ b = cc in λ j. Some (first j, second j)
 zip-at (x ∷ xs) (y ∷ ys) (suc i) a b here there = zip-at xs ys i a b here there
+
+pub zip-short : {A B : Type 0} (xs : List A) (ys : List B) → length (zip xs ys) ≤ length xs
+zip-short [] ys = omega arith
+zip-short (x ∷ xs) [] = omega arith
+zip-short (x ∷ xs) (y ∷ ys) = omega (arith, zip-short xs ys)
 
 -- the texts of items between separators
 module _ {X A : Type 0} (f : X → List A) (sep : List A) where

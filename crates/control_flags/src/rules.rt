@@ -19,10 +19,7 @@ pub(crate) fn rule_with_total(
     ensures { IfOk result (λ s. string_bytes s ≡ rule_with_total (rule_at (view targeting.now) number)) }
 {
     let rule = rule_of(alloc, targeting, number)?;
-    match &rule {
-        Some(entries) => with_total(alloc, entries.as_slice()),
-        None => String::from_str(alloc, "null,\"total\":null"),
-    }
+    rule_or_null(alloc, &rule)
 }
 
 /// The entries of a site, where they are literal.
@@ -37,6 +34,15 @@ fn rule_of(
         Ok(site) => Ok(Some(site.entries)),
         Err(LogicFault::WantOfMemory) => Err(AllocError),
         Err(_) => Ok(None),
+    }
+}
+
+fn rule_or_null(alloc: Global, rule: &Option<Vec<(String, u64)>>) -> Result<String, AllocError>
+    ensures { IfOk result (λ s. string_bytes s ≡ rule_with_total (option_map (λ v. entries_view v.items) rule.now)) }
+{
+    match rule {
+        None => String::from_str(alloc, "null,\"total\":null"),
+        Some(entries) => with_total(alloc, entries.as_slice()),
     }
 }
 
