@@ -8,10 +8,10 @@
 //! let body = flags_answer(alloc, &asked)?;
 //! ```
 //!
-//! Stated, over the definitions of `specs/` (the proofs are not checked yet): the body is the text of `Flags`, with the document that
-//! `flag_defs` prints, in which each number stands as it is spelled; a row for each site of each targeting, in the order of keys and
-//! sites (`Sites`); the doubts that `flag_doubts` finds in targetings (`Doubts`); and the kind of each flag that is not broken
-//! (`Kinds`).
+//! Proved, over the definitions of `specs/`: the body is the text of `Flags`, with the document that `flag_defs` prints, in which each
+//! number stands as it is spelled; a row for each site of each targeting, in the order of keys and sites, with the site's page, rule and
+//! total, and the number of inputs that is told for that page (`Sites`); the doubts that `flag_doubts` finds in targetings (`Doubts`);
+//! and the kind of each flag that is not broken (`Kinds`).
 #![tactic(auto)]
 
 mod answer;
