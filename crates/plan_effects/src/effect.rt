@@ -1,12 +1,12 @@
 //! What a planned rule does to the inputs that are recorded.
-ghost use Rattle.std.specs.Prelude.{◌≡◌, ◌≤◌, IfOk, sum_by};
+ghost use Rattle.std.specs.Prelude.{◌≡◌, ◌≤◌, true, IfOk, IsOk, sum_by};
 ghost use Rattle.bucket_core.specs.Rule.{total_weight};
 ghost use Rattle.limits.specs.Limits.{tally_inputs};
 ghost use Rattle.plan_text.specs.Answer.{planned_view};
 ghost use Rattle.rollout_checks.specs.Tallied.{tally_view};
 ghost use Rattle.rule_switches.specs.Switches.{rows_view};
 ghost use Rattle.transport_instance.specs.Tally.{IsTally};
-ghost use Rattle.plan_effects.specs.Effect.{IsEffect, IsEffectOf, effect_view, nothing};
+ghost use Rattle.plan_effects.specs.Effect.{IsEffect, IsEffectIfKept, IsEffectOf, effect_view, has_no_rule, nothing};
 
 use bucket_core::Rule;
 use plan_text::Planned;
@@ -23,8 +23,8 @@ pub struct Effect {
     pub by_hand: Option<u64>,
 }
 
-/// What an answer to a problem does; of a rule that does not keep the total, which no planned one is, nothing is told. The condition is
-/// that the problem has a tally.
+/// What an answer to a problem does; of a rule that does not keep the total, which no planned one is, nothing is told. Where no rule
+/// fits this takes no memory. The condition is that the problem has a tally.
 pub fn effect_of(
     alloc: Global,
     problem: &Problem<'_>,
@@ -33,6 +33,7 @@ pub fn effect_of(
     requires { IsTally (total_weight problem.now.old) problem.now.counts.items }
     ensures effect { IfOk result (λ e. IsEffect (tally_view problem.now) (planned_view planned.now) (effect_view e)) }
     ensures few { IfOk result (λ e. sum_by (λ r. r.1) (rows_view e.switches.items) ≤ tally_inputs) }
+    ensures none { has_no_rule (planned_view planned.now) ≡ true → IsOk result }
 {
     match planned {
         Planned::Emit(rule, _) => effect_if_kept(alloc, problem, rule),
@@ -43,10 +44,12 @@ pub fn effect_of(
 /// What a rule does that keeps the total.
 fn effect_if_kept(alloc: Global, problem: &Problem<'_>, rule: &Rule) -> Result<Effect, AllocError>
     requires { IsTally (total_weight problem.now.old) problem.now.counts.items }
-    ensures effect { IfOk result (λ e. total_weight rule.now ≡ total_weight problem.now.old → IsEffectOf (tally_view problem.now) rule.now (effect_view e)) }
+    ensures effect { IfOk result (λ e. IsEffectIfKept (tally_view problem.now) rule.now (effect_view e)) }
     ensures few { IfOk result (λ e. sum_by (λ r. r.1) (rows_view e.switches.items) ≤ tally_inputs) }
 {
-    if rule.total() == problem.old.total() {
+    let points = rule.total();
+    let old_points = problem.old.total();
+    if points == old_points {
         effect_on(alloc, problem, rule)
     } else {
         Ok(no_effect(alloc))
