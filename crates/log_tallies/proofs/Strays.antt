@@ -77,8 +77,8 @@ pub record Passed (files rest : List (List ℕ)) (at : ℕ) : Type 0 where
 pub passed_none : (files : List (List ℕ)) → Passed files files 0
 passed_none files = record { kept = λ k. k; first = λ i n is. let same : i ≡ 0 + i = omega arith in subst (λ (k : ℕ). IsFirstStray files k n) same is }
 
-pub passed_more : (files rest others : List (List ℕ)) (file : List ℕ) (at : ℕ) → rest ≡ file ∷ others → AreKept (lines_in file) → Passed files rest at → Passed files others (at + 1)
-passed_more files rest others file at is kept passed = record {
+pub passed_more : (files rest others : List (List ℕ)) (file : List ℕ) (at : ℕ) → AreKept (lines_in file) → rest ≡ file ∷ others → Passed files rest at → Passed files others (at + 1)
+passed_more files rest others file at kept is passed = record {
   kept = λ later. passed.kept (subst (λ (fs : List (List ℕ)). AreKept (all_lines fs)) (sym is) (all_both IsKept (lines_in file) (all_lines others) kept later));
   first = λ i n later.
       let here : IsFirstStray (file ∷ others) (suc i) n = (kept, later) in
@@ -87,8 +87,8 @@ passed_more files rest others file at is kept passed = record {
       subst (λ (k : ℕ). IsFirstStray files k n) same there;
 }
 
-pub found_there : (files rest others : List (List ℕ)) (file : List ℕ) (at n : ℕ) → rest ≡ file ∷ others → IsFirstIn (lines_in file) n → Passed files rest at → IsFirstStray files at n
-found_there files rest others file at n is found passed =
+pub found_there : (files rest others : List (List ℕ)) (file : List ℕ) (at n : ℕ) → IsFirstIn (lines_in file) n → rest ≡ file ∷ others → Passed files rest at → IsFirstStray files at n
+found_there files rest others file at n found is passed =
     let there = passed.first 0 n (subst (λ (fs : List (List ℕ)). IsFirstStray fs 0 n) (sym is) found) in
     let same : at + 0 ≡ at = omega arith in
     subst (λ (k : ℕ). IsFirstStray files k n) same there
