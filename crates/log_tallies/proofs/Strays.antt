@@ -1,5 +1,6 @@
 -- Lines that are looked at one after another.
 use Rattle.std.proofs.Common.{◌≡◌, ◌+◌, ℕ, suc, true, false, List, [], ◌∷◌, Option, Some, None, is_some, refl, sym, ◌∙◌, subst, inl, inr, arith, Bool, not}
+use Rattle.std.specs.Option.{MatchOption}
 use Rattle.line_batches.specs.Lines.{HasNoFeed, IsFirst}
 use Rattle.line_tally.proofs.Refused.{no_hash, no_input}
 use Rattle.line_tally.specs.Lines.{of_hash, of_input}
@@ -11,7 +12,6 @@ use Rattle.log_tallies.proofs.Among.{all_both}
 use Rattle.log_tallies.proofs.Cut.{lines_first, lines_none}
 use Rattle.log_tallies.specs.Lines.{all_lines, lines_in}
 use Rattle.log_tallies.specs.Stray.{AreKept, IsFirstIn, IsFirstStray, IsKept, IsStray, IsTold, SaysWhether}
-use Rattle.log_tallies.specs.declared.file.LogFile as program
 
 differs : {Y : Type 0} → true ≡ false → Y
 differs h = cc
@@ -32,6 +32,13 @@ blank_told line blank = inl blank
 pub noted_told : (line : List ℕ) (noted : Bool) → is_blank line ≡ false → SaysWhether line noted → IsTold line (not noted)
 noted_told line true some says = inr says
 noted_told line false some says = record { some = some; none = says }
+
+-- what is said of a result, by what it is
+pub none_told : {T A : Type 0} {B : T → Type 0} (r : Option T) → r ≡ None → MatchOption r A B → A
+none_told {T} {A} {B} r is told = subst (λ (o : Option T). MatchOption o A B) is told
+
+pub some_told : {T A : Type 0} {B : T → Type 0} (r : Option T) (x : T) → r ≡ Some x → MatchOption r A B → B x
+some_told {T} {A} {B} r x is told = subst (λ (o : Option T). MatchOption o A B) is told
 
 -- no line is both
 pub not_both : (line : List ℕ) → IsKept line → IsStray line → ⊥
