@@ -34,19 +34,23 @@ pub no_more : (lines : List (Bor (List ℕ))) (rest : List ℕ) → HasNoFeed re
 no_more lines rest none = ap (λ (ls : List (List ℕ)). lines_view lines ++ ls) (lines_none rest none) ∙ append-nil (lines_view lines)
 
 -- the lines of one file more
-pub more_files : (files : List program.LogFile) (i : ℕ) (file : program.LogFile) (old new : List (List ℕ)) → drop i files ≡ file ∷ drop (i + 1) files → new ≡ old ++ lines_in file.bytes.now
-    → new ++ all_lines (files_view (drop (i + 1) files)) ≡ old ++ all_lines (files_view (drop i files))
-more_files files i file old new here is =
-    ap (λ (ls : List (List ℕ)). ls ++ all_lines (files_view (drop (i + 1) files))) is
-    ∙ append_assoc old (lines_in file.bytes.now) (all_lines (files_view (drop (i + 1) files)))
-    ∙ ap (λ (fs : List program.LogFile). old ++ all_lines (files_view fs)) (sym here)
+pub more_files : (rest later : List (List ℕ)) (file : List ℕ) (old new all : List (List ℕ)) → new ≡ old ++ lines_in file → rest ≡ file ∷ later → old ++ all_lines rest ≡ all → new ++ all_lines later ≡ all
+more_files rest later file old new all is here before =
+    ap (λ (ls : List (List ℕ)). ls ++ all_lines later) is
+    ∙ append_assoc old (lines_in file) (all_lines later)
+    ∙ ap (λ (fs : List (List ℕ)). old ++ all_lines fs) (sym here)
+    ∙ before
 
 -- no file more
 pub all_cut : (files : List program.LogFile) (i : ℕ) (lines : List (List ℕ)) → drop i files ≡ [] → lines ≡ lines ++ all_lines (files_view (drop i files))
 all_cut files i lines none = sym (ap (λ (fs : List program.LogFile). lines ++ all_lines (files_view fs)) none ∙ append-nil lines)
 
 -- the first of what is left
-pub next_item : {X : Type 0} (xs : List X) (i : ℕ) (x : X) → i < length xs → x ≡ get_or xs i x → drop i xs ≡ x ∷ drop (i + 1) xs
-next_item xs i x below is =
-    let step : drop i xs ≡ get_or xs i x ∷ drop (i + 1) xs = rw add-one (drop-cons xs i x below) in
-    step ∙ ap (λ y. y ∷ drop (i + 1) xs) (sym is)
+pub first_left : {A : Type 0} (xs : List A) (i : ℕ) (d : A) → i < length xs → drop i xs ≡ get_or xs i d ∷ drop (i + 1) xs
+first_left xs i d within = rw add-one (drop-cons xs i d within)
+
+pub first_line_left : (lines : List (Bor (List ℕ))) (i : ℕ) (d : Bor (List ℕ)) → i < length lines → lines_view (drop i lines) ≡ (get_or lines i d).now ∷ lines_view (drop (i + 1) lines)
+first_line_left lines i d within = ap lines_view (first_left lines i d within)
+
+pub first_file_left : (files : List program.LogFile) (i : ℕ) (d : program.LogFile) → i < length files → files_view (drop i files) ≡ (get_or files i d).bytes.now ∷ files_view (drop (i + 1) files)
+first_file_left files i d within = ap files_view (first_left files i d within)

@@ -1,5 +1,6 @@
 -- Lines that are looked at one after another.
 use Rattle.std.proofs.Common.{◌≡◌, ◌+◌, ℕ, suc, true, false, List, [], ◌∷◌, Option, Some, None, is_some, refl, sym, ◌∙◌, subst, inl, inr, arith, Bool, not}
+use Rattle.std.specs.Option.{MatchOption}
 use Rattle.line_batches.specs.Lines.{HasNoFeed, IsFirst}
 use Rattle.line_tally.proofs.Refused.{no_hash, no_input}
 use Rattle.line_tally.specs.Lines.{of_hash, of_input}
@@ -11,7 +12,6 @@ use Rattle.log_tallies.proofs.Among.{all_both}
 use Rattle.log_tallies.proofs.Cut.{lines_first, lines_none}
 use Rattle.log_tallies.specs.Lines.{all_lines, lines_in}
 use Rattle.log_tallies.specs.Stray.{AreKept, IsFirstIn, IsFirstStray, IsKept, IsStray, IsTold, SaysWhether}
-use Rattle.log_tallies.specs.declared.file.LogFile as program
 
 differs : {Y : Type 0} → true ≡ false → Y
 differs h = cc
@@ -32,6 +32,13 @@ blank_told line blank = inl blank
 pub noted_told : (line : List ℕ) (noted : Bool) → is_blank line ≡ false → SaysWhether line noted → IsTold line (not noted)
 noted_told line true some says = inr says
 noted_told line false some says = record { some = some; none = says }
+
+-- what is said of a result, by what it is
+pub none_told : {T A : Type 0} {B : T → Type 0} (r : Option T) → r ≡ None → MatchOption r A B → A
+none_told {T} {A} {B} r is told = subst (λ (o : Option T). MatchOption o A B) is told
+
+pub some_told : {T A : Type 0} {B : T → Type 0} (r : Option T) (x : T) → r ≡ Some x → MatchOption r A B → B x
+some_told {T} {A} {B} r x is told = subst (λ (o : Option T). MatchOption o A B) is told
 
 -- no line is both
 pub not_both : (line : List ℕ) → IsKept line → IsStray line → ⊥
@@ -77,8 +84,8 @@ pub record Passed (files rest : List (List ℕ)) (at : ℕ) : Type 0 where
 pub passed_none : (files : List (List ℕ)) → Passed files files 0
 passed_none files = record { kept = λ k. k; first = λ i n is. let same : i ≡ 0 + i = omega arith in subst (λ (k : ℕ). IsFirstStray files k n) same is }
 
-pub passed_more : (files rest others : List (List ℕ)) (file : List ℕ) (at : ℕ) → rest ≡ file ∷ others → AreKept (lines_in file) → Passed files rest at → Passed files others (at + 1)
-passed_more files rest others file at is kept passed = record {
+pub passed_more : (files rest others : List (List ℕ)) (file : List ℕ) (at : ℕ) → AreKept (lines_in file) → rest ≡ file ∷ others → Passed files rest at → Passed files others (at + 1)
+passed_more files rest others file at kept is passed = record {
   kept = λ later. passed.kept (subst (λ (fs : List (List ℕ)). AreKept (all_lines fs)) (sym is) (all_both IsKept (lines_in file) (all_lines others) kept later));
   first = λ i n later.
       let here : IsFirstStray (file ∷ others) (suc i) n = (kept, later) in
@@ -87,8 +94,8 @@ passed_more files rest others file at is kept passed = record {
       subst (λ (k : ℕ). IsFirstStray files k n) same there;
 }
 
-pub found_there : (files rest others : List (List ℕ)) (file : List ℕ) (at n : ℕ) → rest ≡ file ∷ others → IsFirstIn (lines_in file) n → Passed files rest at → IsFirstStray files at n
-found_there files rest others file at n is found passed =
+pub found_there : (files rest others : List (List ℕ)) (file : List ℕ) (at n : ℕ) → IsFirstIn (lines_in file) n → rest ≡ file ∷ others → Passed files rest at → IsFirstStray files at n
+found_there files rest others file at n found is passed =
     let there = passed.first 0 n (subst (λ (fs : List (List ℕ)). IsFirstStray fs 0 n) (sym is) found) in
     let same : at + 0 ≡ at = omega arith in
     subst (λ (k : ℕ). IsFirstStray files k n) same there

@@ -44,7 +44,21 @@ pub(crate) fn fault_of(
 fn are_mixed(lines: &[&[u8]]) -> bool
     ensures { result ≡ (list_any (λ line. is_input_line line.now) lines.now && list_any (λ line. is_hash_line line.now) lines.now) }
 {
-    lines.iter().any(|line| is_input_line(line)) && lines.iter().any(|line| is_hash_line(line))
+    has_inputs(lines) && has_hashes(lines)
+}
+
+/// Whether some lines are of the kind with an input.
+fn has_inputs(lines: &[&[u8]]) -> bool
+    ensures { result ≡ list_any (λ line. is_input_line line.now) lines.now }
+{
+    lines.iter().any(|line| is_input_line(line))
+}
+
+/// Whether some lines are of the kind without.
+fn has_hashes(lines: &[&[u8]]) -> bool
+    ensures { result ≡ list_any (λ line. is_hash_line line.now) lines.now }
+{
+    lines.iter().any(|line| is_hash_line(line))
 }
 
 /// Whether a line that is not stray is that of a note with an input.

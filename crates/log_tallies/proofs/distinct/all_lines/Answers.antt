@@ -1,16 +1,16 @@
-use Rattle.std.proofs.Common.{◌≡◌, ◌+◌, ◌∷◌, drop, ◌∙◌}
+use Rattle.std.proofs.Common.{◌+◌, drop, ◌∙◌}
 use Rattle.std.proofs.lemmas.List.{drop_all}
 use Rattle.line_batches.specs.Lines.{lines_view}
-use Rattle.log_tallies.proofs.Cut.{all_cut, more_files, next_item}
+use Rattle.log_tallies.proofs.Cut.{all_cut, first_file_left, more_files}
+use Rattle.log_tallies.specs.Lines.{all_lines, files_view}
 use Rattle.log_tallies.proofs.distinct.all_lines.Goals as goal
 
 pub loop-file-preserved : goal.loop-file-preserved
 loop-file-preserved c =
     let files = c.args.files.now in
     let i = c.loop-file.file-index in
-    let file = c.file-item.result in
-    let here : drop i files ≡ file ∷ drop (i + 1) files = next_item files i file c.loop-file-test.true c.file-item.is in
-    more_files files i file (lines_view c.loop-file.lines.items) (lines_view c.add_lines.new.lines.items) here c.in_ok-add_lines.ensures ∙ c.loop-file.invariant
+    more_files (files_view (drop i files)) (files_view (drop (i + 1) files)) _ (lines_view c.loop-file.lines.items) (lines_view c.add_lines.new.lines.items) (all_lines (files_view files))
+    c.in_ok-add_lines.ensures (first_file_left files i _ c.loop-file-test.true) c.loop-file.invariant
 
 pub returns : goal.returns
 returns c =

@@ -1,7 +1,7 @@
-use Rattle.std.proofs.Common.{◌≡◌, ◌∷◌, ◌+◌, drop, ap, arith}
+use Rattle.std.proofs.Common.{◌+◌, drop, ap, arith}
 use Rattle.std.proofs.lemmas.List.{drop_all}
-use Rattle.log_tallies.proofs.Cut.{next_item}
-use Rattle.log_tallies.proofs.Strays.{found_there, none_left, passed_more, passed_none}
+use Rattle.log_tallies.proofs.Cut.{first_file_left}
+use Rattle.log_tallies.proofs.Strays.{found_there, none_left, none_told, passed_more, passed_none, some_told}
 use Rattle.log_tallies.specs.Lines.{files_view}
 use Rattle.log_tallies.proofs.stray.first_stray.Goals as goal
 
@@ -12,17 +12,13 @@ pub loop-at-preserved : goal.loop-at-preserved
 loop-at-preserved c =
     let files = c.args.files.now in
     let at = c.loop-at.at in
-    let file = c.index.result.now in
-    let here : drop at files ≡ file ∷ drop (at + 1) files = next_item files at file (omega arith) c.index.ensures in
-    passed_more (files_view files) (files_view (drop at files)) (files_view (drop (at + 1) files)) file.bytes.now at (ap files_view here) c.in-None.ensures c.loop-at.invariant
+    passed_more (files_view files) (files_view (drop at files)) (files_view (drop (at + 1) files)) _ at (none_told _ c.in_default.is c.in_ok-line.ensures) (first_file_left files at _ (omega (arith, c.loop-at-test.true))) c.loop-at.invariant
 
 pub returns-in-Some : goal.returns-in-Some
 returns-in-Some c =
     let files = c.args.files.now in
     let at = c.loop-at.at in
-    let file = c.index.result.now in
-    let here : drop at files ≡ file ∷ drop (at + 1) files = next_item files at file (omega arith) c.index.ensures in
-    found_there (files_view files) (files_view (drop at files)) (files_view (drop (at + 1) files)) file.bytes.now at c.in-Some.line (ap files_view here) c.in-Some.ensures c.loop-at.invariant
+    found_there (files_view files) (files_view (drop at files)) (files_view (drop (at + 1) files)) _ at c.in-Some.line (some_told _ c.in-Some.line c.in-Some.is c.in_ok-line.ensures) (first_file_left files at _ (omega (arith, c.loop-at-test.true))) c.loop-at.invariant
 
 pub returns : goal.returns
 returns c =

@@ -1,8 +1,8 @@
-use Rattle.std.proofs.Common.{◌≡◌, ◌∙◌, ◌∷◌, ◌+◌, ℕ, drop, Err, ap, sym, subst}
+use Rattle.std.proofs.Common.{◌≡◌, ◌∙◌, ◌+◌, ℕ, drop, Err, ap, sym, subst}
 use Rattle.std.proofs.lemmas.List.{drop_all}
 use Rattle.std.proofs.lemmas.Result.{err_from_is_err_and}
 use Rattle.line_batches.specs.Lines.{lines_view}
-use Rattle.log_tallies.proofs.Cut.{next_item}
+use Rattle.log_tallies.proofs.Cut.{first_line_left}
 use Rattle.log_tallies.proofs.Taken.{begun, ended, refused, taken}
 use Rattle.tally_filters.specs.Filter.{Filtered}
 use Rattle.log_tallies.specs.Sorted.{TalliesLines}
@@ -18,10 +18,8 @@ pub loop-line-preserved : goal.loop-line-preserved
 loop-line-preserved c =
     let lines = c.args.lines.now in
     let i = c.loop-line.line-index in
-    let line = c.line-item.result in
-    let here : drop i lines ≡ line ∷ drop (i + 1) lines = next_item lines i line c.loop-line-test.true c.line-item.is in
     record {
-      stands = taken c.args.page c.args.total (lines_view lines) (lines_view (drop i lines)) (lines_view (drop (i + 1) lines)) line.now (ap lines_view here) c.loop-line.filter c.loop-line.invariant.stands c.take.new.self c.in_ok-take.ensures.exact;
+      stands = taken c.args.page c.args.total (lines_view lines) (lines_view (drop i lines)) (lines_view (drop (i + 1) lines)) _ (first_line_left lines i _ c.loop-line-test.true) c.loop-line.filter c.loop-line.invariant.stands c.take.new.self c.in_ok-take.ensures.exact;
       count = c.in_ok-take.ensures.exact.0 ∙ ap (λ (n : ℕ). n + 1) c.loop-line.invariant.count;
     }
 
@@ -29,13 +27,11 @@ pub returns-in_err-take : goal.returns-in_err-take
 returns-in_err-take c =
     let lines = c.args.lines.now in
     let i = c.loop-line.line-index in
-    let line = c.line-item.result in
-    let here : drop i lines ≡ line ∷ drop (i + 1) lines = next_item lines i line c.loop-line-test.true c.line-item.is in
     let fault = c.in_err-take.field-0.0 in
     let p = err_from_is_err_and c.from_residual-in_err-take.result c.from_residual-in_err-take.ensures.1 in
     let same : c.from_residual-in_err-take.result ≡ Err fault = p.1 ∙ ap Err p.2 in
     subst (TalliesLines c.args.page c.args.total (lines_view lines)) (sym same)
-    (refused c.args.page c.args.total (lines_view lines) (lines_view (drop i lines)) (lines_view (drop (i + 1) lines)) line.now (ap lines_view here) c.loop-line.filter c.loop-line.invariant.stands fault c.take.new.self c.in_err-take.ensures.exact)
+    (refused c.args.page c.args.total (lines_view lines) (lines_view (drop i lines)) (lines_view (drop (i + 1) lines)) _ (first_line_left lines i _ c.loop-line-test.true) c.loop-line.filter c.loop-line.invariant.stands fault c.take.new.self c.in_err-take.ensures.exact)
 
 pub returns : goal.returns
 returns c =
