@@ -1,5 +1,5 @@
 -- The pages of a targeting are those of its sites in preorder.
-use Rattle.std.proofs.Common.{◌≡◌, ◌+◌, ◌∙◌, ℕ, zero, suc, List, [], ◌∷◌, Ok, Err, Result, ap, arith, refl, slice_get, sym}
+use Rattle.std.proofs.Common.{◌≡◌, ◌+◌, ◌∙◌, ℕ, suc, List, [], ◌∷◌, Ok, Err, Result, ap, arith, refl, slice_get, sym}
 use Rattle.book_core.specs.Page.{PageName}
 use Rattle.book_core.specs.Site.{page_at, with_by}
 use Rattle.logic_ast.specs.Expression.{Expression}

@@ -1,5 +1,5 @@
 -- What a rule does to the inputs of which so many fall on each point.
-use Rattle.std.specs.Prelude.{◌≡◌, ◌≢◌, ℕ, Bool, true, false, List, [], Option, Some, None}
+use Rattle.std.specs.Prelude.{◌≡◌, ◌≢◌, ℕ, Bool, true, false, [], Option, Some, None}
 use Rattle.book_core.specs.Book.{Inputs}
 use Rattle.bucket_core.specs.Rule.{Entries, total_weight}
 use Rattle.plan_text.specs.Answer.{Answer, emit, none_exists}

@@ -1,4 +1,4 @@
-use Rattle.std.proofs.Common.{Ok, refl, string_bytes, subst, sym}
+use Rattle.std.proofs.Common.{refl, string_bytes, subst, sym}
 use Rattle.std.specs.Prelude.{IfOk}
 use Rattle.bucket_core.specs.Rule.{names_view}
 use Rattle.picture.specs.Deficits.{none_height, none_told}

@@ -1,4 +1,4 @@
-use Rattle.std.proofs.Common.{◌≡◌, refl, sym, ap, ◌∙◌, subst, List, ℕ}
+use Rattle.std.proofs.Common.{refl, sym, ap, ◌∙◌, subst, List, ℕ}
 use Rattle.book_core.specs.Counts.{counts_of}
 use Rattle.rule_switches.specs.Edit.{IsObvious}
 use Rattle.plan_effects.proofs.effect.effect_on.Goals as goal

@@ -1,4 +1,4 @@
-use Rattle.std.proofs.Common.{◌≡◌, ◌≢◌, rules}
+use Rattle.std.proofs.Common.{◌≢◌, rules}
 use Rattle.flag_defs.specs.Flags.{flags_view}
 use Rattle.rollout_checks.specs.Tallied.{tally_problem_of}
 use Rattle.rollout_checks.specs.declared.fault.RolloutFault.TheVariants.{WantOfMemory}
