@@ -4,8 +4,9 @@
 //! [`posed`] gives again what was asked of a tally that has been planned, [`effect_of`] what the answer does to the inputs of the
 //! tally, and [`picture_of`] draws it.
 //!
-//! Stated, over the definitions of `specs/` (the proofs are not checked yet): the switches are those of all inputs of which so many fall
-//! on each point, each change of name told once (`Effect`); and the picture tells the runs and the switches of these (`Picture`).
+//! Proved, over the definitions of `specs/`: the switches are those of all inputs of which so many fall on each point, each change of
+//! name told once, beside those of the edit that comes to mind first (`Effect`). Stated, its proof not checked yet: the picture tells
+//! the runs and the switches of these (`Picture`).
 #![tactic(auto)]
 
 mod drawing;
