@@ -12,7 +12,8 @@
 //! assert!(rt; tally.inputs == 1);
 //! ```
 //!
-//! Proved, over the definitions of `specs/`: the tally is that of just the inputs whose note lines stand in the files, each once, or
+//! Stated, over the definitions of `specs/` (a check accepted all but `first_stray` and `fault_of`, whose answers are not checked
+//! yet): the tally is that of just the inputs whose note lines stand in the files, each once, or
 //! of just the hashes, where the notes are without inputs (`Recorded`), and then each line is blank or that of a note, all of one
 //! kind. Else a line that is neither is told by its file and its number, the first of all (`Stray`), or that there are notes of both
 //! kinds, or that there are too many, in this order (`Tallies`).
