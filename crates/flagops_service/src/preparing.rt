@@ -8,7 +8,7 @@ ghost use Rattle.flagops_service.specs.Words.{Answering as Asked, answering_view
 use crate::asked::Answering;
 use crate::keys::read_keys;
 use crate::stop::Stop;
-use crate::unbound::{NoListener, Spot, Unbound, address_of};
+use crate::unbound::{Spot, Unbound, address_of};
 use flagops_shell::FileSet;
 use log_file::{LogFault, LogPaths};
 use ofrep_guards::{Keys, OriginFault, origin_fault};
@@ -75,7 +75,7 @@ where
         Err(fault) => return Err(Unready::Stopped(Stop::NoLog(fault))),
     };
     let Some(address) = address_of(answering.listen.unwrap_or(LISTEN)) else {
-        return Err(misspelled(Spot::Flags));
+        return Err(Unready::Unbound(Unbound::misspelled(Spot::Flags)));
     };
     let Ok(keys) = RandomState::new(rt) else {
         return Err(Unready::Stopped(Stop::Unseeded));
@@ -134,7 +134,7 @@ fn admin_post<R: Net<Listener = TcpListener, Stream = TcpStream>>(
         return Ok(None);
     };
     let Some(address) = address_of(word) else {
-        return Err(misspelled(Spot::Operations));
+        return Err(Unready::Unbound(Unbound::misspelled(Spot::Operations)));
     };
     match bind_admin(rt, alloc, address, answering.allow_stop) {
         Ok(post) => Ok(Some(post)),
@@ -187,19 +187,6 @@ fn why_unready(spot: Spot, kind: ErrorKind) -> Unready
 {
     match kind {
         ErrorKind::OutOfMemory => Unready::WantOfMemory,
-        other => Unready::Unbound(Unbound {
-            spot,
-            why: NoListener::of(other),
-        }),
+        other => Unready::Unbound(Unbound::of(spot, other)),
     }
-}
-
-/// That a word does not name an address.
-fn misspelled(spot: Spot) -> Unready
-    ensures { (a : Asked) → MayBeUnready a result }
-{
-    Unready::Unbound(Unbound {
-        spot,
-        why: NoListener::Misspelled,
-    })
 }

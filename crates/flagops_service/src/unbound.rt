@@ -9,8 +9,26 @@ use std::net::SocketAddr;
 /// An address that can't be listened on.
 #[derive(Clone, Copy, Debug, PartialEq, Eq)]
 pub(crate) struct Unbound {
-    pub(crate) spot: Spot,
-    pub(crate) why: NoListener,
+    spot: Spot,
+    why: NoListener,
+}
+
+impl Unbound {
+    /// One that is not spelled as an address with a port.
+    pub(crate) fn misspelled(spot: Spot) -> Unbound {
+        Unbound {
+            spot,
+            why: NoListener::Misspelled,
+        }
+    }
+
+    /// One that the system does not give, for a reason of this kind.
+    pub(crate) fn of(spot: Spot, kind: ErrorKind) -> Unbound {
+        Unbound {
+            spot,
+            why: NoListener::of(kind),
+        }
+    }
 }
 
 /// What the service listens on an address for.
@@ -23,7 +41,7 @@ pub(crate) enum Spot {
 
 /// Why an address can't be listened on.
 #[derive(Clone, Copy, Debug, PartialEq, Eq)]
-pub(crate) enum NoListener {
+enum NoListener {
     /// It is not spelled as an address with a port.
     Misspelled,
     /// Another listener has it.
@@ -38,7 +56,7 @@ pub(crate) enum NoListener {
 
 impl NoListener {
     /// What the system's word says.
-    pub(crate) fn of(kind: ErrorKind) -> NoListener {
+    fn of(kind: ErrorKind) -> NoListener {
         match kind {
             ErrorKind::AddrInUse => NoListener::InUse,
             ErrorKind::AddrNotAvailable => NoListener::Elsewhere,
