@@ -34,11 +34,11 @@ noted_told line true some says = inr says
 noted_told line false some says = record { some = some; none = says }
 
 -- what is said of a result, by what it is
-pub none_told : {T A : Type 0} {B : T → Type 0} (r : Option T) → r ≡ None → MatchOption r A B → A
-none_told {T} {A} {B} r is told = subst (λ (o : Option T). MatchOption o A B) is told
+pub none_told : {T A : Type 0} (B : T → Type 0) (r : Option T) → r ≡ None → MatchOption r A B → A
+none_told {T} {A} B r is told = subst (λ (o : Option T). MatchOption o A B) is told
 
-pub some_told : {T A : Type 0} {B : T → Type 0} (r : Option T) (x : T) → r ≡ Some x → MatchOption r A B → B x
-some_told {T} {A} {B} r x is told = subst (λ (o : Option T). MatchOption o A B) is told
+pub some_told : {T : Type 0} (A : Type 0) (B : T → Type 0) (r : Option T) (x : T) → r ≡ Some x → MatchOption r A B → B x
+some_told {T} A B r x is told = subst (λ (o : Option T). MatchOption o A B) is told
 
 -- no line is both
 pub not_both : (line : List ℕ) → IsKept line → IsStray line → ⊥

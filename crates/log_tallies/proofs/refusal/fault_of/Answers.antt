@@ -9,13 +9,13 @@ use Rattle.log_tallies.proofs.refusal.fault_of.Goals as goal
 pub returns-then-are_mixed : goal.returns-then-are_mixed
 returns-then-are_mixed c =
     let files = files_view c.args.files.now in
-    (none_told _ c.in_default.is c.in_ok-file.ensures, mixed_told files c.args.lines.now c.requires.distinct (none_told _ c.in_default.is c.in_ok-file.ensures) (sym c.are_mixed.ensures ∙ c.if-are_mixed.true))
+    (none_told _ _ c.in_default.is c.in_ok-file.ensures, mixed_told files c.args.lines.now c.requires.distinct (none_told _ _ c.in_default.is c.in_ok-file.ensures) (sym c.are_mixed.ensures ∙ c.if-are_mixed.true))
 
 pub unreachable-requires : goal.unreachable-requires
 unreachable-requires c =
     let files = files_view c.args.files.now in
     let lines = c.args.lines.now in
-    no_stray files lines c.requires.distinct (none_told _ c.in_default.is c.in_ok-file.ensures) (subst (IsRefusedFor (lines_view lines)) c.in-Line.is c.requires.refused)
+    no_stray files lines c.requires.distinct (none_told _ _ c.in_default.is c.in_ok-file.ensures) (subst (IsRefusedFor (lines_view lines)) c.in-Line.is c.requires.refused)
 
 pub unreachable-requires-in-Mixed : goal.unreachable-requires-in-Mixed
 unreachable-requires-in-Mixed c =
@@ -26,4 +26,4 @@ unreachable-requires-in-Mixed c =
 pub returns-in-TooMany : goal.returns-in-TooMany
 returns-in-TooMany c =
     let files = files_view c.args.files.now in
-    (c.in-TooMany.is, one_kind files c.args.lines.now c.requires.distinct (none_told _ c.in_default.is c.in_ok-file.ensures) (sym c.are_mixed.ensures ∙ c.if-are_mixed.false))
+    (c.in-TooMany.is, one_kind files c.args.lines.now c.requires.distinct (none_told _ _ c.in_default.is c.in_ok-file.ensures) (sym c.are_mixed.ensures ∙ c.if-are_mixed.false))

@@ -12,13 +12,13 @@ pub loop-at-preserved : goal.loop-at-preserved
 loop-at-preserved c =
     let files = c.args.files.now in
     let at = c.loop-at.at in
-    passed_more (files_view files) (files_view (drop at files)) (files_view (drop (at + 1) files)) _ at (none_told _ c.in_default.is c.in_ok-line.ensures) (first_file_left files at _ (omega (arith, c.loop-at-test.true))) c.loop-at.invariant
+    passed_more (files_view files) (files_view (drop at files)) (files_view (drop (at + 1) files)) _ at (none_told _ _ c.in_default.is c.in_ok-line.ensures) (first_file_left files at _ (omega (arith, c.loop-at-test.true))) c.loop-at.invariant
 
 pub returns-in-Some : goal.returns-in-Some
 returns-in-Some c =
     let files = c.args.files.now in
     let at = c.loop-at.at in
-    found_there (files_view files) (files_view (drop at files)) (files_view (drop (at + 1) files)) _ at c.in-Some.line (some_told _ c.in-Some.line c.in-Some.is c.in_ok-line.ensures) (first_file_left files at _ (omega (arith, c.loop-at-test.true))) c.loop-at.invariant
+    found_there (files_view files) (files_view (drop at files)) (files_view (drop (at + 1) files)) _ at c.in-Some.line (some_told _ _ _ c.in-Some.line c.in-Some.is c.in_ok-line.ensures) (first_file_left files at _ (omega (arith, c.loop-at-test.true))) c.loop-at.invariant
 
 pub returns : goal.returns
 returns c =
