@@ -1,36 +1,41 @@
 -- What comes of a token.
-use Rattle.std.proofs.Common.{◌≡◌, ◌≢◌, ℕ, List, true, false, Result, Ok, Err, inl, inr, refl, ap, subst}
+use Rattle.std.proofs.Common.{◌≡◌, ◌≢◌, ℕ, List, true, false, is_ok, Result, Ok, Err, inl, inr, refl, ap}
 use Rattle.flag_defs.specs.Document.{Definitions}
 use Rattle.plan_text.specs.Answer.{Answer}
 use Rattle.price_core.specs.Request.{Asked, asked_of}
 use Rattle.price_core.specs.declared.fault.PriceFault.{PriceFault}
-use Rattle.rollout_checks.specs.Fault as rollouts
 use Rattle.rollout_checks.specs.Lawful.{and_then, by_price}
-use Rattle.rollout_checks.specs.Tallied.{IsTallyOutcome, TallyProblem, tally_problem_asked, tally_problem_of}
-use Rattle.rollout_checks.specs.declared.fault.RolloutFault.{RolloutFault}
+use Rattle.rollout_checks.specs.Tallied.{IsTallyOutcome, tally_problem_asked, tally_problem_of}
 use Rattle.rollout_checks.specs.declared.refining.Refining.{Refining}
 use Rattle.rollout_checks.specs.declared.verify_fault.VerifyFault.{VerifyFault}
 use Rattle.tally_core.specs.Tally.{PageTally}
 use Rattle.control_answers.specs.Apply.{Applied, IsApplied, IsAppliedOn, IsApplyAnswer, IsApplyOf}
 use Rattle.control_answers.specs.Check.{MayBeTold}
-use Rattle.control_answers.specs.Plan.{Snapshot}
-use Rattle.control_answers.specs.Refusal.{of_verdict}
+use Rattle.control_answers.specs.Kept.{IsChanged}
+use Rattle.control_answers.specs.Snapshot.{Snapshot}
+use Rattle.control_answers.specs.Refusal.{of_verdict_of_token}
 use Rattle.control_answers.specs.Token.{IsNoToken, IsToken, Token, is_tag_of}
 use Rattle.control_answers.specs.Turns.{Gives}
 use Rattle.control_answers.specs.declared.refusal.ControlRefusal.{ControlRefusal}
 use Rattle.control_answers.specs.declared.refusal.ControlRefusal.TheVariants.{WantOfMemory, BadToken, OtherDocument}
 use Rattle.control_answers.proofs.Turns.{refused}
 
--- a request that is refused has no right answer
-pub was_right : (refining : Refining) (flags : Definitions) (request : List ℕ) (t : PageTally) (answer : Answer) (f : PriceFault) → asked_of request ≡ Err f → IsTallyOutcome (tally_problem_of refining flags request t) answer (Ok tt) → ⊥
-was_right refining flags request t answer f is right =
-    let none : tally_problem_of refining flags request t ≡ Err (rollouts.of_price f) = ap (λ (a : Result Asked PriceFault). and_then (by_price a) (λ asked. tally_problem_asked refining flags asked t)) is in
-    subst (λ (x : Result TallyProblem RolloutFault). IsTallyOutcome x answer (Ok tt)) none right
+asked_if_right : (refining : Refining) (flags : Definitions) (t : PageTally) (answer : Answer) (a : Result Asked PriceFault) → IsTallyOutcome (and_then (by_price a) (λ asked. tally_problem_asked refining flags asked t)) answer (Ok tt) → is_ok a ≡ true
+asked_if_right refining flags t answer (Ok asked) right = refl
+asked_if_right refining flags t answer (Err f) right = absurd right
+
+-- a request with a right answer asks something
+pub is_asked : (refining : Refining) (flags : Definitions) (request : List ℕ) (t : PageTally) (answer : Answer) → IsTallyOutcome (tally_problem_of refining flags request t) answer (Ok tt) → is_ok (asked_of request) ≡ true
+is_asked refining flags request t answer right = asked_if_right refining flags t answer (asked_of request) right
 
 module _ {A : Type 0} (seen : A → Applied) (s : Snapshot) where
   module _ (request : List ℕ) (answer : Answer) (t : PageTally) where
-    pub wrong : (f : VerifyFault) (r : Result A ControlRefusal) → r ≡ Err (of_verdict f) → MayBeTold s.flags request t answer (Err f) → Gives seen (IsAppliedOn s request answer t) r
-    wrong f r is told = refused seen (IsAppliedOn s request answer t) (of_verdict f) r is (λ other. (Err f, told, refl))
+    -- there is no document with the rule
+    pub unkept : (e : ControlRefusal) (r : Result A ControlRefusal) → r ≡ Err e → (e ≢ WantOfMemory → IsChanged s request answer (Err e)) → Gives seen (IsApplied s request answer t) r
+    unkept e r is none = refused seen (IsApplied s request answer t) e r is (λ other. (Err e, none other, refl))
+
+    pub wrong : (f : VerifyFault) (r : Result A ControlRefusal) → r ≡ Err (of_verdict_of_token f) → MayBeTold s.flags request t answer (Err f) → Gives seen (IsAppliedOn s request answer t) r
+    wrong f r is told = refused seen (IsAppliedOn s request answer t) (of_verdict_of_token f) r is (λ other. (Err f, told, refl))
 
     pub right : (r : Result A ControlRefusal) → MayBeTold s.flags request t answer (Ok tt) → Gives seen (IsApplied s request answer t) r → Gives seen (IsAppliedOn s request answer t) r
     right (Ok a) told made = (Ok tt, told, made)

@@ -1,15 +1,14 @@
 -- What a call comes to, by what was found before.
 use Rattle.std.proofs.Common.{◌≡◌, ◌≢◌, ℕ, List, Result, Ok, Err, refl, sym, subst, ap}
+use Rattle.flag_defs.specs.Document.{Definitions}
 use Rattle.log_tallies.specs.Tallies.{TalliesFiles}
 use Rattle.log_tallies.specs.declared.fault.LogTallyFault.{LogTallyFault}
-use Rattle.plan_text.specs.Answer.{Answer}
-use Rattle.plan_text.specs.declared.fault.PlanFileFault.{PlanFileFault}
 use Rattle.rollout_checks.specs.declared.fault.RolloutFault.{RolloutFault}
 use Rattle.rollout_checks.specs.declared.fault.RolloutFault.TheVariants as rollout_fault
 use Rattle.tally_core.specs.Tally.{PageTally}
 use Rattle.control_answers.specs.Refusal.{of_logs, of_rollout}
-use Rattle.control_answers.specs.Target.{Target}
-use Rattle.control_answers.specs.Turns.{Gives, OfFiles, Outcomes, WithTarget}
+use Rattle.control_answers.specs.Target.{Target, target_of}
+use Rattle.control_answers.specs.Turns.{Gives, IsQuestion, OfFiles, Outcomes, WithTarget}
 use Rattle.control_answers.specs.declared.refusal.ControlRefusal.{ControlRefusal}
 use Rattle.control_answers.specs.declared.refusal.ControlRefusal.TheVariants.{WantOfMemory}
 
@@ -26,6 +25,12 @@ module _ {A B : Type 0} (seen : A → B) where
   no_target t Next f r is means =
       refused (WithTarget Next t) (of_rollout f) r is
       (λ other. subst (λ (x : Result Target RolloutFault). WithTarget Next x (Err (of_rollout f))) (sym (means (λ want. other (ap of_rollout want)))) refl)
+
+  -- the request is refused
+  pub not_asked : (flags : Definitions) (request : List ℕ) (Next : Target → Outcomes B) (e : ControlRefusal) (r : Result A ControlRefusal) → r ≡ Err e → IsQuestion flags request (Err e) → Gives seen (WithTarget Next (target_of flags request)) r
+  not_asked flags request Next e r is refuses =
+      refused (WithTarget Next (target_of flags request)) e r is
+      (λ other. let p = refuses other in subst (λ (x : Result Target RolloutFault). WithTarget Next x (Err e)) (sym p.1) (ap Err p.2))
 
   pub with_target : (t : Result Target RolloutFault) (Next : Target → Outcomes B) (target : Target) (r : Result A ControlRefusal) → t ≡ Ok target → Gives seen (Next target) r → Gives seen (WithTarget Next t) r
   with_target t Next target r is made = subst (λ (x : Result Target RolloutFault). Gives seen (WithTarget Next x) r) (sym is) made

@@ -99,7 +99,8 @@ fn push_rows(alloc: Global, out: &mut String, rows: &[Switch]) -> Result<(), All
     Ok(())
 }
 
-fn comma_if(later: bool) -> &'static str
+/// A comma, where it is not the first item.
+pub(crate) fn comma_if(later: bool) -> &'static str
     ensures { result.now ≡ comma_if later }
 {
     if later { "," } else { "" }

@@ -22,12 +22,15 @@
 
 mod applying;
 mod body;
+mod changing;
 mod checking;
+mod doubting;
 mod history;
 mod holding;
 mod laws;
 mod place;
 mod planning;
+mod question;
 mod recording;
 mod refusal;
 mod snapshot;

@@ -3,7 +3,7 @@ use Rattle.flag_defs.specs.Flags.{flags_view}
 use Rattle.log_tallies.specs.Lines.{files_view}
 use Rattle.plan_text.specs.Answer.{planned_view}
 use Rattle.control_answers.specs.Apply.{IsAppliedOn, applied_view}
-use Rattle.control_answers.specs.Plan.{snapshot_view}
+use Rattle.control_answers.specs.Snapshot.{snapshot_view}
 use Rattle.control_answers.specs.Target.{target_of}
 use Rattle.control_answers.specs.Turns.{OfFiles, WithTarget}
 use Rattle.control_answers.proofs.Checked.{no_answer, with_answer}
