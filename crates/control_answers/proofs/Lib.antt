@@ -1,8 +1,9 @@
-mod Applied
 mod Checked
+mod Outcomes
 mod Planned
 mod Recorded
 mod Rows
 mod Tallied
 mod Texts
+mod Tokens
 mod Turns

@@ -46,8 +46,12 @@ WhereRight (Err e) Next r = r ≡ Err (of_verdict_of_token e)
 abbrev pub IsAppliedOn : Snapshot → List ℕ → Answer → PageTally → Outcomes Applied
 IsAppliedOn s request answer t r = (verdict : Result (Unit {0}) VerifyFault) × MayBeTold s.flags request t answer verdict × WhereRight verdict (IsApplied s request answer t) r
 
+-- on the tally of what files hold of the request's page
+abbrev pub IsAppliedOf : Snapshot → List ℕ → List (List ℕ) → Answer → Outcomes Applied
+IsAppliedOf s request files answer = WithTarget (λ target. OfFiles files target (IsAppliedOn s request answer)) (target_of s.flags request)
+
 abbrev pub IsApplyOf : Snapshot → Token → List (List ℕ) → Outcomes Applied
-IsApplyOf s token files = WithAnswer (λ answer. WithTarget (λ target. OfFiles files target (IsAppliedOn s token.request answer)) (target_of s.flags token.request)) (answer_of token.plan)
+IsApplyOf s token files = WithAnswer (IsAppliedOf s token.request files) (answer_of token.plan)
 
 -- The document with the rule of the token's plan, which is right on what the files hold; or the first refusal: of the token, its document, its
 -- plan file, its request and the request's site, the files, the request on their tally, the check, the document with the rule, and what is

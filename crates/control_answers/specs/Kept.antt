@@ -13,10 +13,10 @@ use Rattle.control_answers.specs.Refusal.{of_keep, of_rollout}
 use Rattle.control_answers.specs.Snapshot.{Snapshot}
 use Rattle.control_answers.specs.Turns.{Outcomes}
 use Rattle.control_answers.specs.declared.refusal.ControlRefusal.{ControlRefusal}
-use Rattle.control_answers.specs.declared.refusal.ControlRefusal.TheVariants.{WantOfMemory, NoRule}
+use Rattle.control_answers.specs.declared.refusal.ControlRefusal.TheVariants.{WantOfMemory, NoDocument}
 
 -- the text with the rule in place of the buckets at a place, which means these flags; or why there is none
-abbrev pub IsEdited : List ℕ → SitePlace → Entries → Definitions → Outcomes (List ℕ)
+abbrev pub IsEdited : List ℕ → SitePlace → Entries → Definitions → Result (List ℕ) ControlRefusal → Type 0
 IsEdited document place rule wanted (Ok text) = KeptAt document place rule text × DocumentMeans text (Ok wanted)
 IsEdited document place rule wanted (Err e) = (fault : KeepFault) × IsRefused document place rule wanted fault × (e ≡ of_keep fault)
 
@@ -31,7 +31,7 @@ IsKeptAt s asked rule r = IsEditedTo s.document (place_in s.document s.flags ask
 -- with the rule of an answer, where it has one, at the site of its request
 abbrev pub IsChanged : Snapshot → List ℕ → Answer → Outcomes (List ℕ)
 IsChanged s request (emit rule c) r = (asked : Asked) × (asked_of request ≡ Ok asked) × IsKeptAt s asked rule r
-IsChanged s request (none_exists kind names) r = r ≡ Err NoRule
+IsChanged s request (none_exists kind names) r = r ≡ Err NoDocument
 
 -- there is such a text, or none, for a reason other than want of memory
 abbrev pub MayBeChanged : Snapshot → List ℕ → Answer → Option (List ℕ) → Type 0

@@ -20,7 +20,7 @@ use Rattle.transport_instance.specs.Fault.{name_of as check_name, number_of as c
 use Rattle.transport_instance.specs.declared.fault.CheckFault.{CheckFault}
 use Rattle.transport_instance.specs.declared.fault.CheckFault.TheVariants as check_fault
 use Rattle.control_answers.specs.declared.refusal.ControlRefusal.{ControlRefusal}
-use Rattle.control_answers.specs.declared.refusal.ControlRefusal.TheVariants.{WantOfMemory, Rollout, Logs, ReadPlan, PrintPlan, Check, OtherTally, Keep, Unread, Unrecorded, NoRecord, BadToken, OtherDocument, NoRule}
+use Rattle.control_answers.specs.declared.refusal.ControlRefusal.TheVariants.{WantOfMemory, Rollout, Logs, ReadPlan, PrintPlan, Check, OtherTally, Keep, Unread, Unrecorded, NoRecord, BadToken, OtherDocument, NoDocument}
 
 -- want of memory is one refusal, wherever it comes from
 abbrev pub of_rollout : RolloutFault → ControlRefusal
@@ -108,7 +108,7 @@ number_of Unrecorded = 17
 number_of NoRecord = 1
 number_of BadToken = 2
 number_of OtherDocument = 3
-number_of NoRule = 4
+number_of NoDocument = 4
 
 abbrev pub name_of : ControlRefusal → List ℕ
 name_of WantOfMemory = codes "WantOfMemory"
@@ -124,7 +124,7 @@ name_of Unrecorded = codes "Unrecorded"
 name_of NoRecord = codes "NoRecord"
 name_of BadToken = codes "BadToken"
 name_of OtherDocument = codes "OtherDocument"
-name_of NoRule = codes "NoRule"
+name_of NoDocument = codes "NoDocument"
 
 -- the call that refuses: the one that is asked, or one by which it reads or writes
 abbrev pub call_of : List ℕ → ControlRefusal → List ℕ
@@ -141,7 +141,7 @@ call_of asked Unrecorded = asked
 call_of asked NoRecord = codes "control"
 call_of asked BadToken = codes "control"
 call_of asked OtherDocument = codes "control"
-call_of asked NoRule = codes "control"
+call_of asked NoDocument = codes "control"
 
 -- the status of the answer (RFC 9110, 15.5 and 15.6.1)
 abbrev pub status_of : ControlRefusal → ℕ

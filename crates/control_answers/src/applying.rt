@@ -5,11 +5,11 @@ ghost use Rattle.log_tallies.specs.Lines.{files_view};
 ghost use Rattle.plan_text.specs.Answer.{planned_view};
 ghost use Rattle.rollout_checks.specs.Tallied.{IsTallyOutcome, tally_problem_of};
 ghost use Rattle.rollout_checks.specs.Verified.{refining_for};
-ghost use Rattle.control_answers.specs.Apply.{IsApplied, IsAppliedOn, IsApplyAnswer, IsApplyOf, applied_view};
+ghost use Rattle.control_answers.specs.Apply.{IsApplied, IsAppliedOf, IsAppliedOn, IsApplyAnswer, IsApplyOf, applied_view};
 ghost use Rattle.control_answers.specs.Snapshot.{snapshot_view};
-ghost use Rattle.control_answers.specs.Target.{target_of, target_view};
+ghost use Rattle.control_answers.specs.Target.{target_view};
 ghost use Rattle.control_answers.specs.Token.{token_view};
-ghost use Rattle.control_answers.specs.Turns.{Gives, OfFiles, WithTarget};
+ghost use Rattle.control_answers.specs.Turns.{Gives, OfFiles};
 ghost use Rattle.control_answers.specs.declared.refusal.ControlRefusal.TheVariants.{BadToken};
 
 use crate::changing::changed;
@@ -85,7 +85,7 @@ fn apply_planned(
     planned: Planned,
     files: &[LogFile<'_>],
 ) -> Result<Applied, ControlRefusal>
-    ensures { Gives applied_view (WithTarget (λ target. OfFiles (files_view files.now) target (IsAppliedOn (snapshot_view snapshot.now) request.now (planned_view planned))) (target_of (flags_view snapshot.now.flags.now) request.now)) result }
+    ensures { Gives applied_view (IsAppliedOf (snapshot_view snapshot.now) request.now (files_view files.now) (planned_view planned)) result }
 {
     let bytes = request.to_vec(alloc)?;
     let Question { request, target } = question_of(alloc, snapshot.flags, bytes)?;

@@ -22,7 +22,7 @@ use std::alloc::{AllocError, Global};
 /// The document with the rule of an answer at the site of its request, and all else as it was. The condition is a request that asks
 /// something.
 ///
-/// Refusals: `NoRule`; those of `apply`; and those of `keep`.
+/// Refusals: `NoDocument`; those of `apply`; and those of `keep`.
 pub(crate) fn changed(
     alloc: Global,
     snapshot: &Snapshot<'_>,
@@ -38,7 +38,7 @@ pub(crate) fn changed(
             // The request asks something.
             Err(_) => unreachable!(),
         },
-        Planned::NoneExists(_) => Err(ControlRefusal::NoRule),
+        Planned::NoneExists(_) => Err(ControlRefusal::NoDocument),
     }
 }
 

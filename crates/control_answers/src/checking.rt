@@ -6,9 +6,9 @@ ghost use Rattle.log_tallies.specs.Lines.{files_view};
 ghost use Rattle.plan_text.specs.Answer.{planned_view};
 ghost use Rattle.plan_text.specs.PlanFile.{max_plan};
 ghost use Rattle.plan_text.specs.declared.fault.PlanFileFault.TheVariants.{BadPlan, TooLarge};
-ghost use Rattle.control_answers.specs.Check.{IsCheckAnswer, IsVerdictOn, valid_text};
-ghost use Rattle.control_answers.specs.Target.{target_of, target_view};
-ghost use Rattle.control_answers.specs.Turns.{Gives, OfFiles, WithTarget};
+ghost use Rattle.control_answers.specs.Check.{IsCheckAnswer, IsVerdictOf, IsVerdictOn, valid_text};
+ghost use Rattle.control_answers.specs.Target.{target_view};
+ghost use Rattle.control_answers.specs.Turns.{Gives, OfFiles};
 ghost use Rattle.control_answers.specs.declared.refusal.ControlRefusal.TheVariants.{ReadPlan};
 
 use crate::question::{Question, question_of};
@@ -51,7 +51,7 @@ fn check_planned(
     planned: &Planned,
     files: &[LogFile<'_>],
 ) -> Result<String, ControlRefusal>
-    ensures { Gives string_bytes (WithTarget (λ target. OfFiles (files_view files.now) target (IsVerdictOn (flags_view flags.now) request.now (planned_view planned.now))) (target_of (flags_view flags.now) request.now)) result }
+    ensures { Gives string_bytes (IsVerdictOf (flags_view flags.now) request.now (files_view files.now) (planned_view planned.now)) result }
 {
     let bytes = request.to_vec(alloc)?;
     let Question { request, target } = question_of(alloc, flags, bytes)?;

@@ -41,8 +41,8 @@ pub enum ControlRefusal {
     BadToken,
     /// The document is another than the one that the plan of the token was made for.
     OtherDocument,
-    /// The plan of a token has no rule.
-    NoRule,
+    /// The plan of a token has no rule, or no one document means the flags of the snapshot.
+    NoDocument,
 }
 
 impl ControlRefusal {
@@ -64,7 +64,7 @@ impl ControlRefusal {
             ControlRefusal::NoRecord => 1,
             ControlRefusal::BadToken => 2,
             ControlRefusal::OtherDocument => 3,
-            ControlRefusal::NoRule => 4,
+            ControlRefusal::NoDocument => 4,
         }
     }
 
@@ -86,7 +86,7 @@ impl ControlRefusal {
             ControlRefusal::NoRecord => "NoRecord",
             ControlRefusal::BadToken => "BadToken",
             ControlRefusal::OtherDocument => "OtherDocument",
-            ControlRefusal::NoRule => "NoRule",
+            ControlRefusal::NoDocument => "NoDocument",
         }
     }
 
@@ -108,7 +108,7 @@ impl ControlRefusal {
             ControlRefusal::NoRecord => "control",
             ControlRefusal::BadToken => "control",
             ControlRefusal::OtherDocument => "control",
-            ControlRefusal::NoRule => "control",
+            ControlRefusal::NoDocument => "control",
         }
     }
 

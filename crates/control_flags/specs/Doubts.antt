@@ -1,28 +1,21 @@
 -- What is doubted of flags by their targetings.
-use Rattle.std.specs.Prelude.{ℕ, Bool, true, false, List, [], ◌∷◌, ◌++◌, codes, filter, flat_map, map}
+use Rattle.std.specs.Prelude.{ℕ, Bool, List, [], ◌∷◌, ◌++◌, if◌then◌else◌}
+use Rattle.std.specs.List.{flat_map}
 use Rattle.flag_defs.specs.Definition.{Definition}
 use Rattle.flag_defs.specs.Document.{Definitions}
 use Rattle.flag_doubts.specs.Doubts.{gives_foreign, gives_none, is_weighed_badly, name_of}
 use Rattle.flag_doubts.specs.declared.doubt.Doubt.{Doubt}
 use Rattle.flag_doubts.specs.declared.doubt.Doubt.TheVariants.{Weight, Variant, Never}
-use Rattle.control_flags.specs.Joined.{comma_if, quoted}
+use Rattle.control_flags.specs.Joined.{joined, pair_text}
 
-abbrev pub is_doubted : Doubt → Definition → Bool
-is_doubted Weight definition = is_weighed_badly definition
-is_doubted Variant definition = gives_foreign definition
-is_doubted Never definition = gives_none definition
-is_doubted doubt definition = false
+-- the row of a doubt, where there is reason for it
+abbrev pub row_if : Bool → List ℕ → Doubt → List (List ℕ)
+row_if is key doubt = if is then pair_text key (name_of doubt) ∷ [] else []
 
--- the doubts of one flag, with its key
-abbrev pub doubts_of : List ℕ × Definition → List (List ℕ × Doubt)
-doubts_of flag = map (λ doubt. (flag.0, doubt)) (filter (λ doubt. is_doubted doubt flag.1) (Weight ∷ Variant ∷ Never ∷ []))
+-- those of a flag
+abbrev pub doubt_rows : List ℕ × Definition → List (List ℕ)
+doubt_rows flag = row_if (is_weighed_badly flag.1) flag.0 Weight ++ (row_if (gives_foreign flag.1) flag.0 Variant ++ row_if (gives_none flag.1) flag.0 Never)
 
-abbrev pub doubt_text : List ℕ × Doubt → List ℕ
-doubt_text d = codes "[" ++ (quoted d.0 ++ (codes ",\"" ++ (name_of d.1 ++ codes "\"]")))
-
-abbrev pub rows_text : Bool → List (List ℕ × Doubt) → List ℕ
-rows_text later [] = []
-rows_text later (d ∷ ds) = comma_if later ++ (doubt_text d ++ rows_text true ds)
-
+-- those of flags, in their order
 unfoldable pub doubts_text : Definitions → List ℕ
-doubts_text flags = rows_text false (flat_map doubts_of flags)
+doubts_text flags = joined (flat_map doubt_rows flags)

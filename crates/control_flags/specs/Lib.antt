@@ -4,4 +4,5 @@ pub use Rattle.flag_defs.specs.Document
 pub mod Joined
 pub mod Sites
 pub mod Doubts
+pub mod Kinds
 pub mod Flags

@@ -1,14 +1,15 @@
 //! The text of the answer.
 ghost use Rattle.std.specs.Prelude.{◌≡◌, IfOk, string_bytes};
-ghost use Rattle.flag_defs.specs.Flags.{flags_view};
-ghost use Rattle.control_flags.specs.Flags.{IsFlagsText, bool_text, numbers_text};
+ghost use Rattle.control_flags.specs.Flags.{bool_text, flags_text, head_text, rows_text};
 
 use crate::doubts::doubts_text;
-use crate::joined::push_names;
+use crate::joined::{names_text, quoted};
+use crate::kinds::kinds_text;
 use crate::sites::sites_text;
-use flag_defs::{Flags, print_flags};
-use flag_text::push_string;
+use book_core::Page;
+use flag_defs::{Flags, print_flags_with_floats};
 use std::alloc::{AllocError, Global};
+use std::collections::BTreeMap;
 
 /// What is asked: the flags of a snapshot, and what is known of them beside.
 #[derive(Clone, Copy)]
@@ -21,44 +22,48 @@ pub struct FlagsAsked<'a> {
     pub remarks: &'a str,
     /// The names of the documents that they come from.
     pub sources: &'a [&'a str],
+    /// How many inputs are recorded on pages. Of a page that has none here nothing is told.
+    pub recorded: &'a BTreeMap<Page, u64>,
     /// Whether a plan can be applied.
     pub may_apply: bool,
 }
 
 /// The body that tells the flags, as JSON. Want of memory is its one fault.
 pub fn flags_answer(alloc: Global, asked: &FlagsAsked<'_>) -> Result<Vec<u8>, AllocError>
-    ensures { IfOk result (λ v. IsFlagsText asked.now (flags_view asked.now.flags.now) v.items) }
+    ensures { IfOk result (λ v. v.items ≡ flags_text asked.now) }
 {
-    let flags = asked.flags;
-    let sites = sites_text(alloc, flags)?;
-    let doubts = doubts_text(alloc, flags)?;
-    let merged = print_flags(alloc, flags)?;
-    let mut head = numbers_text(alloc, asked)?;
-    head.push_str(",\"sites\":[")?;
-    head.push_str(sites.as_str())?;
-    head.push_str("],\"doubts\":[")?;
-    head.push_str(doubts.as_str())?;
-    head.push_str("],\"merged\":")?;
-    let mut body = head.into_bytes();
-    body.extend_from_slice(merged.as_slice())?;
-    body.extend_from_slice("}\n".as_bytes())?;
+    let rows = rows_text(alloc, asked)?;
+    let flags = print_flags_with_floats(alloc, asked.flags)?;
+    let mut body = rows.into_bytes();
+    body.extend_from_slice(flags.as_slice())?;
+    body.extend_from_slice(b"}\n")?;
     Ok(body)
 }
 
+/// What stands before the merged flags.
+fn rows_text(alloc: Global, asked: &FlagsAsked<'_>) -> Result<String, AllocError>
+    ensures { IfOk result (λ s. string_bytes s ≡ rows_text asked.now) }
+{
+    let head = head_text(alloc, asked)?;
+    let sites = sites_text(alloc, asked.flags, asked.recorded)?;
+    let doubts = doubts_text(alloc, asked.flags)?;
+    let kinds = kinds_text(alloc, asked.flags)?;
+    format!(in alloc;
+        "{head},\"sites\":[{sites}],\"doubts\":[{doubts}],\"kinds\":[{kinds}],\"merged\":"
+    )
+}
+
 /// What stands before the sites.
-fn numbers_text(alloc: Global, asked: &FlagsAsked<'_>) -> Result<String, AllocError>
-    ensures { IfOk result (λ s. string_bytes s ≡ numbers_text asked.now) }
+fn head_text(alloc: Global, asked: &FlagsAsked<'_>) -> Result<String, AllocError>
+    ensures { IfOk result (λ s. string_bytes s ≡ head_text asked.now) }
 {
     let number = asked.number;
     let may_apply = bool_text(asked.may_apply);
-    let mut text = format!(in alloc;
-        "{{\"snapshot\":{number},\"may_apply\":{may_apply},\"remarks\":"
-    )?;
-    push_string(alloc, &mut text, asked.remarks)?;
-    text.push_str(",\"sources\":[")?;
-    push_names(alloc, &mut text, asked.sources)?;
-    text.push_str("]")?;
-    Ok(text)
+    let remarks = quoted(alloc, asked.remarks)?;
+    let sources = names_text(alloc, asked.sources)?;
+    format!(in alloc;
+        "{{\"snapshot\":{number},\"may_apply\":{may_apply},\"remarks\":{remarks},\"sources\":[{sources}]"
+    )
 }
 
 fn bool_text(is: bool) -> &'static str

@@ -1,133 +1,134 @@
 //! The sites of flags.
-ghost use Rattle.std.specs.Prelude.{◌≡◌, ◌++◌, false, IfOk, OnOk, option_map, string_bytes};
-ghost use Rattle.bucket_core.specs.Rule.{entries_view};
+ghost use Rattle.std.specs.Prelude.{◌≡◌, ◌++◌, ◌∷◌, [], IfOk, OnOk, map, string_bytes};
+ghost use Rattle.std.specs.List.{flat_map};
+ghost use Rattle.flag_defs.specs.Flag.{flag_view};
 ghost use Rattle.flag_defs.specs.Flags.{flags_view};
-ghost use Rattle.logic_ast.specs.View.{view};
-ghost use Rattle.control_flags.specs.Sites.{AreSites, IsSitesText, entries_text, entry_text, page_head, rule_at, rule_text, site_text};
+ghost use Rattle.logic_ast.specs.Expr.{view};
+ghost use Rattle.control_flags.specs.Joined.{number_or_null};
+ghost use Rattle.control_flags.specs.Sites.{pages_in, recorded_on, site_row, site_rows, sites_text};
 
-use crate::joined::comma_if;
+use crate::joined::{joined, number_or_null, push_row, quoted, text_or_null};
+use crate::rules::rule_with_total;
 use book_core::Page;
-use flag_defs::Flags;
-use flag_text::push_string;
-use logic_ast::{Expr, LogicFault, site};
+use flag_defs::{Flag, Flags};
+use logic_ast::Expr;
 use site_pages::pages_of;
 use std::alloc::{AllocError, Global};
+use std::collections::BTreeMap;
 
 /// The rows of all sites, in the order of the flags' keys and of the sites.
-pub(crate) fn sites_text(alloc: Global, flags: &Flags) -> Result<String, AllocError>
-    ensures { IfOk result (λ s. IsSitesText (flags_view flags.now) (string_bytes s)) }
+pub(crate) fn sites_text(
+    alloc: Global,
+    flags: &Flags,
+    recorded: &BTreeMap<Page, u64>,
+) -> Result<String, AllocError>
+    ensures { IfOk result (λ s. string_bytes s ≡ sites_text recorded.now.entries (flags_view flags.now)) }
 {
-    let mut out = String::new(alloc);
-    let mut later = false;
-    'flags: for at in 0..flags.len() {
-        let (key, flag) = flags.at(at);
-        if let Some(targeting) = flag.targeting() {
-            later = push_sites(alloc, &mut out, later, key, targeting)?;
-        }
-    }
-    Ok(out)
+    let rows = site_rows(alloc, flags, recorded)?;
+    joined(alloc, rows.as_slice())
 }
 
-/// Adds the rows of a targeting; whether there is one by now.
+fn site_rows(
+    alloc: Global,
+    flags: &Flags,
+    recorded: &BTreeMap<Page, u64>,
+) -> Result<Vec<String>, AllocError>
+    ensures { IfOk result (λ v. map string_bytes v.items ≡ flat_map (site_rows recorded.now.entries) (flags_view flags.now)) }
+{
+    let mut rows = Vec::new(alloc);
+    for i in 0..flags.len() {
+        let (key, flag) = flags.at(i);
+        push_flag(alloc, &mut rows, key, flag, recorded)?;
+    }
+    Ok(rows)
+}
+
+/// Adds the rows of a flag.
+fn push_flag(
+    alloc: Global,
+    rows: &mut Vec<String>,
+    key: &str,
+    flag: &Flag,
+    recorded: &BTreeMap<Page, u64>,
+) -> Result<(), AllocError>
+    ensures { OnOk result (map string_bytes rows.new.items ≡ map string_bytes rows.old.items ++ site_rows recorded.now.entries (key.now, flag_view flag.now)) }
+{
+    match flag.targeting() {
+        Some(targeting) => push_sites(alloc, rows, key, targeting, recorded),
+        None => Ok(()),
+    }
+}
+
+/// Adds the rows of a targeting.
 fn push_sites(
     alloc: Global,
-    out: &mut String,
-    later: bool,
+    rows: &mut Vec<String>,
     key: &str,
     targeting: &Expr,
-) -> Result<bool, AllocError>
-    ensures { IfOk result (AreSites later key.now (view targeting.now) (string_bytes out.old) (string_bytes out.new)) }
+    recorded: &BTreeMap<Page, u64>,
+) -> Result<(), AllocError>
+    ensures { OnOk result (map string_bytes rows.new.items ≡ map string_bytes rows.old.items ++ map (site_row recorded.now.entries (view targeting.now)) (pages_in key.now (view targeting.now))) }
 {
     let pages = pages_of(alloc, key, targeting)?;
-    let mut later = later;
-    'pages: for page in &pages {
-        out.push_str(comma_if(later))?;
-        push_site(alloc, out, page, targeting)?;
-        later = true;
-    }
-    Ok(later)
+    push_pages(alloc, rows, pages.as_slice(), targeting, recorded)
 }
 
-/// Adds the row of a site: its page, and its rule where its buckets are literal.
-fn push_site(
+/// Adds the rows of pages.
+fn push_pages(
     alloc: Global,
-    out: &mut String,
-    page: &Page,
+    rows: &mut Vec<String>,
+    pages: &[Page],
     targeting: &Expr,
+    recorded: &BTreeMap<Page, u64>,
 ) -> Result<(), AllocError>
-    ensures { OnOk result (string_bytes out.new ≡ string_bytes out.old ++ site_text page.now (rule_at (view targeting.now) page.now.site)) }
+    ensures { OnOk result (map string_bytes rows.new.items ≡ map string_bytes rows.old.items ++ map (site_row recorded.now.entries (view targeting.now)) pages.now) }
 {
-    push_page(alloc, out, page)?;
-    match rule_of(alloc, targeting, page.site)? {
-        Some(entries) => push_rule(alloc, out, entries.as_slice())?,
-        None => out.push_str("null")?,
-    }
-    out.push_str("}")
-}
-
-/// Adds what a row begins with.
-fn push_page(alloc: Global, out: &mut String, page: &Page) -> Result<(), AllocError>
-    ensures { OnOk result (string_bytes out.new ≡ string_bytes out.old ++ page_head page.now) }
-{
-    let number = page.site;
-    out.push_str("{\"by\":")?;
-    match &page.by {
-        Some(by) => push_string(alloc, out, by.as_str())?,
-        None => out.push_str("null")?,
-    }
-    out.push_str(",\"flag\":")?;
-    push_string(alloc, out, page.flag.as_str())?;
-    write!(out, ",\"site\":{number},\"rule\":")
-}
-
-/// The entries of a site, where they are literal.
-fn rule_of(
-    alloc: Global,
-    targeting: &Expr,
-    number: u32,
-) -> Result<Option<Vec<(String, u64)>>, AllocError>
-    ensures { IfOk result (λ o. option_map (λ v. entries_view v.items) o ≡ rule_at (view targeting.now) number) }
-{
-    match site(alloc, targeting, number) {
-        Ok(site) => Ok(Some(site.entries)),
-        Err(LogicFault::WantOfMemory) => Err(AllocError),
-        Err(_) => Ok(None),
-    }
-}
-
-/// Adds a rule's entries to a text, as a JSON list of lists of a name and a weight.
-pub fn push_rule(
-    alloc: Global,
-    out: &mut String,
-    entries: &[(String, u64)],
-) -> Result<(), AllocError>
-    ensures { OnOk result (string_bytes out.new ≡ string_bytes out.old ++ rule_text (entries_view entries.now)) }
-{
-    out.push_str("[")?;
-    push_entries(alloc, out, entries)?;
-    out.push_str("]")
-}
-
-fn push_entries(
-    alloc: Global,
-    out: &mut String,
-    entries: &[(String, u64)],
-) -> Result<(), AllocError>
-    ensures { OnOk result (string_bytes out.new ≡ string_bytes out.old ++ entries_text false (entries_view entries.now)) }
-{
-    let mut later = false;
-    for (name, weight) in entries {
-        out.push_str(comma_if(later))?;
-        push_entry(alloc, out, name.as_str(), *weight)?;
-        later = true;
+    for page in pages {
+        push_site(alloc, rows, page, targeting, recorded)?;
     }
     Ok(())
 }
 
-fn push_entry(alloc: Global, out: &mut String, name: &str, weight: u64) -> Result<(), AllocError>
-    ensures { OnOk result (string_bytes out.new ≡ string_bytes out.old ++ entry_text (name.now, weight)) }
+/// Adds the row of a page.
+fn push_site(
+    alloc: Global,
+    rows: &mut Vec<String>,
+    page: &Page,
+    targeting: &Expr,
+    recorded: &BTreeMap<Page, u64>,
+) -> Result<(), AllocError>
+    ensures { OnOk result (map string_bytes rows.new.items ≡ map string_bytes rows.old.items ++ site_row recorded.now.entries (view targeting.now) page.now ∷ []) }
 {
-    out.push_str("[")?;
-    push_string(alloc, out, name)?;
-    write!(out, ",{weight}]")
+    let row = site_row(alloc, page, targeting, recorded)?;
+    push_row(rows, row)
+}
+
+/// The row of a page: the page, its rule where its buckets are literal, and how many inputs are recorded there.
+fn site_row(
+    alloc: Global,
+    page: &Page,
+    targeting: &Expr,
+    recorded: &BTreeMap<Page, u64>,
+) -> Result<String, AllocError>
+    ensures { IfOk result (λ s. string_bytes s ≡ site_row recorded.now.entries (view targeting.now) page.now) }
+{
+    let by = text_or_null(alloc, &page.by)?;
+    let flag = quoted(alloc, page.flag.as_str())?;
+    let site = page.site;
+    let rule = rule_with_total(alloc, targeting, page.site)?;
+    let inputs = recorded_text(alloc, recorded, page)?;
+    format!(in alloc;
+        "{{\"by\":{by},\"flag\":{flag},\"site\":{site},\"rule\":{rule},\"inputs\":{inputs}}}"
+    )
+}
+
+/// How many inputs are recorded on a page.
+fn recorded_text(
+    alloc: Global,
+    recorded: &BTreeMap<Page, u64>,
+    page: &Page,
+) -> Result<String, AllocError>
+    ensures { IfOk result (λ s. string_bytes s ≡ number_or_null (recorded_on recorded.now.entries page.now)) }
+{
+    number_or_null(alloc, recorded.get(page).copied())
 }

@@ -48,3 +48,7 @@ pub of_all : {X : Type 0} (P : X → Type 0) (xs : List X) (x : X) → AllByRecu
 of_all P [] x all there = absurd there
 of_all P (y ∷ ys) x all (inl same) = subst P same all.0
 of_all P (y ∷ ys) x all (inr later) = of_all P ys x all.1 later
+
+pub all_both : {X : Type 0} (P : X → Type 0) (xs ys : List X) → AllByRecursion P xs → AllByRecursion P ys → AllByRecursion P (xs ++ ys)
+all_both P [] ys one other = other
+all_both P (x ∷ xs) ys one other = (one.0, all_both P xs ys one.1 other)

@@ -1,6 +1,6 @@
 -- Lines that are cut from files one after another.
 use denote.Ref.{Bor}
-use Rattle.std.proofs.Common.{◌≡◌, ◌≢◌, ◌<◌, ◌+◌, add-one, ℕ, List, [], ◌∷◌, ◌++◌, length, map, drop, drop-cons, get_or, append_assoc, append-nil, refl, sym, ap, ◌∙◌, arith}
+use Rattle.std.proofs.Common.{◌≡◌, ◌≢◌, ◌<◌, ◌+◌, add-one, ℕ, List, [], ◌∷◌, ◌++◌, length, drop, drop-cons, get_or, append_assoc, append-nil, refl, sym, ap, ◌∙◌}
 use Rattle.std.proofs.lemmas.List.{map-append}
 use Rattle.line_batches.proofs.Cutting.{line_first, no_line, some_part}
 use Rattle.line_batches.specs.Lines.{HasNoFeed, IsFirst, lines_view, parts_of}

@@ -3,10 +3,9 @@ use Rattle.std.proofs.Common.{◌≡◌, ◌<◌, ◌⊎◌, ℕ, Bool, true, fa
 use Rattle.std.specs.List.{AllByRecursion, Contains}
 use Rattle.std.specs.List.Sorted.{IsStrictlySortedBy}
 use Rattle.bucket_core.specs.Point.{point_of, scale}
-use Rattle.book_core.specs.Book.{Inputs}
 use Rattle.book_core.specs.Page.{PageName, bytes_cmp, page_eq}
-use Rattle.line_tally.specs.Law.{IsTallyOfHashedNotes, IsTallyOfNotes, hashes_of, inputs_of}
-use Rattle.line_tally.specs.Lines.{IsSaid, Said, Tallied, finished, has_room, is_alike, of_hash, of_input, passed, said_line, said_page, said_point, tallied, untallied, with_said}
+use Rattle.line_tally.specs.Law.{hashes_of, inputs_of}
+use Rattle.line_tally.specs.Lines.{IsSaid, Said, Tallied, finished, has_room, is_alike, of_hash, of_input, passed, said_line, said_page, said_point, tallied, untallied}
 use Rattle.line_tally.specs.Refusals.{TakesSaid}
 use Rattle.line_tally.specs.declared.fault.LineTallyFault.{LineTallyFault}
 use Rattle.line_tally.specs.declared.fault.LineTallyFault.TheVariants.{Order, TooMany, Mixed}
@@ -20,9 +19,10 @@ use Rattle.tally_filters.specs.Filter.{AreLinesOf, AreTalliedHashes, AreTalliedI
 use Rattle.log_tallies.proofs.Among.{In, all_of, from_in, of_all, to_in}
 use Rattle.log_tallies.proofs.Members.{all_map, all_members, each_said, hashed_is_on, in_hashes, in_members, in_notes, kept_lines, no_hash_in, no_note_in, note_is_on, page_itself, said_there}
 use Rattle.log_tallies.specs.Lines.{all_lines}
-use Rattle.log_tallies.specs.Recorded.{AreHeldAs, IsHeldAs, IsHashRecorded, IsRecordTally, IsRecorded, IsTallyOfHashes, IsTallyOfInputs}
+use Rattle.log_tallies.specs.Recorded.{AreMixed, IsHeldAs, IsRecordTally, IsTallyOfHashes, IsTallyOfInputs}
 use Rattle.log_tallies.specs.Sorted.{AreDistinct, TalliesLines}
 use Rattle.log_tallies.specs.Stray.{AreKept, IsKept}
+use Rattle.log_tallies.specs.Tallies.{AreOfOneKind}
 
 -- ---- the total stays
 
@@ -106,14 +106,17 @@ module _ (files lines : List (List ℕ)) (page : PageName) (are : AreDistinct fi
   kept_all : (saids : List Said) → AreLinesOf lines saids → AreKept (all_lines files)
   kept_all saids says = all_of IsKept (all_lines files) (λ l there. of_all IsKept lines l (kept_lines lines saids says) (to_in lines l (are.all l (from_in (all_lines files) l there))))
 
-  by_kind : (total : ℕ) (t : PageTally) (last : Tallied) → t ≡ finished last → TakesAll (untallied page total) lines last → AreTalliedInputs page lines last ⊎ AreTalliedHashes page lines last → IsRecordTally files page total t × AreKept (all_lines files)
+  by_kind : (total : ℕ) (t : PageTally) (last : Tallied) → t ≡ finished last → TakesAll (untallied page total) lines last → AreTalliedInputs page lines last ⊎ AreTalliedHashes page lines last → IsRecordTally files page total t × AreOfOneKind (all_lines files)
   by_kind total t last is takes (inl read) = (
     record {
       page_is = ap (λ (x : PageTally). x.page) is ∙ read.2.same;
       total_is = ap (λ (x : PageTally). x.total) is ∙ total_stays lines (untallied page total) last takes;
       of = inl (of_inputs t last is read);
     },
-    kept_all (map of_input read.0) read.1,
+    record {
+      kept = kept_all (map of_input read.0) read.1;
+      alike = λ (mixed : AreMixed (all_lines files)). no_hash_in read.0 mixed.hashed (is_said (map of_input read.0) (of_hash mixed.hashed) read.1 mixed.is_hashed mixed.hashed_there);
+    },
   )
   by_kind total t last is takes (inr read) = (
     record {
@@ -121,8 +124,11 @@ module _ (files lines : List (List ℕ)) (page : PageName) (are : AreDistinct fi
       total_is = ap (λ (x : PageTally). x.total) is ∙ total_stays lines (untallied page total) last takes;
       of = inr (of_hashes t last is read);
     },
-    kept_all (map of_hash read.0) read.1,
+    record {
+      kept = kept_all (map of_hash read.0) read.1;
+      alike = λ (mixed : AreMixed (all_lines files)). no_note_in read.0 mixed.note (is_said (map of_hash read.0) (of_input mixed.note) read.1 mixed.is_note mixed.note_there);
+    },
   )
 
-  pub tallied_all : StreamIsTallied → (total : ℕ) → 0 < total → (t : PageTally) → TalliesLines page total lines (Ok t) → IsRecordTally files page total t × AreKept (all_lines files)
+  pub tallied_all : StreamIsTallied → (total : ℕ) → 0 < total → (t : PageTally) → TalliesLines page total lines (Ok t) → IsRecordTally files page total t × AreOfOneKind (all_lines files)
   tallied_all law total some t is = by_kind total t is.0 is.2 is.1 (law page total lines is.0 some is.1)

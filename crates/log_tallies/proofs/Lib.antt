@@ -1,8 +1,9 @@
 mod Among
 mod Crowded
 mod Cut
-mod Once
 mod Held
 mod Members
+mod Once
+mod Refusals
 mod Strays
 mod Taken

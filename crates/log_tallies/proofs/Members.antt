@@ -10,8 +10,8 @@ use Rattle.flag_text.specs.Printing.{text_of}
 use Rattle.line_tally.specs.Lines.{IsSaid, Said, of_hash, of_input, said_line}
 use Rattle.note_lines.proofs.Lines as notes
 use Rattle.note_lines.proofs.OneKind.{not_both}
-use Rattle.note_lines.specs.Hashed.{Hashed, IsHashed, hashed_line}
-use Rattle.note_lines.specs.Note.{IsNote, Noted, note_line}
+use Rattle.note_lines.specs.Hashed.{Hashed, hashed_line}
+use Rattle.note_lines.specs.Note.{Noted, note_line}
 use Rattle.tally_core.proofs.Pages.{same_page}
 use Rattle.tally_core.specs.Tally.{hashed_on, noted_on}
 use Rattle.tally_filters.specs.Blank.{is_blank}

@@ -1,6 +1,6 @@
 -- Lines that were sorted, and of which each was kept once.
 use denote.Ref.{Bor}
-use Rattle.std.proofs.Common.{◌≡◌, ℕ, Bool, Ordering, true, nat_eq, List, [], ◌∷◌, map, IsPermutation, refl, sym, ap, ◌∙◌, subst}
+use Rattle.std.proofs.Common.{◌≡◌, ℕ, Bool, Ordering, nat_eq, List, [], ◌∷◌, IsPermutation, sym, ◌∙◌, subst}
 use Rattle.std.proofs.lemmas.List.Kept.{Any-dedup, Contains-from_dedup, IsStrictlySortedBy-dedup}
 use Rattle.std.proofs.lemmas.List.Sorted.{Contains-permutation, IsPermutation-sym}
 use Rattle.std.specs.Cmp.Lexicographic.{on_texts, on_texts_equal, pointwise, same_text, slice_cmp, texts_ties}

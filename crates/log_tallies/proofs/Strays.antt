@@ -1,16 +1,15 @@
 -- Lines that are looked at one after another.
-use Rattle.std.proofs.Common.{◌≡◌, ◌⊎◌, ◌+◌, ℕ, zero, suc, Bool, true, false, List, [], ◌∷◌, ◌++◌, Option, Some, None, is_some, map, refl, sym, ap, ◌∙◌, subst, inl, inr, ⊎_elim, arith}
+use Rattle.std.proofs.Common.{◌≡◌, ◌+◌, ℕ, suc, true, false, List, [], ◌∷◌, Option, Some, None, is_some, refl, sym, ◌∙◌, subst, inl, inr, arith}
 use Rattle.line_batches.specs.Lines.{HasNoFeed, IsFirst}
 use Rattle.line_tally.proofs.Refused.{no_hash, no_input}
-use Rattle.line_tally.specs.Lines.{IsSaid, Said, of_hash, of_input, said_line}
+use Rattle.line_tally.specs.Lines.{of_hash, of_input}
 use Rattle.note_lines.specs.Hashed.{Hashed, has_hash}
 use Rattle.note_lines.specs.Note.{Noted}
 use Rattle.note_lines.specs.Reading.{Reads, ReadsHashed}
-use Rattle.tally_filters.specs.Blank.{is_blank}
-use Rattle.log_tallies.proofs.Among.{In}
+use Rattle.log_tallies.proofs.Among.{all_both}
 use Rattle.log_tallies.proofs.Cut.{lines_first, lines_none}
-use Rattle.log_tallies.specs.Lines.{all_lines, files_view, lines_in}
-use Rattle.log_tallies.specs.Stray.{AreKept, HasStray, HasStrayIn, IsFirstIn, IsFirstStray, IsKept, IsStray, SaysWhether}
+use Rattle.log_tallies.specs.Lines.{all_lines, lines_in}
+use Rattle.log_tallies.specs.Stray.{AreKept, IsFirstIn, IsFirstStray, IsKept, IsStray, SaysWhether}
 use Rattle.log_tallies.specs.declared.file.LogFile as program
 
 differs : {Y : Type 0} → true ≡ false → Y
@@ -29,11 +28,6 @@ input_told line None kind reads = no_input line kind reads
 pub not_both : (line : List ℕ) → IsKept line → IsStray line → ⊥
 not_both line (inl blank) stray = differs (sym blank ∙ stray.some)
 not_both line (inr noted) stray = stray.none noted.0 noted.1 noted.2
-
-none_stray : (lines : List (List ℕ)) → AreKept lines → HasStrayIn lines → ⊥
-none_stray [] kept stray = stray
-none_stray (line ∷ lines) kept (inl stray) = not_both line kept.0 stray
-none_stray (line ∷ lines) kept (inr later) = none_stray lines kept.1 later
 
 -- ---- the lines of a file
 
@@ -66,21 +60,17 @@ none_here bytes rest lines none looked = looked.kept (subst AreKept (sym (lines_
 
 -- ---- the files
 
--- so many files have none, and the rest has one, which is the first of all
+-- so many files have none, and the rest answers as the whole
 pub record Passed (files rest : List (List ℕ)) (at : ℕ) : Type 0 where
-  pub has : HasStray rest
+  pub kept : AreKept (all_lines rest) → AreKept (all_lines files)
   pub first : (i n : ℕ) → IsFirstStray rest i n → IsFirstStray files (at + i) n
 
-pub passed_none : (files : List (List ℕ)) → HasStray files → Passed files files 0
-passed_none files has = record { has = has; first = λ i n is. let same : i ≡ 0 + i = omega arith in subst (λ (k : ℕ). IsFirstStray files k n) same is }
-
-in_later : (file : List ℕ) (others : List (List ℕ)) → AreKept (lines_in file) → HasStray (file ∷ others) → HasStray others
-in_later file others kept (inl here) = absurd (none_stray (lines_in file) kept here)
-in_later file others kept (inr later) = later
+pub passed_none : (files : List (List ℕ)) → Passed files files 0
+passed_none files = record { kept = λ k. k; first = λ i n is. let same : i ≡ 0 + i = omega arith in subst (λ (k : ℕ). IsFirstStray files k n) same is }
 
 pub passed_more : (files rest others : List (List ℕ)) (file : List ℕ) (at : ℕ) → rest ≡ file ∷ others → AreKept (lines_in file) → Passed files rest at → Passed files others (at + 1)
 passed_more files rest others file at is kept passed = record {
-  has = in_later file others kept (subst HasStray is passed.has);
+  kept = λ later. passed.kept (subst (λ (fs : List (List ℕ)). AreKept (all_lines fs)) (sym is) (all_both IsKept (lines_in file) (all_lines others) kept later));
   first = λ i n later.
       let here : IsFirstStray (file ∷ others) (suc i) n = (kept, later) in
       let there = passed.first (suc i) n (subst (λ (fs : List (List ℕ)). IsFirstStray fs (suc i) n) (sym is) here) in
@@ -94,27 +84,5 @@ found_there files rest others file at n is found passed =
     let same : at + 0 ≡ at = omega arith in
     subst (λ (k : ℕ). IsFirstStray files k n) same there
 
-pub none_left : (files rest : List (List ℕ)) (at : ℕ) → rest ≡ [] → Passed files rest at → ⊥
-none_left files rest at is passed = subst HasStray is passed.has
-
--- ---- a stray line among those of all files
-
-stray_in : (lines : List (List ℕ)) (line : List ℕ) → IsStray line → In line lines → HasStrayIn lines
-stray_in [] line stray there = there
-stray_in (l ∷ ls) line stray (inl same) = inl (subst IsStray (sym same) stray)
-stray_in (l ∷ ls) line stray (inr later) = inr (stray_in ls line stray later)
-
-in_either : (xs ys : List (List ℕ)) (x : List ℕ) → In x (xs ++ ys) → In x xs ⊎ In x ys
-in_either [] ys x there = inr there
-in_either (z ∷ zs) ys x (inl same) = inl (inl same)
-in_either (z ∷ zs) ys x (inr later) = elim (in_either zs ys x later) [
-  | inl one ↦ inl (inr one)
-  | inr other ↦ inr other
-]
-
-pub has_stray : (files : List (List ℕ)) (line : List ℕ) → IsStray line → In line (all_lines files) → HasStray files
-has_stray [] line stray there = there
-has_stray (file ∷ files) line stray there = elim (in_either (lines_in file) (all_lines files) line there) [
-  | inl here ↦ inl (stray_in (lines_in file) line stray here)
-  | inr later ↦ inr (has_stray files line stray later)
-]
+pub none_left : (files rest : List (List ℕ)) (at : ℕ) → rest ≡ [] → Passed files rest at → AreKept (all_lines files)
+none_left files rest at is passed = passed.kept (subst (λ (fs : List (List ℕ)). AreKept (all_lines fs)) (sym is) tt)

@@ -1,5 +1,5 @@
 -- Lines that rise, taken one after another.
-use Rattle.std.proofs.Common.{◌≡◌, ◌≢◌, ◌<◌, ◌≤◌, ◌⊎◌, ◌+◌, ℕ, Bool, true, false, if◌then◌else◌, List, [], ◌∷◌, ◌++◌, length, Some, None, Option, Result, Ok, Err, append_assoc, append-nil, refl, sym, ap, ◌∙◌, subst, inl, inr, ⊎_elim, arith}
+use Rattle.std.proofs.Common.{◌≡◌, ◌+◌, ℕ, Bool, true, false, if◌then◌else◌, List, [], ◌∷◌, ◌++◌, Some, None, Option, Result, Ok, Err, append_assoc, append-nil, refl, sym, ap, ◌∙◌, subst, inl, inr}
 use Rattle.std.specs.List.{AllByRecursion}
 use Rattle.std.specs.List.Sorted.{IsStrictlySortedBy}
 use Rattle.std.specs.Bool.{beq}
@@ -13,18 +13,17 @@ use Rattle.line_tally.specs.Refusals.{Refuses}
 use Rattle.line_tally.specs.declared.fault.LineTallyFault.{LineTallyFault}
 use Rattle.line_tally.specs.declared.fault.LineTallyFault.TheVariants as line
 use Rattle.note_lines.proofs.OneKind.{hash_kind, input_kind}
-use Rattle.note_lines.specs.Hashed.{IsHashed, Hashed, has_hash, hashed_line}
-use Rattle.note_lines.specs.Note.{IsNote, Noted, note_line}
+use Rattle.note_lines.specs.Hashed.{has_hash, hashed_line}
+use Rattle.note_lines.specs.Note.{note_line}
 use Rattle.page_tally.specs.Folding.{is_above_last}
 use Rattle.tally_core.specs.Tally.{PageTally}
 use Rattle.tally_filters.specs.Blank.{is_blank}
-use Rattle.tally_filters.specs.Filter.{Filtered, RefusesLine, Takes, TakesAll, TakesLine, numbered}
+use Rattle.tally_filters.specs.Filter.{Filtered, RefusesLine, Takes, TakesAll, numbered}
 use Rattle.tally_filters.specs.declared.fault.FilterFault.{FilterFault}
 use Rattle.tally_filters.specs.declared.fault.FilterFault.TheVariants.{WantOfMemory, Line, Order, TooMany, Mixed}
 use Rattle.log_tallies.proofs.Among.{In, from_in, in_front, in_middle}
 use Rattle.log_tallies.specs.Recorded.{AreMixed}
-use Rattle.log_tallies.specs.Sorted.{HasNoRoom, HasStrayLine, TalliesLines}
-use Rattle.log_tallies.specs.Stray.{IsStray}
+use Rattle.log_tallies.specs.Sorted.{TalliesLines}
 
 -- one line more at the end
 takes_more : (lines : List (List ℕ)) (line : List ℕ) (old mid new : Tallied) → TakesAll old lines mid → Takes mid line new → TakesAll old (lines ++ line ∷ []) new
@@ -82,7 +81,6 @@ pub record Stands (page : PageName) (total : ℕ) (lines rest : List (List ℕ))
   pub rising : IsStrictlySortedBy bytes_cmp rest
   pub above : AreAbove f.tally.before rest
   pub ends : EndsAmong before f.tally.before
-  pub few : f.lines + length rest ≤ length lines
 
 all_above : (lines : List (List ℕ)) → AreAbove None lines
 all_above [] = tt
@@ -96,7 +94,6 @@ begun page total lines f is rising = subst (Stands page total lines lines) (sym 
   rising = rising;
   above = all_above lines;
   ends = tt;
-  few = omega arith;
 })
 
 -- ---- why it is refused
@@ -171,9 +168,6 @@ module _ (page : PageName) (total : ℕ) (lines rest others : List (List ℕ)) (
   above_here : AreAbove f.tally.before (l ∷ others)
   above_here = subst (AreAbove f.tally.before) is stands.above
 
-  pub room_here : f.lines + 1 ≤ length lines
-  room_here = let many = ap length is in omega (arith, many, stands.few)
-
   -- a line that is taken
   pub taken : (new : Filtered) → (new.lines ≡ f.lines + 1) × Takes f.tally l new.tally → Stands page total lines others new
   taken new takes = record {
@@ -183,7 +177,6 @@ module _ (page : PageName) (total : ℕ) (lines rest others : List (List ℕ)) (
     rising = sorted_tail bytes_cmp l others rising_here;
     above = next_above f.tally new.tally l others rising_here above_here takes.1;
     ends = ends_next stands.before l f.tally new.tally stands.ends takes.1;
-    few = let many = ap length is in omega (arith, many, stands.few, takes.0);
   }
 
   refused_for : (cause : LineTallyFault) (n : ℕ) → is_blank l ≡ false → Refuses f.tally l cause → TalliesLines page total lines (Err (numbered cause n))

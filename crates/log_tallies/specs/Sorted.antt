@@ -1,16 +1,21 @@
 -- What is tallied of lines that rise, each once, in private contracts alone.
-use Rattle.std.specs.Prelude.{◌≡◌, ℕ, List, ◌∷◌, ◌++◌, false, true, Result, Ok, Err}
+use Rattle.std.specs.Prelude.{◌≡◌, ℕ, List, ◌∷◌, ◌++◌, Bool, false, true, not, ◌&&◌, Result, Ok, Err}
 use Rattle.std.specs.List.{Contains}
 use Rattle.std.specs.List.Sorted.{IsStrictlySortedBy}
 use Rattle.book_core.specs.Page.{PageName, bytes_cmp, page_eq}
 use Rattle.line_tally.specs.Lines.{IsSaid, Said, Tallied, finished, has_room, said_line, said_page, said_point, untallied}
+use Rattle.note_lines.specs.Hashed.{has_hash}
 use Rattle.tally_core.specs.Tally.{PageTally}
+use Rattle.tally_filters.specs.Blank.{is_blank}
 use Rattle.tally_filters.specs.Filter.{TakesAll}
 use Rattle.tally_filters.specs.declared.fault.FilterFault.{FilterFault}
 use Rattle.tally_filters.specs.declared.fault.FilterFault.TheVariants.{WantOfMemory, Line, Order, TooMany, Mixed}
 use Rattle.log_tallies.specs.Lines.{all_lines}
 use Rattle.log_tallies.specs.Recorded.{AreMixed}
-use Rattle.log_tallies.specs.Stray.{IsStray}
+use Rattle.log_tallies.specs.Stray.{AreKept, IsFirstStray, IsStray}
+use Rattle.log_tallies.specs.Tallies.{AreOfOneKind}
+use Rattle.log_tallies.specs.declared.fault.LogTallyFault.{LogTallyFault}
+use Rattle.log_tallies.specs.declared.fault.LogTallyFault.TheVariants as told
 
 -- these are the lines of the files, each once, and they rise
 pub record AreDistinct (files : List (List ℕ)) (lines : List (List ℕ)) : Type 0 where
@@ -42,3 +47,27 @@ TalliesLines page total lines (Err (Line n)) = HasStrayLine lines
 TalliesLines page total lines (Err (Order n)) = ⊥
 TalliesLines page total lines (Err TooMany) = HasNoRoom page total lines
 TalliesLines page total lines (Err (Mixed n)) = AreMixed lines
+
+-- ---- why there is none
+
+-- what stands in the lines that are refused for this
+abbrev pub IsRefusedFor : List (List ℕ) → FilterFault → Type 0
+IsRefusedFor lines WantOfMemory = Unit {0}
+IsRefusedFor lines (Line n) = HasStrayLine lines
+IsRefusedFor lines (Order n) = ⊥
+IsRefusedFor lines TooMany = Unit {0}
+IsRefusedFor lines (Mixed n) = AreMixed lines
+
+-- what is told of the files whose lines are refused for this
+abbrev pub IsWhy : List (List ℕ) → FilterFault → LogTallyFault → Type 0
+IsWhy files refused told.WantOfMemory = refused ≡ WantOfMemory
+IsWhy files refused (told.Line i n) = IsFirstStray files i n
+IsWhy files refused told.Mixed = AreKept (all_lines files) × AreMixed (all_lines files)
+IsWhy files refused told.TooMany = (refused ≡ TooMany) × AreOfOneKind (all_lines files)
+
+-- a line that is not stray is that of a note with an input, or of one without
+abbrev pub is_input_line : List ℕ → Bool
+is_input_line line = not (is_blank line) && not (has_hash line)
+
+abbrev pub is_hash_line : List ℕ → Bool
+is_hash_line line = not (is_blank line) && has_hash line

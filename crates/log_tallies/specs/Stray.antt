@@ -40,12 +40,3 @@ IsTold line false = IsKept line
 abbrev pub SaysWhether : List ℕ → Bool → Type 0
 SaysWhether line true = (said : Said) × IsSaid said × (line ≡ said_line said)
 SaysWhether line false = SaysNothing line
-
--- some line is stray
-abbrev pub HasStrayIn : List (List ℕ) → Type 0
-HasStrayIn [] = ⊥
-HasStrayIn (line ∷ lines) = IsStray line ⊎ HasStrayIn lines
-
-abbrev pub HasStray : List (List ℕ) → Type 0
-HasStray [] = ⊥
-HasStray (file ∷ files) = HasStrayIn (lines_in file) ⊎ HasStray files

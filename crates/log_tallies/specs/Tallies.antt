@@ -1,4 +1,4 @@
--- What comes of log files for a page: its tally, where each line is blank or that of a note, with an input or without, or why there is none.
+-- What comes of log files for a page: its tally, where each line is blank or that of a note, all of these of one kind, or why there is none.
 use Rattle.std.specs.Prelude.{ℕ, List, Result, Ok, Err}
 use Rattle.book_core.specs.Page.{PageName}
 use Rattle.tally_core.specs.Tally.{PageTally}
@@ -8,10 +8,15 @@ use Rattle.log_tallies.specs.Stray.{AreKept, IsFirstStray}
 use Rattle.log_tallies.specs.declared.fault.LogTallyFault.{LogTallyFault}
 use Rattle.log_tallies.specs.declared.fault.LogTallyFault.TheVariants.{WantOfMemory, Line, TooMany, Mixed}
 
--- Line is told of the first stray line of the first file that has one.
+-- each line is blank, or that of a note; and not some of notes with inputs, and some of notes without
+pub record AreOfOneKind (lines : List (List ℕ)) : Type 0 where
+  pub kept : AreKept lines
+  pub alike : ¬ (AreMixed lines)
+
+-- Refused in this order: Line, of the first stray line of the first file that has one; Mixed; TooMany.
 abbrev pub TalliesFiles : List (List ℕ) → PageName → ℕ → Result PageTally LogTallyFault → Type 0
-TalliesFiles files page total (Ok t) = IsRecordTally files page total t × AreKept (all_lines files)
+TalliesFiles files page total (Ok t) = IsRecordTally files page total t × AreOfOneKind (all_lines files)
 TalliesFiles files page total (Err WantOfMemory) = Unit {0}
 TalliesFiles files page total (Err (Line i n)) = IsFirstStray files i n
-TalliesFiles files page total (Err TooMany) = IsCrowded files page total
-TalliesFiles files page total (Err Mixed) = AreMixed (all_lines files)
+TalliesFiles files page total (Err Mixed) = AreKept (all_lines files) × AreMixed (all_lines files)
+TalliesFiles files page total (Err TooMany) = AreOfOneKind (all_lines files) × IsCrowded files page total

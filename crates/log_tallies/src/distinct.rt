@@ -22,15 +22,29 @@ pub(crate) fn distinct_lines<'a>(
     Ok(lines)
 }
 
-/// The lines of files as they stand.
+/// The lines of files as they stand, in just the room for them.
 fn all_lines<'a>(alloc: Global, files: &[LogFile<'a>]) -> Result<Vec<&'a [u8]>, AllocError>
     ensures { IfOk result (λ v. lines_view v.items ≡ all_lines (files_view files.now)) }
 {
-    let mut lines = Vec::new(alloc);
+    let mut lines = Vec::with_capacity(alloc, line_count(files))?;
     'files: for file in files {
         add_lines(&mut lines, file.bytes)?;
     }
     Ok(lines)
+}
+
+/// How many lines files have, for the room that they take.
+fn line_count(files: &[LogFile<'_>]) -> usize {
+    let mut count = 0usize;
+    for file in files {
+        count = count.saturating_add(feed_count(file.bytes));
+    }
+    count
+}
+
+/// How many line feeds there are.
+fn feed_count(bytes: &[u8]) -> usize {
+    bytes.iter().filter(|b| **b == b'\n').count()
 }
 
 /// Adds the lines of a file.

@@ -21,6 +21,7 @@
 mod distinct;
 mod fault;
 mod file;
+mod refusal;
 mod stray;
 mod tallying;
 

@@ -1,8 +1,8 @@
 //! Where the first line stands that is neither blank nor that of a note.
 ghost use Rattle.std.specs.Prelude.{◌≡◌, false, true, IfOk, MatchOption};
 ghost use Rattle.note_lines.specs.Hashed.{has_hash};
-ghost use Rattle.log_tallies.specs.Lines.{files_view, lines_in};
-ghost use Rattle.log_tallies.specs.Stray.{AreKept, HasStray, IsFirstIn, IsFirstStray, IsTold, SaysWhether};
+ghost use Rattle.log_tallies.specs.Lines.{all_lines, files_view, lines_in};
+ghost use Rattle.log_tallies.specs.Stray.{AreKept, IsFirstIn, IsFirstStray, IsTold, SaysWhether};
 ghost use Rattle.tally_filters.specs.Blank.{is_blank};
 
 use crate::file::LogFile;
@@ -10,17 +10,19 @@ use line_batches::cut_line;
 use note_lines::{has_hash, read_hashed_note, read_note};
 use std::alloc::{AllocError, Global};
 
-/// The file, from 0, and the line, from 1, of the first stray line. The condition is that there is one.
-pub(crate) fn first_stray(alloc: Global, files: &[LogFile<'_>]) -> Result<(usize, u64), AllocError>
-    requires { HasStray (files_view files.now) }
-    ensures { IfOk result (λ r. IsFirstStray (files_view files.now) r.0 r.1) }
+/// The file, from 0, and the line, from 1, of the first stray line, where there is one.
+pub(crate) fn first_stray(
+    alloc: Global,
+    files: &[LogFile<'_>],
+) -> Result<Option<(usize, u64)>, AllocError>
+    ensures { IfOk result (λ r. MatchOption r (AreKept (all_lines (files_view files.now))) (λ place. IsFirstStray (files_view files.now) place.0 place.1)) }
 {
     'files: for at in 0..files.len() {
         if let Some(line) = stray_in(alloc, files[at].bytes)? {
-            return Ok((at, line));
+            return Ok(Some((at, line)));
         }
     }
-    unreachable!()
+    Ok(None)
 }
 
 /// The line of a file, from 1, that is its first stray one, where it has one.
@@ -83,7 +85,7 @@ fn is_input_note(alloc: Global, line: &[u8]) -> Result<bool, AllocError>
 }
 
 /// Whether a line has nothing but blanks.
-fn is_blank(line: &[u8]) -> bool
+pub(crate) fn is_blank(line: &[u8]) -> bool
     ensures { result ≡ is_blank line.now }
 {
     line.iter().all(|b| *b == b' ' || *b == b'\t' || *b == b'\r' || *b == b'\n')

@@ -11,7 +11,7 @@ ghost use Rattle.log_tallies.specs.Tallies.{TalliesFiles};
 use crate::distinct::distinct_lines;
 use crate::fault::LogTallyFault;
 use crate::file::LogFile;
-use crate::stray::first_stray;
+use crate::refusal::fault_of;
 use book_core::Page;
 use std::alloc::Global;
 use tally_core::PageTally;
@@ -21,8 +21,9 @@ use tally_filters::{FilterFault, TallyFilter, a_stream_is_tallied};
 /// are without inputs. Blank lines are passed over, and so is what stands behind the last line feed of a file. The condition is a
 /// total from 1 to 1,000,000.
 ///
-/// Refusals: `Line`, of the first line of the first file that is neither blank nor that of a note; `Mixed`; `TooMany`. Cost: a sort
-/// of the lines of all files, and each distinct line is read once.
+/// Refusals, in this order: `Line`, of the first line of the first file that is neither blank nor that of a note; `Mixed`;
+/// `TooMany`. Cost: a sort of the lines of all files, and each distinct line is read once; before a refusal the files are read once
+/// more.
 pub fn tally_files(
     alloc: Global,
     page: Page,
@@ -33,18 +34,14 @@ pub fn tally_files(
     ensures { TalliesFiles (files_view files.now) page total result }
 {
     a_stream_is_tallied();
-    let lines = distinct_lines(alloc, files)?;
-    match tally_lines(alloc, page, total, lines.as_slice()) {
+    let distinct = distinct_lines(alloc, files)?;
+    let lines = distinct.as_slice();
+    match tally_lines(alloc, page, total, lines) {
         Ok(tally) => Ok(tally),
-        Err(FilterFault::WantOfMemory) => Err(LogTallyFault::WantOfMemory),
-        Err(FilterFault::Line(_)) => {
-            let (file, line) = first_stray(alloc, files)?;
-            Err(LogTallyFault::Line(file, line))
+        Err(refused) => {
+            let fault = fault_of(alloc, files, lines, refused)?;
+            Err(fault)
         }
-        // Lines that rise are refused for no order.
-        Err(FilterFault::Order(_)) => unreachable!(),
-        Err(FilterFault::TooMany) => Err(LogTallyFault::TooMany),
-        Err(FilterFault::Mixed(_)) => Err(LogTallyFault::Mixed),
     }
 }
 

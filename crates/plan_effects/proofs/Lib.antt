@@ -1,3 +1,2 @@
 mod Drawings
 mod Planned
-mod Texts

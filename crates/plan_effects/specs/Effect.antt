@@ -1,5 +1,5 @@
 -- What a rule does to the inputs of which so many fall on each point.
-use Rattle.std.specs.Prelude.{◌≡◌, ℕ, List, [], Option, Some, None}
+use Rattle.std.specs.Prelude.{◌≡◌, ◌≢◌, ℕ, List, [], Option, Some, None}
 use Rattle.book_core.specs.Book.{Inputs}
 use Rattle.bucket_core.specs.Rule.{Entries, total_weight}
 use Rattle.plan_text.specs.Answer.{Answer, emit, none_exists}
@@ -23,9 +23,13 @@ pub record IsEffectOf (p : TallyProblem) (rule : Entries) (e : Effect) : Type 0 
 abbrev pub nothing : Effect
 nothing = record { switches = []; by_hand = None }
 
--- of a rule that keeps the total, as each planned one does; a set of names switches nobody
+-- of a rule that keeps the total, as each planned one does; of another nothing is told
+abbrev pub IsEffectIfKept : TallyProblem → Entries → Effect → Type 0
+IsEffectIfKept p rule e = (total_weight rule ≡ total_weight p.old → IsEffectOf p rule e) × (total_weight rule ≢ total_weight p.old → e ≡ nothing)
+
+-- of an answer; a set of names switches nobody
 abbrev pub IsEffect : TallyProblem → Answer → Effect → Type 0
-IsEffect p (emit rule c) e = total_weight rule ≡ total_weight p.old → IsEffectOf p rule e
+IsEffect p (emit rule c) e = IsEffectIfKept p rule e
 IsEffect p (none_exists kind names) e = e ≡ nothing
 
 -- of the program

@@ -6,7 +6,7 @@ ghost use Rattle.plan_text.specs.Answer.{planned_view};
 ghost use Rattle.rollout_checks.specs.Tallied.{tally_view};
 ghost use Rattle.rule_switches.specs.Switches.{rows_view};
 ghost use Rattle.transport_instance.specs.Tally.{IsTally};
-ghost use Rattle.plan_effects.specs.Effect.{IsEffect, IsEffectOf, effect_view, nothing};
+ghost use Rattle.plan_effects.specs.Effect.{IsEffect, IsEffectIfKept, IsEffectOf, effect_view, nothing};
 
 use bucket_core::Rule;
 use plan_text::Planned;
@@ -43,10 +43,12 @@ pub fn effect_of(
 /// What a rule does that keeps the total.
 fn effect_if_kept(alloc: Global, problem: &Problem<'_>, rule: &Rule) -> Result<Effect, AllocError>
     requires { IsTally (total_weight problem.now.old) problem.now.counts.items }
-    ensures effect { IfOk result (λ e. total_weight rule.now ≡ total_weight problem.now.old → IsEffectOf (tally_view problem.now) rule.now (effect_view e)) }
+    ensures effect { IfOk result (λ e. IsEffectIfKept (tally_view problem.now) rule.now (effect_view e)) }
     ensures few { IfOk result (λ e. sum_by (λ r. r.1) (rows_view e.switches.items) ≤ tally_inputs) }
 {
-    if rule.total() == problem.old.total() {
+    let points = rule.total();
+    let old_points = problem.old.total();
+    if points == old_points {
         effect_on(alloc, problem, rule)
     } else {
         Ok(no_effect(alloc))

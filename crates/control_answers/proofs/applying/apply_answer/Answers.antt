@@ -5,7 +5,7 @@ use Rattle.control_answers.specs.Apply.{IsApplyAnswer, applied_view}
 use Rattle.control_answers.specs.Snapshot.{snapshot_view}
 use Rattle.control_answers.specs.Token.{token_view}
 use Rattle.control_answers.specs.declared.refusal.ControlRefusal.TheVariants.{WantOfMemory}
-use Rattle.control_answers.proofs.Applied.{its_document, no_token, other_document}
+use Rattle.control_answers.proofs.Outcomes.{its_document, no_token, other_document}
 use Rattle.control_answers.proofs.Turns.{wanted}
 use Rattle.control_answers.proofs.applying.apply_answer.Goals as goal
 

@@ -2,7 +2,7 @@ use Rattle.std.proofs.Common.{Err, ap}
 use Rattle.plan_text.specs.Answer.{planned_view}
 use Rattle.control_answers.specs.Apply.{applied_view}
 use Rattle.control_answers.specs.Snapshot.{snapshot_view}
-use Rattle.control_answers.proofs.Applied.{right, wrong}
+use Rattle.control_answers.proofs.Outcomes.{right, wrong}
 use Rattle.control_answers.proofs.applying.apply_on.Goals as goal
 
 pub returns-in-Err : goal.returns-in-Err

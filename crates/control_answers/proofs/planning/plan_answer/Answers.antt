@@ -21,7 +21,7 @@ returns-in_err-question_of-clause-exact c =
 pub returns-clause-exact : goal.returns-clause-exact
 returns-clause-exact c =
     let s = snapshot_view c.args.snapshot.now in
-    let q = c.in_ok-question_of.field-0 in
+    let target = target_view c.in_ok-question_of.field-0.target in
     let r = c.plan_recorded.result in
-    with_target bytes_view (target_of (flags_view c.args.snapshot.now.flags.now) c.args.request.items) (λ target. OfFiles (files_view c.args.files.now) target (IsPlanOn s c.args.request.items)) (target_view q.target) r c.in_ok-question_of.ensures.exact.1
-    (subst (λ (x : List ℕ). Gives bytes_view (OfFiles (files_view c.args.files.now) (target_view q.target) (IsPlanOn s x)) r) c.in_ok-question_of.ensures.exact.0 c.plan_recorded.ensures)
+    with_target bytes_view (target_of (flags_view c.args.snapshot.now.flags.now) c.args.request.items) (λ target. OfFiles (files_view c.args.files.now) target (IsPlanOn s c.args.request.items)) target r c.in_ok-question_of.ensures.exact.1
+    (subst (λ (x : List ℕ). Gives bytes_view (OfFiles (files_view c.args.files.now) target (IsPlanOn s x)) r) c.in_ok-question_of.ensures.exact.0 c.plan_recorded.ensures)

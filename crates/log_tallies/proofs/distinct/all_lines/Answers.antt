@@ -1,4 +1,4 @@
-use Rattle.std.proofs.Common.{◌≡◌, ◌+◌, ◌∷◌, drop, ◌∙◌, arith, rules}
+use Rattle.std.proofs.Common.{◌≡◌, ◌+◌, ◌∷◌, drop, ◌∙◌, arith}
 use Rattle.line_batches.specs.Lines.{lines_view}
 use Rattle.log_tallies.proofs.Cut.{more_files, next_item}
 use Rattle.log_tallies.proofs.distinct.all_lines.Goals as goal

@@ -6,7 +6,7 @@ use Rattle.log_tallies.specs.Lines.{files_view}
 use Rattle.log_tallies.proofs.stray.first_stray.Goals as goal
 
 pub files-init : goal.files-init
-files-init c = passed_none (files_view c.args.files.now) c.requires
+files-init c = passed_none (files_view c.args.files.now)
 
 pub files-preserved : goal.files-preserved
 files-preserved c =
@@ -24,7 +24,7 @@ returns-in-Some c =
     let here : drop at files ≡ file ∷ drop (at + 1) files = next_item files at file (omega arith) c.index.ensures in
     found_there (files_view files) (files_view (drop at files)) (files_view (drop (at + 1) files)) file.bytes.now at c.in-Some.line (ap files_view here) c.in-Some.ensures c.files.invariant
 
-pub unreachable-requires : goal.unreachable-requires
-unreachable-requires c =
+pub returns : goal.returns
+returns c =
     let files = c.args.files.now in
     none_left (files_view files) (files_view (drop c.files.at files)) c.files.at (ap files_view (drop_all c.files.at files (omega (arith, c.files-test.false)))) c.files.invariant

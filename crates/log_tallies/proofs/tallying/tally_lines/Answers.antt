@@ -1,14 +1,18 @@
-use Rattle.std.proofs.Common.{◌≡◌, ◌∙◌, ◌∷◌, [], ◌+◌, drop, Err, ap, sym, subst, arith}
+use Rattle.std.proofs.Common.{◌≡◌, ◌∙◌, ◌∷◌, ◌+◌, drop, Err, ap, sym, subst, arith}
 use Rattle.std.proofs.lemmas.List.{drop_all}
 use Rattle.std.proofs.lemmas.Result.{err_from_is_err_and}
 use Rattle.line_batches.specs.Lines.{lines_view}
 use Rattle.log_tallies.proofs.Cut.{next_item}
-use Rattle.log_tallies.proofs.Taken.{begun, ended, refused, room_here, taken}
+use Rattle.log_tallies.proofs.Taken.{begun, ended, refused, taken}
+use Rattle.tally_filters.specs.Filter.{Filtered}
 use Rattle.log_tallies.specs.Sorted.{TalliesLines}
 use Rattle.log_tallies.proofs.tallying.tally_lines.Goals as goal
 
 pub lines-init : goal.lines-init
-lines-init c = begun c.args.page c.args.total (lines_view c.args.lines.now) c.in_ok-filter.filter c.in_ok-filter.ensures c.requires.rising
+lines-init c = record {
+  stands = begun c.args.page c.args.total (lines_view c.args.lines.now) c.in_ok-filter.filter c.in_ok-filter.ensures c.requires.rising;
+  count = ap (λ (f : Filtered). f.lines) c.in_ok-filter.ensures;
+}
 
 pub lines-preserved : goal.lines-preserved
 lines-preserved c =
@@ -16,7 +20,10 @@ lines-preserved c =
     let i = c.lines.line-index in
     let line = c.line-item.result in
     let here : drop i lines ≡ line ∷ drop (i + 1) lines = next_item lines i line (omega arith) c.line-item.is in
-    taken c.args.page c.args.total (lines_view lines) (lines_view (drop i lines)) (lines_view (drop (i + 1) lines)) line.now (ap lines_view here) c.lines.filter c.lines.invariant c.take.new.self c.in_ok-take.ensures.exact
+    record {
+      stands = taken c.args.page c.args.total (lines_view lines) (lines_view (drop i lines)) (lines_view (drop (i + 1) lines)) line.now (ap lines_view here) c.lines.filter c.lines.invariant.stands c.take.new.self c.in_ok-take.ensures.exact;
+      count = c.in_ok-take.ensures.exact.0 ∙ ap (λ n. n + 1) c.lines.invariant.count;
+    }
 
 pub returns-in_err-take : goal.returns-in_err-take
 returns-in_err-take c =
@@ -28,9 +35,9 @@ returns-in_err-take c =
     let p = err_from_is_err_and c.from_residual-in_err-take.result c.from_residual-in_err-take.ensures.1 in
     let same : c.from_residual-in_err-take.result ≡ Err fault = p.1 ∙ ap Err p.2 in
     subst (TalliesLines c.args.page c.args.total (lines_view lines)) (sym same)
-    (refused c.args.page c.args.total (lines_view lines) (lines_view (drop i lines)) (lines_view (drop (i + 1) lines)) line.now (ap lines_view here) c.lines.filter c.lines.invariant fault c.take.new.self c.in_err-take.ensures.exact)
+    (refused c.args.page c.args.total (lines_view lines) (lines_view (drop i lines)) (lines_view (drop (i + 1) lines)) line.now (ap lines_view here) c.lines.filter c.lines.invariant.stands fault c.take.new.self c.in_err-take.ensures.exact)
 
 pub returns : goal.returns
 returns c =
     let lines = c.args.lines.now in
-    ended c.args.page c.args.total (lines_view lines) (lines_view (drop c.lines.line-index lines)) c.lines.filter c.finish.result (ap lines_view (drop_all c.lines.line-index lines c.lines-test.false)) c.lines.invariant c.finish.ensures
+    ended c.args.page c.args.total (lines_view lines) (lines_view (drop c.lines.line-index lines)) c.lines.filter c.finish.result (ap lines_view (drop_all c.lines.line-index lines c.lines-test.false)) c.lines.invariant.stands c.finish.ensures

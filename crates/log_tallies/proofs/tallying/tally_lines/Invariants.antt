@@ -1,8 +1,11 @@
-use Rattle.std.proofs.Common.{drop}
+use Rattle.std.proofs.Common.{◌≡◌, drop}
 use Rattle.line_batches.specs.Lines.{lines_view}
 use Rattle.log_tallies.proofs.Taken.{Stands}
 use Rattle.log_tallies.proofs.tallying.tally_lines.Given as goal
 
 -- the lines so far are taken, and those that are left stand above them
 abbrev pub invariant-lines : goal.invariant-lines
-invariant-lines l = Stands l.fn.page l.fn.total (lines_view l.lines) (lines_view (drop l.line-index l.lines)) l.filter
+invariant-lines l = record {
+  stands : Stands l.fn.page l.fn.total (lines_view l.lines) (lines_view (drop l.line-index l.lines)) l.filter;
+  count : l.filter.lines ≡ l.line-index;
+}

@@ -9,8 +9,8 @@ returns-clause-effect c =
     let rule = c.args.rule.now in
     let edit = c.in_ok-edit.edit in
     record {
-      switches = λ inputs are. c.in_ok-switches.ensures.switches inputs (c.as_slice.ensures.value ∙ are ∙ ap (counts_of inputs) (sym c.total.ensures.value));
+      switches = λ inputs are. c.in_ok-switches.ensures.switches inputs (c.as_slice-counts.ensures.value ∙ are ∙ ap (counts_of inputs) (sym c.total.ensures.value));
       edit = edit;
       told = refl;
-      obvious = subst (λ (cs : List ℕ). IsObvious old rule cs edit) c.as_slice.ensures.value c.in_ok-edit.ensures;
+      obvious = subst (λ (cs : List ℕ). IsObvious old rule cs edit) c.as_slice-counts.ensures.value c.in_ok-edit.ensures;
     }

@@ -1,5 +1,5 @@
 -- What comes of a token.
-use Rattle.std.proofs.Common.{◌≡◌, ◌≢◌, ℕ, List, true, false, is_ok, Result, Ok, Err, inl, inr, refl, ap}
+use Rattle.std.proofs.Common.{◌≡◌, ◌≢◌, ℕ, List, true, false, is_ok, Option, Some, None, Result, Ok, Err, inl, inr, refl, sym, ap}
 use Rattle.flag_defs.specs.Document.{Definitions}
 use Rattle.plan_text.specs.Answer.{Answer}
 use Rattle.price_core.specs.Request.{Asked, asked_of}
@@ -9,8 +9,9 @@ use Rattle.rollout_checks.specs.Tallied.{IsTallyOutcome, tally_problem_asked, ta
 use Rattle.rollout_checks.specs.declared.refining.Refining.{Refining}
 use Rattle.rollout_checks.specs.declared.verify_fault.VerifyFault.{VerifyFault}
 use Rattle.tally_core.specs.Tally.{PageTally}
-use Rattle.control_answers.specs.Apply.{Applied, IsApplied, IsAppliedOn, IsApplyAnswer, IsApplyOf}
+use Rattle.control_answers.specs.Apply.{Applied, IsApplied, IsAppliedOn, IsApplyAnswer, IsApplyOf, unless_doubted}
 use Rattle.control_answers.specs.Check.{MayBeTold}
+use Rattle.control_answers.specs.Doubts.{doubt_of}
 use Rattle.control_answers.specs.Kept.{IsChanged}
 use Rattle.control_answers.specs.Snapshot.{Snapshot}
 use Rattle.control_answers.specs.Refusal.{of_verdict_of_token}
@@ -27,6 +28,16 @@ asked_if_right refining flags t answer (Err f) right = absurd right
 -- a request with a right answer asks something
 pub is_asked : (refining : Refining) (flags : Definitions) (request : List ℕ) (t : PageTally) (answer : Answer) → IsTallyOutcome (tally_problem_of refining flags request t) answer (Ok tt) → is_ok (asked_of request) ≡ true
 is_asked refining flags request t answer right = asked_if_right refining flags t answer (asked_of request) right
+
+module _ (s : Snapshot) (request : List ℕ) (answer : Answer) (t : PageTally) (text : List ℕ) (kept : IsChanged s request answer (Ok text)) where
+  abbrev made : Applied
+  made = record { document = text; request = request; answer = answer; inputs = t.inputs }
+
+  pub undoubted : doubt_of request t ≡ None → IsApplied s request answer t (Ok made)
+  undoubted is = (Ok text, kept, sym (ap (λ (d : Option ControlRefusal). unless_doubted d made) is))
+
+  pub doubted : (doubt : ControlRefusal) → doubt_of request t ≡ Some doubt → IsApplied s request answer t (Err doubt)
+  doubted doubt is = (Ok text, kept, sym (ap (λ (d : Option ControlRefusal). unless_doubted d made) is))
 
 module _ {A : Type 0} (seen : A → Applied) (s : Snapshot) where
   module _ (request : List ℕ) (answer : Answer) (t : PageTally) where
