@@ -82,18 +82,12 @@ fn edited(
     rule: &Rule,
     wanted: &Flags,
 ) -> Result<String, ControlRefusal>
-    ensures { Gives string_bytes (IsEdited snapshot.now.document.now (place_in snapshot.now.document.now (flags_view snapshot.now.flags.now) asked.now.flag asked.now.site) rule.now (flags_view wanted.now)) result }
+    ensures { Gives string_bytes (IsEdited snapshot.now.document.now (place_in true snapshot.now.document.now (flags_view snapshot.now.flags.now) asked.now.flag asked.now.site) rule.now (flags_view wanted.now)) result }
 {
     let (document, flags) = (snapshot.document, snapshot.flags);
-    match keep(
-        alloc,
-        document,
-        flags,
-        asked.flag(),
-        asked.site(),
-        rule,
-        wanted,
-    ) {
+    let (key, site) = (asked.flag(), asked.site());
+    // The documents of a service may have floats.
+    match keep(alloc, document, flags, key, site, rule, wanted, true) {
         Ok(text) => match String::from_utf8(text) {
             Ok(text) => Ok(text),
             // Bytes that are no text mean no flags.

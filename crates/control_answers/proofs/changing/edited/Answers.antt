@@ -4,4 +4,4 @@ use Rattle.control_answers.proofs.changing.edited.Goals as goal
 
 -- bytes that are no text mean no flags
 pub unreachable-requires : goal.unreachable-requires
-unreachable-requires c = no_flags c.in-Ok.text.items (flags_view c.args.wanted.now) c.in-Err.ensures c.in-Ok.ensures.means
+unreachable-requires c = no_flags c.in-Ok.text.items (flags_view c.args.wanted.now) c.in-Err.ensures.succeeds c.in-Ok.ensures.means
