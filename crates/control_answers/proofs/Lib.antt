@@ -1,3 +1,4 @@
+mod Changing
 mod Checked
 mod Outcomes
 mod Planned

@@ -21,7 +21,7 @@ pub record MayBeTold (flags : Definitions) (request : List ℕ) (t : PageTally) 
   pub shown : OnOk verdict (IsTallyShown (tally_problem_of (refining_for answer) flags request t) answer)
 
 -- what is told of a right answer: its cost, null where no rule fits
-unfoldable pub valid_text : Answer → List ℕ
+abbrev pub valid_text : Answer → List ℕ
 valid_text (emit rule c) = codes "{\"cost\":" ++ (decimal c.cost ++ codes ",\"valid\":true}\n")
 valid_text (none_exists kind names) = codes "{\"cost\":null,\"valid\":true}\n"
 

@@ -18,7 +18,7 @@ pub record AppliedRow : Type 0 where
   pub cost : ℕ
   pub inputs : ℕ
 
-unfoldable pub row_text : AppliedRow → List ℕ
+abbrev pub row_text : AppliedRow → List ℕ
 row_text r =
     codes "{\"cost\":" ++ (decimal r.cost ++ (codes ",\"flag\":" ++ (quoted r.flag ++ (codes ",\"inputs\":" ++ (decimal r.inputs ++ (codes ",\"new\":" ++ (rule_text r.new
     ++ (codes ",\"old\":" ++ (rule_text r.old ++ (codes ",\"site\":" ++ (decimal r.site ++ (codes ",\"time\":" ++ (quoted r.time ++ (codes ",\"who\":" ++ (quoted r.who ++ codes "}\n")))))))))))))))

@@ -151,6 +151,6 @@ status_of OtherDocument = 409
 status_of e = 400
 
 -- the body of the refusal of a call, with words for a person
-unfoldable pub refusal_text : List ℕ → ControlRefusal → List ℕ → List ℕ
+abbrev pub refusal_text : List ℕ → ControlRefusal → List ℕ → List ℕ
 refusal_text asked e details =
     codes "{\"refused\":\"" ++ (call_of asked e ++ (codes "\",\"number\":" ++ (decimal (number_of e) ++ (codes ",\"name\":\"" ++ (name_of e ++ (codes "\",\"details\":" ++ (text_of (text details) ++ codes "}\n")))))))

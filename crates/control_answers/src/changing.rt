@@ -68,8 +68,10 @@ fn with_rule(
 ) -> Result<String, ControlRefusal>
     ensures { Gives string_bytes (IsKeptAt (snapshot_view snapshot.now) asked.now rule.now) result }
 {
-    match apply(alloc, snapshot.flags, asked.flag(), asked.site(), rule) {
-        Ok(wanted) => edited(alloc, snapshot, asked, rule, &wanted),
+    let key = asked.flag();
+    let site = asked.site();
+    match apply(alloc, snapshot.flags, key, site, rule) {
+        Ok(wanted) => edited(alloc, snapshot, key, site, rule, &wanted),
         Err(fault) => Err(ControlRefusal::from(fault)),
     }
 }
@@ -78,14 +80,14 @@ fn with_rule(
 fn edited(
     alloc: Global,
     snapshot: &Snapshot<'_>,
-    asked: &Request,
+    key: &str,
+    site: u32,
     rule: &Rule,
     wanted: &Flags,
 ) -> Result<String, ControlRefusal>
-    ensures { Gives string_bytes (IsEdited snapshot.now.document.now (place_in true snapshot.now.document.now (flags_view snapshot.now.flags.now) asked.now.flag asked.now.site) rule.now (flags_view wanted.now)) result }
+    ensures { Gives string_bytes (IsEdited snapshot.now.document.now (place_in true snapshot.now.document.now (flags_view snapshot.now.flags.now) key.now site) rule.now (flags_view wanted.now)) result }
 {
     let (document, flags) = (snapshot.document, snapshot.flags);
-    let (key, site) = (asked.flag(), asked.site());
     // The documents of a service may have floats.
     match keep(alloc, document, flags, key, site, rule, wanted, true) {
         Ok(text) => match String::from_utf8(text) {

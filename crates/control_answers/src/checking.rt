@@ -88,7 +88,6 @@ fn check_on(
 }
 
 /// What is told of a right answer.
-#[tactic(auto, unfolding(crate::specs::Check::valid_text))]
 fn valid_text(alloc: Global, planned: &Planned) -> Result<String, AllocError>
     ensures { IfOk result (λ s. string_bytes s ≡ valid_text (planned_view planned.now)) }
 {

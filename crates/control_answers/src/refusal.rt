@@ -127,7 +127,6 @@ impl ControlRefusal {
 
     /// The body that tells the refusal of a call that was asked by this name, with words for a person. Want of memory is its one
     /// fault.
-    #[tactic(auto, unfolding(crate::specs::Refusal::refusal_text))]
     pub fn text(&self, alloc: Global, asked: &str, details: &str) -> Result<String, AllocError>
         ensures { IfOk result (λ s. string_bytes s ≡ refusal_text asked.now self.now details.now) }
     {

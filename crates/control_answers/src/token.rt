@@ -58,7 +58,6 @@ pub(crate) fn is_tag_of(alloc: Global, tag: &[u8], document: &str) -> Result<boo
 }
 
 /// The token by which the plan of a request is applied to a document.
-#[tactic(auto, unfolding(crate::specs::Token::token_text))]
 pub(crate) fn token_text(
     alloc: Global,
     document: &str,
