@@ -1,4 +1,3 @@
-mod Changing
 mod Checked
 mod Outcomes
 mod Planned
@@ -8,3 +7,4 @@ mod Tallied
 mod Texts
 mod Tokens
 mod Turns
+mod WithRule

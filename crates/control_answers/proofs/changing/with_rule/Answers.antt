@@ -1,7 +1,7 @@
 use Rattle.std.proofs.Common.{string_bytes}
 use Rattle.flag_defs.specs.Flags.{flags_view}
 use Rattle.control_answers.specs.Snapshot.{snapshot_view}
-use Rattle.control_answers.proofs.Changing.{kept_at, unapplied}
+use Rattle.control_answers.proofs.WithRule.{kept_at, unapplied}
 use Rattle.control_answers.proofs.changing.with_rule.Goals as goal
 
 pub returns-in-Ok : goal.returns-in-Ok
