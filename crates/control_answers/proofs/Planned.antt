@@ -1,5 +1,5 @@
 -- What is told of a plan.
-use Rattle.std.proofs.Common.{◌≡◌, ◌≢◌, ℕ, List, Result, Ok, Err, refl, sym, ap, ◌∙◌, subst}
+use Rattle.std.proofs.Common.{◌≡◌, ◌≢◌, ℕ, List, true, is_ok, Result, Ok, Err, refl, sym, ap, ◌∙◌, subst}
 use Rattle.flag_defs.specs.Document.{Definitions}
 use Rattle.plan_text.specs.Answer.{Answer, planned_view}
 use Rattle.plan_text.specs.PlanFile.{plan_file}
@@ -9,24 +9,26 @@ use Rattle.plan_text.specs.declared.planned.Planned.{Planned}
 use Rattle.price_core.specs.Request.{Asked, asked_of}
 use Rattle.price_core.specs.declared.fault.PriceFault.{PriceFault}
 use Rattle.rollout.specs.Tallied.{IsTallyPlanned}
-use Rattle.rollout_checks.specs.Fault as rollouts
 use Rattle.rollout_checks.specs.Lawful.{and_then, by_price}
-use Rattle.rollout_checks.specs.Tallied.{TallyProblem, tally_problem_asked, tally_problem_of}
+use Rattle.rollout_checks.specs.Tallied.{tally_problem_asked, tally_problem_of}
 use Rattle.rollout_checks.specs.declared.fault.RolloutFault.{RolloutFault}
 use Rattle.rollout_checks.specs.declared.refining.Refining.TheVariants.{Times}
 use Rattle.tally_core.specs.Tally.{PageTally}
 use Rattle.control_answers.specs.Body.{Told, told_text}
-use Rattle.control_answers.specs.Plan.{IsPlanOn, IsPrinted, IsTold, Snapshot}
+use Rattle.control_answers.specs.Plan.{IsPlanOn, IsPrinted, IsTold}
+use Rattle.control_answers.specs.Snapshot.{Snapshot}
 use Rattle.control_answers.specs.Refusal.{of_printed, of_rollout}
 use Rattle.control_answers.specs.Turns.{Gives}
 use Rattle.control_answers.specs.declared.refusal.ControlRefusal.{ControlRefusal}
 use Rattle.control_answers.proofs.Turns.{refused}
 
--- a request that is refused has no plan
-pub was_asked : (flags : Definitions) (request : List ℕ) (t : PageTally) (f : PriceFault) (planned : Planned) → asked_of request ≡ Err f → IsTallyPlanned (tally_problem_of (Times 1) flags request t) (Ok planned) → ⊥
-was_asked flags request t f planned is plans =
-    let none : tally_problem_of (Times 1) flags request t ≡ Err (rollouts.of_price f) = ap (λ (a : Result Asked PriceFault). and_then (by_price a) (λ asked. tally_problem_asked (Times 1) flags asked t)) is in
-    subst (λ (x : Result TallyProblem RolloutFault). IsTallyPlanned x (Ok planned)) none plans
+asked_if_planned : (flags : Definitions) (t : PageTally) (planned : Planned) (a : Result Asked PriceFault) → IsTallyPlanned (and_then (by_price a) (λ asked. tally_problem_asked (Times 1) flags asked t)) (Ok planned) → is_ok a ≡ true
+asked_if_planned flags t planned (Ok asked) plans = refl
+asked_if_planned flags t planned (Err f) plans = absurd plans
+
+-- a request with a plan asks something
+pub is_asked : (flags : Definitions) (request : List ℕ) (t : PageTally) (planned : Planned) → IsTallyPlanned (tally_problem_of (Times 1) flags request t) (Ok planned) → is_ok (asked_of request) ≡ true
+is_asked flags request t planned plans = asked_if_planned flags t planned (asked_of request) plans
 
 module _ (s : Snapshot) (request : List ℕ) (t : PageTally) where
   abbrev Plans : Result Planned RolloutFault → Type 0

@@ -17,7 +17,8 @@ use Rattle.tally_core.specs.Law.{HashesStandForInputs, IsTallyOf}
 use Rattle.tally_core.specs.Tally.{PageTally}
 use Rattle.control_answers.proofs.Tallied.{tallied}
 use Rattle.control_answers.specs.Law.{AnswersPlanTheRecord, IsAnswerFor, PlansHashes, PlansInputs, PlansTheRecord}
-use Rattle.control_answers.specs.Plan.{IsPlanAnswer, IsPlanOn, IsPrinted, IsReported, Snapshot}
+use Rattle.control_answers.specs.Plan.{IsPlanAnswer, IsPlanOn, IsPrinted, IsReported}
+use Rattle.control_answers.specs.Snapshot.{Snapshot}
 use Rattle.control_answers.specs.Target.{Target, target_of}
 use Rattle.control_answers.specs.Turns.{OfFiles, WithTally, WithTarget}
 use Rattle.control_answers.specs.declared.refusal.ControlRefusal.{ControlRefusal}

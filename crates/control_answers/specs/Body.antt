@@ -47,10 +47,13 @@ switched_in rows = sum_by (λ r. r.1) rows
 
 -- ---- the whole
 
-unfoldable pub numbers_text : Told → List ℕ
+abbrev pub numbers_text : Told → List ℕ
 numbers_text a =
     codes "{\"by_hand\":" ++ (number_or_null a.by_hand ++ (codes ",\"inputs\":" ++ (decimal a.inputs ++ (codes ",\"snapshot\":" ++ (decimal a.snapshot ++ (codes ",\"switch\":" ++ (decimal (switched_in a.switches) ++ codes ",\"switches\":[")))))))
 
-unfoldable pub told_text : Told → List ℕ
-told_text a =
-    numbers_text a ++ (rows_text false a.switches ++ (codes "],\"document\":" ++ (text_or_null a.document ++ (codes ",\"explained\":" ++ (quoted a.explained ++ (codes ",\"picture\":" ++ (quoted a.picture ++ (codes ",\"plan\":" ++ (a.plan ++ (codes ",\"token\":" ++ (a.token ++ codes "}\n")))))))))))
+abbrev pub texts_text : Told → List ℕ
+texts_text a =
+    numbers_text a ++ (rows_text false a.switches ++ (codes "],\"document\":" ++ (text_or_null a.document ++ (codes ",\"explained\":" ++ (quoted a.explained ++ (codes ",\"picture\":" ++ (quoted a.picture ++ codes ",\"plan\":")))))))
+
+abbrev pub told_text : Told → List ℕ
+told_text a = texts_text a ++ (a.plan ++ (codes ",\"token\":" ++ (a.token ++ codes "}\n")))

@@ -21,7 +21,7 @@ pub record MayBeTold (flags : Definitions) (request : List ℕ) (t : PageTally) 
   pub shown : OnOk verdict (IsTallyShown (tally_problem_of (refining_for answer) flags request t) answer)
 
 -- what is told of a right answer: its cost, null where no rule fits
-unfoldable pub valid_text : Answer → List ℕ
+abbrev pub valid_text : Answer → List ℕ
 valid_text (emit rule c) = codes "{\"cost\":" ++ (decimal c.cost ++ codes ",\"valid\":true}\n")
 valid_text (none_exists kind names) = codes "{\"cost\":null,\"valid\":true}\n"
 
@@ -36,8 +36,11 @@ abbrev pub WithAnswer : {B : Type 0} → (Answer → Outcomes B) → Result Answ
 WithAnswer Next (Err e) r = r ≡ Err (of_read e)
 WithAnswer Next (Ok answer) r = Next answer r
 
+-- on the tally of what files hold of the request's page
+abbrev pub IsVerdictOf : Definitions → List ℕ → List (List ℕ) → Answer → Outcomes (List ℕ)
+IsVerdictOf flags request files answer = WithTarget (λ target. OfFiles files target (IsVerdictOn flags request answer)) (target_of flags request)
+
 -- That the answer of a plan file is right on what files hold, with its cost; or the first refusal: of the plan file, the request and its
 -- site, the files, the request on their tally, the check.
 abbrev pub IsCheckAnswer : Definitions → List ℕ → List ℕ → List (List ℕ) → Outcomes (List ℕ)
-IsCheckAnswer flags request plan files =
-    WithAnswer (λ answer. WithTarget (λ target. OfFiles files target (IsVerdictOn flags request answer)) (target_of flags request)) (answer_of plan)
+IsCheckAnswer flags request plan files = WithAnswer (IsVerdictOf flags request files) (answer_of plan)

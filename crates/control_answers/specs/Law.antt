@@ -11,7 +11,8 @@ use Rattle.rollout_checks.specs.declared.refining.Refining.TheVariants.{Times}
 use Rattle.tally_core.specs.Law.{AreHashesOf, IsEachOnce}
 use Rattle.tally_core.specs.Tally.{PageTally}
 use Rattle.control_answers.specs.Body.{Told, told_text}
-use Rattle.control_answers.specs.Plan.{IsPlanAnswer, IsTold, Snapshot}
+use Rattle.control_answers.specs.Plan.{IsPlanAnswer, IsTold}
+use Rattle.control_answers.specs.Snapshot.{Snapshot}
 use Rattle.control_answers.specs.Target.{Target, target_of}
 
 -- it answers the problem for just these inputs: its rule fits and costs them the least of all that fit, or no rule fits

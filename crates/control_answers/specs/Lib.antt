@@ -9,7 +9,10 @@ pub mod Check
 pub mod Body
 pub mod Token
 pub mod View
+pub mod Snapshot
 pub mod Plan
+pub mod Kept
+pub mod Doubts
 pub mod Apply
 pub mod Held
 pub mod History

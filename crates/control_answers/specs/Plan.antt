@@ -1,12 +1,10 @@
 -- What is planned of a request on what files hold.
-use Rattle.std.specs.Prelude.{◌≡◌, ℕ, List, IfOk, Result, Ok, Err}
-use Rattle.flag_defs.specs.Document.{Definitions}
-use Rattle.flag_defs.specs.Flags.{flags_view}
+use Rattle.std.specs.Prelude.{◌≡◌, ℕ, List, codes, Result, Ok, Err}
+use Rattle.file_diagnostics.specs.Named.{Names}
 use Rattle.plan_text.specs.Answer.{Answer, planned_view}
 use Rattle.plan_text.specs.PlanFile.{plan_file}
 use Rattle.plan_text.specs.declared.fault.PlanFileFault.{PlanFileFault}
 use Rattle.plan_text.specs.declared.planned.Planned.{Planned}
-use Rattle.price_core.specs.Request.{Asked, asked_of}
 use Rattle.rollout.specs.Tallied.{IsTallyPlanned}
 use Rattle.rollout_checks.specs.Tallied.{TallyProblem, tally_problem_of}
 use Rattle.rollout_checks.specs.declared.fault.RolloutFault.{RolloutFault}
@@ -14,27 +12,16 @@ use Rattle.rollout_checks.specs.declared.refining.Refining.TheVariants.{Times}
 use Rattle.tally_core.specs.Tally.{PageTally}
 use Rattle.control_answers.specs.Body.{Told, told_text}
 use Rattle.control_answers.specs.Token.{token_text}
-use Rattle.plan_effects.specs.Document.{MayBeKept}
 use Rattle.plan_effects.specs.Effect.{Effect, IsEffect}
 use Rattle.plan_effects.specs.Picture.{IsPictured}
+use Rattle.control_answers.specs.Kept.{MayBeChanged}
 use Rattle.control_answers.specs.Refusal.{of_printed, of_rollout}
+use Rattle.control_answers.specs.Snapshot.{Snapshot}
 use Rattle.control_answers.specs.Target.{Target, target_of}
 use Rattle.control_answers.specs.Turns.{OfFiles, Outcomes, WithTarget}
-use Rattle.control_answers.specs.declared.snapshot.Snapshot as program
-
--- a snapshot: its number, the text of its document, and its flags
-pub record Snapshot : Type 0 where
-  pub number : ℕ
-  pub document : List ℕ
-  pub flags : Definitions
-
-abbrev pub snapshot_view : program.Snapshot → Snapshot
-snapshot_view s = record { number = s.number; document = s.document.now; flags = flags_view s.flags.now }
 
 -- what is told of a plan is of this snapshot, this request, this tally and this answer
 pub record IsTold (s : Snapshot) (request : List ℕ) (t : PageTally) (answer : Answer) (plan : List ℕ) (a : Told) : Type 0 where
-  pub asked : Asked
-  pub request_is : asked_of request ≡ Ok asked
   pub problem : TallyProblem
   pub problem_is : tally_problem_of (Times 1) s.flags request t ≡ Ok problem
   pub snapshot : a.snapshot ≡ s.number
@@ -42,7 +29,8 @@ pub record IsTold (s : Snapshot) (request : List ℕ) (t : PageTally) (answer : 
   pub plan_is : a.plan ≡ plan
   pub effect : IsEffect problem answer (record { switches = a.switches; by_hand = a.by_hand })
   pub picture : IsPictured problem answer a.picture
-  pub document : MayBeKept s.document s.flags asked.flag asked.site answer a.document
+  pub explained : Names (codes "request") a.explained
+  pub document : MayBeChanged s request answer a.document
   pub token : a.token ≡ token_text s.document request plan
 
 -- the plan file with what is told beside it, or the refusal of an answer that is too large for a file

@@ -9,7 +9,7 @@ use Rattle.control_answers.specs.declared.refusal.ControlRefusal.TheVariants.{Wa
 use Rattle.control_answers.specs.declared.token.Token as program
 
 -- the tag of the document, the plan file and the request, as they are
-unfoldable pub token_text : List ℕ → List ℕ → List ℕ → List ℕ
+abbrev pub token_text : List ℕ → List ℕ → List ℕ → List ℕ
 token_text document request plan = codes "{\"document\":\"" ++ (opaque_tag document ++ (codes "\",\"plan\":" ++ (plan ++ (codes ",\"request\":" ++ (request ++ codes "}")))))
 
 -- ---- what a text is as a token

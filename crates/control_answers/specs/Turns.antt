@@ -1,11 +1,13 @@
 -- What a call comes to is found in turn: what is tallied, then the tally of the log files; each may be refused.
 use Rattle.std.specs.Prelude.{◌≡◌, ◌≢◌, ℕ, List, Result, Ok, Err}
+use Rattle.flag_defs.specs.Document.{Definitions}
 use Rattle.log_tallies.specs.Tallies.{TalliesFiles}
 use Rattle.log_tallies.specs.declared.fault.LogTallyFault.{LogTallyFault}
 use Rattle.rollout_checks.specs.declared.fault.RolloutFault.{RolloutFault}
 use Rattle.tally_core.specs.Tally.{PageTally}
 use Rattle.control_answers.specs.Refusal.{of_logs, of_rollout}
-use Rattle.control_answers.specs.Target.{Target}
+use Rattle.control_answers.specs.Target.{Target, target_of, target_view}
+use Rattle.control_answers.specs.declared.question.Question as program
 use Rattle.control_answers.specs.declared.refusal.ControlRefusal.{ControlRefusal}
 use Rattle.control_answers.specs.declared.refusal.ControlRefusal.TheVariants.{WantOfMemory}
 
@@ -30,3 +32,10 @@ module _ {B : Type 0} where
 abbrev pub Gives : {A B : Type 0} → (A → B) → (Result B ControlRefusal → Type 0) → Result A ControlRefusal → Type 0
 Gives seen Is (Ok a) = Is (Ok (seen a))
 Gives seen Is (Err e) = e ≢ WantOfMemory → Is (Err e)
+
+-- ---- for private clauses
+
+-- the file of the request has these bytes, and this is tallied for it; or its refusal, unless memory ran out
+abbrev pub IsQuestion : Definitions → List ℕ → Result program.Question ControlRefusal → Type 0
+IsQuestion flags request (Ok q) = (q.request ≡ request) × (target_of flags request ≡ Ok (target_view q.target))
+IsQuestion flags request (Err e) = e ≢ WantOfMemory → (f : RolloutFault) × (target_of flags request ≡ Err f) × (e ≡ of_rollout f)

@@ -1,23 +1,25 @@
 //! The plan of a token, applied.
-ghost use Rattle.std.specs.Prelude.{Ok};
+ghost use Rattle.std.specs.Prelude.{Ok, IsErrOf, IsUtf8};
 ghost use Rattle.flag_defs.specs.Flags.{flags_view};
 ghost use Rattle.log_tallies.specs.Lines.{files_view};
 ghost use Rattle.plan_text.specs.Answer.{planned_view};
 ghost use Rattle.rollout_checks.specs.Tallied.{IsTallyOutcome, tally_problem_of};
 ghost use Rattle.rollout_checks.specs.Verified.{refining_for};
-ghost use Rattle.control_answers.specs.Apply.{IsApplied, IsAppliedOn, IsApplyAnswer, IsApplyOf, applied_view};
-ghost use Rattle.control_answers.specs.Plan.{snapshot_view};
-ghost use Rattle.control_answers.specs.Target.{target_of, target_view};
+ghost use Rattle.control_answers.specs.Apply.{IsApplied, IsAppliedOf, IsAppliedOn, IsApplyAnswer, IsApplyOf, applied_view};
+ghost use Rattle.control_answers.specs.Snapshot.{snapshot_view};
+ghost use Rattle.control_answers.specs.Target.{target_view};
 ghost use Rattle.control_answers.specs.Token.{token_view};
-ghost use Rattle.control_answers.specs.Turns.{Gives, OfFiles, WithTarget};
+ghost use Rattle.control_answers.specs.Turns.{Gives, OfFiles};
+ghost use Rattle.control_answers.specs.declared.refusal.ControlRefusal.TheVariants.{BadToken};
 
-use crate::place::target_of;
-use crate::refusal::{ControlRefusal, of_read};
+use crate::changing::changed;
+use crate::doubting::doubt_of;
+use crate::question::{Question, question_of};
+use crate::refusal::{ControlRefusal, of_read, of_verdict_of_token};
 use crate::snapshot::Snapshot;
 use crate::target::Target;
 use crate::token::{Token, is_tag_of, token_in};
 use log_tallies::{LogFile, tally_files};
-use plan_effects::document_with;
 use plan_text::{Planned, read_planned};
 use rollout_checks::{RequestFile, verify_file_on_tally};
 use std::alloc::Global;
@@ -40,14 +42,17 @@ pub struct Applied {
 /// now, and then the document has its rule.
 ///
 /// The refusals come in the order of the token, its document, its plan file, its request, the request's site, the files, the request
-/// on their tally, the check, and the document with the rule.
+/// on their tally, the check, the document with the rule, and what is doubted: a member of the request that is passed over, or that
+/// nothing is recorded.
 pub fn apply_answer(
     alloc: Global,
     snapshot: &Snapshot<'_>,
     token: &[u8],
     files: &[LogFile<'_>],
 ) -> Result<Applied, ControlRefusal>
-    ensures { Gives applied_view (IsApplyAnswer (snapshot_view snapshot.now) token.now (files_view files.now)) result }
+    ensures exact { Gives applied_view (IsApplyAnswer (snapshot_view snapshot.now) token.now (files_view files.now)) result }
+    // What is no text is refused without memory.
+    ensures no_text { ¬ (IsUtf8 token.now) → IsErrOf result BadToken }
 {
     let token = token_in(alloc, token)?;
     if !is_tag_of(alloc, token.document, snapshot.document)? {
@@ -80,11 +85,10 @@ fn apply_planned(
     planned: Planned,
     files: &[LogFile<'_>],
 ) -> Result<Applied, ControlRefusal>
-    ensures { Gives applied_view (WithTarget (λ target. OfFiles (files_view files.now) target (IsAppliedOn (snapshot_view snapshot.now) request.now (planned_view planned))) (target_of (flags_view snapshot.now.flags.now) request.now)) result }
+    ensures { Gives applied_view (IsAppliedOf (snapshot_view snapshot.now) request.now (files_view files.now) (planned_view planned)) result }
 {
     let bytes = request.to_vec(alloc)?;
-    let request = RequestFile::read(alloc, bytes)?;
-    let target = target_of(alloc, snapshot.flags, &request)?;
+    let Question { request, target } = question_of(alloc, snapshot.flags, bytes)?;
     apply_recorded(alloc, snapshot, request, planned, target, files)
 }
 
@@ -113,12 +117,14 @@ fn apply_on(
 ) -> Result<Applied, ControlRefusal>
     ensures { Gives applied_view (IsAppliedOn (snapshot_view snapshot.now) request (planned_view planned) tally.now) result }
 {
-    verify_file_on_tally(alloc, snapshot.flags, &request, tally, &planned, None)?;
-    applied(alloc, snapshot, request, planned, tally)
+    match verify_file_on_tally(alloc, snapshot.flags, &request, tally, &planned, None) {
+        Ok(()) => apply_right(alloc, snapshot, request, planned, tally),
+        Err(fault) => Err(of_verdict_of_token(fault)),
+    }
 }
 
-/// The document with the rule of an answer that is right.
-fn applied(
+/// What comes of an answer that is right.
+fn apply_right(
     alloc: Global,
     snapshot: &Snapshot<'_>,
     request: RequestFile,
@@ -128,27 +134,14 @@ fn applied(
     requires { IsTallyOutcome (tally_problem_of (refining_for (planned_view planned)) (flags_view snapshot.now.flags.now) request tally.now) (planned_view planned) (Ok tt) }
     ensures { Gives applied_view (IsApplied (snapshot_view snapshot.now) request (planned_view planned) tally.now) result }
 {
-    let asked = match request.asked() {
-        Ok(asked) => asked,
-        // A request that was found right is lawful.
-        Err(_) => unreachable!(),
-    };
-    let flags = snapshot.flags;
-    let document = document_with(
-        alloc,
-        snapshot.document,
-        flags,
-        asked.flag(),
-        asked.site(),
-        &planned,
-    )?;
-    match document {
-        Some(document) => Ok(Applied {
+    let document = changed(alloc, snapshot, &request, &planned)?;
+    match doubt_of(alloc, &request, tally)? {
+        Some(doubt) => Err(doubt),
+        None => Ok(Applied {
             document,
             request,
             planned,
             inputs: tally.inputs,
         }),
-        None => Err(ControlRefusal::NoDocument),
     }
 }

@@ -2,7 +2,7 @@
 ghost use Rattle.std.specs.Prelude.{◌≡◌, ◌++◌, ◌≤◌, false, IfOk, OnOk, option_map, string_bytes, sum_by};
 ghost use Rattle.limits.specs.Limits.{tally_inputs};
 ghost use Rattle.rule_switches.specs.Switches.{row_view, rows_view};
-ghost use Rattle.control_answers.specs.Body.{comma_if, number_or_null, numbers_text, row_text, rows_text, switched_in, text_or_null, told_text};
+ghost use Rattle.control_answers.specs.Body.{comma_if, number_or_null, numbers_text, row_text, rows_text, switched_in, text_or_null, texts_text, told_text};
 ghost use Rattle.control_answers.specs.View.{told_view};
 
 use flag_text::push_string;
@@ -32,10 +32,23 @@ pub(crate) struct Told {
 }
 
 /// The body that tells it. The condition is that no more inputs switch than a tally has.
-#[tactic(auto, unfolding(crate::specs::Body::told_text))]
 pub(crate) fn told_text(alloc: Global, told: &Told) -> Result<Vec<u8>, AllocError>
     requires { sum_by (λ r. r.1) (rows_view told.now.effect.switches.items) ≤ tally_inputs }
     ensures { IfOk result (λ v. v.items ≡ told_text (told_view told.now)) }
+{
+    let text = texts_text(alloc, told)?;
+    let mut body = text.into_bytes();
+    body.extend_from_slice(told.plan.as_slice())?;
+    body.extend_from_slice(",\"token\":".as_bytes())?;
+    body.extend_from_slice(told.token.as_slice())?;
+    body.extend_from_slice("}\n".as_bytes())?;
+    Ok(body)
+}
+
+/// What stands before the plan file.
+fn texts_text(alloc: Global, told: &Told) -> Result<String, AllocError>
+    requires { sum_by (λ r. r.1) (rows_view told.now.effect.switches.items) ≤ tally_inputs }
+    ensures { IfOk result (λ s. string_bytes s ≡ texts_text (told_view told.now)) }
 {
     let mut text = numbers_text(alloc, told)?;
     push_rows(alloc, &mut text, told.effect.switches.as_slice())?;
@@ -46,16 +59,10 @@ pub(crate) fn told_text(alloc: Global, told: &Told) -> Result<Vec<u8>, AllocErro
     text.push_str(",\"picture\":")?;
     push_string(alloc, &mut text, told.picture.as_str())?;
     text.push_str(",\"plan\":")?;
-    let mut body = text.into_bytes();
-    body.extend_from_slice(told.plan.as_slice())?;
-    body.extend_from_slice(",\"token\":".as_bytes())?;
-    body.extend_from_slice(told.token.as_slice())?;
-    body.extend_from_slice("}\n".as_bytes())?;
-    Ok(body)
+    Ok(text)
 }
 
 /// What stands before the changes of name.
-#[tactic(auto, unfolding(crate::specs::Body::numbers_text))]
 fn numbers_text(alloc: Global, told: &Told) -> Result<String, AllocError>
     requires { sum_by (λ r. r.1) (rows_view told.now.effect.switches.items) ≤ tally_inputs }
     ensures { IfOk result (λ s. string_bytes s ≡ numbers_text (told_view told.now)) }
@@ -64,9 +71,12 @@ fn numbers_text(alloc: Global, told: &Told) -> Result<String, AllocError>
     let inputs = told.inputs;
     let snapshot = told.snapshot;
     let switch = switched_in(told.effect.switches.as_slice());
-    format!(in alloc;
-        "{{\"by_hand\":{by_hand},\"inputs\":{inputs},\"snapshot\":{snapshot},\"switch\":{switch},\"switches\":["
-    )
+    let mut text = String::from_str(alloc, "{\"by_hand\":")?;
+    text.push_str(by_hand.as_str())?;
+    write!(text, ",\"inputs\":{inputs}")?;
+    write!(text, ",\"snapshot\":{snapshot}")?;
+    write!(text, ",\"switch\":{switch},\"switches\":[")?;
+    Ok(text)
 }
 
 fn number_or_null(alloc: Global, number: Option<u64>) -> Result<String, AllocError>
@@ -99,7 +109,8 @@ fn push_rows(alloc: Global, out: &mut String, rows: &[Switch]) -> Result<(), All
     Ok(())
 }
 
-fn comma_if(later: bool) -> &'static str
+/// A comma, where it is not the first item.
+pub(crate) fn comma_if(later: bool) -> &'static str
     ensures { result.now ≡ comma_if later }
 {
     if later { "," } else { "" }

@@ -1,13 +1,17 @@
 //! Whether an answer is right on what is recorded.
-ghost use Rattle.std.specs.Prelude.{◌≡◌, IfOk, string_bytes};
+ghost use Rattle.std.specs.Prelude.{◌≡◌, ◌<◌, ◌≤◌, false, length, IfOk, IsErrOf, string_bytes};
+ghost use Rattle.std.specs.Str.{is_utf8};
 ghost use Rattle.flag_defs.specs.Flags.{flags_view};
 ghost use Rattle.log_tallies.specs.Lines.{files_view};
 ghost use Rattle.plan_text.specs.Answer.{planned_view};
-ghost use Rattle.control_answers.specs.Check.{IsCheckAnswer, IsVerdictOn, valid_text};
-ghost use Rattle.control_answers.specs.Target.{target_of, target_view};
-ghost use Rattle.control_answers.specs.Turns.{Gives, OfFiles, WithTarget};
+ghost use Rattle.plan_text.specs.PlanFile.{max_plan};
+ghost use Rattle.plan_text.specs.declared.fault.PlanFileFault.TheVariants.{BadPlan, TooLarge};
+ghost use Rattle.control_answers.specs.Check.{IsCheckAnswer, IsVerdictOf, IsVerdictOn, valid_text};
+ghost use Rattle.control_answers.specs.Target.{target_view};
+ghost use Rattle.control_answers.specs.Turns.{Gives, OfFiles};
+ghost use Rattle.control_answers.specs.declared.refusal.ControlRefusal.TheVariants.{ReadPlan};
 
-use crate::place::target_of;
+use crate::question::{Question, question_of};
 use crate::refusal::{ControlRefusal, of_read};
 use crate::target::Target;
 use flag_defs::Flags;
@@ -27,7 +31,10 @@ pub fn check_answer(
     plan: &[u8],
     files: &[LogFile<'_>],
 ) -> Result<String, ControlRefusal>
-    ensures { Gives string_bytes (IsCheckAnswer (flags_view flags.now) request.now plan.now (files_view files.now)) result }
+    ensures exact { Gives string_bytes (IsCheckAnswer (flags_view flags.now) request.now plan.now (files_view files.now)) result }
+    // What is too large for a plan file or no text is refused without memory.
+    ensures large { max_plan < length plan.now → IsErrOf result (ReadPlan TooLarge) }
+    ensures no_text { length plan.now ≤ max_plan → is_utf8 plan.now ≡ false → IsErrOf result (ReadPlan BadPlan) }
 {
     let planned = match read_planned(alloc, plan) {
         Ok(planned) => planned,
@@ -44,11 +51,10 @@ fn check_planned(
     planned: &Planned,
     files: &[LogFile<'_>],
 ) -> Result<String, ControlRefusal>
-    ensures { Gives string_bytes (WithTarget (λ target. OfFiles (files_view files.now) target (IsVerdictOn (flags_view flags.now) request.now (planned_view planned.now))) (target_of (flags_view flags.now) request.now)) result }
+    ensures { Gives string_bytes (IsVerdictOf (flags_view flags.now) request.now (files_view files.now) (planned_view planned.now)) result }
 {
     let bytes = request.to_vec(alloc)?;
-    let request = RequestFile::read(alloc, bytes)?;
-    let target = target_of(alloc, flags, &request)?;
+    let Question { request, target } = question_of(alloc, flags, bytes)?;
     check_recorded(alloc, flags, &request, planned, target, files)
 }
 
@@ -82,7 +88,6 @@ fn check_on(
 }
 
 /// What is told of a right answer.
-#[tactic(auto, unfolding(crate::specs::Check::valid_text))]
 fn valid_text(alloc: Global, planned: &Planned) -> Result<String, AllocError>
     ensures { IfOk result (λ s. string_bytes s ≡ valid_text (planned_view planned.now)) }
 {

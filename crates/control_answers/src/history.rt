@@ -1,8 +1,9 @@
 //! What was applied, and when.
-ghost use Rattle.std.specs.Prelude.{◌≡◌, IfOk, string_bytes};
+ghost use Rattle.std.specs.Prelude.{◌≡◌, ◌++◌, ◌∷◌, [], filter, IfOk, OnOk, string_bytes};
 ghost use Rattle.line_batches.specs.Lines.{lines_view};
 ghost use Rattle.control_answers.specs.History.{IsHistory, is_row, row_view, rows_from, row_text};
 
+use crate::body::comma_if;
 use control_flags::push_rule;
 use flag_text::{TextFault, push_string, read_tree};
 use line_batches::cut_line;
@@ -59,12 +60,20 @@ pub fn history_answer(alloc: Global, history: &[u8]) -> Result<Vec<u8>, AllocErr
     let mut rows = Vec::new(alloc);
     let mut rest = history;
     'cuts: while let Some((line, behind)) = cut_line(rest) {
-        if is_row(alloc, line)? {
-            rows.push(line)?;
-        }
+        add_row(alloc, &mut rows, line)?;
         rest = behind;
     }
     listed(alloc, rows.as_slice())
+}
+
+/// Adds a line where it is a row.
+fn add_row<'a>(alloc: Global, rows: &mut Vec<&'a [u8]>, line: &'a [u8]) -> Result<(), AllocError>
+    ensures { OnOk result (lines_view rows.new.items ≡ lines_view rows.old.items ++ filter is_row (line.now ∷ [])) }
+{
+    if is_row(alloc, line)? {
+        rows.push(line)?;
+    }
+    Ok(())
 }
 
 /// Whether a line is JSON.
@@ -84,13 +93,11 @@ fn listed(alloc: Global, rows: &[&[u8]]) -> Result<Vec<u8>, AllocError>
 {
     let mut out = Vec::new(alloc);
     out.extend_from_slice("[".as_bytes())?;
-    let mut left = rows.len();
-    'rows: while left > 0 {
-        left -= 1;
-        if left + 1 < rows.len() {
-            out.extend_from_slice(",".as_bytes())?;
-        }
-        out.extend_from_slice(rows[left])?;
+    let mut later = false;
+    'rows: for i in (0..rows.len()).rev() {
+        out.extend_from_slice(comma_if(later).as_bytes())?;
+        out.extend_from_slice(rows[i])?;
+        later = true;
     }
     out.extend_from_slice("]\n".as_bytes())?;
     Ok(out)

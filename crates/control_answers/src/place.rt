@@ -1,7 +1,11 @@
 //! The site of a flag.
-ghost use Rattle.std.specs.Prelude.{◌≡◌, ◌<◌, ◌≤◌, IfOk};
+ghost use Rattle.std.specs.Map.{lookup};
+ghost use Rattle.std.specs.Prelude.{◌≡◌, ◌<◌, ◌≤◌, false, length, None, IfOk, IsErrOf};
+ghost use Rattle.std.specs.Str.{bytes_eq, is_utf8};
 ghost use Rattle.flag_defs.specs.Flags.{flags_view};
 ghost use Rattle.flag_text.specs.Outcome.{GivesUnless};
+ghost use Rattle.price_core.specs.Request.{max_request};
+ghost use Rattle.price_core.specs.declared.fault.PriceFault.TheVariants.{BadRequest};
 ghost use Rattle.rollout_checks.specs.Lawful.{place_of};
 ghost use Rattle.control_answers.specs.Target.{place_view, points_of, site_of, target_in, target_of, target_view};
 
@@ -20,7 +24,9 @@ pub(crate) fn target_of(
     flags: &Flags,
     request: &RequestFile,
 ) -> Result<Target, RolloutFault>
-    ensures { GivesUnless RolloutFault.WantOfMemory target_view result (target_of (flags_view flags.now) request.now) }
+    ensures exact { GivesUnless RolloutFault.WantOfMemory target_view result (target_of (flags_view flags.now) request.now) }
+    ensures large { max_request < length request.now → IsErrOf result (RolloutFault.Request BadRequest) }
+    ensures no_text { length request.now ≤ max_request → is_utf8 request.now ≡ false → IsErrOf result (RolloutFault.Request BadRequest) }
 {
     let asked = request.asked()?;
     target_in(alloc, flags, asked.flag(), asked.site())
@@ -33,7 +39,8 @@ pub(crate) fn target_in(
     key: &str,
     number: u32,
 ) -> Result<Target, RolloutFault>
-    ensures { GivesUnless RolloutFault.WantOfMemory target_view result (target_in (flags_view flags.now) key.now number) }
+    ensures exact { GivesUnless RolloutFault.WantOfMemory target_view result (target_in (flags_view flags.now) key.now number) }
+    ensures unknown { lookup (bytes_eq key.now) (flags_view flags.now) ≡ None → IsErrOf result RolloutFault.UnknownFlag }
 {
     let Place { entries, page } = place_of(alloc, flags, key, number)?;
     let total = points_of(total_weight(entries.as_slice()))?;
@@ -64,7 +71,8 @@ struct Place {
 
 /// The site of this number of the flag of this key.
 fn place_of(alloc: Global, flags: &Flags, key: &str, number: u32) -> Result<Place, RolloutFault>
-    ensures { GivesUnless RolloutFault.WantOfMemory place_view result (site_of (place_of (flags_view flags.now) key.now number)) }
+    ensures exact { GivesUnless RolloutFault.WantOfMemory place_view result (site_of (place_of (flags_view flags.now) key.now number)) }
+    ensures unknown { lookup (bytes_eq key.now) (flags_view flags.now) ≡ None → IsErrOf result RolloutFault.UnknownFlag }
 {
     let Some(flag) = flags.get(key) else {
         return Err(RolloutFault::UnknownFlag);

@@ -1,26 +1,31 @@
 //! The plan of a request on what is recorded.
-ghost use Rattle.std.specs.Prelude.{◌≡◌, ◌≤◌, Ok, IfOk, sum_by};
+ghost use Rattle.std.specs.Prelude.{◌≡◌, ◌<◌, ◌≤◌, false, length, Ok, IfOk, IsErrOf, sum_by};
+ghost use Rattle.std.specs.Str.{is_utf8};
 ghost use Rattle.flag_defs.specs.Flags.{flags_view};
 ghost use Rattle.limits.specs.Limits.{tally_inputs};
 ghost use Rattle.log_tallies.specs.Lines.{files_view};
 ghost use Rattle.plan_text.specs.Answer.{planned_view};
+ghost use Rattle.price_core.specs.Request.{max_request};
 ghost use Rattle.rollout.specs.Tallied.{IsTallyPlanned};
 ghost use Rattle.rollout_checks.specs.Tallied.{tally_problem_of};
 ghost use Rattle.rollout_checks.specs.declared.refining.Refining.TheVariants.{Times};
 ghost use Rattle.rule_switches.specs.Switches.{rows_view};
-ghost use Rattle.control_answers.specs.Plan.{IsPlanAnswer, IsPlanOn, IsTold, snapshot_view};
+ghost use Rattle.control_answers.specs.Plan.{IsPlanAnswer, IsPlanOn, IsTold};
+ghost use Rattle.control_answers.specs.Snapshot.{snapshot_view};
+ghost use Rattle.control_answers.specs.Refusal.{bad_request};
 ghost use Rattle.control_answers.specs.Target.{target_view};
 ghost use Rattle.control_answers.specs.Turns.{Gives, OfFiles};
 ghost use Rattle.control_answers.specs.View.{bytes_view, told_view};
 
 use crate::body::{Told, told_text};
-use crate::place::target_of;
+use crate::changing::changed_if_any;
+use crate::question::{Question, question_of};
 use crate::refusal::{ControlRefusal, of_printed};
 use crate::snapshot::Snapshot;
 use crate::target::Target;
 use crate::token::token_text;
 use log_tallies::{LogFile, tally_files};
-use plan_effects::{document_with, effect_of, picture_of, posed};
+use plan_effects::{effect_of, picture_of, posed};
 use plan_text::{Planned, print_planned};
 use rollout::plan_file_on_tally;
 use rollout_checks::RequestFile;
@@ -36,14 +41,15 @@ use tally_core::PageTally;
 pub fn plan_answer(
     alloc: Global,
     snapshot: &Snapshot<'_>,
-    request: &[u8],
+    request: Vec<u8>,
     files: &[LogFile<'_>],
 ) -> Result<Vec<u8>, ControlRefusal>
-    ensures { Gives bytes_view (IsPlanAnswer (snapshot_view snapshot.now) request.now (files_view files.now)) result }
+    ensures exact { Gives bytes_view (IsPlanAnswer (snapshot_view snapshot.now) request.items (files_view files.now)) result }
+    // What is too large for a request or no text is refused without memory.
+    ensures large { max_request < length request.items → IsErrOf result bad_request }
+    ensures no_text { length request.items ≤ max_request → is_utf8 request.items ≡ false → IsErrOf result bad_request }
 {
-    let bytes = request.to_vec(alloc)?;
-    let request = RequestFile::read(alloc, bytes)?;
-    let target = target_of(alloc, snapshot.flags, &request)?;
+    let Question { request, target } = question_of(alloc, snapshot.flags, request)?;
     plan_recorded(alloc, snapshot, &request, target, files)
 }
 
@@ -75,12 +81,12 @@ fn plan_on(
         Ok(plan) => plan,
         Err(fault) => return Err(of_printed(fault)),
     };
-    let told = told(alloc, snapshot, request, tally, &planned, plan)?;
+    let told = told_of(alloc, snapshot, request, tally, &planned, plan)?;
     Ok(told_text(alloc, &told)?)
 }
 
 /// What is told of a plan that was printed.
-fn told(
+fn told_of(
     alloc: Global,
     snapshot: &Snapshot<'_>,
     request: &RequestFile,
@@ -93,14 +99,8 @@ fn told(
     ensures few { IfOk result (λ t. sum_by (λ r. r.1) (rows_view t.effect.switches.items) ≤ tally_inputs) }
 {
     let flags = snapshot.flags;
-    let document = snapshot.document;
-    let asked = match request.asked() {
-        Ok(asked) => asked,
-        // What was planned is lawful.
-        Err(_) => unreachable!(),
-    };
-    let token = token_text(alloc, document, request.bytes(), plan.as_slice())?;
-    let document = document_with(alloc, document, flags, asked.flag(), asked.site(), planned)?;
+    let token = token_text(alloc, snapshot.document, request.bytes(), plan.as_slice())?;
+    let document = changed_if_any(alloc, snapshot, request, planned)?;
     let counts = tally.counts.as_slice();
     let explained = of_planned(alloc, "request", flags, request, 1, counts, planned)?;
     let problem = posed(alloc, flags, request, tally, planned)?;

@@ -1,10 +1,14 @@
 //! What is recorded at a site.
-ghost use Rattle.std.specs.Prelude.{string_bytes};
+ghost use Rattle.std.specs.Map.{lookup};
+ghost use Rattle.std.specs.Prelude.{◌≡◌, None, IsErrOf, string_bytes};
+ghost use Rattle.std.specs.Str.{bytes_eq};
 ghost use Rattle.flag_defs.specs.Flags.{flags_view};
 ghost use Rattle.log_tallies.specs.Lines.{files_view};
+ghost use Rattle.rollout_checks.specs.declared.fault.RolloutFault.{RolloutFault};
 ghost use Rattle.control_answers.specs.Record.{IsRecordAnswer, IsRecordOver};
 ghost use Rattle.control_answers.specs.Target.{target_view};
 ghost use Rattle.control_answers.specs.Turns.{Gives};
+ghost use Rattle.control_answers.specs.declared.refusal.ControlRefusal.TheVariants.{Rollout};
 
 use crate::place::target_in;
 use crate::refusal::ControlRefusal;
@@ -24,7 +28,9 @@ pub fn record_answer(
     site: u32,
     files: &[LogFile<'_>],
 ) -> Result<String, ControlRefusal>
-    ensures { Gives string_bytes (IsRecordAnswer (flags_view flags.now) key.now site (files_view files.now)) result }
+    ensures exact { Gives string_bytes (IsRecordAnswer (flags_view flags.now) key.now site (files_view files.now)) result }
+    // A flag that is unknown is refused without memory.
+    ensures unknown { lookup (bytes_eq key.now) (flags_view flags.now) ≡ None → IsErrOf result (Rollout RolloutFault.UnknownFlag) }
 {
     let target = target_in(alloc, flags, key, site)?;
     recorded(alloc, target, files)

@@ -1,9 +1,10 @@
 //! Why a call is refused.
 ghost use Rattle.std.specs.Prelude.{◌≡◌, IfOk, string_bytes};
-ghost use Rattle.control_answers.specs.Refusal.{call_of, logs_name, logs_number, name_of, number_of, of_check, of_logs, of_price, of_printed, of_read, of_rollout, of_verdict, refusal_text, status_of};
+ghost use Rattle.control_answers.specs.Refusal.{call_of, keep_name, keep_number, logs_name, logs_number, name_of, number_of, of_check, of_keep, of_logs, of_price, of_printed, of_read, of_rollout, of_verdict, of_verdict_of_token, refusal_text, status_of};
 ghost use Rattle.control_answers.specs.declared.refusal.ControlRefusal.TheVariants.{WantOfMemory};
 
 use flag_text::push_string;
+use kept_document::KeepFault;
 use log_tallies::LogTallyFault;
 use plan_text::PlanFileFault;
 use price_core::PriceFault;
@@ -26,13 +27,21 @@ pub enum ControlRefusal {
     PrintPlan(PlanFileFault),
     /// The plan is not right.
     Check(CheckFault),
+    /// The plan of a token is of another total than the rule that stands at the site.
+    OtherTally,
+    /// The document does not take the rule of the plan.
+    Keep(KeepFault),
+    /// A member of the request of a token is passed over, so it may ask something else than was meant.
+    Unread,
+    /// Nothing is recorded on the page of the request of a token, so its plan says of nobody that he keeps what he has.
+    Unrecorded,
     /// The service keeps no log, so it has no record.
     NoRecord,
     /// What was handed over as a token is none.
     BadToken,
     /// The document is another than the one that the plan of the token was made for.
     OtherDocument,
-    /// The plan has no rule, or no document can have it at this site.
+    /// The plan of a token has no rule, or no one document means the flags of the snapshot.
     NoDocument,
 }
 
@@ -48,6 +57,10 @@ impl ControlRefusal {
             ControlRefusal::ReadPlan(fault) => fault.number(),
             ControlRefusal::PrintPlan(fault) => fault.number(),
             ControlRefusal::Check(fault) => fault.number(),
+            ControlRefusal::OtherTally => 14,
+            ControlRefusal::Keep(fault) => keep_number(*fault),
+            ControlRefusal::Unread => 16,
+            ControlRefusal::Unrecorded => 17,
             ControlRefusal::NoRecord => 1,
             ControlRefusal::BadToken => 2,
             ControlRefusal::OtherDocument => 3,
@@ -66,6 +79,10 @@ impl ControlRefusal {
             ControlRefusal::ReadPlan(fault) => fault.name(),
             ControlRefusal::PrintPlan(fault) => fault.name(),
             ControlRefusal::Check(fault) => fault.name(),
+            ControlRefusal::OtherTally => "OtherTally",
+            ControlRefusal::Keep(fault) => keep_name(*fault),
+            ControlRefusal::Unread => "Unread",
+            ControlRefusal::Unrecorded => "Unrecorded",
             ControlRefusal::NoRecord => "NoRecord",
             ControlRefusal::BadToken => "BadToken",
             ControlRefusal::OtherDocument => "OtherDocument",
@@ -84,6 +101,10 @@ impl ControlRefusal {
             ControlRefusal::ReadPlan(_) => "read_planned",
             ControlRefusal::PrintPlan(_) => "print_planned",
             ControlRefusal::Check(_) => asked,
+            ControlRefusal::OtherTally => asked,
+            ControlRefusal::Keep(_) => asked,
+            ControlRefusal::Unread => asked,
+            ControlRefusal::Unrecorded => asked,
             ControlRefusal::NoRecord => "control",
             ControlRefusal::BadToken => "control",
             ControlRefusal::OtherDocument => "control",
@@ -106,7 +127,6 @@ impl ControlRefusal {
 
     /// The body that tells the refusal of a call that was asked by this name, with words for a person. Want of memory is its one
     /// fault.
-    #[tactic(auto, unfolding(crate::specs::Refusal::refusal_text))]
     pub fn text(&self, alloc: Global, asked: &str, details: &str) -> Result<String, AllocError>
         ensures { IfOk result (λ s. string_bytes s ≡ refusal_text asked.now self.now details.now) }
     {
@@ -143,6 +163,50 @@ fn logs_name(fault: LogTallyFault) -> &'static str
         LogTallyFault::Line(_, _) => "Line",
         LogTallyFault::TooMany => "TooMany",
         LogTallyFault::Mixed => "Mixed",
+    }
+}
+
+/// The number of the command `apply --keep` for a document that does not take a rule.
+fn keep_number(fault: KeepFault) -> u32
+    ensures { result ≡ keep_number fault }
+{
+    match fault {
+        KeepFault::WantOfMemory => 0,
+        KeepFault::Shared => 11,
+        KeepFault::TooLong => 12,
+        KeepFault::Differs => 13,
+    }
+}
+
+/// Its name.
+fn keep_name(fault: KeepFault) -> &'static str
+    ensures { result.now ≡ keep_name fault }
+{
+    match fault {
+        KeepFault::WantOfMemory => "WantOfMemory",
+        KeepFault::Shared => "Shared",
+        KeepFault::TooLong => "TooLong",
+        KeepFault::Differs => "Differs",
+    }
+}
+
+/// Why a document does not take a rule.
+pub(crate) fn of_keep(fault: KeepFault) -> ControlRefusal
+    ensures { result ≡ of_keep fault }
+{
+    match fault {
+        KeepFault::WantOfMemory => ControlRefusal::WantOfMemory,
+        _ => ControlRefusal::Keep(fault),
+    }
+}
+
+/// Why the plan of a token is not right.
+pub(crate) fn of_verdict_of_token(fault: VerifyFault) -> ControlRefusal
+    ensures { result ≡ of_verdict_of_token fault }
+{
+    match fault {
+        VerifyFault::Request(RolloutFault::OtherTally) => ControlRefusal::OtherTally,
+        fault => ControlRefusal::from(fault),
     }
 }
 

@@ -1,6 +1,7 @@
 //! The token by which a plan is applied: which document, which plan, which request.
-ghost use Rattle.std.specs.Prelude.{◌≡◌, IfOk, string_bytes};
+ghost use Rattle.std.specs.Prelude.{◌≡◌, IfOk, IsErrOf, IsUtf8, string_bytes};
 ghost use Rattle.control_answers.specs.Token.{FindsMember, ReadsToken, is_tag_of, token_text};
+ghost use Rattle.control_answers.specs.declared.refusal.ControlRefusal.TheVariants.{BadToken};
 
 use crate::refusal::ControlRefusal;
 use entity_tags::{entity_tag, opaque_tag};
@@ -9,6 +10,7 @@ use std::alloc::{AllocError, Global};
 use text_spans::{Step, find};
 
 /// The texts of the members of a token, as they stand there.
+#[derive(Clone, Copy)]
 pub(crate) struct Token<'a> {
     /// The tag of the document that was planned on, in quotes.
     pub(crate) document: &'a [u8],
@@ -20,7 +22,8 @@ pub(crate) struct Token<'a> {
 
 /// The token of a text. Refusals: `BadToken` where it is no JSON text, or has none of these members.
 pub(crate) fn token_in(alloc: Global, bytes: &[u8]) -> Result<Token<'_>, ControlRefusal>
-    ensures { ReadsToken bytes.now result }
+    ensures exact { ReadsToken bytes.now result }
+    ensures no_text { ¬ (IsUtf8 bytes.now) → IsErrOf result BadToken }
 {
     let Ok(text) = basic::from_utf8(bytes) else {
         return Err(ControlRefusal::BadToken);
@@ -55,7 +58,6 @@ pub(crate) fn is_tag_of(alloc: Global, tag: &[u8], document: &str) -> Result<boo
 }
 
 /// The token by which the plan of a request is applied to a document.
-#[tactic(auto, unfolding(crate::specs::Token::token_text))]
 pub(crate) fn token_text(
     alloc: Global,
     document: &str,

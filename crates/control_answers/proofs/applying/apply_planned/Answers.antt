@@ -1,15 +1,14 @@
-use Rattle.std.proofs.Common.{◌≡◌, ◌∙◌, Err, ap, subst, rules, List, ℕ, Result}
+use Rattle.std.proofs.Common.{◌≡◌, ◌∙◌, Err, ap, subst, rules, List, ℕ}
 use Rattle.std.proofs.lemmas.Result.{err_from_is_err_and}
 use Rattle.flag_defs.specs.Flags.{flags_view}
 use Rattle.log_tallies.specs.Lines.{files_view}
 use Rattle.plan_text.specs.Answer.{planned_view}
-use Rattle.control_answers.specs.Apply.{IsAppliedOn, applied_view}
-use Rattle.control_answers.specs.Plan.{snapshot_view}
-use Rattle.control_answers.specs.Refusal.{of_rollout}
+use Rattle.control_answers.specs.Apply.{IsAppliedOf, IsAppliedOn, applied_view}
+use Rattle.control_answers.specs.Snapshot.{snapshot_view}
 use Rattle.control_answers.specs.Target.{target_of, target_view}
-use Rattle.control_answers.specs.Turns.{Gives, OfFiles, WithTarget}
+use Rattle.control_answers.specs.Turns.{Gives, OfFiles}
 use Rattle.control_answers.specs.declared.refusal.ControlRefusal.TheVariants.{WantOfMemory}
-use Rattle.control_answers.proofs.Turns.{no_target, wanted, with_target}
+use Rattle.control_answers.proofs.Turns.{not_asked, wanted, with_target}
 use Rattle.control_answers.proofs.applying.apply_planned.Goals as goal
 
 pub returns-in_err-bytes : goal.returns-in_err-bytes
@@ -17,29 +16,31 @@ returns-in_err-bytes c =
     let r = c.from_residual.result in
     let p = err_from_is_err_and r c.from_residual.ensures.1 in
     let is : r ≡ Err WantOfMemory = p.1 ∙ ap Err p.2 in
-    wanted applied_view (WithTarget (λ target. OfFiles (files_view c.args.files.now) target (IsAppliedOn (snapshot_view c.args.snapshot.now) c.args.request.now (planned_view c.args.planned))) (target_of (flags_view c.args.snapshot.now.flags.now) c.args.request.now)) r is
+    wanted applied_view (IsAppliedOf (snapshot_view c.args.snapshot.now) c.args.request.now (files_view c.args.files.now) (planned_view c.args.planned)) r is
 
-pub returns-in_err-request : goal.returns-in_err-request
-returns-in_err-request c =
-    let r = c.from_residual-in_err-request.result in
-    let p = err_from_is_err_and r c.from_residual-in_err-request.ensures.1 in
-    let is : r ≡ Err WantOfMemory = p.1 ∙ ap Err p.2 in
-    wanted applied_view (WithTarget (λ target. OfFiles (files_view c.args.files.now) target (IsAppliedOn (snapshot_view c.args.snapshot.now) c.args.request.now (planned_view c.args.planned))) (target_of (flags_view c.args.snapshot.now.flags.now) c.args.request.now)) r is
-
-pub returns-in_err-target : goal.returns-in_err-target
-returns-in_err-target c =
-    let same : c.in_ok-request.request ≡ c.args.request.now = search rules in
-    let f = c.in_err-target.field-0.0 in
-    let r = c.from_residual-in_err-target.result in
-    let p = err_from_is_err_and r c.from_residual-in_err-target.ensures.1 in
-    let is : r ≡ Err (of_rollout f) = p.1 ∙ ap Err p.2 in
-    subst (λ (x : List ℕ). Gives applied_view (WithTarget (λ target. OfFiles (files_view c.args.files.now) target (IsAppliedOn (snapshot_view c.args.snapshot.now) x (planned_view c.args.planned))) (target_of (flags_view c.args.snapshot.now.flags.now) x)) r) same
-    (no_target applied_view (target_of (flags_view c.args.snapshot.now.flags.now) c.in_ok-request.request) (λ target. OfFiles (files_view c.args.files.now) target (IsAppliedOn (snapshot_view c.args.snapshot.now) c.in_ok-request.request (planned_view c.args.planned))) f r is c.in_err-target.ensures)
+pub returns-in_err-question_of : goal.returns-in_err-question_of
+returns-in_err-question_of c =
+    let s = snapshot_view c.args.snapshot.now in
+    let files = files_view c.args.files.now in
+    let answer = planned_view c.args.planned in
+    let bytes = c.in_ok-bytes.bytes.items in
+    let same : bytes ≡ c.args.request.now = search rules in
+    let e = c.in_err-question_of.field-0.0 in
+    let r = c.from_residual-in_err-question_of.result in
+    let p = err_from_is_err_and r c.from_residual-in_err-question_of.ensures.1 in
+    let is : r ≡ Err e = p.1 ∙ ap Err p.2 in
+    subst (λ (x : List ℕ). Gives applied_view (IsAppliedOf s x files answer) r) same (not_asked applied_view (flags_view c.args.snapshot.now.flags.now) bytes (λ target. OfFiles files target (IsAppliedOn s bytes answer)) e r is c.in_err-question_of.ensures.exact)
 
 pub returns : goal.returns
 returns c =
-    let same : c.in_ok-request.request ≡ c.args.request.now = search rules in
+    let s = snapshot_view c.args.snapshot.now in
+    let files = files_view c.args.files.now in
+    let answer = planned_view c.args.planned in
+    let bytes = c.in_ok-bytes.bytes.items in
+    let same : bytes ≡ c.args.request.now = search rules in
+    let target = target_view c.in_ok-question_of.field-0.target in
     let r = c.apply_recorded.result in
-    subst (λ (x : List ℕ). Gives applied_view (WithTarget (λ target. OfFiles (files_view c.args.files.now) target (IsAppliedOn (snapshot_view c.args.snapshot.now) x (planned_view c.args.planned))) (target_of (flags_view c.args.snapshot.now.flags.now) x)) r) same
-    (with_target applied_view (target_of (flags_view c.args.snapshot.now.flags.now) c.in_ok-request.request) (λ target. OfFiles (files_view c.args.files.now) target (IsAppliedOn (snapshot_view c.args.snapshot.now) c.in_ok-request.request (planned_view c.args.planned)))
-    (target_view c.in_ok-target.target) r c.in_ok-target.ensures c.apply_recorded.ensures)
+    let is = c.in_ok-question_of.ensures.exact in
+    let made = subst (λ (x : List ℕ). Gives applied_view (OfFiles files target (IsAppliedOn s x answer)) r) is.0 c.apply_recorded.ensures in
+    subst (λ (x : List ℕ). Gives applied_view (IsAppliedOf s x files answer) r) same
+    (with_target applied_view (target_of (flags_view c.args.snapshot.now.flags.now) bytes) (λ target. OfFiles files target (IsAppliedOn s bytes answer)) target r is.1 made)

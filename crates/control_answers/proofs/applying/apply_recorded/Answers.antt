@@ -3,7 +3,7 @@ use Rattle.std.proofs.lemmas.Result.{err_from_is_err_and}
 use Rattle.log_tallies.specs.Lines.{files_view}
 use Rattle.plan_text.specs.Answer.{planned_view}
 use Rattle.control_answers.specs.Apply.{IsAppliedOn, applied_view}
-use Rattle.control_answers.specs.Plan.{snapshot_view}
+use Rattle.control_answers.specs.Snapshot.{snapshot_view}
 use Rattle.control_answers.specs.Refusal.{of_logs}
 use Rattle.control_answers.specs.Target.{target_view}
 use Rattle.control_answers.proofs.Turns.{no_tally, with_tally}

@@ -1,6 +1,7 @@
 use Rattle.std.proofs.Common.{◌≡◌, ◌∙◌, Err, ap}
 use Rattle.std.proofs.lemmas.Result.{err_from_is_err_and}
-use Rattle.control_answers.specs.Plan.{IsPlanOn, snapshot_view}
+use Rattle.control_answers.specs.Plan.{IsPlanOn}
+use Rattle.control_answers.specs.Snapshot.{snapshot_view}
 use Rattle.control_answers.specs.Refusal.{of_rollout}
 use Rattle.control_answers.specs.View.{bytes_view, told_view}
 use Rattle.control_answers.specs.declared.refusal.ControlRefusal.TheVariants.{WantOfMemory}

@@ -1,7 +1,8 @@
 use Rattle.std.proofs.Common.{◌≡◌, ◌∙◌, Err, ap}
 use Rattle.std.proofs.lemmas.Result.{err_from_is_err_and}
 use Rattle.log_tallies.specs.Lines.{files_view}
-use Rattle.control_answers.specs.Plan.{IsPlanOn, snapshot_view}
+use Rattle.control_answers.specs.Plan.{IsPlanOn}
+use Rattle.control_answers.specs.Snapshot.{snapshot_view}
 use Rattle.control_answers.specs.Refusal.{of_logs}
 use Rattle.control_answers.specs.Target.{target_view}
 use Rattle.control_answers.specs.View.{bytes_view}
