@@ -2,7 +2,7 @@
 ghost use Rattle.std.specs.Prelude.{◌≡◌, IfOk, codes, false};
 ghost use Rattle.clap.specs.Simple.{new_app, with_rule};
 ghost use Rattle.clap.specs.Words.{app_of, rule_of};
-ghost use Rattle.flagops_words.specs.Words.{required};
+ghost use Rattle.flagops_words.specs.Words.{refine_option, required};
 ghost use Rattle.flagops_ramps.specs.Words.{keep_app, kept_put, kept_step, kept_words, ramp_app, step_app, step_option, verify_app, with_steps};
 
 use clap::builder::ValueParser;
@@ -30,16 +30,20 @@ const REFINED: &str =
 pub fn ramp<'a>(alloc: Global) -> Result<Command<'a>, AllocError>
     ensures { IfOk result (λ c. app_of c ≡ ramp_app) }
 {
+    let strict = strict(alloc);
+    let floats = floats(alloc);
+    ramped(alloc)?.arg(strict)?.arg(floats)
+}
+
+/// The words that `ramp` begins with, and its factor.
+fn ramped<'a>(alloc: Global) -> Result<Command<'a>, AllocError>
+    ensures { IfOk result (λ c. app_of c ≡ with_rule (with_steps (new_app (codes "ramp"))) refine_option) }
+{
     let command = Command::new(alloc, "ramp")
         .bin_name("flagops ramp")?
         .about(about::RAMP);
     let factor = refine(alloc, REFINED);
-    let strict = strict(alloc);
-    let floats = floats(alloc);
-    with_steps(alloc, command, BOOK)?
-        .arg(factor)?
-        .arg(strict)?
-        .arg(floats)
+    with_steps(alloc, command, BOOK)?.arg(factor)
 }
 
 /// The command `verify-ramp`. The first of its words is its own name.
