@@ -4,7 +4,7 @@ ghost use Rattle.clap.specs.Simple.{new_app, with_rule};
 ghost use Rattle.clap.specs.Words.{app_of, rule_of};
 ghost use Rattle.flagops_pictures.specs.Words.{picture_app, picture_option, plan_app, ramp_app};
 ghost use Rattle.flagops_ramps.specs.Words.{with_steps};
-ghost use Rattle.flagops_words.specs.Words.{flag, floats_flag, strict_flag, with_rollout};
+ghost use Rattle.flagops_words.specs.Words.{flag, floats_flag, required, strict_flag, with_rollout};
 
 use clap::{Arg, Command};
 use flagops_ramps::with_steps;
@@ -23,14 +23,20 @@ const REFINED: &str = "The factor that the plan was made with";
 pub(crate) fn usage<'a>(alloc: Global) -> Result<Command<'a>, AllocError>
     ensures { IfOk result (λ c. app_of c ≡ picture_app) }
 {
+    drawn(alloc)?
+        .arg(refine(alloc, REFINED))?
+        .arg(floats(alloc))
+}
+
+/// The command `picture` with its files.
+fn drawn<'a>(alloc: Global) -> Result<Command<'a>, AllocError>
+    ensures app { IfOk result (λ c. app_of c ≡ with_rule (with_rollout (new_app (codes "picture"))) (required (codes "PLAN"))) }
+{
     let plan = required(alloc, "PLAN", "The plan file, as 'flagops plan' prints it");
     let command = Command::new(alloc, "picture")
         .bin_name("flagops picture")?
         .about(about::PICTURE);
-    rollout(alloc, command)?
-        .arg(plan)?
-        .arg(refine(alloc, REFINED))?
-        .arg(floats(alloc))
+    rollout(alloc, command)?.arg(plan)
 }
 
 /// The command `picture --ramp`. The first of its words is its own name.
