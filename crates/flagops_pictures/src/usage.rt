@@ -44,17 +44,22 @@ fn drawn<'a>(alloc: Global) -> Result<Command<'a>, AllocError>
 pub(crate) fn ramp<'a>(alloc: Global) -> Result<Command<'a>, AllocError>
     ensures { IfOk result (λ c. app_of c ≡ ramp_app) }
 {
+    drawn_in_steps(alloc)?
+        .arg(refine(alloc, REFINED))?
+        .arg(floats(alloc))
+}
+
+/// The command `picture --ramp` with its files.
+fn drawn_in_steps<'a>(alloc: Global) -> Result<Command<'a>, AllocError>
+    ensures app { IfOk result (λ c. app_of c ≡ with_rule (with_rule (with_steps (new_app (codes "picture"))) (required (codes "RAMP"))) (flag (codes "ramp"))) }
+{
     let answers = required(alloc, "RAMP", "The file that 'flagops ramp' printed");
     let ramp = flag(
         alloc,
         "ramp",
         "Draw each step of a rollout, one below the other",
     );
-    steps(alloc)?
-        .arg(answers)?
-        .arg(ramp)?
-        .arg(refine(alloc, REFINED))?
-        .arg(floats(alloc))
+    steps(alloc)?.arg(answers)?.arg(ramp)
 }
 
 /// `plan --picture`. The first of its words is its own name.
