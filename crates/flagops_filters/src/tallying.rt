@@ -42,6 +42,7 @@ use note_streams::{StreamTally, TallyStop, tally_stream};
 use rollout_checks::RolloutFault;
 use std::alloc::{AllocError, Global};
 use std::convert::AsStr;
+use tally_core::PageTally;
 use tally_filters::FilterFault;
 use tally_text::print_tally;
 
@@ -173,13 +174,20 @@ fn printed(
         Ok(text) => Ok(Outcome {
             text: text.into_bytes(),
             status: Status::Done,
-            remark: beside(alloc, came.empty, came.tally.inputs == 0, came.torn),
+            remark: beside(alloc, came.empty, counts_nobody(&came.tally), came.torn),
         }),
         Err(AllocError) => {
             let stop = TallyStop::Filter(FilterFault::WantOfMemory);
             Err(stopped(alloc, stop, opening, first_bytes))
         }
     }
+}
+
+/// Whether a tally counts no input.
+fn counts_nobody(tally: &PageTally) -> bool
+    ensures { result ≡ has_none tally.now }
+{
+    tally.inputs == 0
 }
 
 /// What is told where there was no line at all, or none of the page, or bytes stood behind the last one.
