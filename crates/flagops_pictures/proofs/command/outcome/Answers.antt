@@ -67,7 +67,7 @@ returns-in_err-planned-clause-names g c =
 pub returns-clause-parts : goal.returns-clause-parts
 returns-clause-parts g c =
     let a = picturing_view c.args.asked.now in
-    doubts_said_at a.document a.request a.book (question_view c.in_ok-question.question) (g.F.FileSet.holding c.args.files.now) c.pictured.result c.in_ok-question.ensures.exact c.pictured.ensures.parts
+    doubts_said_at a.floats a.document a.request a.book (question_view c.in_ok-question.question) (g.F.FileSet.holding c.args.files.now) c.pictured.result c.in_ok-question.ensures.exact c.pictured.ensures.parts
 
 pub returns-in_err-planned-clause-parts : goal.returns-in_err-planned-clause-parts
 returns-in_err-planned-clause-parts g c =

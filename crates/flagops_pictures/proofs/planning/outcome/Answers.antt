@@ -50,7 +50,7 @@ returns-in_err-question-clause-names g c =
 pub returns-clause-parts : goal.returns-clause-parts
 returns-clause-parts g c =
     let p = planning_view c.args.asked.now in
-    plan_said_at p.document p.request p.book (question_view c.in_ok-question.question) (unwrap_or p.refine 1) p.explain (g.F.FileSet.holding c.args.files.now) c.planned.result c.in_ok-question.ensures.exact c.planned.ensures.parts
+    plan_said_at p.floats p.document p.request p.book (question_view c.in_ok-question.question) (unwrap_or p.refine 1) p.explain (g.F.FileSet.holding c.args.files.now) c.planned.result c.in_ok-question.ensures.exact c.planned.ensures.parts
 
 pub returns-in_err-question-clause-parts : goal.returns-in_err-question-clause-parts
 returns-in_err-question-clause-parts g c =
