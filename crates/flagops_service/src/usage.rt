@@ -119,19 +119,28 @@ fn operated<'a>(alloc: Global) -> Result<Command<'a>, AllocError>
         alloc,
         "HOST:PORT",
         "admin",
-        "Where /healthz, /readyz and /metrics are served, and not beside the flags",
+        "Where the console, /healthz, /readyz and /metrics are served, and not beside the flags",
     );
     let stop = flag(
         alloc,
         "allow-stop",
         "POST /stop where --admin is served ends the service, with each answer under way sent",
     );
+    let apply = flag(
+        alloc,
+        "allow-apply",
+        "POST /apply where --admin is served writes the one document DOC with the rule of a plan that is right on the record",
+    );
     let lines = flag(
         alloc,
         "access-log",
         "A line of JSON for each request on the error output",
     );
-    guarded(alloc)?.arg(admin)?.arg(stop)?.arg(lines)
+    guarded(alloc)?
+        .arg(admin)?
+        .arg(stop)?
+        .arg(apply)?
+        .arg(lines)
 }
 
 /// The command `ofrep` with the words that are texts, and those that say who may ask.
