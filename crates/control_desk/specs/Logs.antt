@@ -5,16 +5,17 @@ use Rattle.control_desk.specs.Files.{Naming, path_in}
 use Rattle.control_desk.specs.Names.{is_chosen}
 use Rattle.control_desk.specs.declared.logs.Logs as program
 
--- The bytes of all files of the folder that are logs and not compressed, in the order of their names, and the names of those that are
--- compressed, where the folder is known.
-abbrev pub AreBytesOf : Option Holding → List ℕ → List (List ℕ) → List (List ℕ) → Type 0
-AreBytesOf None folder names files = Unit {0}
-AreBytesOf (Some at) folder names files = map Some files ≡ map (λ name. at (path_in folder name)) (filter (is_chosen false) names)
+-- the bytes of the files of these names in a folder, where they are known
+abbrev pub AreAt : Option Holding → List ℕ → List (List ℕ) → List (List ℕ) → Type 0
+AreAt None folder names files = Unit {0}
+AreAt (Some at) folder names files = map Some files ≡ map (λ name. at (path_in folder name)) names
 
+-- of these names: the bytes of all files that are logs and not compressed, in their order, and the names of those that are compressed
 pub record AreListed (holding : Option Holding) (folder : List ℕ) (names files passed : List (List ℕ)) : Type 0 where
-  pub read : AreBytesOf holding folder names files
+  pub read : AreAt holding folder (filter (is_chosen false) names) files
   pub passed_over : passed ≡ filter (is_chosen true) names
 
+-- the same of all names of a folder, where they are known
 abbrev pub AreLogs : Option Naming → Option Holding → List ℕ → List (List ℕ) → List (List ℕ) → Type 0
 AreLogs None holding folder files passed = Unit {0}
 AreLogs (Some named) holding folder files passed = AreListed holding folder (named folder) files passed

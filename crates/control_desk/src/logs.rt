@@ -1,8 +1,8 @@
 //! The logs of a folder.
-ghost use Rattle.std.specs.Prelude.{◌≡◌, Some, IfOk, IfSome, filter, map, string_bytes};
+ghost use Rattle.std.specs.Prelude.{◌≡◌, IfOk, IfSome, filter, map, string_bytes};
 ghost use Rattle.log_tallies.specs.Lines.{files_view};
 ghost use Rattle.control_desk.specs.Files.{path_in};
-ghost use Rattle.control_desk.specs.Logs.{AreListed, AreLogs, bytes_of, passed_by};
+ghost use Rattle.control_desk.specs.Logs.{AreAt, AreListed, AreLogs, bytes_of, passed_by};
 ghost use Rattle.control_desk.specs.Names.{is_chosen};
 
 use crate::files::DeskFiles;
@@ -86,8 +86,7 @@ fn read_each<F: DeskFiles>(
     folder: &str,
     names: &[&str],
 ) -> io::Result<Option<Vec<HeldLog>>>
-    ensures { IfOk result (λ o. IfSome o (λ v. IfSome (F.holding files.now) (λ at.
-        map (λ log. Some log.bytes.items) v.items ≡ map (λ name. at (path_in folder.now name.now)) names.now))) }
+    ensures { IfOk result (λ o. IfSome o (λ v. AreAt (F.holding files.now) folder.now (map (λ name. name.now) names.now) (map (λ log. log.bytes.items) v.items))) }
 {
     let mut read = Vec::with_capacity(alloc, names.len())?;
     for name in names {
@@ -109,6 +108,7 @@ pub(crate) fn path_in(alloc: Global, folder: &str, name: &str) -> Result<String,
 }
 
 /// The logs as they are handed over to be tallied.
+#[tactic(auto, using(crate::proofs::Items::one_more))]
 pub(crate) fn handed<'a>(alloc: Global, logs: &'a [HeldLog]) -> Result<Vec<LogFile<'a>>, AllocError>
     ensures { IfOk result (λ v. files_view v.items ≡ map (λ log. log.bytes.items) logs.now) }
 {
@@ -123,6 +123,7 @@ pub(crate) fn handed<'a>(alloc: Global, logs: &'a [HeldLog]) -> Result<Vec<LogFi
 }
 
 /// Copies of names.
+#[tactic(auto, using(crate::proofs::Items::one_more))]
 fn copied(alloc: Global, names: &[&str]) -> Result<Vec<String>, AllocError>
     ensures { IfOk result (λ v. map string_bytes v.items ≡ map (λ name. name.now) names.now) }
 {

@@ -53,6 +53,7 @@ pub(crate) fn tell_flags(
 }
 
 /// Texts, by where they lie.
+#[tactic(auto, using(crate::proofs::Items::one_more))]
 fn lent<'a>(alloc: Global, texts: &'a [String]) -> Result<Vec<&'a str>, AllocError>
     ensures { IfOk result (λ v. map (λ t. t.now) v.items ≡ map string_bytes texts.now) }
 {

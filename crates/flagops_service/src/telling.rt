@@ -70,7 +70,7 @@ pub(crate) fn say_operations<E: Outlet>(
     say_made(
         err,
         format!(in alloc;
-            "ofrep: serves the console, /healthz, /readyz and /metrics on {address}{ends}{writes}\n"
+            "ofrep: serves /healthz, /readyz and /metrics on {address}, and the console{ends}{writes}\n"
         ),
     );
 }
