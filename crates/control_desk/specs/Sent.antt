@@ -1,7 +1,8 @@
 -- Fields of responses (RFC 9110: Content-Type, ETag, field values; Content Security Policy Level 3, 3.1: the field).
-use Rattle.std.specs.Prelude.{ℕ, List, [], ◌∷◌, codes, decimal, if◌then◌else◌}
+use Rattle.std.specs.Prelude.{ℕ, List, [], ◌∷◌, codes, decimal, if◌then◌else◌, Option, Some, None}
 use Rattle.std.specs.List.{list_all}
 use Rattle.http1.specs.Fields.{Header}
+use Rattle.http_header.specs.FieldValue.{FieldValue}
 use Rattle.http_header.specs.Token.{is_value_byte}
 use Rattle.http_server.specs.Response.{IsResponse}
 use Rattle.http_server.specs.declared.response.Response.{Response}
@@ -20,6 +21,11 @@ type_field media = (codes "content-type", media_type media) ∷ []
 -- a field, where its value may be sent
 abbrev pub field : List ℕ → List ℕ → List Header
 field name value = if list_all is_value_byte value then (name, value) ∷ [] else []
+
+-- a field that was made, where there is one
+abbrev pub fields_in : Option (List ℕ × FieldValue) → List Header
+fields_in None = []
+fields_in (Some f) = (f.0, f.1.bytes) ∷ []
 
 -- the number of a snapshot
 abbrev pub number_field : ℕ → List Header

@@ -3,7 +3,7 @@ ghost use Rattle.std.specs.Prelude.{◌≡◌, ◌++◌, [], OnOk, codes, decima
 ghost use Rattle.http_header.specs.FieldValue.{plain_value};
 ghost use Rattle.http_server.specs.Response.{IsBlank, IsResponse, fields_of};
 ghost use Rattle.control_desk.specs.Reply.{Replies, media_of, more_of, reply_text, status_of};
-ghost use Rattle.control_desk.specs.Sent.{IsPage, field, media_type, number_field, type_field};
+ghost use Rattle.control_desk.specs.Sent.{IsPage, field, fields_in, media_type, number_field, type_field};
 
 use crate::page::ConsolePage;
 use crate::reply::Reply;
@@ -51,8 +51,17 @@ pub(crate) fn finish(
     ensures { OnOk result (IsResponse status (fields_of response.old ++ type_field media) body.now response.new) }
 {
     response.status = status;
-    response.add_header(CONTENT_TYPE, media.value())?;
+    add_type(media, response)?;
     response.body.put_slice(body)
+}
+
+/// Adds what the body of a response is.
+fn add_type(media: Media, response: &mut Response) -> Result<(), AllocError>
+    ensures fields { OnOk result (fields_of response.new ≡ fields_of response.old ++ type_field media) }
+    ensures status { response.new.status ≡ response.old.status }
+    ensures body { response.new.body ≡ response.old.body }
+{
+    response.add_header(CONTENT_TYPE, media.value())
 }
 
 /// Makes a response a reply. Where memory runs out it has the status alone.
@@ -85,15 +94,23 @@ fn add_more(reply: Reply, response: &mut Response) -> Result<(), AllocError>
     ensures fields { OnOk result (fields_of response.new ≡ fields_of response.old ++ more_of reply) }
     ensures body { response.new.body ≡ response.old.body }
 {
+    match more_of(reply) {
+        Some((name, value)) => response.add_header(name, value),
+        None => Ok(()),
+    }
+}
+
+/// The field that a reply has beside its type.
+fn more_of(reply: Reply) -> Option<(HeaderName, HeaderValue)>
+    ensures { fields_in result ≡ more_of reply }
+{
     match reply {
-        Reply::OnlyGet => response.add_header(ALLOW, HeaderValue::from_static("GET")),
-        Reply::OnlyPost => response.add_header(ALLOW, HeaderValue::from_static("POST")),
-        Reply::Unauthorized => {
-            response.add_header(WWW_AUTHENTICATE, HeaderValue::from_static("Bearer"))
-        }
-        Reply::Busy => response.add_header(RETRY_AFTER, HeaderValue::from_static("1")),
+        Reply::OnlyGet => Some((ALLOW, HeaderValue::from_static("GET"))),
+        Reply::OnlyPost => Some((ALLOW, HeaderValue::from_static("POST"))),
+        Reply::Unauthorized => Some((WWW_AUTHENTICATE, HeaderValue::from_static("Bearer"))),
+        Reply::Busy => Some((RETRY_AFTER, HeaderValue::from_static("1"))),
         Reply::Unserved | Reply::NoQuery | Reply::Unreadable | Reply::Unwritten | Reply::Leaves =>
-            Ok(()),
+            None,
     }
 }
 
