@@ -16,7 +16,7 @@ use Rattle.control_flags.specs.Flags.{flags_text}
 use Rattle.flag_defs.specs.Flags.{flags_view}
 use Rattle.flag_defs.specs.Floats.{floats_view}
 use Rattle.sync_frames.specs.Snapshots.{Numbered}
-use Rattle.control_flags.specs.Joined.{names_text}
+use Rattle.control_flags.specs.Joined.{comma_if, quoted}
 use Rattle.control_flags.specs.declared.answer.FlagsAsked.{FlagsAsked}
 use Rattle.entity_tags.specs.Tag.{entity_tag, opaque_tag}
 use Rattle.http_server.specs.Response.{IsResponse}
@@ -38,6 +38,11 @@ Tells asked media (Ok body) response = IsResponse 200 (type_field media) body re
 Tells asked media (Err e) response = IsRefusal asked e response
 
 -- ---- files that were not read
+
+-- names as JSON texts, with commas between
+abbrev pub names_text : Bool → List (List ℕ) → List ℕ
+names_text later [] = []
+names_text later (name ∷ names) = comma_if later ++ (quoted name ++ names_text true names)
 
 -- an object, which ends with a brace and a line feed, with the names of the files that were passed over, where there are some
 unfoldable pub with_passed_over : List (List ℕ) → List ℕ → List ℕ

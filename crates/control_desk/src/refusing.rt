@@ -50,7 +50,7 @@ fn status_of(refusal: &ControlRefusal) -> StatusCode
         ControlRefusal::Keep(_) => StatusCode::BAD_REQUEST,
         ControlRefusal::Unread => StatusCode::BAD_REQUEST,
         ControlRefusal::Unrecorded => StatusCode::BAD_REQUEST,
-        ControlRefusal::NoRule => StatusCode::BAD_REQUEST,
+        ControlRefusal::NoDocument => StatusCode::BAD_REQUEST,
     }
 }
 
@@ -94,7 +94,7 @@ fn sentence_of(refusal: &ControlRefusal) -> &'static str {
         ControlRefusal::NoRecord => "the service keeps no log: --log FOLDER names a folder for it",
         ControlRefusal::BadToken => "what was sent is not what a plan was answered with",
         ControlRefusal::OtherDocument => "the document has changed since this was planned",
-        ControlRefusal::NoRule => "the plan has no rule: none fits what was asked",
+        ControlRefusal::NoDocument => "the plan has no rule: none fits what was asked",
         ControlRefusal::OtherTally => "the rule that stands at the site has another total by now",
         ControlRefusal::Keep(_) => "the document does not take the rule at this site",
         ControlRefusal::Unread =>

@@ -4,10 +4,9 @@ ghost use Rattle.http_server.specs.Response.{IsBlank};
 ghost use Rattle.log_tallies.specs.Lines.{files_view};
 ghost use Rattle.control_answers.specs.Token.{HasNoMember, IsMember};
 ghost use Rattle.control_calls.specs.Calls.{asked_view, record_of};
-ghost use Rattle.control_flags.specs.Joined.{names_text};
 ghost use Rattle.control_desk.specs.Held.{held_view, numbered_of};
 ghost use Rattle.control_desk.specs.Rules.{rules_view};
-ghost use Rattle.control_desk.specs.Told.{IsNoPair, IsPair, TellsCheck, TellsDocument, TellsFlags, TellsHistory, TellsObject, TellsPlan, TellsRecord, with_passed_over};
+ghost use Rattle.control_desk.specs.Told.{IsNoPair, IsPair, TellsCheck, TellsDocument, TellsFlags, TellsHistory, TellsObject, TellsPlan, TellsRecord, names_text, with_passed_over};
 
 use crate::giving::{Media, add_number, add_tag, finish, respond};
 use crate::held::HeldSnapshot;

@@ -20,7 +20,7 @@ held (Some at) path bytes keys loaded is = ap keys_loaded loaded ∙ ap usable i
 pub lacking : (holding : Option Holding) (path : Text) (bytes : List ℕ) (why : Unready) → IfSome holding (λ at. load_of at path max_key_bytes ≡ Ok bytes) → AreNoKeys bytes why → LacksKeys holding path why
 lacking None path bytes (Stopped stop) loaded none = loaded
 lacking (Some at) path bytes (Stopped stop) loaded none = (Unusable none.0, none.1, ap keys_loaded loaded ∙ ap usable none.2)
-lacking holding path bytes Unbound loaded none = none
+lacking holding path bytes (Unbound unbound) loaded none = none
 lacking holding path bytes WantOfMemory loaded none = none
 
 -- it can't be read

@@ -17,7 +17,7 @@ use Rattle.flagops_service.specs.declared.preparing.Unready.TheVariants.{Stopped
 -- the logs are the reason only where a folder is named for them
 abbrev pub MayBeUnready : Answering → Unready → Type 0
 MayBeUnready a (Stopped stop) = MayStop a stop
-MayBeUnready a Unbound = Unit {0}
+MayBeUnready a (Unbound unbound) = Unit {0}
 MayBeUnready a WantOfMemory = Unit {0}
 
 -- keys, or why bytes are none
@@ -40,13 +40,13 @@ HoldsKeys holding path keys = IfSome holding (λ at. keys_at at path ≡ Ok (key
 -- it has none for this reason, unless memory ran out
 abbrev pub LacksKeys : Option Holding → Text → Unready → Type 0
 LacksKeys holding path (Stopped stop) = IfSome holding (λ at. (why : WhyNoKeys) × (stop ≡ NoKeys why) × (keys_at at path ≡ Err why))
-LacksKeys holding path Unbound = ⊥
+LacksKeys holding path (Unbound unbound) = ⊥
 LacksKeys holding path WantOfMemory = Unit {0}
 
 -- the bytes are no keys for this reason, unless memory ran out
 abbrev pub AreNoKeys : List ℕ → Unready → Type 0
 AreNoKeys bytes (Stopped stop) = (fault : KeyFault) × (stop ≡ NoKeys (Unusable fault)) × (keys_of bytes ≡ Err fault)
-AreNoKeys bytes Unbound = ⊥
+AreNoKeys bytes (Unbound unbound) = ⊥
 AreNoKeys bytes WantOfMemory = Unit {0}
 
 -- they are the keys of the file that is named; where none is named there are none

@@ -22,9 +22,9 @@ use crate::host::Host;
 use crate::keys::WatchedKeys;
 use crate::log_news::tell_lines;
 use crate::merging::merge_all;
-use crate::preparing::{Prepared, Unready, operators_of, prepare};
+use crate::preparing::{Prepared, Unready, operators_of, prepare, trouble_of_logs};
 use crate::reporting::{
-    refuse_and_tell, refuse_document, refuse_start, refuse_unloaded, serving_line,
+    refuse_and_tell, refuse_document, refuse_start, refuse_unbound, refuse_unloaded, serving_line,
 };
 use crate::stop::Stop;
 use crate::telling::{
@@ -216,10 +216,16 @@ fn answer_flags<R: Host, F: FileSet, O: Outlet, E: Outlet>(
                 rt, answering, history, flags, prepared, watched, files, out, err,
             )
         }
+        Err(Unready::Stopped(Stop::NoLog(fault))) => {
+            let trouble = trouble_of_logs(rt, alloc, answering, fault);
+            refuse_start(alloc, out, err, answering, trouble, Stop::NoLog(fault))
+        }
         Err(Unready::Stopped(stop)) => {
             refuse_start(alloc, out, err, answering, files.trouble(), stop)
         }
-        Err(Unready::Unbound) => refuse_and_tell(alloc, out, err, Refusal::Unbound),
+        Err(Unready::Unbound(unbound)) => {
+            refuse_unbound(alloc, out, err, answering, unbound, Refusal::Unbound)
+        }
         Err(Unready::WantOfMemory) => refuse_and_tell(alloc, out, err, Refusal::WantOfMemory),
     }
 }
@@ -337,7 +343,7 @@ where
         Ok(board) => board,
         Err(AllocError) => return refuse_and_tell(alloc, out, err, Refusal::WantOfMemory),
     };
-    say_listening(alloc, err, answering);
+    say_listening(alloc, err, answering, posts.as_slice());
     say_operations(alloc, err, &admin, answering);
     say_all_broken(&watched, err);
     say_published(alloc, err, 1, count, broken);

@@ -37,6 +37,7 @@ mod sizes;
 mod stop;
 mod taking;
 mod telling;
+mod unbound;
 mod usage;
 mod watched;
 mod watching;

@@ -140,7 +140,7 @@ fn why_failing(trouble: Option<Trouble>) -> &'static str {
 /// What becomes of an answer whose notes it is to take.
 fn what_becomes(without_record: WithoutRecord) -> &'static str {
     match without_record {
-        WithoutRecord::Answer => "  what it is to record is answered all the same\n",
-        WithoutRecord::Refuse => "  what it is to record is answered with status 500\n",
+        WithoutRecord::Answer => "  what it should record is answered all the same\n",
+        WithoutRecord::Refuse => "  what it should record is answered with status 500\n",
     }
 }

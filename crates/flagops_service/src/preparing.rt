@@ -8,14 +8,15 @@ ghost use Rattle.flagops_service.specs.Words.{Answering as Asked, answering_view
 use crate::asked::Answering;
 use crate::keys::read_keys;
 use crate::stop::Stop;
+use crate::unbound::{Spot, Unbound, address_of};
 use flagops_shell::FileSet;
 use log_file::{LogFault, LogPaths};
 use ofrep_guards::{Keys, OriginFault, origin_fault};
-use ofrep_service::{AdminPost, Post, bind, bind_admin, bind_stream, open_logs};
+use ofrep_service::{AdminPost, Post, bind, bind_admin, bind_stream, log_trouble, open_logs};
 use std::alloc::Global;
 use std::hash::RandomState;
 use std::io::{self, ErrorKind};
-use std::net::{Net, SocketAddr, TcpListener, TcpStream};
+use std::net::{Net, TcpListener, TcpStream};
 use std::random::RandomSource;
 
 /// Where HTTP is served where no address is given.
@@ -42,7 +43,7 @@ pub(crate) enum Unready {
     /// An origin is none, the keys can't be used, the logs can't be opened, or the system gives no random bytes.
     Stopped(Stop),
     /// An address, or the port of the stream, can't be listened on.
-    Unbound,
+    Unbound(Unbound),
 }
 
 /// Judges the origins, reads the keys of clients, opens the logs, and then listens.
@@ -72,15 +73,15 @@ where
         Err(LogFault::WantOfMemory) => return Err(Unready::WantOfMemory),
         Err(fault) => return Err(Unready::Stopped(Stop::NoLog(fault))),
     };
-    let Ok(address) = answering.listen.unwrap_or(LISTEN).parse::<SocketAddr>() else {
-        return Err(Unready::Unbound);
+    let Some(address) = address_of(answering.listen.unwrap_or(LISTEN)) else {
+        return Err(Unready::Unbound(Unbound::misspelled(Spot::Flags)));
     };
     let Ok(keys) = RandomState::new(rt) else {
         return Err(Unready::Stopped(Stop::Unseeded));
     };
     let posts = match bind(rt, alloc, address, logs) {
         Ok(posts) => posts,
-        Err(fault) => return Err(why_unready(fault.kind())),
+        Err(fault) => return Err(why_unready(Spot::Flags, fault.kind())),
     };
     let admin = admin_post(rt, alloc, answering)?;
     match streams(rt, alloc, answering) {
@@ -91,7 +92,7 @@ where
             keys,
             clients,
         }),
-        Err(fault) => Err(why_unready(fault.kind())),
+        Err(fault) => Err(why_unready(Spot::Stream, fault.kind())),
     }
 }
 
@@ -131,12 +132,12 @@ fn admin_post<R: Net<Listener = TcpListener, Stream = TcpStream>>(
     let Some(word) = answering.admin else {
         return Ok(None);
     };
-    let Ok(address) = word.parse::<SocketAddr>() else {
-        return Err(Unready::Unbound);
+    let Some(address) = address_of(word) else {
+        return Err(Unready::Unbound(Unbound::misspelled(Spot::Operations)));
     };
     match bind_admin(rt, alloc, address, answering.allow_stop) {
         Ok(post) => Ok(Some(post)),
-        Err(fault) => Err(why_unready(fault.kind())),
+        Err(fault) => Err(why_unready(Spot::Operations, fault.kind())),
     }
 }
 
@@ -174,12 +175,27 @@ fn streams<R: Net<Listener = TcpListener, Stream = TcpStream>>(
     }
 }
 
+/// The system's word on why the logs can't be opened, as far as it has one.
+pub(crate) fn trouble_of_logs<P: LogPaths>(
+    paths: &P,
+    alloc: Global,
+    answering: &Answering<'_>,
+    fault: LogFault,
+) -> Option<io::Error> {
+    match (fault, answering.log) {
+        (LogFault::Unopened, Some(folder)) => {
+            log_trouble(paths, alloc, folder, answering.workers as usize)
+        }
+        _ => None,
+    }
+}
+
 /// Why a socket can't be had: want of memory, or another reason.
-fn why_unready(kind: ErrorKind) -> Unready
+fn why_unready(spot: Spot, kind: ErrorKind) -> Unready
     ensures { (a : Asked) → MayBeUnready a result }
 {
     match kind {
         ErrorKind::OutOfMemory => Unready::WantOfMemory,
-        _ => Unready::Unbound,
+        other => Unready::Unbound(Unbound::of(spot, other)),
     }
 }

@@ -6,6 +6,7 @@ ghost use Rattle.flagops_streams.specs.Told.{TellsText};
 use crate::asked::Answering;
 use crate::stop::{NoKeys, Stop, why_no_origin};
 use crate::telling::of_bad_keys;
+use crate::unbound::{Unbound, of_unbound};
 use file_diagnostics::{of_document, of_unreadable, quoted_name};
 use flag_text::Outlet;
 use flagops_shell::tell;
@@ -68,8 +69,25 @@ fn why_stopped(
             let why = of_bad_keys(alloc, path, fault)?;
             format!(in alloc; "error: {why}\n  each line of the file of --keys is a key\n")
         }
+        (Stop::NoLog(_), _) => of_no_log(alloc, answering.log, trouble, stop),
         (_, _) => String::from_str(alloc, stop.why()),
     }
+}
+
+/// Why the logs can't be opened, with the path of their folder, and in the system's words where these are known.
+fn of_no_log(
+    alloc: Global,
+    folder: Option<&str>,
+    trouble: Option<io::Error>,
+    stop: Stop,
+) -> Result<String, AllocError> {
+    let (Some(folder), Some(trouble)) = (folder, trouble) else {
+        return String::from_str(alloc, stop.why());
+    };
+    let folder = quoted_name(alloc, folder)?;
+    format!(in alloc;
+        "error: the folder {folder} of --log cannot be used: {trouble}\n  --log has to name a folder whose files this service may read and write\n"
+    )
 }
 
 /// The first of these origins that no browser names so, and why.
@@ -78,7 +96,9 @@ fn of_bad_origin(alloc: Global, origins: &[&str]) -> Result<String, AllocError> 
         if let Some(fault) = origin_fault(origin) {
             let name = quoted_name(alloc, origin)?;
             let why = why_no_origin(fault);
-            return format!(in alloc; "error: no page is of the origin {name} of --cors\n  {why}\n");
+            return format!(in alloc;
+                "error: no browser sends the origin {name} of --cors\n  {why}\n"
+            );
         }
     }
     Ok(String::new(alloc))
@@ -93,6 +113,23 @@ fn tell_stop<E: Outlet>(err: &mut E, text: Result<String, AllocError>, stop: Sto
         Ok(text) => tell(err, text.as_str()),
         Err(AllocError) => tell(err, stop.why()),
     }
+}
+
+/// An address can't be listened on.
+pub(crate) fn refuse_unbound<O: Outlet, E: Outlet>(
+    alloc: Global,
+    out: &mut O,
+    err: &mut E,
+    answering: &Answering<'_>,
+    unbound: Unbound,
+    refusal: Refusal,
+) -> u8
+    requires out_whole { O.is_broken out.old ≡ false }
+    requires err_whole { E.is_broken err.old ≡ false }
+    ensures { Refuses (O.bytes out.old) (O.bytes out.new) (O.is_broken out.new) (E.bytes err.old) (E.bytes err.new) (E.is_broken err.new) result refusal }
+{
+    tell_made(alloc, err, of_unbound(alloc, answering, unbound), refusal);
+    refuse(alloc, out, refusal)
 }
 
 /// The document at a path was not loaded; where it can't be read, why is told in the system's words, as far as these are known.

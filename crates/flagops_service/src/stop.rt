@@ -48,10 +48,10 @@ impl Stop {
         match self {
             Stop::NoLog(fault) => why_no_log(fault),
             Stop::Unseeded => {
-                "error: the system gives no random bytes\n  they are for tables whose keys others choose\n"
+                "error: the system gives no random bytes\n  they protect tables whose keys clients choose\n"
             }
             Stop::BrokenFlags => {
-                "error: flags are broken\n  with --broken refuse none may be; \"flagops check DOC..\" names each\n"
+                "error: flags are broken\n  --broken refuse allows none; \"flagops check DOC..\" names each\n"
             }
             Stop::BadOrigin(fault) => why_no_origin(fault),
             Stop::NoKeys(why) => why_no_keys(why),
@@ -76,9 +76,9 @@ fn cors_line(fault: OriginFault) -> &'static str
 pub(crate) fn why_no_origin(fault: OriginFault) -> &'static str {
     match fault {
         OriginFault::NoOrigin =>
-            "an origin is a scheme, \"://\" and a host, as https://app.example.com, or with a port behind it",
+            "an origin is a scheme, \"://\", a host and perhaps a port, as https://app.example.com",
         OriginFault::UpperCase => "browsers write origins in lower case",
-        OriginFault::Path => "nothing stands behind the host and its port, not even a slash",
+        OriginFault::Path => "nothing follows the host and its port, not even a slash",
         OriginFault::OwnPort => "browsers leave out the port 80 of http and 443 of https",
         OriginFault::BadByte =>
             "no host has such a character; browsers write names beyond ASCII as xn--..",
@@ -101,10 +101,10 @@ fn why_no_log(fault: LogFault) -> &'static str {
     match fault {
         LogFault::WantOfMemory => "error: memory ran out while the logs were opened\n",
         LogFault::Unopened => {
-            "error: the logs cannot be opened\n  the folder of --log is no folder, or its files may not be read and written\n"
+            "error: the logs cannot be opened\n  --log has to name a folder whose files this service may read and write\n"
         }
         LogFault::InUse => {
-            "error: the logs are in use\n  another service that runs records in the folder of --log\n"
+            "error: the logs are in use\n  another running service records in the folder of --log\n"
         }
     }
 }
@@ -132,13 +132,13 @@ fn why_no_keys(why: NoKeys) -> &'static str {
             "error: memory ran out while the keys were read\n"
         }
         NoKeys::Unusable(KeyFault::NoKey) => {
-            "error: the file of --keys is empty\n  with no key nobody could ask for a flag\n"
+            "error: the file of --keys is empty\n  without a key no client could ask for a flag\n"
         }
         NoKeys::Unusable(KeyFault::TooLarge) => {
             "error: the file of --keys has more than 65536 bytes\n"
         }
         NoKeys::Unusable(KeyFault::BadKey(_)) => {
-            "error: a line of the file of --keys is no key\n  a key has 16 bytes at least, all of them visible ASCII; there are no blank lines\n"
+            "error: a line of the file of --keys is not a key\n  a key has at least 16 bytes, all of them visible ASCII; blank lines are not allowed\n"
         }
     }
 }

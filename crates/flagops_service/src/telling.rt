@@ -8,10 +8,11 @@ use flag_regressions::Regression;
 use flag_text::Outlet;
 use flagops_streams::say;
 use ofrep_guards::KeyFault;
-use ofrep_service::AdminPost;
+use ofrep_service::{AdminPost, Post};
 use ofrep_worker::WithoutRecord;
 use source_merge::SourceFault;
 use std::alloc::{AllocError, Global};
+use std::net::SocketAddr;
 
 /// Tells a text that was made. One that could not be made is left out.
 pub(crate) fn say_made<E: Outlet>(err: &mut E, text: Result<String, AllocError>) {
@@ -20,19 +21,29 @@ pub(crate) fn say_made<E: Outlet>(err: &mut E, text: Result<String, AllocError>)
     }
 }
 
-/// Where is listened, by how many workers, whether anything is recorded, and where the stream is.
-pub(crate) fn say_listening<E: Outlet>(alloc: Global, err: &mut E, answering: &Answering<'_>) {
-    let address = answering.listen.unwrap_or(LISTEN);
+/// Where these posts listen, how many workers there are, whether anything is recorded, and where the stream is.
+pub(crate) fn say_listening<E: Outlet>(
+    alloc: Global,
+    err: &mut E,
+    answering: &Answering<'_>,
+    posts: &[Post],
+) {
     let workers = answering.workers;
-    say_made(
-        err,
-        format!(in alloc; "ofrep: listens on {address}, with {workers} workers\n"),
-    );
+    let line = match bound_address(posts) {
+        Some(address) => {
+            format!(in alloc; "ofrep: listens on {address}, with {workers} workers\n")
+        }
+        None => {
+            let address = answering.listen.unwrap_or(LISTEN);
+            format!(in alloc; "ofrep: listens on {address}, with {workers} workers\n")
+        }
+    };
+    say_made(err, line);
     say_recording(alloc, err, answering);
     if let Some(path) = answering.keys {
         say_made(
             err,
-            format!(in alloc; "ofrep: wants a key of the file \"{path}\" for each evaluation\n"),
+            format!(in alloc; "ofrep: each evaluation needs a key of the file \"{path}\"\n"),
         );
     }
     if let Some(port) = answering.stream {
@@ -44,6 +55,11 @@ pub(crate) fn say_listening<E: Outlet>(alloc: Global, err: &mut E, answering: &A
             ),
         );
     }
+}
+
+/// The address that the system gave, with the port that it chose where 0 was asked for.
+fn bound_address(posts: &[Post]) -> Option<SocketAddr> {
+    posts.first()?.listener.local_addr().ok()
 }
 
 /// Where operations are asked for, where they have an address of their own.
@@ -89,15 +105,12 @@ fn say_recording<E: Outlet>(alloc: Global, err: &mut E, answering: &Answering<'_
                 format!(in alloc; "ofrep: records {what} in the folder \"{folder}\"\n"),
             );
             if let WithoutRecord::Answer = answering.without_record {
-                say(
-                    err,
-                    "ofrep: answers all the same where they can't be recorded\n",
-                );
+                say(err, "ofrep: answers even where they cannot be recorded\n");
             }
         }
         None => say(
             err,
-            "ofrep: records nothing; --log FOLDER names a folder for what it is to record\n",
+            "ofrep: records nothing; --log FOLDER records hash inputs in a folder\n",
         ),
     }
 }
@@ -107,12 +120,12 @@ pub(crate) fn say_ended<E: Outlet>(err: &mut E, was_stopped: bool) {
     if was_stopped {
         say(
             err,
-            "ofrep: stopped, as was asked for; no answer is under way\n",
+            "ofrep: stopped as requested; no answer is left unsent\n",
         );
     } else {
         say(
             err,
-            "ofrep: no thread could be made for a worker, for want of memory or by the system; the service has ended\n",
+            "ofrep: the system made no thread for a worker, or memory ran out; the service has ended\n",
         );
     }
 }
@@ -168,21 +181,21 @@ pub(crate) fn say_accepted<E: Outlet>(alloc: Global, err: &mut E, path: &str) {
 /// Why a document is not taken.
 pub(crate) fn say_kept<E: Outlet>(err: &mut E, why: Result<String, AllocError>) {
     say_made(err, why);
-    say(err, "  what was accepted of it last is answered from\n");
+    say(err, "  the last version that was accepted stays in use\n");
 }
 
 /// Other keys are wanted.
 pub(crate) fn say_keys_changed<E: Outlet>(alloc: Global, err: &mut E, path: &str) {
     say_made(
         err,
-        format!(in alloc; "ofrep: \"{path}\" has changed; a key of it is wanted\n"),
+        format!(in alloc; "ofrep: \"{path}\" has changed; its keys are in use\n"),
     );
 }
 
 /// Why the keys stay as they are.
 pub(crate) fn say_keys_kept<E: Outlet>(err: &mut E, why: Result<String, AllocError>) {
     say_made(err, why);
-    say(err, "  the keys that were read of it last stay\n");
+    say(err, "  the keys that were read last stay in use\n");
 }
 
 /// Why what a file has are no keys.
@@ -205,10 +218,10 @@ pub(crate) fn of_bad_keys(
         KeyFault::BadKey(Some(at)) => {
             let line = at.saturating_add(1);
             format!(in alloc;
-                "line {line} of {path} is no key, which has 16 bytes at least, all of them visible ASCII"
+                "line {line} of {path} is not a key: a key has at least 16 bytes, all of them visible ASCII"
             )
         }
-        KeyFault::BadKey(None) => format!(in alloc; "{path} is no text in UTF-8"),
+        KeyFault::BadKey(None) => format!(in alloc; "{path} is not a text in UTF-8"),
         KeyFault::NoKey | KeyFault::TooLarge | KeyFault::WantOfMemory => {
             format!(in alloc; "{path} has no keys: {fault}")
         }
@@ -264,7 +277,7 @@ fn of_harm(
         Regression::Lost(key) => {
             let key = quoted_name(alloc, key.as_str())?;
             format!(in alloc;
-                "ofrep: \"{path}\" is refused: it has {key} still, and no flag of this key\n"
+                "ofrep: \"{path}\" is refused: it still has {key}, but no flag of this key\n"
             )
         }
     }
@@ -272,5 +285,5 @@ fn of_harm(
 
 /// What can't be read again, since a read might wait for ever.
 pub(crate) fn of_device(alloc: Global, path: &str) -> Result<String, AllocError> {
-    format!(in alloc; "ofrep: \"{path}\" is no plain file, and is not read again\n")
+    format!(in alloc; "ofrep: \"{path}\" is not a plain file, so it is not read again\n")
 }

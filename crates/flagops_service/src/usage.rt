@@ -32,7 +32,7 @@ pub fn command<'a>(alloc: Global) -> Result<Command<'a>, AllocError>
         alloc,
         "PORT",
         "stream",
-        "The port of 127.0.0.1 where each snapshot is sent to at most 32 subscribers at once",
+        "The port of 127.0.0.1 on which each snapshot is sent to at most 32 subscribers at once",
         1,
         LARGEST_PORT,
     );
@@ -40,7 +40,7 @@ pub fn command<'a>(alloc: Global) -> Result<Command<'a>, AllocError>
         alloc,
         "N",
         "workers",
-        "How many threads answer, from 1 to 32 [default: 4]",
+        "How many threads serve requests, from 1 to 32 [default: 4]",
         1,
         MOST_WORKERS,
     );
@@ -48,7 +48,7 @@ pub fn command<'a>(alloc: Global) -> Result<Command<'a>, AllocError>
         alloc,
         "SECONDS",
         "poll",
-        "After how many seconds the documents are read again, at most 3600; 0 is for never [default: 2]",
+        "Read the documents again every so many seconds, at most 3600; 0 is never [default: 2]",
         0,
         LONGEST_POLL,
     );
@@ -64,7 +64,7 @@ fn chosen<'a>(alloc: Global) -> Result<Command<'a>, AllocError>
         alloc,
         "NOTES",
         "remember",
-        "How many notes the workers remember together and so write once, at most 16777216 [default: 1000000]",
+        "How many notes the workers remember together, so as to write each once, at most 16777216 [default: 1000000]",
         0,
         MOST_REMEMBERED,
     );
@@ -72,13 +72,13 @@ fn chosen<'a>(alloc: Global) -> Result<Command<'a>, AllocError>
         alloc,
         "answer|refuse",
         "without-record",
-        "What becomes of an answer whose notes the log does not take [default: refuse]",
+        "What to do with an answer whose notes cannot be written to the log [default: refuse]",
     );
     let broken = text(
         alloc,
         "refuse|serve",
         "broken",
-        "Refuse to start with a broken flag; or take each change of a document, though it breaks flags. Without it neither",
+        "refuse: do not start with a broken flag; serve: accept changes of a document even if they break flags [default: neither]",
     );
     limited(alloc)?
         .arg(remember)?
@@ -95,7 +95,7 @@ fn limited<'a>(alloc: Global) -> Result<Command<'a>, AllocError>
         alloc,
         "S",
         "idle",
-        "After how many seconds a connection on which nothing comes is closed, from 1 to 3600 [default: 75]",
+        "Close a connection that is idle for so many seconds, from 1 to 3600 [default: 75]",
         1,
         LONGEST_IDLE,
     );
@@ -119,22 +119,22 @@ fn operated<'a>(alloc: Global) -> Result<Command<'a>, AllocError>
         alloc,
         "HOST:PORT",
         "admin",
-        "Where the console, /healthz, /readyz and /metrics are served, and not beside the flags",
+        "The address for the console, and for /healthz, /readyz and /metrics, which are then not served at --listen",
     );
     let stop = flag(
         alloc,
         "allow-stop",
-        "POST /stop where --admin is served ends the service, with each answer under way sent",
+        "Let POST /stop at the address of --admin end the service, once each answer under way is sent",
     );
     let apply = flag(
         alloc,
         "allow-apply",
-        "POST /apply where --admin is served writes the one document DOC with the rule of a plan that is right on the record",
+        "Let POST /apply at the address of --admin write DOC with the rule of a plan that is right on the record",
     );
     let lines = flag(
         alloc,
         "access-log",
-        "A line of JSON for each request on the error output",
+        "Write a line of JSON for each request to standard error",
     );
     guarded(alloc)?
         .arg(admin)?
@@ -152,13 +152,13 @@ fn guarded<'a>(alloc: Global) -> Result<Command<'a>, AllocError>
         alloc,
         "ORIGIN",
         "cors",
-        "An origin whose web pages may ask, as https://app.example.com, or * for any; may be given more than once",
+        "An origin whose web pages may send requests, as https://app.example.com, or * for any; may be given more than once",
     );
     let keys = text(
         alloc,
         "FILE",
         "keys",
-        "A file of keys, a line for each, of which a request for an evaluation has to show one",
+        "A file of keys, one a line: each request for an evaluation needs one of them",
     );
     logged(alloc)?.arg(origins)?.arg(keys)
 }
@@ -171,7 +171,7 @@ fn logged<'a>(alloc: Global) -> Result<Command<'a>, AllocError>
     let points = flag(
         alloc,
         "log-points",
-        "Record the 32-bit hash of each hash input in its place: lines that no book takes, and that tally counts by their hashes",
+        "Record the 32-bit hash of each hash input instead of the input: no book takes such lines, tally counts them by their hashes",
     );
     begun(alloc)?.arg(points)
 }
@@ -190,13 +190,13 @@ fn begun<'a>(alloc: Global) -> Result<Command<'a>, AllocError>
         alloc,
         "ADDRESS:PORT",
         "listen",
-        "Where HTTP is served [default: 127.0.0.1:8016]",
+        "The address to serve HTTP on; port 0 takes a free one [default: 127.0.0.1:8016]",
     );
     let log = text(
         alloc,
         "FOLDER",
         "log",
-        "The folder in which each worker records hash inputs before it answers",
+        "The folder in which each worker records hash inputs before it responds",
     );
     Command::new(alloc, "ofrep")
         .bin_name("flagops ofrep")?

@@ -23,7 +23,7 @@ mod workers;
 
 pub use admin::{AdminPost, Operations, bind_admin};
 pub use board::{Board, ConnectionLimits};
-pub use logs::{Journal, log_bytes, open_logs};
+pub use logs::{Journal, log_bytes, log_trouble, open_logs};
 pub use posts::{Post, bind};
 pub use streams::bind_stream;
 pub use workers::work_beside;

@@ -5,6 +5,13 @@ ghost use Rattle.ofrep_service.specs.Logs.{path_at, path_in, path_of, paths_of};
 
 use log_file::{LogFault, LogPaths, SystemLog, make_folder};
 use std::alloc::{AllocError, Global};
+use std::io;
+
+/// Who may read and write the folder of the logs: its owner.
+const FOLDER_MODE: u32 = 0o700;
+
+/// Who may read and write a log: its owner.
+const FILE_MODE: u32 = 0o600;
 
 /// The log of a worker: its notes are kept at the end of a file of the system.
 pub type Journal = log_file::Journal<SystemLog>;
@@ -66,6 +73,26 @@ fn log_path(alloc: Global, folder: &str, worker: usize) -> Result<String, AllocE
     ensures { IfOk result (λ path. string_bytes path ≡ path_of folder.now worker) }
 {
     format!(in alloc; "{folder}/worker-{worker}.log")
+}
+
+/// The system's word on why the logs of so many workers in a folder can't be opened: it is asked again, for the folder and for the
+/// file of each worker.
+pub fn log_trouble<P: LogPaths>(
+    paths: &P,
+    alloc: Global,
+    folder: &str,
+    workers: usize,
+) -> Option<io::Error> {
+    if let Err(trouble) = paths.make_folder(folder, FOLDER_MODE) {
+        return Some(trouble);
+    }
+    for place in 0..workers {
+        let path = log_path(alloc, folder, place + 1).ok()?;
+        if let Err(trouble) = paths.open_log(path.as_str(), FILE_MODE) {
+            return Some(trouble);
+        }
+    }
+    None
 }
 
 /// How many bytes the logs of so many workers in a folder have together, by what the system says of their paths. One of which it says
