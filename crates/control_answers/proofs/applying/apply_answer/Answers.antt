@@ -24,12 +24,12 @@ returns-in_err-is_tag_of-clause-exact c =
     let is : r ≡ Err WantOfMemory = p.1 ∙ ap Err p.2 in
     wanted applied_view (IsApplyAnswer (snapshot_view c.args.snapshot.now) c.args.token.now (files_view c.args.files.now)) r is
 
-pub returns-then-branch-clause-exact : goal.returns-then-branch-clause-exact
-returns-then-branch-clause-exact c =
+pub returns-then-not-branch-clause-exact : goal.returns-then-not-branch-clause-exact
+returns-then-not-branch-clause-exact c =
     other_document applied_view (snapshot_view c.args.snapshot.now) c.args.token.now (files_view c.args.files.now) (token_view c.in_ok-token.token) c.in_ok-token.ensures.exact _ refl
-    (sym c.in_ok-is_tag_of.ensures ∙ c.if-branch.false)
+    (sym c.in_ok-is_tag_of.ensures ∙ c.if-not-branch.true)
 
 pub returns-clause-exact : goal.returns-clause-exact
 returns-clause-exact c =
     its_document applied_view (snapshot_view c.args.snapshot.now) c.args.token.now (files_view c.args.files.now) (token_view c.in_ok-token.token) c.in_ok-token.ensures.exact c.apply_token.result
-    (sym c.in_ok-is_tag_of.ensures ∙ c.if-branch.true) c.apply_token.ensures
+    (sym c.in_ok-is_tag_of.ensures ∙ c.if-not-branch.false) c.apply_token.ensures
