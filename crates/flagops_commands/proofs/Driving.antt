@@ -2,14 +2,14 @@
 use Rattle.std.proofs.Common.{◌≡◌, ◌≢◌, ℕ, Bool, List, Option, Some, None, true, false, IfSome, is_some, inr, refl, ap, ◌∙◌, ◌||◌, subst, sym}
 use Rattle.std.specs.Prelude.{IsErrOf, IsOk, Result, Ok, Err, option_map}
 use Rattle.book_core.specs.Book.{Contents}
-use Rattle.flag_defs.specs.Document.{Definitions}
+use Rattle.flag_resolve.specs.Floats.{Marked}
 use Rattle.flag_text.specs.Shape.{Shape}
 use Rattle.flagops_drive.specs.Asks.{Ask, asks_of}
 use Rattle.flagops_drive.specs.Driven.{DriveOutput, IsDriveOf, refusal_of, workers_refusal}
 use Rattle.flagops_drive.specs.Fault.{want}
 use Rattle.flagops_drive.specs.declared.fault.DriveRefusal.{DriveRefusal}
 use Rattle.flagops_drive.specs.declared.fault.DriveRefusal.TheVariants as reason
-use Rattle.flagops_commands.specs.Loaded.{IsDocumentAt, tree_at}
+use Rattle.flagops_commands.specs.Loaded.{AreFlagsAt, tree_at}
 use Rattle.flagops_shell.specs.Files.{Holding, KeepsOthers}
 use Rattle.flagops_files.specs.Loading.{max_text}
 use Rattle.flagops_shell.specs.Outcomes.{◌>>=◌, refused_by}
@@ -26,37 +26,37 @@ use Rattle.flagops_commands.specs.Drive.{AreRead, IsAnswered, IsDriveReport, IsD
 pub at_first : {A : Type 0} (old mid : Option A) (P : A → Type 0) → mid ≡ old → IfSome mid P → IfSome old P
 at_first old mid P same h = subst (λ o. IfSome o P) same h
 
-module _ (path asks : List ℕ) (workers : ℕ) (book : List ℕ) (add replace strict json : Bool) where
+module _ (floats : Bool) (path asks : List ℕ) (workers : ℕ) (book : List ℕ) (add replace strict json : Bool) where
   abbrev Is : Option Holding → Option Holding → Result Outcome Refused → Type 0
-  Is old after r = IfSome old (λ at. GivesOne outcome_view r (IsDriveReport at after path asks workers book add replace strict json))
+  Is old after r = IfSome old (λ at. GivesOne outcome_view r (IsDriveReport floats at after path asks workers book add replace strict json))
 
-  pub no_document : (old after : Option Holding) (e : Refused) → after ≡ old → IfSome old (λ at. is_want e.refusal ≡ false → IsDocumentAt at path (Err e.refusal)) → Is old after (Err e)
+  pub no_document : (old after : Option Holding) (e : Refused) → after ≡ old → IfSome old (λ at. is_want e.refusal ≡ false → AreFlagsAt floats at path (Err e.refusal)) → Is old after (Err e)
   unfolding IsDriveReport
   no_document None after e same loaded = tt
   no_document (Some at) after e same loaded = λ wanted. (Err e.refusal, loaded wanted, Err e.refusal, refl, (refl, same))
 
-  module _ (flags : Definitions) where
-    pub no_asks : (old after : Option Holding) (e : Refused) → after ≡ old → IfSome old (λ at. IsDocumentAt at path (Ok flags))
+  module _ (flags : Marked) where
+    pub no_asks : (old after : Option Holding) (e : Refused) → after ≡ old → IfSome old (λ at. AreFlagsAt floats at path (Ok flags))
         → IfSome old (λ at. is_want e.refusal ≡ false → tree_at at asks max_text ≡ Err e.refusal) → Is old after (Err e)
     unfolding IsDriveReport
     no_asks None after e same document tree = tt
     no_asks (Some at) after e same document tree = λ wanted. (Ok flags, document, Err e.refusal, rw (tree wanted) refl, (refl, same))
 
     module _ (t : Shape) where
-      pub no_book : (old after : Option Holding) (e : Refused) → after ≡ old → IfSome old (λ at. IsDocumentAt at path (Ok flags)) → IfSome old (λ at. tree_at at asks max_text ≡ Ok t)
+      pub no_book : (old after : Option Holding) (e : Refused) → after ≡ old → IfSome old (λ at. AreFlagsAt floats at path (Ok flags)) → IfSome old (λ at. tree_at at asks max_text ≡ Ok t)
           → IfSome old (λ at. is_want e.refusal ≡ false → before_at at book add ≡ Err e.refusal) → Is old after (Err e)
       unfolding IsDriveReport
       no_book None after e same document tree before = tt
       no_book (Some at) after e same document tree before = λ wanted. (Ok flags, document, Err e.refusal, rw (tree, before wanted) refl, (refl, same))
 
       module _ (before : Option Contents) where
-        pub not_driven : (old after : Option Holding) (e : Refused) → after ≡ old → IfSome old (λ at. IsDocumentAt at path (Ok flags)) → IfSome old (λ at. tree_at at asks max_text ≡ Ok t)
+        pub not_driven : (old after : Option Holding) (e : Refused) → after ≡ old → IfSome old (λ at. AreFlagsAt floats at path (Ok flags)) → IfSome old (λ at. tree_at at asks max_text ≡ Ok t)
             → IfSome old (λ at. before_at at book add ≡ Ok before) → (is_want e.refusal ≡ false → IsDriveOutputOf (Ok flags) (Ok t) (Ok before) workers strict json (Err e.refusal)) → Is old after (Err e)
         unfolding IsDriveReport
         not_driven None after e same document tree had drive_output = tt
         not_driven (Some at) after e same document tree had drive_output = λ wanted. (Ok flags, document, Err e.refusal, rw (tree, had) (drive_output wanted), (refl, same))
 
-        pub driven : (old after : Option Holding) (d : DriveOutput) (r : Result Outcome Refused) → IfSome old (λ at. IsDocumentAt at path (Ok flags)) → IfSome old (λ at. tree_at at asks max_text ≡ Ok t)
+        pub driven : (old after : Option Holding) (d : DriveOutput) (r : Result Outcome Refused) → IfSome old (λ at. AreFlagsAt floats at path (Ok flags)) → IfSome old (λ at. tree_at at asks max_text ≡ Ok t)
             → IfSome old (λ at. before_at at book add ≡ Ok before) → IsDriveOutputOf (Ok flags) (Ok t) (Ok before) workers strict json (Ok d)
             → IfSome old (λ at. GivesOne outcome_view r (IsWritten at after book (add || replace) (Ok d))) → Is old after r
         unfolding IsDriveReport
@@ -85,7 +85,7 @@ undriven_first strict (Some x) t d ok first e is =
 is_so : {d : DriveRefusal} → is_want (Drive d) ≡ false → d ≢ want
 is_so h same = let b : is_want (Drive want) ≡ false = ap (λ (x : DriveRefusal). is_want (Drive x)) (sym same) ∙ h in cc
 
-module _ (strict : Bool) (t : Shape) (flags : Definitions) (workers : ℕ) (before : Option Contents) (json : Bool) (d : DriveRefusal) where
+module _ (strict : Bool) (t : Shape) (flags : Marked) (workers : ℕ) (before : Option Contents) (json : Bool) (d : DriveRefusal) where
   settled_so : (s : Result Bool ListedRefusal) → IsOk s → IsDriveOf flags (asks_of t) workers before json (Err d) → IsAnswered s flags t before workers strict json (Err (Drive d))
   settled_so (Ok noted) ok is = (Err d, is, refl)
   settled_so (Err e) ok is = not_ok e ok
@@ -98,11 +98,11 @@ module _ (strict : Bool) (t : Shape) (flags : Definitions) (workers : ℕ) (befo
       ap (λ (e : DriveRefusal). Err (Drive e)) same
 
 -- asks that were driven are not refused before one is answered
-driven_unrefused : (o : Option (List Ask)) (flags : Definitions) (workers : ℕ) (before : Option Contents) (json : Bool) (d : DriveOutput) → IsDriveOf flags o workers before json (Ok d) → refusal_of o workers ≡ None
+driven_unrefused : (o : Option (List Ask)) (flags : Marked) (workers : ℕ) (before : Option Contents) (json : Bool) (d : DriveOutput) → IsDriveOf flags o workers before json (Ok d) → refusal_of o workers ≡ None
 driven_unrefused None flags workers before json d h = cc
 driven_unrefused (Some asks) flags workers before json d h = ap (option_map reason.Drive) h.0
 
-module _ (strict : Bool) (t : Shape) (flags : Definitions) (workers : ℕ) (before : Option Contents) (json : Bool) (d : DriveOutput) where
+module _ (strict : Bool) (t : Shape) (flags : Marked) (workers : ℕ) (before : Option Contents) (json : Bool) (d : DriveOutput) where
   driven_settled : (s : Result Bool ListedRefusal) → IsOk s → IsDriveOf flags (asks_of t) workers before json (Ok d) → IsAnswered s flags t before workers strict json (recorded strict d)
   driven_settled (Ok noted) ok is = (Ok d, is, refl)
   driven_settled (Err e) ok is = not_ok e ok
@@ -127,14 +127,14 @@ admits : (strict : Bool) (o : Option DriveRefusal) (t : Shape) (noted : Bool) �
 admits strict None t noted is = is
 admits strict (Some e) t noted is = cc
 
-answered : (flags : Definitions) (o : Option (List Ask)) (workers : ℕ) (before : Option Contents) (json : Bool) (d : DriveOutput) → IsDriveOf flags o workers before json (Ok d) → (workers_refusal workers ≡ None) × (is_some o ≡ true)
+answered : (flags : Marked) (o : Option (List Ask)) (workers : ℕ) (before : Option Contents) (json : Bool) (d : DriveOutput) → IsDriveOf flags o workers before json (Ok d) → (workers_refusal workers ≡ None) × (is_some o ≡ true)
 answered flags None workers before json d is = cc
 answered flags (Some asks) workers before json d is = (ap (option_map reason.Drive) is.0, refl)
 
 -- ---- what is left
 
 -- asks that came to something were admitted
-drove_by : (flags : Definitions) (t : Shape) (workers : ℕ) (before : Option Contents) (strict json : Bool) (d : DriveOutput) → IsDriveOutputOf (Ok flags) (Ok t) (Ok before) workers strict json (Ok d)
+drove_by : (flags : Marked) (t : Shape) (workers : ℕ) (before : Option Contents) (strict json : Bool) (d : DriveOutput) → IsDriveOutputOf (Ok flags) (Ok t) (Ok before) workers strict json (Ok d)
     → (workers_refusal workers ≡ None) × (is_some (asks_of t) ≡ true) × IsOk (settle strict (doubt_of_asks t))
 drove_by flags t workers before strict json d came = go (admitted strict (refusal_of (asks_of t) workers) t) refl came
   where
@@ -151,14 +151,14 @@ drove_by flags t workers before strict json d came = go (admitted strict (refusa
     go (Ok noted) is came = made noted is came.0 came.1 came.2
     go (Err e) is came = cc
 
-pub left_by_storing : (path asks : List ℕ) (workers : ℕ) (book : List ℕ) (add strict json : Bool) (flags : Definitions) (t : Shape) (before : Option Contents) (old after : Option Holding) (d : DriveOutput)
-    → IfSome old (λ at. IsDocumentAt at path (Ok flags)) → IfSome old (λ at. tree_at at asks max_text ≡ Ok t) → IfSome old (λ at. before_at at book add ≡ Ok before)
-    → IsDriveOutputOf (Ok flags) (Ok t) (Ok before) workers strict json (Ok d) → KeepsOthers old after book → LeavesBook old after path asks workers book add strict
-left_by_storing path asks workers book add strict json flags t before old after d document tree had drive_output kept =
+pub left_by_storing : (floats : Bool) (path asks : List ℕ) (workers : ℕ) (book : List ℕ) (add strict json : Bool) (flags : Marked) (t : Shape) (before : Option Contents) (old after : Option Holding) (d : DriveOutput)
+    → IfSome old (λ at. AreFlagsAt floats at path (Ok flags)) → IfSome old (λ at. tree_at at asks max_text ≡ Ok t) → IfSome old (λ at. before_at at book add ≡ Ok before)
+    → IsDriveOutputOf (Ok flags) (Ok t) (Ok before) workers strict json (Ok d) → KeepsOthers old after book → LeavesBook floats old after path asks workers book add strict
+left_by_storing floats path asks workers book add strict json flags t before old after d document tree had drive_output kept =
     let fit : (workers_refusal workers ≡ None) × (is_some (asks_of t) ≡ true) × IsOk (settle strict (doubt_of_asks t)) = drove_by flags t workers before strict json d drive_output in
     inr (fit.0, read old document tree had fit.1 fit.2, kept)
   where
-    read : (h : Option Holding) → IfSome h (λ at. IsDocumentAt at path (Ok flags)) → IfSome h (λ at. tree_at at asks max_text ≡ Ok t) → IfSome h (λ at. before_at at book add ≡ Ok before)
-        → is_some (asks_of t) ≡ true → IsOk (settle strict (doubt_of_asks t)) → IfSome h (λ at. AreRead at path asks book add strict)
+    read : (h : Option Holding) → IfSome h (λ at. AreFlagsAt floats at path (Ok flags)) → IfSome h (λ at. tree_at at asks max_text ≡ Ok t) → IfSome h (λ at. before_at at book add ≡ Ok before)
+        → is_some (asks_of t) ≡ true → IsOk (settle strict (doubt_of_asks t)) → IfSome h (λ at. AreRead floats at path asks book add strict)
     read None document tree had some ok = tt
     read (Some at) document tree had some ok = (flags, document, t, tree, some, ok, before, had)

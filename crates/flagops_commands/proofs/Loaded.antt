@@ -3,7 +3,6 @@ use Rattle.std.proofs.Common.{◌≡◌, ◌∙◌, ap, ℕ, List, Option, Some,
 use Rattle.std.specs.Prelude.{Result, Ok, Err}
 use Rattle.bucket_core.specs.Rule.{Entries}
 use Rattle.book_core.specs.Book.{Contents}
-use Rattle.flag_defs.specs.Document.{Definitions}
 use Rattle.flag_text.specs.Shape.{Shape}
 use Rattle.flagops_shell.proofs.Lifted.{given_one, given_so, not_want, refused_one, refused_so}
 use Rattle.flagops_shell.specs.Diagnostic.{Says}
@@ -24,7 +23,7 @@ use Rattle.flagops_rollouts.specs.Attempts as rolling
 use Rattle.flagops_rollouts.specs.Refusal as rollouts
 use Rattle.flagops_rollouts.specs.declared.refusal.RolloutCall.{RolloutCall}
 use Rattle.flagops_rollouts.specs.declared.refusal.RolloutRefusal.{RolloutRefusal}
-use Rattle.flagops_commands.specs.Loaded.{AreFlagsAt, IsDocumentAt, book_at, bytes_at, choice_at, replaceable_at, rule_at, tree_at}
+use Rattle.flagops_commands.specs.Loaded.{AreFlagsAt, book_at, bytes_at, choice_at, replaceable_at, rule_at, tree_at}
 use Rattle.flagops_commands.specs.Attempts.{rolled}
 use Rattle.flagops_commands.specs.Refusal.{Refused, call_of, is_unread, is_want, loads, rolls, unwritable}
 use Rattle.flagops_commands.specs.declared.refusal.ListedRefusal.TheVariants.{Load, Rollout}
@@ -81,15 +80,6 @@ module _ (old : Option Holding) (path : List ℕ) where
   pub no_bytes : (e : files.Refused) (t : Refused) → t.refusal ≡ Load e.refusal → IfSome old (λ at. files.is_want e.refusal ≡ false → refused_by file.Load (load_of at path max_text) ≡ Err e.refusal)
       → IfSome old (λ at. is_want t.refusal ≡ false → bytes_at at path ≡ Err t.refusal)
   no_bytes e t is loaded = refused_so files.is_want is_want Load (λ e. refl) (λ at. refused_by file.Load (load_of at path max_text)) old e t is loaded
-
-  pub flags_there : (flags : Definitions) → IfSome old (λ at. documents.IsDocumentAs false at path (Ok flags)) → IfSome old (λ at. IsDocumentAt at path (Ok flags))
-  unfolding IsDocumentAt
-  flags_there flags loaded = given_one files.is_want is_want Load (λ e. refl) (λ at. documents.IsDocumentAs false at path) old flags loaded
-
-  pub no_flags : (e : files.Refused) (t : Refused) → t.refusal ≡ Load e.refusal → IfSome old (λ at. files.is_want e.refusal ≡ false → documents.IsDocumentAs false at path (Err e.refusal))
-      → IfSome old (λ at. is_want t.refusal ≡ false → IsDocumentAt at path (Err t.refusal))
-  unfolding IsDocumentAt
-  no_flags e t is loaded = refused_one files.is_want is_want Load (λ e. refl) (λ at. documents.IsDocumentAs false at path) old e t is loaded
 
   pub marked_there : (floats : Bool) (flags : documents.Marked) → IfSome old (λ at. documents.AreFlagsAt floats at path (Ok flags)) → IfSome old (λ at. AreFlagsAt floats at path (Ok flags))
   unfolding AreFlagsAt

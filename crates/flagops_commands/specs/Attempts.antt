@@ -2,7 +2,7 @@
 use Rattle.std.specs.Prelude.{ℕ, Bool, List, [], ◌∷◌, ◌++◌, codes, map, Some, Result, Ok, Err}
 use Rattle.flag_text.specs.Reading.{tree_of}
 use Rattle.flagops_commands.specs.Drive.{before_at}
-use Rattle.flagops_commands.specs.Loaded.{AreFlagsAt, IsDocumentAt, choice_at, rule_at, tree_at}
+use Rattle.flagops_commands.specs.Loaded.{AreFlagsAt, choice_at, rule_at, tree_at}
 use Rattle.flagops_commands.specs.Price.{request_at}
 use Rattle.flagops_commands.specs.Refusal.{Refused, Remarks, is_want, no_tree}
 use Rattle.flagops_commands.specs.Subjects.{driven_subjects, is_of_keys, is_of_rules, notes_of, numbers_of, old_weights, parts_of, written_subjects}
@@ -40,9 +40,9 @@ resolve_attempts floats at document default context =
     attempt (file document) (AreFlagsAt floats at document) ∷ attempt_of (word (codes "DEFAULT")) (refused_by no_tree (tree_of default max_text)) ∷ attempt_of (file context) (tree_at at context max_text) ∷ []
 
 -- a document, the asks and the book before, and then what the asks come to, and the book that is written
-abbrev pub drive_attempts : Holding → List ℕ → List ℕ → List ℕ → Bool → Attempts
-drive_attempts at document asks book add =
-    attempt (file document) (IsDocumentAt at document) ∷ attempt_of (file asks) (tree_at at asks max_text) ∷ attempt_of (file book) (before_at at book add)
+abbrev pub drive_attempts : Bool → Holding → List ℕ → List ℕ → List ℕ → Bool → Attempts
+drive_attempts floats at document asks book add =
+    attempt (file document) (AreFlagsAt floats at document) ∷ attempt_of (file asks) (tree_at at asks max_text) ∷ attempt_of (file book) (before_at at book add)
     ∷ by_kind (driven_subjects asks book ++ written_subjects book)
 
 -- those of a command on rollouts
@@ -57,7 +57,7 @@ attempts_of (verify document request book answer refine strict json floats) at =
 attempts_of (plan document request book refine strict explain floats) at = rolled (plan_attempts floats at document request book)
 attempts_of (apply document answer key site strict floats) at = rolled (apply_attempts floats at document answer)
 attempts_of (keep document answer request book write refine strict floats) at = rolled (keep_attempts floats at document answer request book)
-attempts_of (drive document asks workers book add replace strict json) at = drive_attempts at document asks book add
+attempts_of (drive document asks workers book add replace strict json floats) at = drive_attempts floats at document asks book add
 attempts_of (completions shell) at = []
 
 -- the remark on what a command comes to over these files

@@ -33,12 +33,12 @@ IsOutcome at after (apply document file key site strict floats) r = Lifts Rollou
 IsOutcome at after (keep document file request book write refine strict floats) r = Lifts Rollout (IsKeepReport floats at after document file request book write refine strict) r
 IsOutcome at after (plan document request book refine strict explain floats) r = Lifts Rollout (IsPlanReport floats at document request book refine strict explain) r
 IsOutcome at after (completions shell) r = completions_report shell ≡ r
-IsOutcome at after (drive document file workers book add replace strict json) r = IsDriveReport at after document file workers book add replace strict json r
+IsOutcome at after (drive document file workers book add replace strict json floats) r = IsDriveReport floats at after document file workers book add replace strict json r
 
 -- a command leaves the files as they are; `drive` and `apply --keep --write` change the one file that they write, and only where there is something to write
 abbrev pub Leaves : Asked → Option Holding → Option Holding → Type 0
 Leaves (keep document file request book write refine strict floats) old new = LeavesDocument old new document write
-Leaves (drive document file workers book add replace strict json) old new = LeavesBook old new document file workers book add strict
+Leaves (drive document file workers book add replace strict json floats) old new = LeavesBook floats old new document file workers book add strict
 Leaves asked old new = new ≡ old
 
 -- the calls that each command makes
@@ -51,7 +51,7 @@ calls_of (apply document file key site strict floats) c = rolls apply_calls c
 calls_of (keep document file request book write refine strict floats) c = rolls keep_calls c
 calls_of (plan document request book refine strict explain floats) c = rolls plan_calls c
 calls_of (completions shell) c = completions_calls c
-calls_of (drive document file workers book add replace strict json) c = drive_calls c
+calls_of (drive document file workers book add replace strict json floats) c = drive_calls c
 
 -- what is known of these commands
 abbrev pub description : Description Asked ListedRefusal

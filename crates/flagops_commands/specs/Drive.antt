@@ -3,13 +3,13 @@ use Rattle.std.specs.Prelude.{◌≡◌, ◌⊎◌, ◌||◌, ℕ, ◌==◌, Boo
 use Rattle.book_core.specs.Book.{Contents}
 use Rattle.book_core.specs.Reading.{book_of}
 use Rattle.book_losses.specs.Losses.{losses_at}
-use Rattle.flag_defs.specs.Document.{Definitions}
+use Rattle.flag_resolve.specs.Floats.{Marked}
 use Rattle.flag_text.specs.Shape.{Shape}
 use Rattle.flagops_drive.specs.Asks.{asks_of}
 use Rattle.flagops_drive.specs.Driven.{DriveOutput, IsDriveOf, refusal_of, workers_refusal}
 use Rattle.flagops_drive.specs.Unread.{has_unread_ask}
 use Rattle.flagops_drive.specs.declared.fault.DriveRefusal.{DriveRefusal}
-use Rattle.flagops_commands.specs.Loaded.{IsDocumentAt, tree_at, book_at, replaceable_at}
+use Rattle.flagops_commands.specs.Loaded.{AreFlagsAt, tree_at, book_at, replaceable_at}
 use Rattle.flagops_shell.specs.Files.{Holding, KeepsOthers, Stores}
 use Rattle.flagops_files.specs.Loading.{max_text}
 use Rattle.flagops_shell.specs.Outcomes.{◌>>=◌, refused_by, beside, done}
@@ -51,13 +51,13 @@ abbrev pub recorded : Bool → DriveOutput → Result DriveOutput ListedRefusal
 recorded strict d = settle strict (doubt_of_drove d) >>= λ _. Ok d
 
 -- what comes of asks that were admitted, or refused
-abbrev pub IsAnswered : Result Bool ListedRefusal → Definitions → Shape → Option Contents → ℕ → Bool → Bool → Result DriveOutput ListedRefusal → Type 0
+abbrev pub IsAnswered : Result Bool ListedRefusal → Marked → Shape → Option Contents → ℕ → Bool → Bool → Result DriveOutput ListedRefusal → Type 0
 IsAnswered (Err e) flags t before workers strict json r = r ≡ Err e
 IsAnswered (Ok noted) flags t before workers strict json r =
     (d : Result DriveOutput DriveRefusal) × IsDriveOf flags (asks_of t) workers before json d × (r ≡ (refused_by Drive d >>= recorded strict))
 
 -- what comes of the asks, where the document, the asks and the book before were read, each before the next
-abbrev pub IsDriveOutputOf : Result Definitions ListedRefusal → Result Shape ListedRefusal → Result (Option Contents) ListedRefusal → ℕ → Bool → Bool → Result DriveOutput ListedRefusal → Type 0
+abbrev pub IsDriveOutputOf : Result Marked ListedRefusal → Result Shape ListedRefusal → Result (Option Contents) ListedRefusal → ℕ → Bool → Bool → Result DriveOutput ListedRefusal → Type 0
 IsDriveOutputOf (Err e) asks before workers strict json r = r ≡ Err e
 IsDriveOutputOf (Ok flags) (Err e) before workers strict json r = r ≡ Err e
 IsDriveOutputOf (Ok flags) (Ok t) (Err e) workers strict json r = r ≡ Err e
@@ -83,20 +83,20 @@ IsWritten at after book lossy (Err e) r = (r ≡ Err e) × (after ≡ Some at)
 IsWritten at after book lossy (Ok d) r = (new : Contents) × (book_of d.book ≡ Ok new) × IsSaved (replaces_at at book lossy new) at after book d r
 
 -- with `--add` the new book has all that the old one had
-unfoldable pub IsDriveReport : Holding → Option Holding → List ℕ → List ℕ → ℕ → List ℕ → Bool → Bool → Bool → Bool → Outcomes
-IsDriveReport at after path asks workers book add replace strict json r =
-    (document : Result Definitions ListedRefusal) × IsDocumentAt at path document × (d : Result DriveOutput ListedRefusal) × IsDriveOutputOf document (tree_at at asks max_text) (before_at at book add) workers strict json d × IsWritten at after book (add || replace) d r
+unfoldable pub IsDriveReport : Bool → Holding → Option Holding → List ℕ → List ℕ → ℕ → List ℕ → Bool → Bool → Bool → Bool → Outcomes
+IsDriveReport floats at after path asks workers book add replace strict json r =
+    (document : Result Marked ListedRefusal) × AreFlagsAt floats at path document × (d : Result DriveOutput ListedRefusal) × IsDriveOutputOf document (tree_at at asks max_text) (before_at at book add) workers strict json d × IsWritten at after book (add || replace) d r
 
 -- the document and the asks of these files were read, of which nothing is doubted that is refused, and the book that is added to
-abbrev pub AreRead : Holding → List ℕ → List ℕ → List ℕ → Bool → Bool → Type 0
-AreRead at path asks book add strict =
-    (flags : Definitions) × IsDocumentAt at path (Ok flags) × (t : Shape) × (tree_at at asks max_text ≡ Ok t) × (is_some (asks_of t) ≡ true) × IsOk (settle strict (doubt_of_asks t))
+abbrev pub AreRead : Bool → Holding → List ℕ → List ℕ → List ℕ → Bool → Bool → Type 0
+AreRead floats at path asks book add strict =
+    (flags : Marked) × AreFlagsAt floats at path (Ok flags) × (t : Shape) × (tree_at at asks max_text ≡ Ok t) × (is_some (asks_of t) ≡ true) × IsOk (settle strict (doubt_of_asks t))
     × (before : Option Contents) × (before_at at book add ≡ Ok before)
 
 -- The files stay as they are; or the number of workers is right, the files were read, and the file of the book alone changes.
-abbrev pub LeavesBook : Option Holding → Option Holding → List ℕ → List ℕ → ℕ → List ℕ → Bool → Bool → Type 0
-LeavesBook old new path asks workers book add strict =
-    (new ≡ old) ⊎ ((workers_refusal workers ≡ None) × IfSome old (λ at. AreRead at path asks book add strict) × KeepsOthers old new book)
+abbrev pub LeavesBook : Bool → Option Holding → Option Holding → List ℕ → List ℕ → ℕ → List ℕ → Bool → Bool → Type 0
+LeavesBook floats old new path asks workers book add strict =
+    (new ≡ old) ⊎ ((workers_refusal workers ≡ None) × IfSome old (λ at. AreRead floats at path asks book add strict) × KeepsOthers old new book)
 
 -- the files stay as they are, or the command did what it was asked
 abbrev pub KeepsUnlessDone : {E : Type 0} → Option Holding → Option Holding → Result Outcome E → Type 0

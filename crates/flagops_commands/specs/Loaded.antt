@@ -1,8 +1,7 @@
 -- What is loaded for a listed command, where each refusal is one of these commands.
-use Rattle.std.specs.Prelude.{ℕ, Bool, false, List, Option, Result}
+use Rattle.std.specs.Prelude.{ℕ, Bool, List, Option, Result}
 use Rattle.bucket_core.specs.Rule.{Entries}
 use Rattle.book_core.specs.Book.{Contents}
-use Rattle.flag_defs.specs.Document.{Definitions}
 use Rattle.flag_text.specs.Shape.{Shape}
 use Rattle.flagops_shell.specs.Files.{Holding, load_of}
 use Rattle.flagops_shell.specs.Outcomes.{Lifts, refused_by}
@@ -29,10 +28,6 @@ rule_at at path = refused_by Load (loading.rule_at at path)
 -- what the rule of the rule file at a path gives a key: its point, and the name there
 unfoldable pub choice_at : Holding → List ℕ → List ℕ → Result (ℕ × Option (List ℕ)) ListedRefusal
 choice_at at path key = refused_by Load (loading.choice_at at path key)
-
--- the flags of the document at a path, or why there are none
-unfoldable pub IsDocumentAt : Holding → List ℕ → Result Definitions ListedRefusal → Type 0
-IsDocumentAt at path r = Lifts Load (documents.IsDocumentAs false at path) r
 
 -- the flags of the document at a path, which may have floats or may not, or why there are none
 unfoldable pub AreFlagsAt : Bool → Holding → List ℕ → Result documents.Marked ListedRefusal → Type 0

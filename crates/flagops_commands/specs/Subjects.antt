@@ -78,13 +78,13 @@ notes_of (verify document request book answer refine strict json floats) = Names
 notes_of (plan document request book refine strict explain floats) = NamesDoubted request book
 notes_of (apply document answer key site strict floats) = Names document
 notes_of (keep document answer request book write refine strict floats) = NamesDoubted request book
-notes_of (drive document asks workers book add replace strict json) = Names asks
+notes_of (drive document asks workers book add replace strict json floats) = Names asks
 notes_of asked = λ lines. Unit {0}
 
 -- and the numbers that are told: of `plan`, how many points its rule has where it was planned in finer ones, and of `drive`, those of what it printed
 abbrev pub numbers_of : Asked → Holding → Report → List ℕ → Type 0
 numbers_of (plan document request book refine strict explain floats) at report = TellsFinerOf request (unwrap_or refine 1) report.text
-numbers_of (drive document asks workers book add replace strict json) at report = TellsPrinted at asks book add json report.text
+numbers_of (drive document asks workers book add replace strict json floats) at report = TellsPrinted at asks book add json report.text
 numbers_of asked at report = λ lines. Unit {0}
 
 -- and of a command on rollouts all that is told, part after part

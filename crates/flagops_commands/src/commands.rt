@@ -113,8 +113,9 @@ pub fn outcome<R: Threads + Wait + Sync, F: FileSet>(
             replace,
             strict,
             json,
+            floats,
         } => drive(
-            rt, alloc, files, document, asks, *workers, book, *add, *replace, *strict, *json,
+            rt, alloc, files, document, *floats, asks, *workers, book, *add, *replace, *strict, *json,
         ),
     }
 }

@@ -1,13 +1,12 @@
 //! Files that are loaded and written for a listed command, where each refusal is one of these commands.
 ghost use Rattle.std.specs.Prelude.{◌≡◌, ◌||◌, false, true, IfErr, IfOk, IfSome, OnErr, OnOk};
 ghost use Rattle.book_losses.specs.Losses.{losses_at};
-ghost use Rattle.flag_defs.specs.Flags.{flags_view};
 ghost use Rattle.flag_defs.specs.Floats.{marked_view};
 ghost use Rattle.flag_text.specs.Shape.{is_whole};
 ghost use Rattle.flag_text.specs.View.{view};
 ghost use Rattle.flagops_files.specs.Told.{file};
 ghost use Rattle.flagops_shell.specs.Files.{KeepsOthers, Stores};
-ghost use Rattle.flagops_commands.specs.Loaded.{AreFlagsAt, IsDocumentAt, book_at, bytes_at, choice_at, replaceable_at, rule_at, tree_at};
+ghost use Rattle.flagops_commands.specs.Loaded.{AreFlagsAt, book_at, bytes_at, choice_at, replaceable_at, rule_at, tree_at};
 ghost use Rattle.flagops_commands.specs.Refusal.{ComesFrom, GivesOne, GivesUnlessWant, TellsOf, is_file_fault, is_want, loads_book, loads_file, loads_flags, loads_rule, loads_tree, stores_file, unwritable};
 ghost use Rattle.flagops_commands.specs.declared.refusal.ListedRefusal.TheVariants.{Load};
 ghost use Rattle.flagops_shell.specs.Outcomes.{refused_by};
@@ -19,7 +18,7 @@ use book_losses::losses_at;
 use bucket_core::Rule;
 use flag_defs::Flags;
 use flag_text::Tree;
-use flagops_files::{TEXT_LIMIT, load, load_document, load_flags_as};
+use flagops_files::{TEXT_LIMIT, load, load_flags_as};
 use flagops_shell::FileSet;
 use rule_text::Choice;
 use std::alloc::Global;
@@ -99,25 +98,6 @@ pub(crate) fn load_tree<F: FileSet>(
 {
     match flagops_files::load_tree(alloc, files, path, limit) {
         Ok(tree) => Ok(tree),
-        Err(refused) => Err(Refused::of(refused)),
-    }
-}
-
-/// The flags of the document at a path.
-#[tactic(auto, using(crate::proofs::Loaded::told, crate::proofs::Loaded::comes, crate::proofs::Loaded::failed_load))]
-pub(crate) fn load_flags<F: FileSet>(
-    alloc: Global,
-    files: &mut F,
-    path: &str,
-) -> Result<Flags, Refused>
-    ensures exact { IfSome (F.holding files.old) (λ at. GivesOne flags_view result (IsDocumentAt at path.now)) }
-    ensures calls { ComesFrom loads_flags result }
-    ensures failed { F.has_failed files.new ≡ (F.has_failed files.old || is_file_fault result) }
-    ensures kept { F.holding files.new ≡ F.holding files.old }
-    ensures names { TellsOf (file path.now) result }
-{
-    match load_document(alloc, files, path, false) {
-        Ok(document) => Ok(document.flags),
         Err(refused) => Err(Refused::of(refused)),
     }
 }

@@ -1,7 +1,8 @@
 -- What was driven and what was refused, as what the command comes to.
 use Rattle.std.proofs.Common.{◌≡◌, ◌≢◌, ◌∙◌, ℕ, Bool, List, Option, Some, None, true, map, refl, sym, ap, subst}
 use Rattle.std.specs.Prelude.{IfErr, IfOk, Result, Ok, Err}
-use Rattle.flag_defs.specs.Document.{Definitions}
+use Rattle.flag_resolve.specs.Floats.{Marked}
+use Rattle.flag_resolve.specs.Resolved.{Resolved}
 use Rattle.book_core.specs.Book.{Contents}
 use Rattle.book_core.specs.Union.{Unites}
 use Rattle.book_core.specs.declared.fault.BookFault.{BookFault}
@@ -15,9 +16,11 @@ use Rattle.book_share.specs.declared.drive_fault.DriveFault.TheVariants.{WantOfM
 use Rattle.flagops_drive.specs.Asks.{Ask, ask_view, if_asks}
 use Rattle.flagops_drive.specs.Driven.{Drives, DriveOutput, IsDriveOf, IsOutput, IsReached, IsRefused, IsUnadded, Reached, drive_output_view}
 use Rattle.flagops_drive.specs.Fault.{of_union, want}
+use Rattle.flagops_drive.specs.Floats.{answers_of, asked_as}
 use Rattle.flagops_drive.specs.declared.command.DriveOutput as program_output
 use Rattle.flagops_drive.specs.declared.fault.DriveRefusal.{DriveRefusal}
 use Rattle.flagops_drive.specs.declared.fault.DriveRefusal.TheVariants.{Drive, BadAsks, PageFull}
+use Rattle.flagops_drive.proofs.Answering.{all_answered}
 
 there : (o : Option (List Ask)) (asks : List Ask) → if_asks o ≡ Ok asks → o ≡ Some asks
 there None asks h = cc
@@ -28,20 +31,21 @@ no_fault None h = refl
 no_fault (Some e) h = absurd (h e refl)
 
 -- what the workers came to, of asks that were read
-pub reached_of : (flags : Definitions) (asks : List Ask) (given items : List program.Ask) (r : Reached) → map ask_view items ≡ asks → given ≡ items → r.answers ≡ map (resolved flags) given
-    → AreNoted (mentions flags given) r.book r.calls r.news r.full → r.long ≡ long_of flags given → IsReached flags asks r
-reached_of flags asks given items r read same answered noted counted =
-    record { given = given; same = ap (map ask_view) same ∙ read; answers = answered; noted = noted; long = counted }
+pub reached_of : (flags : Marked) (asks : List Ask) (given items : List program.Ask) (r : Reached) (rs : List Resolved) → map ask_view items ≡ map (asked_as flags) asks → given ≡ items → r.answers ≡ answers_of flags given rs
+    → rs ≡ map (resolved flags.0) given → AreNoted (mentions flags.0 given) r.book r.calls r.news r.full → r.long ≡ long_of flags.0 given → IsReached flags asks r
+reached_of flags asks given items r rs read same answers are noted counted =
+    let wanted : map ask_view given ≡ map (asked_as flags) asks = ap (map ask_view) same ∙ read in
+    record { answers = answers ∙ (ap (answers_of flags given) are ∙ all_answered flags given asks wanted); given = given; same = wanted; noted = noted; long = counted }
 
 -- the whole output, of asks that were driven
-drove_of : (flags : Definitions) (o : Option (List Ask)) (asks : List Ask) (workers : ℕ) (before : Option Contents) (json : Bool) (r : Reached) (d : DriveOutput) → if_asks o ≡ Ok asks
+drove_of : (flags : Marked) (o : Option (List Ask)) (asks : List Ask) (workers : ℕ) (before : Option Contents) (json : Bool) (r : Reached) (d : DriveOutput) → if_asks o ≡ Ok asks
     → ((e : DriveFault) → workers_fault workers ≡ Some e → ⊥) → IsReached flags asks r → IsOutput before json r d → IsDriveOf flags o workers before json (Ok d)
 drove_of flags o asks workers before json r d read workers_fit reached output =
     subst (λ (p : Option (List Ask)). IsDriveOf flags p workers before json (Ok d)) (sym (there o asks read))
     (no_fault (workers_fault workers) workers_fit, record { reached = r; is_reached = reached; output = output })
 
 -- what was driven and not added to the book from before
-unadded_of : (flags : Definitions) (o : Option (List Ask)) (asks : List Ask) (workers : ℕ) (before : Option Contents) (json : Bool) (r : Reached) (e : DriveRefusal) → if_asks o ≡ Ok asks
+unadded_of : (flags : Marked) (o : Option (List Ask)) (asks : List Ask) (workers : ℕ) (before : Option Contents) (json : Bool) (r : Reached) (e : DriveRefusal) → if_asks o ≡ Ok asks
     → ((e : DriveFault) → workers_fault workers ≡ Some e → ⊥) → IsReached flags asks r → IsUnadded before r.book e → e ≢ want → IsDriveOf flags o workers before json (Err e)
 unadded_of flags o asks workers before json r e read workers_fit reached unadded wanted =
     subst (λ (p : Option (List Ask)). IsDriveOf flags p workers before json (Err e)) (sym (there o asks read)) (go e unadded wanted)
@@ -52,21 +56,21 @@ unadded_of flags o asks workers before json r e read workers_fit reached unadded
     go BadAsks is wants = absurd is
 
 -- what was driven, as what the command comes to
-pub output_is : (flags : Definitions) (o : Option (List Ask)) (asks : List Ask) (workers : ℕ) (before : Option Contents) (json : Bool) (r : Reached) (result : Result program_output.DriveOutput DriveRefusal) → if_asks o ≡ Ok asks
+pub output_is : (flags : Marked) (o : Option (List Ask)) (asks : List Ask) (workers : ℕ) (before : Option Contents) (json : Bool) (r : Reached) (result : Result program_output.DriveOutput DriveRefusal) → if_asks o ≡ Ok asks
     → ((e : DriveFault) → workers_fault workers ≡ Some e → ⊥) → IsReached flags asks r → IfOk result (λ d. IsOutput before json r (drive_output_view d)) → IfErr result (IsUnadded before r.book)
     → Drives flags o workers before json result
 output_is flags o asks workers before json r (Ok d) read workers_fit reached output unadded = drove_of flags o asks workers before json r (drive_output_view d) read workers_fit reached output
 output_is flags o asks workers before json r (Err e) read workers_fit reached output unadded = λ wanted. unadded_of flags o asks workers before json r e read workers_fit reached unadded wanted
 
 -- the refusals of asks that were read
-refused_so : (flags : Definitions) (asks : List Ask) (workers : ℕ) (before : Option Contents) (e : DriveFault) → (is_of_workers e ≡ true → workers_fault workers ≡ Some e) → e ≢ Stalled → Drive e ≢ want
+refused_so : (flags : Marked) (asks : List Ask) (workers : ℕ) (before : Option Contents) (e : DriveFault) → (is_of_workers e ≡ true → workers_fault workers ≡ Some e) → e ≢ Stalled → Drive e ≢ want
     → IsRefused flags asks workers before (Drive e)
 refused_so flags asks workers before WantOfMemory number stalls wanted = absurd (wanted refl)
 refused_so flags asks workers before NoWorkers number stalls wanted = number refl
 refused_so flags asks workers before TooManyWorkers number stalls wanted = number refl
 refused_so flags asks workers before Stalled number stalls wanted = absurd (stalls refl)
 
-pub refused_of : (flags : Definitions) (o : Option (List Ask)) (asks : List Ask) (workers : ℕ) (before : Option Contents) (json : Bool) (e : DriveFault) → if_asks o ≡ Ok asks
+pub refused_of : (flags : Marked) (o : Option (List Ask)) (asks : List Ask) (workers : ℕ) (before : Option Contents) (json : Bool) (e : DriveFault) → if_asks o ≡ Ok asks
     → (is_of_workers e ≡ true → workers_fault workers ≡ Some e) → e ≢ Stalled → Drive e ≢ want → IsDriveOf flags o workers before json (Err (Drive e))
 refused_of flags o asks workers before json e read number stalls wanted =
     subst (λ (p : Option (List Ask)). IsDriveOf flags p workers before json (Err (Drive e))) (sym (there o asks read)) (refused_so flags asks workers before e number stalls wanted)

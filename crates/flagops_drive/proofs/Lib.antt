@@ -1,3 +1,4 @@
+mod Answering
 pub mod Asked
 pub mod Driving
 pub mod Misfits
@@ -6,3 +7,4 @@ pub mod PlainAsks
 pub mod PlainFile
 pub mod PlainMembers
 pub mod Refused
+pub mod Unmarked

@@ -3,16 +3,16 @@ use Rattle.std.proofs.Common.{◌≡◌, ◌<◌, ◌≤◌, ◌^◌, true, fals
 use Rattle.std.proofs.lemmas.List.{length-map}
 use Rattle.flag_text.specs.Shape.{list}
 use Rattle.flag_text.specs.View.{view}
-use Rattle.flag_defs.specs.Kind.{kind_named, word_of}
+use Rattle.flag_defs.specs.Kind.{word_of}
 use Rattle.flag_defs.specs.declared.kind.Kind.{Kind}
 use Rattle.flag_defs.specs.declared.kind.Kind.TheVariants as kind
-use Rattle.flagops_drive.specs.Asks.{ask_in, asks_in, asks_of}
+use Rattle.flagops_drive.specs.Asks.{ask_in, asks_in, asks_of, kind_spelled}
 use Rattle.flagops_drive.specs.Plain.{ask_shape, asks_shape, plain_view}
 use Rattle.flagops_drive.specs.Unread.{have_unread}
 use Rattle.flagops_drive.specs.declared.plain_ask.PlainAsk.{PlainAsk}
 use Rattle.flagops_drive.proofs.PlainMembers.{object_is}
 
-named_word : (k : Kind) → kind_named (word_of k) ≡ Some k
+named_word : (k : Kind) → kind_spelled (word_of k) ≡ Some k
 named_word kind.Bool = refl
 named_word kind.Text = refl
 named_word kind.Whole = refl

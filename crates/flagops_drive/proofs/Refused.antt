@@ -1,7 +1,7 @@
 -- The refusals of a drive that take no memory.
 use Rattle.std.proofs.Common.{◌≡◌, ◌∙◌, ℕ, Bool, List, Option, Some, None, true, false, is_some, refl, sym, ap, subst}
 use Rattle.std.specs.Prelude.{Result, Err, option_map}
-use Rattle.flag_defs.specs.Document.{Definitions}
+use Rattle.flag_resolve.specs.Floats.{Marked}
 use Rattle.book_core.specs.Book.{Contents}
 use Rattle.book_share.specs.DriveFault.{workers_fault}
 use Rattle.book_share.specs.declared.drive_fault.DriveFault.{DriveFault}
@@ -13,7 +13,7 @@ use Rattle.flagops_drive.specs.declared.fault.DriveRefusal.TheVariants.{Drive, B
 
 -- ---- no asks
 
-pub bad_asks : (flags : Definitions) (o : Option (List Ask)) (workers : ℕ) (before : Option Contents) (json : Bool) → false ≡ is_some o → IsDriveOf flags o workers before json (Err BadAsks)
+pub bad_asks : (flags : Marked) (o : Option (List Ask)) (workers : ℕ) (before : Option Contents) (json : Bool) → false ≡ is_some o → IsDriveOf flags o workers before json (Err BadAsks)
 bad_asks flags None workers before json h = refl
 bad_asks flags (Some asks) workers before json h = cc
 
@@ -23,7 +23,7 @@ bad_asks_first (Some asks) workers e h is = cc
 
 -- ---- a wrong number of workers
 
-pub bad_workers : (flags : Definitions) (o : Option (List Ask)) (workers : ℕ) (before : Option Contents) (json : Bool) (fault : DriveFault) → true ≡ is_some o → Some fault ≡ workers_fault workers → IsDriveOf flags o workers before json (Err (Drive fault))
+pub bad_workers : (flags : Marked) (o : Option (List Ask)) (workers : ℕ) (before : Option Contents) (json : Bool) (fault : DriveFault) → true ≡ is_some o → Some fault ≡ workers_fault workers → IsDriveOf flags o workers before json (Err (Drive fault))
 bad_workers flags None workers before json fault h is = cc
 bad_workers flags (Some asks) workers before json fault h is = sym is
 
@@ -37,5 +37,5 @@ pub none_first : {X : Type 0} (o : Option (List Ask)) (workers : ℕ) (e : Drive
 none_first None workers e h is first = cc
 none_first (Some asks) workers e h is first = let same : None ≡ Some e = ap (option_map Drive) is ∙ first in cc
 
-pub same_asks : (flags : Definitions) (items o : Option (List Ask)) (workers : ℕ) (before : Option Contents) (json : Bool) (r : Result program_output.DriveOutput DriveRefusal) → items ≡ o → Drives flags items workers before json r → Drives flags o workers before json r
+pub same_asks : (flags : Marked) (items o : Option (List Ask)) (workers : ℕ) (before : Option Contents) (json : Bool) (r : Result program_output.DriveOutput DriveRefusal) → items ≡ o → Drives flags items workers before json r → Drives flags o workers before json r
 same_asks flags items o workers before json r is h = subst (λ (asks : Option (List Ask)). Drives flags asks workers before json r) is h

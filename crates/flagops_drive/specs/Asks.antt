@@ -1,10 +1,12 @@
 -- What an asks file asks: a list of `{"key":text,"want":kind,"default":value,"context":object,"moment":n}`, each member required.
 use Rattle.std.specs.Prelude.{ℕ, ◌^◌, nat_lt, pos, List, [], ◌∷◌, length, codes, if◌then◌else◌, Option, Some, None, option_map, option_and_then, Result, Ok, Err}
+use Rattle.std.specs.Str.{bytes_eq}
 use Rattle.flag_text.specs.Readers.{as_list, as_text, member_of}
 use Rattle.flag_text.specs.Shape.{Shape, whole, object, Items, no_items, item}
 use Rattle.flag_text.specs.View.{view}
 use Rattle.flag_defs.specs.Kind.{kind_named}
 use Rattle.flag_defs.specs.declared.kind.Kind.{Kind}
+use Rattle.flag_defs.specs.declared.kind.Kind.TheVariants as kind
 use Rattle.book_share.specs.declared.ask.Ask as program
 use Rattle.flagops_drive.specs.declared.fault.DriveRefusal.{DriveRefusal}
 use Rattle.flagops_drive.specs.declared.fault.DriveRefusal.TheVariants.{BadAsks}
@@ -27,9 +29,16 @@ ask_view a = record { key = a.key.now; want = a.want; default = view a.default.n
 abbrev pub key_in : Shape → Option (List ℕ)
 key_in t = option_and_then as_text (member_of (codes "key") t)
 
+-- the kind that a word asks for: flagd's `boolean`, `string` and `integer` beside the words of kinds
+abbrev pub kind_spelled : List ℕ → Option Kind
+kind_spelled word =
+    if bytes_eq word (codes "boolean") then Some kind.Bool else
+    (if bytes_eq word (codes "string") then Some kind.Text else
+    (if bytes_eq word (codes "integer") then Some kind.Whole else kind_named word))
+
 -- the member `want`: the word of a kind
 abbrev pub want_in : Shape → Option Kind
-want_in t = option_and_then kind_named (option_and_then as_text (member_of (codes "want") t))
+want_in t = option_and_then kind_spelled (option_and_then as_text (member_of (codes "want") t))
 
 -- the member `default`: any value
 abbrev pub default_in : Shape → Option Shape

@@ -1,13 +1,12 @@
 -- What the command `drive` comes to.
 use Rattle.std.specs.Prelude.{◌≡◌, ◌≢◌, ℕ, Bool, List, map, Option, Some, None, option_map, Result, Ok, Err}
-use Rattle.flag_resolve.specs.Resolved.{Resolved}
+use Rattle.flag_resolve.specs.Floats.{Marked}
 use Rattle.flag_resolve.specs.Views.{resolution_view}
-use Rattle.flag_defs.specs.Document.{Definitions}
 use Rattle.book_core.specs.Book.{Contents, input_count}
 use Rattle.book_core.specs.Printing.{book_text}
 use Rattle.book_core.specs.Reading.{book_of}
 use Rattle.book_core.specs.Union.{HaveNoUnion, IsUnion}
-use Rattle.book_share.specs.Asked.{long_of, mentions, resolved}
+use Rattle.book_share.specs.Asked.{long_of, mentions}
 use Rattle.book_share.specs.Driven.{AreNoted}
 use Rattle.book_share.specs.DriveFault.{workers_fault}
 use Rattle.book_share.specs.declared.ask.Ask as program
@@ -15,6 +14,7 @@ use Rattle.book_share.specs.declared.drive_fault.DriveFault.TheVariants.{WantOfM
 use Rattle.book_share.specs.declared.driving.Driven as program_driven
 use Rattle.flagops_drive.specs.Asks.{Ask, ask_view}
 use Rattle.flagops_drive.specs.Fault.{want}
+use Rattle.flagops_drive.specs.Floats.{Answer, answered, answers_of, asked_as}
 use Rattle.flagops_drive.specs.Lines.{drive_text}
 use Rattle.flagops_drive.specs.declared.command.DriveOutput as program_output
 use Rattle.flagops_drive.specs.declared.fault.DriveRefusal.{DriveRefusal}
@@ -31,24 +31,25 @@ drive_output_view d = record { text = d.text.items; book = d.book.items; reached
 
 -- what asks resolve to, the book in which was noted what they reached, and the counts of the notes
 pub record Reached : Type 0 where
-  pub answers : List Resolved
+  pub answers : List Answer
   pub book : Contents
   pub calls : ℕ
   pub news : ℕ
   pub full : ℕ
   pub long : ℕ
 
-abbrev pub reached_view : program_driven.Driven → Reached
-reached_view d = record { answers = map resolution_view d.answers.items; book = d.book; calls = d.calls; news = d.news; full = d.full; long = d.long }
+-- of the asks that were driven, by flags of which some may have floats
+abbrev pub reached_view : Marked → List program.Ask → program_driven.Driven → Reached
+reached_view flags asks d = record { answers = answers_of flags asks (map resolution_view d.answers.items); book = d.book; calls = d.calls; news = d.news; full = d.full; long = d.long }
 
 -- the resolutions of these asks, in their order, and a book in which what they reached was noted
-pub record IsReached (flags : Definitions) (asks : List Ask) (r : Reached) : Type 0 where
-  -- the asks, as the program holds them
+pub record IsReached (flags : Marked) (asks : List Ask) (r : Reached) : Type 0 where
+  pub answers : r.answers ≡ map (answered flags) asks
+  -- the asks, as the program holds them, each for the kind that its flag is asked for
   pub given : List program.Ask
-  pub same : map ask_view given ≡ asks
-  pub answers : r.answers ≡ map (resolved flags) given
-  pub noted : AreNoted (mentions flags given) r.book r.calls r.news r.full
-  pub long : r.long ≡ long_of flags given
+  pub same : map ask_view given ≡ map (asked_as flags) asks
+  pub noted : AreNoted (mentions flags.0 given) r.book r.calls r.news r.full
+  pub long : r.long ≡ long_of flags.0 given
 
 -- the book that is written: what was reached, and what a book had before
 abbrev pub Adds : Option Contents → Contents → Contents → Type 0
@@ -70,13 +71,13 @@ pub record IsOutput (before : Option Contents) (json : Bool) (r : Reached) (d : 
   pub reached : d.reached ≡ r.news
 
 -- the output of these asks, whose book keeps what a book had before
-pub record IsDriveOutput (flags : Definitions) (asks : List Ask) (before : Option Contents) (json : Bool) (d : DriveOutput) : Type 0 where
+pub record IsDriveOutput (flags : Marked) (asks : List Ask) (before : Option Contents) (json : Bool) (d : DriveOutput) : Type 0 where
   pub reached : Reached
   pub is_reached : IsReached flags asks reached
   pub output : IsOutput before json reached d
 
 -- what these asks reached is too much for the book that was there before
-pub record IsOverfull (flags : Definitions) (asks : List Ask) (before : Option Contents) : Type 0 where
+pub record IsOverfull (flags : Marked) (asks : List Ask) (before : Option Contents) : Type 0 where
   pub reached : Reached
   pub is_reached : IsReached flags asks reached
   pub full : HaveNoSum before reached.book
@@ -97,18 +98,18 @@ refusal_of None workers = Some BadAsks
 refusal_of (Some asks) workers = workers_refusal workers
 
 -- why these asks are not driven by so many workers: their number, or what a book had before
-abbrev pub IsRefused : Definitions → List Ask → ℕ → Option Contents → DriveRefusal → Type 0
+abbrev pub IsRefused : Marked → List Ask → ℕ → Option Contents → DriveRefusal → Type 0
 IsRefused flags asks workers before (Drive e) = workers_fault workers ≡ Some e
 IsRefused flags asks workers before PageFull = (workers_fault workers ≡ None) × IsOverfull flags asks before
 IsRefused flags asks workers before BadAsks = ⊥
 
 -- what comes of these asks, if there are any, by so many workers, beside a book that was there before; want of memory is no part of it
-abbrev pub IsDriveOf : Definitions → Option (List Ask) → ℕ → Option Contents → Bool → Result DriveOutput DriveRefusal → Type 0
+abbrev pub IsDriveOf : Marked → Option (List Ask) → ℕ → Option Contents → Bool → Result DriveOutput DriveRefusal → Type 0
 IsDriveOf flags None workers before json r = r ≡ Err BadAsks
 IsDriveOf flags (Some asks) workers before json (Ok d) = (workers_fault workers ≡ None) × IsDriveOutput flags asks before json d
 IsDriveOf flags (Some asks) workers before json (Err e) = IsRefused flags asks workers before e
 
 -- what was returned is so, unless memory ran out
-abbrev pub Drives : Definitions → Option (List Ask) → ℕ → Option Contents → Bool → Result program_output.DriveOutput DriveRefusal → Type 0
+abbrev pub Drives : Marked → Option (List Ask) → ℕ → Option Contents → Bool → Result program_output.DriveOutput DriveRefusal → Type 0
 Drives flags asks workers before json (Ok d) = IsDriveOf flags asks workers before json (Ok (drive_output_view d))
 Drives flags asks workers before json (Err e) = e ≢ want → IsDriveOf flags asks workers before json (Err e)

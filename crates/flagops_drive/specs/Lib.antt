@@ -2,6 +2,8 @@ pub mod Asks
 pub mod Driven
 pub mod Fault
 pub mod File
+pub mod Floats
+pub mod FloatsLaw
 pub mod Lines
 pub mod Misfit
 pub mod Plain

@@ -1,8 +1,8 @@
 //! The command over what it read.
-ghost use Rattle.std.specs.Prelude.{◌≡◌, ◌<◌, ◌^◌, true, IfErr, IfOk, IsErrOf, Ok, Some};
+ghost use Rattle.std.specs.Prelude.{◌≡◌, ◌<◌, ◌^◌, true, IfErr, IfOk, IsErrOf, Ok, Some, length};
 ghost use Rattle.book_core.specs.Reading.{book_of};
 ghost use Rattle.book_share.specs.DriveFault.{workers_fault};
-ghost use Rattle.flag_defs.specs.Flags.{flags_view};
+ghost use Rattle.flag_defs.specs.Floats.{marked_view};
 ghost use Rattle.flag_text.specs.Shape.{is_whole, items_are_whole};
 ghost use Rattle.flagops_drive.specs.Asks.{asks_in, asks_of as asks_of_shape};
 ghost use Rattle.flagops_drive.specs.Driven.{Adds, Drives, IsOutput, IsUnadded, drive_output_view, reached_view, refusal_of};
@@ -16,8 +16,9 @@ use crate::fault::DriveRefusal;
 use crate::gate::CountingGate;
 use crate::lines::{Counts, lines};
 use crate::tally::{Endings, Tally, inputs_before};
+use crate::wants::want_spellings;
 use book_core::{Book, print_book};
-use book_share::{DriveFault, Driven, drive};
+use book_share::{Ask, DriveFault, Driven, drive};
 use flag_defs::Flags;
 use flag_resolve::Resolution;
 use limits::SEATS;
@@ -68,6 +69,9 @@ pub fn refusal_of(asks: &AsksFile<'_>, workers: usize) -> Option<DriveRefusal>
 /// more than 1000000 inputs of a page. A refusal comes after all workers have ended. Cost: as `resolve` for each ask, as a
 /// note for each input that it reaches, and as another for each input that is added to the book from before. Each ask that is
 /// answered moves the meter on, where there is one.
+///
+/// Where flags may have floats (`Flags::floats_at`) each ask is answered as by `flag_resolve::resolve_with_floats`, and the value of a
+/// flag that has some is printed by its spelling.
 #[tactic(auto, using(crate::proofs::Refused::bad_asks, crate::proofs::Refused::bad_asks_first, crate::proofs::Refused::bad_workers, crate::proofs::Refused::bad_workers_first, crate::proofs::Refused::none_first, crate::proofs::Refused::same_asks))]
 pub fn drive_asks<R: Threads + Wait + Sync>(
     rt: &R,
@@ -80,7 +84,7 @@ pub fn drive_asks<R: Threads + Wait + Sync>(
     meter: Option<&Meter>,
 ) -> Result<DriveOutput, DriveRefusal>
     requires { is_whole (file_view asks.now) ≡ true }
-    ensures driven { Drives (flags_view flags.now) (asks_of_shape (file_view asks.now)) workers before json result }
+    ensures driven { Drives (marked_view flags.now) (asks_of_shape (file_view asks.now)) workers before json result }
     ensures tally { IfOk result (IsTallied before json) }
     ensures file { IfOk result (λ d. book_of d.book.items ≡ Ok d.rest.book) }
     ensures refused { (e : Refusal) → refusal_of (asks_of_shape (file_view asks.now)) workers ≡ Some e → IsErrOf result e }
@@ -107,14 +111,15 @@ fn drive_items<R: Threads + Wait + Sync>(
 ) -> Result<DriveOutput, DriveRefusal>
     requires whole { items_are_whole (items_of items) ≡ true }
     requires few { count_of items < 2 ^ 32 }
-    ensures driven { Drives (flags_view flags.now) (asks_in (items_of items.entry)) workers before json result }
+    ensures driven { Drives (marked_view flags.now) (asks_in (items_of items.entry)) workers before json result }
     ensures tally { IfOk result (IsTallied before json) }
     ensures file { IfOk result (λ d. book_of d.book.items ≡ Ok d.rest.book) }
 {
-    let asks = asks_in(alloc, items)?;
+    let mut asks = asks_in(alloc, items)?;
+    want_spellings(flags, &mut asks);
     let gate = CountingGate::new(meter, asks.len());
     match drive(rt, alloc, flags, asks.as_slice(), workers, &gate) {
-        Ok(driven) => output_of(alloc, driven, before, json),
+        Ok(driven) => output_of(alloc, flags, asks.as_slice(), driven, before, json),
         Err(fault) => Err(DriveRefusal::Drive(fault)),
     }
 }
@@ -132,15 +137,18 @@ fn fault_of(workers: usize) -> Option<DriveFault>
     }
 }
 
-/// What is printed and what is written of what was driven.
+/// What is printed and what is written of what was driven, of these asks by these flags.
 #[tactic(auto, unfolding(crate::specs::Tally::IsTallyOf))]
 fn output_of(
     alloc: Global,
+    flags: &Flags,
+    asks: &[Ask<'_>],
     driven: Driven,
     before: Option<Book>,
     json: bool,
 ) -> Result<DriveOutput, DriveRefusal>
-    ensures output { IfOk result (λ d. IsOutput before json (reached_view driven) (drive_output_view d)) }
+    requires { length driven.answers.items ≡ length asks.now }
+    ensures output { IfOk result (λ d. IsOutput before json (reached_view (marked_view flags.now) asks.now driven) (drive_output_view d)) }
     ensures tally { IfOk result (IsTallied before json) }
     ensures file { IfOk result (λ d. book_of d.book.items ≡ Ok d.rest.book) }
     ensures refused { IfErr result (IsUnadded before driven.book) }
@@ -162,7 +170,7 @@ fn output_of(
         full,
         long,
     };
-    let text = lines(alloc, answers.as_slice(), &counts, json)?.into_bytes();
+    let text = lines(alloc, flags, asks, answers.as_slice(), &counts, json)?.into_bytes();
     let tally = Tally {
         asks: answers.len(),
         endings: Endings::of(answers.as_slice()),

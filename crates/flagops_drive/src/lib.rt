@@ -43,12 +43,13 @@ mod reading;
 mod tally;
 mod unplain;
 mod unread;
+mod wants;
 
 pub use asks::asks_of;
 pub use asks_file::{AsksFile, read_asks};
 pub use command::{DriveOutput, Rest, drive_asks, refusal_of};
 pub use fault::DriveRefusal;
-pub use laws::a_misfit_is_all_that_refuses;
+pub use laws::{a_misfit_is_all_that_refuses, floats_change_nothing};
 pub use misfit::{AskMember, Misfit};
 pub use plain_ask::PlainAsk;
 pub use tally::{Endings, Tally};

@@ -1,9 +1,13 @@
 //! The lines that are printed of what was driven.
 ghost use Rattle.std.specs.Prelude.{◌≡◌, IfOk, map, string_bytes};
+ghost use Rattle.flag_defs.specs.Floats.{marked_view};
 ghost use Rattle.flag_resolve.specs.Views.{resolution_view};
+ghost use Rattle.flagops_drive.specs.Floats.{answers_of};
 ghost use Rattle.flagops_drive.specs.Lines.{count_lines, drive_text, resolution_lines};
 
-use flag_resolve::{Resolution, push_resolution};
+use book_share::Ask;
+use flag_defs::Flags;
+use flag_resolve::{Resolution, is_spelled, push_resolution_spelled};
 use std::alloc::{AllocError, Global};
 
 /// How many inputs the book that is written has, and the counts of the notes.
@@ -16,28 +20,36 @@ pub(crate) struct Counts {
     pub(crate) long: u128,
 }
 
-/// A line for each resolution, then the counts.
+/// A line for the resolution of each ask by the flags, then the counts.
 #[tactic(auto, unfolding(crate::specs::Lines::drive_text))]
 pub(crate) fn lines(
     alloc: Global,
+    flags: &Flags,
+    asks: &[Ask<'_>],
     answers: &[Resolution],
     counts: &Counts,
     json: bool,
 ) -> Result<String, AllocError>
-    ensures { IfOk result (λ s. string_bytes s ≡ drive_text json (map resolution_view answers.now) counts.now.inputs counts.now.calls counts.now.news counts.now.full counts.now.long) }
+    ensures { IfOk result (λ s. string_bytes s ≡ drive_text json (answers_of (marked_view flags.now) asks.now (map resolution_view answers.now)) counts.now.inputs counts.now.calls counts.now.news counts.now.full counts.now.long) }
 {
-    let mut lines = resolution_lines(alloc, answers)?;
+    let mut lines = resolution_lines(alloc, flags, asks, answers)?;
     let counts = count_lines(alloc, counts, json)?;
     lines.push_str(counts.as_str())?;
     Ok(lines)
 }
 
-fn resolution_lines(alloc: Global, answers: &[Resolution]) -> Result<String, AllocError>
-    ensures { IfOk result (λ s. string_bytes s ≡ resolution_lines (map resolution_view answers.now)) }
+fn resolution_lines(
+    alloc: Global,
+    flags: &Flags,
+    asks: &[Ask<'_>],
+    answers: &[Resolution],
+) -> Result<String, AllocError>
+    ensures { IfOk result (λ s. string_bytes s ≡ resolution_lines (answers_of (marked_view flags.now) asks.now (map resolution_view answers.now))) }
 {
     let mut lines = String::new(alloc);
-    for answer in answers {
-        push_resolution(alloc, &mut lines, answer)?;
+    for (ask, answer) in asks.iter().zip(answers) {
+        let spelled = is_spelled(Some(flags), ask.key, answer);
+        push_resolution_spelled(alloc, &mut lines, answer, spelled)?;
         lines.push_str("\n")?;
     }
     Ok(lines)

@@ -2,7 +2,7 @@
 ghost use Rattle.std.specs.Prelude.{◌≡◌, ◌<◌, ◌^◌, true, IfSome, option_copied, option_map};
 ghost use Rattle.flag_text.specs.Shape.{is_whole};
 ghost use Rattle.flag_text.specs.View.{view};
-ghost use Rattle.flagops_drive.specs.Asks.{ask_in, ask_view, context_in, default_in, if_moment, key_in, moment_in, want_in};
+ghost use Rattle.flagops_drive.specs.Asks.{ask_in, ask_view, context_in, default_in, if_moment, key_in, kind_spelled, moment_in, want_in};
 
 use book_share::Ask;
 use flag_resolve::Kind;
@@ -38,7 +38,19 @@ pub(crate) fn key_in(tree: &Tree) -> Option<&str>
 pub(crate) fn want_in(tree: &Tree) -> Option<Kind>
     ensures { result ≡ want_in (view tree.now) }
 {
-    Kind::named(tree.member("want")?.as_text()?)
+    kind_spelled(tree.member("want")?.as_text()?)
+}
+
+/// The kind that a word asks for: flagd's `boolean`, `string` and `integer` beside the words of kinds.
+fn kind_spelled(word: &str) -> Option<Kind>
+    ensures { result ≡ kind_spelled word.now }
+{
+    match word {
+        "boolean" => Some(Kind::Bool),
+        "string" => Some(Kind::Text),
+        "integer" => Some(Kind::Whole),
+        _ => Kind::named(word),
+    }
 }
 
 pub(crate) fn default_in(tree: &Tree) -> Option<&Tree>

@@ -252,7 +252,7 @@ Workers = IsNumber (codes "WORKERS") 0 max_16
 
 drive_read : (name : Text) (rows : List Row) (document file number book : Text) (workers : ℕ) (add : Bool) → name ≡ codes "drive" → first_of (codes "DOC") rows ≡ Some document
     → first_of (codes "ASKS") rows ≡ Some file → first_of (codes "WORKERS") rows ≡ Some number → number_in 0 max_16 number ≡ Some workers → first_of (codes "BOOK") rows ≡ Some book
-    → flag_in (codes "add") rows ≡ add → asked_in (name, rows) ≡ Some (drive document file workers book add (flag_in (codes "replace") rows) (is_strict rows) (is_json rows))
+    → flag_in (codes "add") rows ≡ add → asked_in (name, rows) ≡ Some (drive document file workers book add (flag_in (codes "replace") rows) (is_strict rows) (is_json rows) (has_floats rows))
 drive_read name rows document file number book workers add is document_is file_is number_is workers_is book_is add_is =
     rw (is, document_is, file_is, number_is, workers_is, book_is, add_is) refl
 
@@ -269,7 +269,7 @@ drive_asks s name stored given words e =
     let book = value_taken Workers (codes "BOOK") rows full all.3 in
     let workers = number_read 0 max_16 word.0 (word.2 refl) in
     inl (
-      drive document.0 file.0 workers.0 book.0 (flag_in (codes "add") rows) (flag_in (codes "replace") rows) (is_strict rows) (is_json rows),
+      drive document.0 file.0 workers.0 book.0 (flag_in (codes "add") rows) (flag_in (codes "replace") rows) (is_strict rows) (is_json rows) (has_floats rows),
       drive_read s.name rows document.0 file.0 word.0 book.0 workers.0 (flag_in (codes "add") rows) name document.1 file.1 word.1 workers.1 book.1 refl,
     )
 
@@ -398,7 +398,7 @@ each = (
                 (document.0, file.0, key.0, site.0)),
             (
               λ _ _ _. drive_asks _ refl
-                  ((refl, λ v e h. cc), ((refl, λ v e h. cc), ((refl, λ v e h. passes _ _ e), ((refl, λ v e h. cc), ((refl, λ v e h. cc), ((refl, λ v e h. cc), ((refl, λ v e h. cc), ((refl, λ v e h. cc), ((refl, λ v e h. cc), tt)))))))))
+                  ((refl, λ v e h. cc), ((refl, λ v e h. cc), ((refl, λ v e h. passes _ _ e), ((refl, λ v e h. cc), ((refl, λ v e h. cc), ((refl, λ v e h. cc), ((refl, λ v e h. cc), ((refl, λ v e h. cc), ((refl, λ v e h. cc), ((refl, λ v e h. cc), tt))))))))))
                   (λ rows e.
                   let document = needed _ _ e in
                   let file = needed _ _ document.1 in

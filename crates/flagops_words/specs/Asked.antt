@@ -24,9 +24,9 @@ pub data Asked : Type 0 where
   -- a document, a plan, a request and a book, whether the document is written over, the factor of a refinement if there is one,
   -- whether what is doubted is refused, and whether the document may have floats
   keep : List ℕ → List ℕ → List ℕ → List ℕ → Bool → Option ℕ → Bool → Bool → Asked
-  -- a document, asks, a number of workers and a book, whether the book keeps what it has, whether what is doubted is refused, and
-  -- whether the answer is printed as JSON
-  drive : List ℕ → List ℕ → ℕ → List ℕ → Bool → Bool → Bool → Bool → Asked
+  -- a document, asks, a number of workers and a book, whether the book keeps what it has, whether what it has may be lost, whether
+  -- what is doubted is refused, whether the answer is printed as JSON, and whether the document may have floats
+  drive : List ℕ → List ℕ → ℕ → List ℕ → Bool → Bool → Bool → Bool → Bool → Asked
   -- a shell
   completions : Shell → Asked
 
@@ -38,6 +38,6 @@ asked_view (code.Resolve document key kind default context moment floats) = reso
 asked_view (code.Verify document request book file refine strict json floats) = verify document.now request.now book.now file.now (option_map (λ m. m.number) refine) strict json floats
 asked_view (code.Apply document file key site strict floats) = apply document.now file.now key.now site strict floats
 asked_view (code.Keep document file request book write refine strict floats) = keep document.now file.now request.now book.now write (option_map (λ m. m.number) refine) strict floats
-asked_view (code.Drive document file workers book add replace strict json) = drive document.now file.now workers book.now add replace strict json
+asked_view (code.Drive document file workers book add replace strict json floats) = drive document.now file.now workers book.now add replace strict json floats
 asked_view (code.Completions shell) = completions shell
 asked_view (code.Plan document request book refine strict explain floats) = plan document.now request.now book.now (option_map (λ m. m.number) refine) strict explain floats

@@ -101,9 +101,9 @@ apply_app = with_rule (with_rule (with_rule (with_rule (with_rule (with_rule app
 abbrev pub drive_begun : App
 drive_begun = with_rule (with_rule (with_rule (with_rule (new_app (codes "drive")) (required (codes "DOC"))) (required (codes "ASKS"))) (number (codes "WORKERS") max_16)) (required (codes "BOOK"))
 
--- the same with `--add`, `--replace`, `--strict` and `--json`
+-- the same with `--add`, `--replace`, `--strict`, `--json` and `--floats`
 unfoldable pub drive_app : App
-drive_app = with_rule (with_rule (with_rule (with_rule drive_begun (flag (codes "add"))) (flag (codes "replace"))) strict_flag) json_flag
+drive_app = with_rule (with_rule (with_rule (with_rule (with_rule drive_begun (flag (codes "add"))) (flag (codes "replace"))) strict_flag) json_flag) floats_flag
 
 -- one word or more
 abbrev pub some_words : Text → Rule
@@ -267,7 +267,7 @@ drive_in rows = do
   word ← first_of (codes "WORKERS") rows
   workers ← number_in 0 max_16 word
   book ← first_of (codes "BOOK") rows
-  Some (drive document file workers book (flag_in (codes "add") rows) (flag_in (codes "replace") rows) (is_strict rows) (is_json rows))
+  Some (drive document file workers book (flag_in (codes "add") rows) (flag_in (codes "replace") rows) (is_strict rows) (is_json rows) (has_floats rows))
 
 -- texts, where there are any
 abbrev pub if_any : List Text → Option (List Text)

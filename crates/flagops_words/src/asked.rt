@@ -98,6 +98,8 @@ pub enum Asked<'a> {
         strict: bool,
         /// Whether the answer is printed as JSON.
         json: bool,
+        /// Whether the document may have floats.
+        floats: bool,
     },
     /// The script by which a shell completes the words of the program.
     Completions {

@@ -58,7 +58,7 @@ _flagops() {
         apply:-*) COMPREPLY=($(compgen -W "--keep --write --refine --strict --doubted --step --floats --help" -- "$word")) ;;
         book:-*) COMPREPLY=($(compgen -W "--torn --replace --help" -- "$word")) ;;
         ofrep:-*) COMPREPLY=($(compgen -W "--listen --admin --allow-stop --access-log --idle --max-body --cors --keys --log --log-points --remember --without-record --stream --workers --poll --broken --help" -- "$word")) ;;
-        drive:-*) COMPREPLY=($(compgen -W "--add --replace --strict --json --help" -- "$word")) ;;
+        drive:-*) COMPREPLY=($(compgen -W "--add --replace --strict --json --floats --help" -- "$word")) ;;
         serve:-*) COMPREPLY=($(compgen -W "--wait --floats --help" -- "$word")) ;;
         follow:-*) COMPREPLY=($(compgen -W "--wait --help" -- "$word")) ;;
         *:-*) COMPREPLY=($(compgen -W "--help" -- "$word")) ;;
@@ -103,7 +103,7 @@ complete -c flagops -n __fish_use_subcommand -f -a completions -d 'Print the com
 complete -c flagops -n __fish_use_subcommand -f -a help -d 'Print the help of a command'
 complete -c flagops -n '__fish_seen_subcommand_from bucket price check compare verify drive' -l json -d 'Print the result as JSON'
 complete -c flagops -n '__fish_seen_subcommand_from check compare plan verify apply drive ramp verify-ramp' -l strict -d 'Treat warnings as errors'
-complete -c flagops -n '__fish_seen_subcommand_from check compare resolve plan verify apply ramp verify-ramp picture record tally serve' -l floats -d 'Accept any numbers as variants'
+complete -c flagops -n '__fish_seen_subcommand_from check compare resolve plan verify apply drive ramp verify-ramp picture record tally serve' -l floats -d 'Accept any numbers as variants'
 complete -c flagops -n '__fish_seen_subcommand_from compare' -l flag -x -d 'Only the pages of this flag'
 complete -c flagops -n '__fish_seen_subcommand_from compare' -l picture -r -d 'Write the picture of the pages'
 complete -c flagops -n '__fish_seen_subcommand_from plan' -l explain -d 'Explain the plan in words'
@@ -235,7 +235,7 @@ _flagops() {
         drive)
             _arguments '--add[keep what the book has]' '--replace[write even if inputs are lost]' \
                 '--strict[treat warnings as errors]' '--json[print the result as JSON]' \
-                '--help[print help]' '*:file:_files'
+                '--floats[accept any numbers as variants]' '--help[print help]' '*:file:_files'
             ;;
         serve)
             _arguments '--wait[the most seconds to wait]:S:' '--floats[accept any numbers as variants]' '--help[print help]' '*:file:_files'

@@ -222,6 +222,7 @@ const DRIVE: Usage = Usage {
         Word::Flag("replace", "Write BOOK even if it loses inputs"),
         STRICT,
         JSON,
+        FLOATS,
     ],
 };
 

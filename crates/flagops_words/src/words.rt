@@ -230,6 +230,7 @@ fn drive_in<'a>(words: &ArgMatches<'a>) -> Option<Asked<'a>>
         replace: flag_in(words, "replace"),
         strict: is_strict(words),
         json: is_json(words),
+        floats: has_floats(words),
     })
 }
 

@@ -29,7 +29,7 @@ pub fn of_asks(alloc: Global, path: &str, tree: &Tree) -> Result<String, AllocEr
     }
     write!(
         lines,
-        "\n  an ask has a key, want (bool, text, whole, object or float), default, context (an object) and moment\n",
+        "\n  an ask has a key, want (bool, text, whole, object or float, or flagd's boolean, string or integer), default, context (an object) and moment\n",
     );
     lines.headed(Opening::Error, path)
 }

@@ -19,7 +19,7 @@ ghost use Rattle.flagops_commands.specs.declared.refusal.ListedRefusal.TheVarian
 
 use crate::books::asks::load_asks;
 use crate::books::driving::{drive_output, remark_on};
-use crate::loading::{check_replaceable, load_book, load_flags, load_losses, store};
+use crate::loading::{check_replaceable, load_book, load_losses, load_marked, store};
 use crate::refusal::{ListedRefusal, Refused};
 use book_core::Book;
 use book_losses::of_losses;
@@ -35,12 +35,14 @@ use std::thread::Threads;
 /// object in one line. The book is written first; where it is added to, it keeps what it had, and else it is not written over
 /// one of which it lacks an input, unless with `replace`. A person is told how many asks ended in what, how many inputs they
 /// reached, and the first member of an ask that is not read. With `strict` asks with such a member are refused before one is
-/// answered, and asks that reached no input before the book is written.
+/// answered, and asks that reached no input before the book is written. The document may have floats, or may not; the value of a
+/// flag that has some is printed by its spelling.
 pub fn drive<R: Threads + Wait + Sync, F: FileSet>(
     rt: &R,
     alloc: Global,
     files: &mut F,
     document: &str,
+    floats: bool,
     asks: &str,
     workers: u16,
     book: &str,
@@ -49,20 +51,20 @@ pub fn drive<R: Threads + Wait + Sync, F: FileSet>(
     strict: bool,
     json: bool,
 ) -> Result<Outcome, Refused>
-    ensures exact { IfSome (F.holding files.old) (λ at. GivesOne outcome_view result (IsDriveReport at (F.holding files.new) document.now asks.now workers book.now add replace strict json)) }
+    ensures exact { IfSome (F.holding files.old) (λ at. GivesOne outcome_view result (IsDriveReport floats at (F.holding files.new) document.now asks.now workers book.now add replace strict json)) }
     ensures calls { ComesFrom drive_calls result }
     ensures failed { F.has_failed files.new ≡ (F.has_failed files.old || is_file_fault result) }
-    ensures left { LeavesBook (F.holding files.old) (F.holding files.new) document.now asks.now workers book.now add strict }
+    ensures left { LeavesBook floats (F.holding files.old) (F.holding files.new) document.now asks.now workers book.now add strict }
     ensures kept { KeepsUnlessDone (F.holding files.old) (F.holding files.new) result }
     // What is known without taking memory is refused by name, once the files before it were read.
     ensures bad_workers { (e : Reason) → workers_refusal workers ≡ Some e → IsRefusedByName result }
     ensures bad_asks { IfSome (F.holding files.old) (λ at. HasNoAsks at asks.now → IsRefusedByName result) }
     ensures unread { IfSome (F.holding files.old) (λ at. strict ≡ true → HasUnreadAsk at asks.now → IsRefusedByName result) }
-    ensures names { IfSome (F.holding files.old) (λ at. TellsOfFirst (drive_attempts at document.now asks.now book.now add) result) }
+    ensures names { IfSome (F.holding files.old) (λ at. TellsOfFirst (drive_attempts floats at document.now asks.now book.now add) result) }
     ensures notes { IfOk result (λ o. IfSome o.remark (Says (Names asks.now))) }
     ensures numbers { IfOk result (λ o. IfSome (F.holding files.old) (λ at. IfSome o.remark (Says (TellsPrinted at asks.now book.now add json o.text.items)))) }
 {
-    let flags = load_flags(alloc, files, document)?;
+    let flags = load_marked(alloc, files, document, floats)?;
     let mut bytes = Vec::new(alloc);
     let mut scratch = Scratch::new(alloc);
     let loaded = load_asks(alloc, files, asks, &mut bytes, &mut scratch)?;

@@ -1,7 +1,7 @@
 //! Asks that were read: what is refused of them, what they come to, and what a person is told of it.
 ghost use Rattle.std.specs.Prelude.{◌≡◌, false, true, IfErr, IfOk, IsErrAnd, IsOk, OnOk, Err, Ok, [], ◌∷◌, string_bytes};
 ghost use Rattle.book_core.specs.Reading.{book_of};
-ghost use Rattle.flag_defs.specs.Flags.{flags_view};
+ghost use Rattle.flag_defs.specs.Floats.{marked_view};
 ghost use Rattle.flag_text.specs.Shape.{is_whole};
 ghost use Rattle.flagops_drive.specs.Asks.{asks_of};
 ghost use Rattle.flagops_drive.specs.Driven.{drive_output_view, refusal_of};
@@ -51,7 +51,7 @@ pub fn drive_output<R: Threads + Wait + Sync>(
     meter: Option<&Meter>,
 ) -> Result<DriveOutput, Refused>
     requires { is_whole (file_view asks.now) ≡ true }
-    ensures exact { GivesOne drive_output_view result (IsDriveOutputOf (Ok (flags_view flags.now)) (Ok (file_view asks.now)) (Ok before) workers strict json) }
+    ensures exact { GivesOne drive_output_view result (IsDriveOutputOf (Ok (marked_view flags.now)) (Ok (file_view asks.now)) (Ok before) workers strict json) }
     ensures calls { ComesFrom drive_itself result }
     ensures read { is_file_fault result ≡ false }
     ensures refused { (e : Reason) → admitted strict (refusal_of (asks_of (file_view asks.now)) workers) (file_view asks.now) ≡ Err e → IsErrAnd result (λ r. r.refusal ≡ e) }

@@ -1,7 +1,11 @@
-use Rattle.std.proofs.Common.{◌≡◌, ◌++◌, drop, map, string_bytes}
+use Rattle.std.proofs.Common.{◌≡◌, ◌++◌, drop, length, map, string_bytes}
+use Rattle.flag_defs.specs.Floats.{marked_view}
 use Rattle.flag_resolve.specs.Views.{resolution_view}
+use Rattle.flagops_drive.specs.Floats.{answers_of}
 use Rattle.flagops_drive.specs.Lines.{resolution_lines}
 use Rattle.flagops_drive.proofs.lines.resolution_lines.Given as goal
 
-abbrev pub invariant-loop-answer : goal.invariant-loop-answer
-invariant-loop-answer l = string_bytes l.lines ++ resolution_lines (map resolution_view (drop l.answer-index l.answers)) ≡ resolution_lines (map resolution_view l.answers)
+abbrev pub invariant-loop-ask : goal.invariant-loop-ask
+invariant-loop-ask l =
+    string_bytes l.lines ++ resolution_lines (answers_of (marked_view l.flags) (drop (length l.yielded) l.asks) (map resolution_view (drop (length l.yielded) l.answers)))
+    ≡ resolution_lines (answers_of (marked_view l.flags) l.asks (map resolution_view l.answers))

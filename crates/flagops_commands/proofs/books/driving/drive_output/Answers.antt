@@ -10,7 +10,7 @@ use Rattle.flagops_commands.specs.declared.refusal.ListedRefusal.TheVariants.{Dr
 use Rattle.flagops_commands.proofs.Driving.{driven_admitted, driven_so, gives_one, undriven_first, undriven_so}
 use Rattle.flagops_commands.proofs.Summary.{if_same}
 use Rattle.flagops_drive.specs.Tally.{IsTallied}
-use Rattle.flag_defs.specs.Flags.{flags_view}
+use Rattle.flag_defs.specs.Floats.{marked_view}
 use Rattle.flagops_commands.proofs.books.driving.drive_output.Goals as goal
 
 pub returns-in-Err-clause-refused : goal.returns-in-Err-clause-refused
@@ -22,7 +22,7 @@ returns-in-Err-clause-refused g c = λ e is.
 pub returns-in-Err-clause-exact : goal.returns-in-Err-clause-exact
 returns-in-Err-clause-exact g c =
     let asks = file_view c.args.asks.now in
-    let flags = flags_view c.args.flags.now in
+    let flags = marked_view c.args.flags.now in
     subst (λ (e : ListedRefusal). is_want e ≡ false → IsAnswered (admitted c.args.strict (refusal_of (asks_of asks) c.args.workers) asks) flags asks c.args.before c.args.workers c.args.strict c.args.json (Err e)) (sym c.undriven.ensures.refusal)
     (subst (λ (n : ℕ). is_want (Drive c.in-Err.refusal) ≡ false → IsAnswered (admitted c.args.strict (refusal_of (asks_of asks) n) asks) flags asks c.args.before n c.args.strict c.args.json (Err (Drive c.in-Err.refusal))) c.from-workers.ensures
     (undriven_so c.args.strict asks flags c.from-workers.result c.args.before c.args.json c.in-Err.refusal (refusal_of (asks_of asks) c.from-workers.result) c.in_ok-check_members.ensures.ok c.in-Err.ensures.refused c.in-Err.ensures.driven))
@@ -30,7 +30,7 @@ returns-in-Err-clause-exact g c =
 pub returns-in-Ok-clause-exact : goal.returns-in-Ok-clause-exact
 returns-in-Ok-clause-exact g c =
     let asks = file_view c.args.asks.now in
-    let flags = flags_view c.args.flags.now in
+    let flags = marked_view c.args.flags.now in
     let d = drive_output_view c.in-Ok.drive_output in
     gives_one drive_output_view c.recorded.result (recorded c.args.strict d) (IsDriveOutputOf (Ok flags) (Ok asks) (Ok c.args.before) c.args.workers c.args.strict c.args.json) c.recorded.ensures.exact
     (subst (λ (n : ℕ). IsAnswered (admitted c.args.strict (refusal_of (asks_of asks) n) asks) flags asks c.args.before n c.args.strict c.args.json (recorded c.args.strict d)) c.from-workers.ensures
@@ -39,7 +39,7 @@ returns-in-Ok-clause-exact g c =
 pub returns-in-Ok-clause-refused : goal.returns-in-Ok-clause-refused
 returns-in-Ok-clause-refused g c = λ e is.
     let asks = file_view c.args.asks.now in
-    driven_admitted c.args.strict asks (flags_view c.args.flags.now) c.from-workers.result c.args.before c.args.json (drive_output_view c.in-Ok.drive_output) c.in_ok-check_members.ensures.ok c.in-Ok.ensures.driven e
+    driven_admitted c.args.strict asks (marked_view c.args.flags.now) c.from-workers.result c.args.before c.args.json (drive_output_view c.in-Ok.drive_output) c.in_ok-check_members.ensures.ok c.in-Ok.ensures.driven e
     (ap (λ (n : ℕ). admitted c.args.strict (refusal_of (asks_of asks) n) asks) c.from-workers.ensures ∙ is)
 
 pub returns-in-Ok-clause-tally : goal.returns-in-Ok-clause-tally
