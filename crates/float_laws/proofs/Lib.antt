@@ -1,0 +1,6 @@
+mod Applied
+mod Filters
+mod Ramps
+mod Read
+mod Rollouts
+mod Served

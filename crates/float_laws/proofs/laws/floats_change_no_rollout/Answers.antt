@@ -1,0 +1,20 @@
+use Rattle.float_laws.proofs.Rollouts.{applied_stay, compared_stay, pictures_stay, planned_pictures_stay, plans_stay, verdicts_stay}
+use Rattle.float_laws.proofs.laws.floats_change_no_rollout.Goals as goal
+
+pub returns-clause-plans : goal.returns-clause-plans
+returns-clause-plans c = plans_stay c.floats_change_nothing.ensures
+
+pub returns-clause-verdicts : goal.returns-clause-verdicts
+returns-clause-verdicts c = verdicts_stay c.floats_change_nothing.ensures
+
+pub returns-clause-applied : goal.returns-clause-applied
+returns-clause-applied c = applied_stay c.floats_change_nothing.ensures c.floats_change_nothing-2.ensures.none
+
+pub returns-clause-pictures : goal.returns-clause-pictures
+returns-clause-pictures c = pictures_stay c.floats_change_nothing.ensures
+
+pub returns-clause-planned : goal.returns-clause-planned
+returns-clause-planned c = planned_pictures_stay c.floats_change_nothing.ensures
+
+pub returns-clause-compared : goal.returns-clause-compared
+returns-clause-compared c = compared_stay c.floats_change_nothing.ensures

@@ -1,0 +1,4 @@
+pub mod Filters
+pub mod Ramps
+pub mod Rollouts
+pub mod Whole

@@ -1,0 +1,40 @@
+//! What holds of the definitions of the commands.
+ghost use Rattle.float_laws.specs.Filters.{ChecksStay, RecordsStay, ServedStay, TalliesStay};
+ghost use Rattle.float_laws.specs.Ramps.{RampPicturesStay, RampVerdictsStay, RampsStay, StepsStay};
+ghost use Rattle.float_laws.specs.Rollouts.{AppliedStay, ComparedStay, PicturesStay, PlannedPicturesStay, PlansStay, VerdictsStay};
+
+/// With `--floats` or without it `plan`, `verify`, `apply`, `picture`, `plan --picture` and `compare` report the same, and write
+/// the same, on documents whose numbers are all whole. A law: it computes nothing.
+pub fn floats_change_no_rollout()
+    ensures plans { PlansStay }
+    ensures verdicts { VerdictsStay }
+    ensures applied { AppliedStay }
+    ensures pictures { PicturesStay }
+    ensures planned { PlannedPicturesStay }
+    ensures compared { ComparedStay }
+{
+    float_variants::floats_change_nothing();
+    flag_defs::floats_change_nothing();
+}
+
+/// The same of `ramp`, `verify-ramp`, `picture --ramp` and `apply --step`. A law: it computes nothing.
+pub fn floats_change_no_ramp()
+    ensures ramps { RampsStay }
+    ensures verdicts { RampVerdictsStay }
+    ensures pictures { RampPicturesStay }
+    ensures steps { StepsStay }
+{
+    float_variants::floats_change_nothing();
+    flag_defs::floats_change_nothing();
+}
+
+/// The same of `check`, `record`, `tally` and `serve`. A law: it computes nothing.
+pub fn floats_change_no_filter()
+    ensures checks { ChecksStay }
+    ensures records { RecordsStay }
+    ensures tallies { TalliesStay }
+    ensures served { ServedStay }
+{
+    float_variants::floats_change_nothing();
+    flag_defs::floats_change_nothing();
+}

@@ -1,0 +1,12 @@
+//! That the option `--floats` changes nothing of a document whose numbers are all whole.
+//!
+//! A crate of its own, though it is small: it joins the laws of `flag_defs` and `float_variants` to what each command reports, so
+//! that no command waits for its proofs. No command uses it.
+//!
+//! Each law says, over the definitions of the commands: on such documents what a command reports, prints or writes with the option
+//! is what it may report without it, and the other way round. `flagops_commands` has those of `resolve` and `drive`.
+#![tactic(auto)]
+
+mod laws;
+
+pub use laws::{floats_change_no_filter, floats_change_no_ramp, floats_change_no_rollout};
