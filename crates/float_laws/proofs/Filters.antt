@@ -30,14 +30,17 @@ module _ (trees : FloatsChangeNothing) where
       by (Ok bytes) is h = (h.0, in_so trees floats other bytes h.0 (whole bytes is) h.1, h.2)
       by (Err e) is h = h
 
+  with_others : (Some Other : Result (List Checked) CheckRefusal → Type 0) → ((others : Result (List Checked) CheckRefusal) → Some others → Other others) → (first : Result Checked CheckRefusal) (r : Result (List Checked) CheckRefusal)
+      → IsWithOthers Some first r → IsWithOthers Other first r
+  with_others Some Other more (Err e) r h = h
+  with_others Some Other more (Ok c) r h = (h.0, more h.0 h.1, h.2)
+
   all_checked : (floats other : Bool) (at : Holding) (paths : List (List ℕ)) (r : Result (List Checked) CheckRefusal) → AreWholeAt at paths → AreChecked floats at paths r → AreChecked other at paths r
   unfolding AreChecked
   all_checked floats other at [] r whole h = h
-  all_checked floats other at (path ∷ paths) r whole h = (h.0, checked_so floats other at path h.0 whole.0 h.1, by h.0 h.2)
-    where
-      by : (first : Result Checked CheckRefusal) → IsWithOthers (AreChecked floats at paths) first r → IsWithOthers (AreChecked other at paths) first r
-      by (Err e) h = h
-      by (Ok c) h = (h.0, all_checked floats other at paths h.0 whole.1 h.1, h.2)
+  all_checked floats other at (path ∷ paths) r whole h =
+      let more : (others : Result (List Checked) CheckRefusal) → AreChecked floats at paths others → AreChecked other at paths others = λ others. all_checked floats other at paths others whole.1 in
+      (h.0, checked_so floats other at path h.0 whole.0 h.1, with_others (AreChecked floats at paths) (AreChecked other at paths) more h.0 r h.2)
 
   pub checks_stay : ChecksStay
   unfolding IsCheckReport

@@ -41,11 +41,12 @@ next_loaded at path d next (Ok sources) (Ok text) is whole before h =
 
 all_loaded : (at : Holding) (paths : List (List ℕ)) (d e : Loaded) → AreWholeAt at paths → AreWhole d.texts → loaded_from at d paths ≡ Ok e → AreWhole e.texts
 all_loaded at [] d e whole before h = let same : d ≡ e = cc in subst (λ (n : Loaded). AreWhole n.texts) same before
-all_loaded at (path ∷ paths) d e whole before h = by (loaded_next at d path) refl h
+all_loaded at (path ∷ paths) d e whole before h =
+    let more : (next : Loaded) → AreWhole next.texts → loaded_from at next paths ≡ Ok e → AreWhole e.texts = λ next. all_loaded at paths next e whole.1 in by more (loaded_next at d path) refl h
   where
-    by : (n : Result Loaded Refusal) → loaded_next at d path ≡ n → (n >>= λ next. loaded_from at next paths) ≡ Ok e → AreWhole e.texts
-    by (Err f) is h = cc
-    by (Ok next) is h = all_loaded at paths next e whole.1 (next_loaded at path d next (source_added d.sources (length d.texts + 1)) (load_of at path text_bytes) refl whole.0 before is) h
+    by : ((next : Loaded) → AreWhole next.texts → loaded_from at next paths ≡ Ok e → AreWhole e.texts) → (n : Result Loaded Refusal) → loaded_next at d path ≡ n → (n >>= λ next. loaded_from at next paths) ≡ Ok e → AreWhole e.texts
+    by more (Err f) is h = cc
+    by more (Ok next) is h = more next (next_loaded at path d next (source_added d.sources (length d.texts + 1)) (load_of at path text_bytes) refl whole.0 before is) h
 
 -- ---- what is made of them
 

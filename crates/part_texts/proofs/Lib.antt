@@ -2,6 +2,7 @@ mod Cut
 mod Marks
 mod Parts
 mod Places
+pub mod Spliced
 mod Steps
 mod Strings
 mod Trees
