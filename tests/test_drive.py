@@ -93,6 +93,16 @@ class Drive(ProgramTest):
         ran = self.assert_ends(["drive", "d", "a", workers, "b"], {"d": document(), "a": asks}, 0, report)
         self.assertEqual(ran.files.get("b"), book)
 
+    def test_flagd_words_for_kinds(self):
+        flags = '"t":{"state":"ENABLED","variants":{"x":%s},"defaultVariant":"x"}'
+        for ours, theirs, value in (("bool", "boolean", "true"), ("text", "string", '"v"'), ("whole", "integer", "5"), ("object", "object", '{"v":1}'), ("float", "float", "5")):
+            with self.subTest(theirs):
+                asked = [f'[{{"key":"t","want":"{word}","default":null,"context":{{}},"moment":0}}]' for word in (ours, theirs)]
+                document = '{"flags":{%s}}' % (flags % value)
+                first, second = (run(["drive", "d", "a", "1", "b"], {"d": document, "a": asks}) for asks in asked)
+                self.assertEqual((first.out, first.err, first.status), (second.out, second.err, 0))
+                self.assertIn(f'"value":{value},"variant":"x"', first.out)
+
     def test_any_number_of_workers_gives_the_same(self):
         report = "".join(answer(key, variant) for key, variant in KEYS * 3) + COUNTS
         for workers in ["1", "2", "8"]:

@@ -110,8 +110,31 @@ class Commands(ProgramTest):
         ran = run(["resolve", "d", "rate", "float", "7", "c", "0"], {"d": FLOATS, "c": ANN})
         self.assertEqual((ran.status, ran.out), (0, failed("PARSE_ERROR", "7")))
 
+    def test_drive(self):
+        """Each resolution in a line, by any number of workers; the default of an ask has whole numbers only."""
+        asks = [f'{{"key":"{key}","want":"{kind}","default":{default},"context":{given},"moment":0}}' for key, kind, default, given, _ in RESOLUTIONS]
+        files = {"d": FLOATS, "a": "[" + ",\n".join(asks) + "]"}
+        printed = "".join(line for *_, line in RESOLUTIONS)
+        for workers in ("1", "3"):
+            ran = run(["drive", "--floats", "d", "a", workers, "b"], files)
+            self.assertEqual((ran.status, "".join(ran.out.splitlines(keepends=True)[:-5])), (0, printed))
+        ran = run(["drive", "d", "a", "1", "b"], files)
+        self.assertEqual(ran.out.splitlines(keepends=True)[0], failed("PARSE_ERROR", "7"))
+
+    def test_drive_notes_what_asks_for_a_flag_with_floats_reach(self):
+        flag = '{"state":"ENABLED","variants":{"a":%s,"b":2},"targeting":{"fractional":[["a",1],["b",1]]}}'
+        ask = '{"key":"f","want":"float","default":7,"context":{"targetingKey":"%s"},"moment":0}'
+        asks = "[" + ",".join(ask % key for key in ("ann", "bob", "eve", "ann")) + "]"
+        books = [run(["drive", *words, "d", "a", "1", "b"], {"d": '{"flags":{"f":%s}}' % (flag % value), "a": asks}).files["b"] for words, value in (([], "1"), (["--floats"], "1.50"))]
+        self.assertEqual(*books)
+        self.assertEqual(books[0].count("\n"), 5)
+
     def test_the_word_changes_nothing_of_whole_numbers(self):
         files = {"d": WHOLE, "c": ANN}
+        asks = [f'{{"key":"{key}","want":"{kind}","default":7,"context":{ANN},"moment":0}}' for key in "bnotz" for kind in ("bool", "text", "whole", "object", "float")]
+        for words in (["drive", "d", "a", "2", "b"], ["drive", "--json", "--strict", "d", "a", "1", "b"]):
+            given = {"d": WHOLE, "a": "[" + ",".join(asks) + "]"}
+            self.assertEqual(run(words, given), run([*words, "--floats"], given))
         for words in (["check", "d"], ["check", "--json", "d"], ["check", "--strict", "d"]):
             self.assertEqual(run(words, files), run([*words, "--floats"], files))
         for key in "bnotz":
