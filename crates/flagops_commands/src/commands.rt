@@ -115,7 +115,8 @@ pub fn outcome<R: Threads + Wait + Sync, F: FileSet>(
             json,
             floats,
         } => drive(
-            rt, alloc, files, document, *floats, asks, *workers, book, *add, *replace, *strict, *json,
+            rt, alloc, files, document, *floats, asks, *workers, book, *add, *replace, *strict,
+            *json,
         ),
     }
 }

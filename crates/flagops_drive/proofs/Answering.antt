@@ -1,12 +1,16 @@
 -- What asks come to by flags of which some have floats.
-use Rattle.std.proofs.Common.{◌≡◌, ◌∙◌, ℕ, suc, List, [], ◌∷◌, length, map, Some, refl, sym, ap}
+use Rattle.std.proofs.Common.{◌≡◌, ◌∙◌, ℕ, Bool, List, [], ◌∷◌, length, map, Some, refl, sym, ap, ap₂}
+use Rattle.std.proofs.lemmas.List.{length-map}
 use Rattle.book_share.specs.Asked.{resolved}
 use Rattle.book_share.specs.declared.ask.Ask as program
-use Rattle.flag_resolve.specs.Floats.{Marked}
+use Rattle.flag_resolve.specs.Floats.{Marked, is_spelled}
 use Rattle.flag_resolve.specs.Resolution.{resolved_by}
 use Rattle.flag_resolve.specs.Resolved.{Resolved}
+use Rattle.flag_resolve.specs.Views.{resolution_view}
+use Rattle.flag_resolve.specs.declared.resolution.Resolution.{Resolution}
+use Rattle.flag_defs.specs.Document.{Definitions}
 use Rattle.flagops_drive.specs.Asks.{Ask, ask_view}
-use Rattle.flagops_drive.specs.Floats.{Answer, answer_of, answered, answers_of, asked_as}
+use Rattle.flagops_drive.specs.Floats.{answered, answered_spelled, asked_as, spelled_of}
 
 head-same : {X : Type 0} (x y : X) (xs ys : List X) → x ∷ xs ≡ y ∷ ys → x ≡ y
 head-same x y xs ys h = cc
@@ -14,33 +18,35 @@ head-same x y xs ys h = cc
 tail-same : {X : Type 0} (x y : X) (xs ys : List X) → x ∷ xs ≡ y ∷ ys → xs ≡ ys
 tail-same x y xs ys h = cc
 
--- what an ask comes to that is asked as it stands
-plainly : Marked → Ask → Answer
-plainly flags a = answer_of flags a.key (resolved_by (Some flags.0) a.want a.default a.context a.key a.moment)
+-- what an ask resolves to that is asked as it stands
+plainly : Definitions → Ask → Resolved
+plainly flags a = resolved_by (Some flags) a.want a.default a.context a.key a.moment
 
-one-answered : (flags : Marked) (g : program.Ask) (a : Ask) → ask_view g ≡ asked_as flags a → answer_of flags g.key.now (resolved flags.0 g) ≡ answered flags a
+one-answered : (flags : Marked) (g : program.Ask) (a : Ask) → ask_view g ≡ asked_as flags a → resolved flags.0 g ≡ answered flags a
 unfolding resolved plainly
-one-answered flags g a h = ap (plainly flags) h
+one-answered flags g a h = ap (plainly flags.0) h
 
--- asks for the kinds that their flags are asked for come to what is answered
-pub all_answered : (flags : Marked) (given : List program.Ask) (asks : List Ask) → map ask_view given ≡ map (asked_as flags) asks → answers_of flags given (map (resolved flags.0) given) ≡ map (answered flags) asks
-all_answered flags [] [] h = refl
-all_answered flags [] (a ∷ asks) h = cc
-all_answered flags (g ∷ given) [] h = cc
-all_answered flags (g ∷ given) (a ∷ asks) h =
-    let first : answer_of flags g.key.now (resolved flags.0 g) ≡ answered flags a = one-answered flags g a (head-same (ask_view g) (asked_as flags a) (map ask_view given) (map (asked_as flags) asks) h) in
-    let rest : answers_of flags given (map (resolved flags.0) given) ≡ map (answered flags) asks = all_answered flags given asks (tail-same (ask_view g) (asked_as flags a) (map ask_view given) (map (asked_as flags) asks) h) in
-    rw (first, rest) refl
+one-spelled : (flags : Marked) (g : program.Ask) (a : Ask) → ask_view g ≡ asked_as flags a → is_spelled (Some flags) g.key.now (resolved flags.0 g) ≡ answered_spelled flags a
+one-spelled flags g a h = ap₂ (λ key r. is_spelled (Some flags) key r) (ap (λ (x : Ask). x.key) h) (one-answered flags g a h)
 
--- as many answers as resolutions, and of these
-pub answers-many : (flags : Marked) (asks : List program.Ask) (rs : List Resolved) → length rs ≡ length asks → length (answers_of flags asks rs) ≡ length rs
-answers-many flags [] [] h = refl
-answers-many flags [] (r ∷ rs) h = cc
-answers-many flags (a ∷ asks) [] h = refl
-answers-many flags (a ∷ asks) (r ∷ rs) h = let less : length rs ≡ length asks = cc in ap (λ n. suc n) (answers-many flags asks rs less)
+-- asks for the kinds that their flags are asked for resolve to what is answered
+pub all-answered : (flags : Marked) (given : List program.Ask) (asks : List Ask) → map ask_view given ≡ map (asked_as flags) asks → map (resolved flags.0) given ≡ map (answered flags) asks
+all-answered flags [] [] h = refl
+all-answered flags [] (a ∷ asks) h = cc
+all-answered flags (g ∷ given) [] h = cc
+all-answered flags (g ∷ given) (a ∷ asks) h =
+    ap₂ (λ r rs. r ∷ rs) (one-answered flags g a (head-same (ask_view g) (asked_as flags a) (map ask_view given) (map (asked_as flags) asks) h))
+    (all-answered flags given asks (tail-same (ask_view g) (asked_as flags a) (map ask_view given) (map (asked_as flags) asks) h))
 
-pub answers-resolved : (flags : Marked) (asks : List program.Ask) (rs : List Resolved) → length rs ≡ length asks → map (λ (a : Answer). a.0) (answers_of flags asks rs) ≡ rs
-answers-resolved flags [] [] h = refl
-answers-resolved flags [] (r ∷ rs) h = cc
-answers-resolved flags (a ∷ asks) [] h = refl
-answers-resolved flags (a ∷ asks) (r ∷ rs) h = let less : length rs ≡ length asks = cc in ap (λ more. r ∷ more) (answers-resolved flags asks rs less)
+-- and are printed so
+pub all-spelled : (flags : Marked) (given : List program.Ask) (asks : List Ask) → map ask_view given ≡ map (asked_as flags) asks → spelled_of flags given (map (resolved flags.0) given) ≡ map (answered_spelled flags) asks
+all-spelled flags [] [] h = refl
+all-spelled flags [] (a ∷ asks) h = cc
+all-spelled flags (g ∷ given) [] h = cc
+all-spelled flags (g ∷ given) (a ∷ asks) h =
+    ap₂ (λ b bs. b ∷ bs) (one-spelled flags g a (head-same (ask_view g) (asked_as flags a) (map ask_view given) (map (asked_as flags) asks) h))
+    (all-spelled flags given asks (tail-same (ask_view g) (asked_as flags a) (map ask_view given) (map (asked_as flags) asks) h))
+
+-- there is one for each ask
+pub one-each : (flags : Definitions) (given : List program.Ask) (rs : List Resolution) → map resolution_view rs ≡ map (resolved flags) given → length rs ≡ length given
+one-each flags given rs h = sym (length-map resolution_view rs) ∙ (ap length h ∙ length-map (resolved flags) given)

@@ -16,11 +16,11 @@ use Rattle.book_share.specs.declared.drive_fault.DriveFault.TheVariants.{WantOfM
 use Rattle.flagops_drive.specs.Asks.{Ask, ask_view, if_asks}
 use Rattle.flagops_drive.specs.Driven.{Drives, DriveOutput, IsDriveOf, IsOutput, IsReached, IsRefused, IsUnadded, Reached, drive_output_view}
 use Rattle.flagops_drive.specs.Fault.{of_union, want}
-use Rattle.flagops_drive.specs.Floats.{answers_of, asked_as}
+use Rattle.flagops_drive.specs.Floats.{asked_as, spelled_of}
 use Rattle.flagops_drive.specs.declared.command.DriveOutput as program_output
 use Rattle.flagops_drive.specs.declared.fault.DriveRefusal.{DriveRefusal}
 use Rattle.flagops_drive.specs.declared.fault.DriveRefusal.TheVariants.{Drive, BadAsks, PageFull}
-use Rattle.flagops_drive.proofs.Answering.{all_answered}
+use Rattle.flagops_drive.proofs.Answering.{all-answered, all-spelled}
 
 there : (o : Option (List Ask)) (asks : List Ask) → if_asks o ≡ Ok asks → o ≡ Some asks
 there None asks h = cc
@@ -31,11 +31,18 @@ no_fault None h = refl
 no_fault (Some e) h = absurd (h e refl)
 
 -- what the workers came to, of asks that were read
-pub reached_of : (flags : Marked) (asks : List Ask) (given items : List program.Ask) (r : Reached) (rs : List Resolved) → map ask_view items ≡ map (asked_as flags) asks → given ≡ items → r.answers ≡ answers_of flags given rs
+pub reached_of : (flags : Marked) (asks : List Ask) (given items : List program.Ask) (r : Reached) (rs : List Resolved) → map ask_view items ≡ map (asked_as flags) asks → given ≡ items → r.answers ≡ rs → r.spelled ≡ spelled_of flags given rs
     → rs ≡ map (resolved flags.0) given → AreNoted (mentions flags.0 given) r.book r.calls r.news r.full → r.long ≡ long_of flags.0 given → IsReached flags asks r
-reached_of flags asks given items r rs read same answers are noted counted =
+reached_of flags asks given items r rs read same answers spelled are noted counted =
     let wanted : map ask_view given ≡ map (asked_as flags) asks = ap (map ask_view) same ∙ read in
-    record { answers = answers ∙ (ap (answers_of flags given) are ∙ all_answered flags given asks wanted); given = given; same = wanted; noted = noted; long = counted }
+    record {
+      answers = answers ∙ (are ∙ all-answered flags given asks wanted);
+      spelled = spelled ∙ (ap (spelled_of flags given) are ∙ all-spelled flags given asks wanted);
+      given = given;
+      same = wanted;
+      noted = noted;
+      long = counted;
+    }
 
 -- the whole output, of asks that were driven
 drove_of : (flags : Marked) (o : Option (List Ask)) (asks : List Ask) (workers : ℕ) (before : Option Contents) (json : Bool) (r : Reached) (d : DriveOutput) → if_asks o ≡ Ok asks

@@ -5,12 +5,11 @@ use Rattle.flag_defs.specs.Document.{Definitions}
 use Rattle.flag_defs.specs.Floats.{Marks, are_unmarked}
 use Rattle.flag_defs.specs.declared.kind.Kind.{Kind}
 use Rattle.flag_resolve.proofs.Unmarked.{no_floats}
-use Rattle.flag_resolve.specs.Floats.{floats_in, is_spelled, kind_asked}
+use Rattle.flag_resolve.specs.Floats.{floats_in, kind_asked}
 use Rattle.flag_resolve.specs.Resolution.{resolved_by}
-use Rattle.flag_resolve.specs.Resolved.{Resolved}
 use Rattle.flagops_drive.specs.Asks.{Ask}
 use Rattle.flagops_drive.specs.Driven.{DriveOutput, IsDriveOf, IsDriveOutput, IsOverfull, IsReached, IsRefused, Reached}
-use Rattle.flagops_drive.specs.Floats.{Answer, answer_of, answered, asked_as}
+use Rattle.flagops_drive.specs.Floats.{answered, answered_spelled, asked_as}
 use Rattle.flagops_drive.specs.declared.fault.DriveRefusal.{DriveRefusal}
 use Rattle.flagops_drive.specs.declared.fault.DriveRefusal.TheVariants.{Drive, BadAsks, PageFull}
 
@@ -26,12 +25,11 @@ none_both : (a b : Bool) → b ≡ false → (a && b) ≡ false
 none_both true b e = e
 none_both false b e = refl
 
-pub answers_stay : (flags : Definitions) (marks : Marks) (a : Ask) → are_unmarked marks ≡ true → answered (flags, marks) a ≡ (let p : Answer = (resolved_by (Some flags) a.want a.default a.context a.key a.moment, false) in p)
-answers_stay flags marks a h =
-    let none = no_floats a.key flags marks h in
-    let plain : Resolved = resolved_by (Some flags) a.want a.default a.context a.key a.moment in
-    ap (λ (o : Option Kind). let p : Answer = (let r = resolved_by (Some flags) (kind_asked o a.want) a.default a.context a.key a.moment in (r, is_some r.variant && is_some o)) in p) none
-    ∙ ap (λ (b : Bool). let p : Answer = (plain, b) in p) (none_both (is_some plain.variant) false refl)
+pub answers_stay : (flags : Definitions) (marks : Marks) (a : Ask) → are_unmarked marks ≡ true → answered (flags, marks) a ≡ resolved_by (Some flags) a.want a.default a.context a.key a.moment
+answers_stay flags marks a h = ap (λ (o : Option Kind). resolved_by (Some flags) (kind_asked o a.want) a.default a.context a.key a.moment) (no_floats a.key flags marks h)
+
+pub nothing_spelled : (flags : Definitions) (marks : Marks) (a : Ask) → are_unmarked marks ≡ true → answered_spelled (flags, marks) a ≡ false
+nothing_spelled flags marks a h = none_both (is_some (answered (flags, marks) a).variant) (is_some (floats_in (Some (flags, marks)) a.key)) (ap (λ (o : Option Kind). is_some o) (no_floats a.key flags marks h))
 
 same_map : {X Y : Type 0} (f g : X → Y) → ((x : X) → f x ≡ g x) → (xs : List X) → map f xs ≡ map g xs
 same_map f g h [] = refl
@@ -41,6 +39,7 @@ module _ (flags : Definitions) (marks others : Marks) (one : are_unmarked marks 
   reached_so : (asks : List Ask) (r : Reached) → IsReached (flags, marks) asks r → IsReached (flags, others) asks r
   reached_so asks r h = record {
     answers = h.answers ∙ same_map (answered (flags, marks)) (answered (flags, others)) (λ a. answers_stay flags marks a one ∙ sym (answers_stay flags others a other)) asks;
+    spelled = h.spelled ∙ same_map (answered_spelled (flags, marks)) (answered_spelled (flags, others)) (λ a. nothing_spelled flags marks a one ∙ sym (nothing_spelled flags others a other)) asks;
     given = h.given;
     same = h.same ∙ same_map (asked_as (flags, marks)) (asked_as (flags, others)) (λ a. asks_stay flags marks a one ∙ sym (asks_stay flags others a other)) asks;
     noted = h.noted;

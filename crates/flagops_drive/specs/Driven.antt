@@ -1,6 +1,7 @@
 -- What the command `drive` comes to.
 use Rattle.std.specs.Prelude.{◌≡◌, ◌≢◌, ℕ, Bool, List, map, Option, Some, None, option_map, Result, Ok, Err}
 use Rattle.flag_resolve.specs.Floats.{Marked}
+use Rattle.flag_resolve.specs.Resolved.{Resolved}
 use Rattle.flag_resolve.specs.Views.{resolution_view}
 use Rattle.book_core.specs.Book.{Contents, input_count}
 use Rattle.book_core.specs.Printing.{book_text}
@@ -14,7 +15,7 @@ use Rattle.book_share.specs.declared.drive_fault.DriveFault.TheVariants.{WantOfM
 use Rattle.book_share.specs.declared.driving.Driven as program_driven
 use Rattle.flagops_drive.specs.Asks.{Ask, ask_view}
 use Rattle.flagops_drive.specs.Fault.{want}
-use Rattle.flagops_drive.specs.Floats.{Answer, answered, answers_of, asked_as}
+use Rattle.flagops_drive.specs.Floats.{answered, answered_spelled, asked_as, spelled_of}
 use Rattle.flagops_drive.specs.Lines.{drive_text}
 use Rattle.flagops_drive.specs.declared.command.DriveOutput as program_output
 use Rattle.flagops_drive.specs.declared.fault.DriveRefusal.{DriveRefusal}
@@ -29,9 +30,10 @@ pub record DriveOutput : Type 0 where
 abbrev pub drive_output_view : program_output.DriveOutput → DriveOutput
 drive_output_view d = record { text = d.text.items; book = d.book.items; reached = d.tally.reached }
 
--- what asks resolve to, the book in which was noted what they reached, and the counts of the notes
+-- what asks resolve to, whether the value of each is printed by its spelling, the book in which was noted what they reached, and the counts of the notes
 pub record Reached : Type 0 where
-  pub answers : List Answer
+  pub answers : List Resolved
+  pub spelled : List Bool
   pub book : Contents
   pub calls : ℕ
   pub news : ℕ
@@ -40,11 +42,12 @@ pub record Reached : Type 0 where
 
 -- of the asks that were driven, by flags of which some may have floats
 abbrev pub reached_view : Marked → List program.Ask → program_driven.Driven → Reached
-reached_view flags asks d = record { answers = answers_of flags asks (map resolution_view d.answers.items); book = d.book; calls = d.calls; news = d.news; full = d.full; long = d.long }
+reached_view flags asks d = record { answers = map resolution_view d.answers.items; spelled = spelled_of flags asks (map resolution_view d.answers.items); book = d.book; calls = d.calls; news = d.news; full = d.full; long = d.long }
 
 -- the resolutions of these asks, in their order, and a book in which what they reached was noted
 pub record IsReached (flags : Marked) (asks : List Ask) (r : Reached) : Type 0 where
   pub answers : r.answers ≡ map (answered flags) asks
+  pub spelled : r.spelled ≡ map (answered_spelled flags) asks
   -- the asks, as the program holds them, each for the kind that its flag is asked for
   pub given : List program.Ask
   pub same : map ask_view given ≡ map (asked_as flags) asks
@@ -65,7 +68,7 @@ HaveNoSum (Some before) reached = HaveNoUnion before reached
 pub record IsOutput (before : Option Contents) (json : Bool) (r : Reached) (d : DriveOutput) : Type 0 where
   pub book : Contents
   pub adds : Adds before r.book book
-  pub text : d.text ≡ drive_text json r.answers (input_count book) r.calls r.news r.full r.long
+  pub text : d.text ≡ drive_text json r.spelled r.answers (input_count book) r.calls r.news r.full r.long
   pub file : d.book ≡ book_text book
   pub reads_back : book_of d.book ≡ Ok book
   pub reached : d.reached ≡ r.news

@@ -1,10 +1,9 @@
 -- How many of the asks ended in what, and how many inputs they reached.
-use Rattle.std.specs.Prelude.{◌≡◌, ℕ, Bool, List, codes, count_by, length, map, Option, Some, None, option_map, unwrap_or}
+use Rattle.std.specs.Prelude.{◌≡◌, ℕ, Bool, List, codes, count_by, length, Option, Some, None, option_map, unwrap_or}
 use Rattle.std.specs.Str.{bytes_eq}
 use Rattle.book_core.specs.Book.{Contents, input_count}
 use Rattle.flag_resolve.specs.Resolved.{Resolved}
 use Rattle.flag_resolve.specs.Words.{code_word, reason_word}
-use Rattle.flagops_drive.specs.Floats.{Answer}
 use Rattle.flagops_drive.specs.Lines.{drive_text}
 use Rattle.flagops_drive.specs.declared.command.DriveOutput.{DriveOutput}
 use Rattle.flagops_drive.specs.declared.tally.Endings.{Endings}
@@ -39,7 +38,7 @@ inputs_before (Some book) = input_count book
 -- The tally is of the resolutions that are printed, and has the counts that are printed below them: the inputs of the book that is written, and those that the asks reached. It has the inputs of the book that was there before.
 unfoldable pub IsTallyOf : Option Contents → Bool → List ℕ → Tally → Type 0
 IsTallyOf before json text tally =
-    (answers : List Answer) × (calls full long : ℕ) × (text ≡ drive_text json answers tally.inputs calls tally.reached full long) × (tally.asks ≡ length answers) × IsEndings (map (λ a. a.0) answers) tally.endings
+    (answers : List Resolved) × (spelled : List Bool) × (calls full long : ℕ) × (text ≡ drive_text json spelled answers tally.inputs calls tally.reached full long) × (tally.asks ≡ length answers) × IsEndings answers tally.endings
     × (tally.had ≡ inputs_before before)
 
 -- the same of what is printed and told together

@@ -118,8 +118,9 @@ fn drive_items<R: Threads + Wait + Sync>(
     let mut asks = asks_in(alloc, items)?;
     want_spellings(flags, &mut asks);
     let gate = CountingGate::new(meter, asks.len());
-    match drive(rt, alloc, flags, asks.as_slice(), workers, &gate) {
-        Ok(driven) => output_of(alloc, flags, asks.as_slice(), driven, before, json),
+    let asked = asks.as_slice();
+    match drive(rt, alloc, flags, asked, workers, &gate) {
+        Ok(driven) => output_of(alloc, flags, asked, driven, before, json),
         Err(fault) => Err(DriveRefusal::Drive(fault)),
     }
 }

@@ -2,7 +2,7 @@
 ghost use Rattle.std.specs.Prelude.{◌≡◌, is_some, is_none};
 ghost use Rattle.flag_text.specs.Shape.{Shape};
 ghost use Rattle.flagops_drive.specs.Asks.{asks_of};
-ghost use Rattle.flagops_drive.specs.FloatsLaw.{AnswersStay, AsksStay, FloatsChangeNothing};
+ghost use Rattle.flagops_drive.specs.FloatsLaw.{AnswersStay, AsksStay, FloatsChangeNothing, NothingIsSpelled};
 ghost use Rattle.flagops_drive.specs.Misfit.{misfit_of};
 
 /// A tree has a misfit exactly where it is no list of asks: what is told of one that is refused is always there to tell.
@@ -15,5 +15,6 @@ pub fn a_misfit_is_all_that_refuses()
 pub fn floats_change_nothing()
     ensures asked { AsksStay }
     ensures answers { AnswersStay }
+    ensures plain { NothingIsSpelled }
     ensures same { FloatsChangeNothing }
 {}

@@ -1,8 +1,8 @@
 //! The lines that are printed of what was driven.
-ghost use Rattle.std.specs.Prelude.{◌≡◌, IfOk, map, string_bytes};
+ghost use Rattle.std.specs.Prelude.{◌≡◌, IfOk, length, map, string_bytes};
 ghost use Rattle.flag_defs.specs.Floats.{marked_view};
 ghost use Rattle.flag_resolve.specs.Views.{resolution_view};
-ghost use Rattle.flagops_drive.specs.Floats.{answers_of};
+ghost use Rattle.flagops_drive.specs.Floats.{spelled_of};
 ghost use Rattle.flagops_drive.specs.Lines.{count_lines, drive_text, resolution_lines};
 
 use book_share::Ask;
@@ -30,7 +30,8 @@ pub(crate) fn lines(
     counts: &Counts,
     json: bool,
 ) -> Result<String, AllocError>
-    ensures { IfOk result (λ s. string_bytes s ≡ drive_text json (answers_of (marked_view flags.now) asks.now (map resolution_view answers.now)) counts.now.inputs counts.now.calls counts.now.news counts.now.full counts.now.long) }
+    requires { length answers.now ≡ length asks.now }
+    ensures { IfOk result (λ s. string_bytes s ≡ drive_text json (spelled_of (marked_view flags.now) asks.now (map resolution_view answers.now)) (map resolution_view answers.now) counts.now.inputs counts.now.calls counts.now.news counts.now.full counts.now.long) }
 {
     let mut lines = resolution_lines(alloc, flags, asks, answers)?;
     let counts = count_lines(alloc, counts, json)?;
@@ -44,7 +45,8 @@ fn resolution_lines(
     asks: &[Ask<'_>],
     answers: &[Resolution],
 ) -> Result<String, AllocError>
-    ensures { IfOk result (λ s. string_bytes s ≡ resolution_lines (answers_of (marked_view flags.now) asks.now (map resolution_view answers.now))) }
+    requires { length answers.now ≡ length asks.now }
+    ensures { IfOk result (λ s. string_bytes s ≡ resolution_lines (spelled_of (marked_view flags.now) asks.now (map resolution_view answers.now)) (map resolution_view answers.now)) }
 {
     let mut lines = String::new(alloc);
     for (ask, answer) in asks.iter().zip(answers) {

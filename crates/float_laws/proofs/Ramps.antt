@@ -55,8 +55,7 @@ module _ (trees : FloatsChangeNothing) where
     step_so (Ok flags) h =
         let document : List ℕ = h.0 in
         let text = whole document h.1 in
-        let others = marked_so none document flags text other in
-        (
+        let others = marked_so none document flags text other in (
           document,
           h.1,
           others.0,

@@ -58,8 +58,7 @@ module _ (trees : FloatsChangeNothing) where
     applied_so floats other at path key site strict r whole (Ok flags) (Ok answer) h =
         let document : List ℕ = h.0 in
         let text = whole document h.1 in
-        let others = marked_so none document flags text other in
-        (
+        let others = marked_so none document flags text other in (
           document,
           h.1,
           others.0,

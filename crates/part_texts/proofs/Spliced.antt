@@ -278,9 +278,9 @@ mark_ends : (x : ℕ) → is_mark x ≡ true → ends_number x ≡ true
 mark_ends x e = elim (or_cases (is_space x) ((x == 44) || (x == 58)) e) [
   | inl h ↦ either (is_operator x) (is_space x) h
   | inr h ↦ elim (or_cases (x == 44) (x == 58) h) [
-      | inl is ↦ ap ends_number (eqb-true x 44 is)
-      | inr is ↦ ap ends_number (eqb-true x 58 is)
-    ]
+    | inl is ↦ ap ends_number (eqb-true x 44 is)
+    | inr is ↦ ap ends_number (eqb-true x 58 is)
+  ]
 ]
   where
     either : (o s : Bool) → s ≡ true → (o || s) ≡ true
@@ -357,8 +357,7 @@ module _ (text : List ℕ) where
   string_edge : (u a : List ℕ) → text ≡ a ++ u → InString a u
   string_edge [] a is = (λ at. (a, is ∙ ap (λ l. a ++ l) (sym (nothing_spanned in_string)), inr (nothing_spanned in_string)), λ at. (a, is ∙ ap (λ l. a ++ l) (sym (nothing_spanned in_escape)), inr (nothing_spanned in_escape)))
   string_edge (x ∷ xs) a is =
-      let more : (a : List ℕ) → text ≡ a ++ xs → InString a xs = string_edge xs in
-      (
+      let more : (a : List ℕ) → text ≡ a ++ xs → InString a xs = string_edge xs in (
         λ at. subst (λ (n : ℕ). IsEdge text (drop n (x ∷ xs))) (sym (spanned in_string x xs)) (in_string_byte x xs a is more at (class x) refl),
         λ at. subst (λ (n : ℕ). IsEdge text (drop n (x ∷ xs))) (sym (spanned in_escape x xs)) (escaped_byte x xs a is more at),
       )
