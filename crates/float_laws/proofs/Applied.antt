@@ -54,7 +54,7 @@ plain false flags marks h = refl
 line_so : (floats other : Bool) (flags : Definitions) (marks others : Marks) → are_unmarked marks ≡ true → are_unmarked others ≡ true → document_line floats flags marks ≡ document_line other flags others
 line_so floats other flags marks others one two = ap (λ (text : List ℕ). text ++ codes "\n") (plain floats flags marks one ∙ sym (plain other flags others two))
 
-bind-same : {X Y E : Type 0} (f g : X → Result Y E) → ((x : X) → f x ≡ g x) → (m : Result X E) → (m >>= f) ≡ (m >>= g)
+pub bind-same : {X Y E : Type 0} (f g : X → Result Y E) → ((x : X) → f x ≡ g x) → (m : Result X E) → (m >>= f) ≡ (m >>= g)
 bind-same f g h (Ok x) = h x
 bind-same f g h (Err e) = refl
 

@@ -1,4 +1,5 @@
 mod Applied
+mod Evaluated
 mod Filters
 mod Ramps
 mod Read

@@ -1,3 +1,4 @@
+pub mod Evaluated
 pub mod Filters
 pub mod Ramps
 pub mod Rollouts

@@ -1,4 +1,5 @@
 //! What holds of the definitions of the commands.
+ghost use Rattle.float_laws.specs.Evaluated.{DrivenStay, ResolvedStay};
 ghost use Rattle.float_laws.specs.Filters.{ChecksStay, RecordsStay, ServedStay, TalliesStay};
 ghost use Rattle.float_laws.specs.Ramps.{RampPicturesStay, RampVerdictsStay, RampsStay, StepsStay};
 ghost use Rattle.float_laws.specs.Rollouts.{AppliedStay, ComparedStay, PicturesStay, PlannedPicturesStay, PlansStay, VerdictsStay};
@@ -37,4 +38,15 @@ pub fn floats_change_no_filter()
 {
     float_variants::floats_change_nothing();
     flag_defs::floats_change_nothing();
+}
+
+/// The same of `resolve`, and of `drive` with the book that it writes. A law: it computes nothing.
+pub fn floats_change_no_evaluation()
+    ensures resolved { ResolvedStay }
+    ensures driven { DrivenStay }
+{
+    float_variants::floats_change_nothing();
+    flag_defs::floats_change_nothing();
+    flagops_drive::floats_change_nothing();
+    flag_resolve::floats_are_of_their_kind();
 }

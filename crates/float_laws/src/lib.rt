@@ -4,9 +4,12 @@
 //! that no command waits for its proofs. No command uses it.
 //!
 //! Each law says, over the definitions of the commands: on such documents what a command reports, prints or writes with the option
-//! is what it may report without it, and the other way round. `flagops_commands` has those of `resolve` and `drive`.
+//! is what it may report without it, and the other way round.
 #![tactic(auto)]
 
 mod laws;
 
-pub use laws::{floats_change_no_filter, floats_change_no_ramp, floats_change_no_rollout};
+pub use laws::{
+    floats_change_no_evaluation, floats_change_no_filter, floats_change_no_ramp,
+    floats_change_no_rollout,
+};
