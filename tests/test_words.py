@@ -115,6 +115,7 @@ class Words(ProgramTest):
             (["flagops", "verify-ramp", "--"], ["--refine", "--strict", "--floats", "--help"]),
             (["flagops", "help", "res"], ["resolve"]),
             (["flagops", "drive", "--a"], ["--add"]),
+            (["flagops", "drive", "--f"], ["--floats"]),
             (["flagops", "bo"], ["book"]),
             (["flagops", "completions", "f"], ["fish"]),
             (["flagops", "resolve", "d", "k", "wh"], ["whole"]),
