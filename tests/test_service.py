@@ -1116,6 +1116,56 @@ class Logs(ServiceTest):
     def test_nothing_is_remembered(self):
         self.assertEqual(self.told_again("--remember", "0"), ["a", "b", "c", "a", "b", "c", "c"])
 
+    def evaluated(self, *keys):
+        """The users of all notes once the flag was evaluated for these."""
+        for key in keys:
+            self.assertEqual(self.flag("color", context(key))[0], 200)
+        return [json.loads(line)[3].removeprefix("color") for line in self.notes()]
+
+    def restarted(self, child, *words):
+        """The service after it was killed, with one worker again."""
+        child.kill()
+        child.communicate()
+        return self.start("--log", "log", "--workers", "1", *words)
+
+    def test_a_restart_writes_no_line_again(self):
+        """Users of many pieces of a file, and one line that was torn."""
+        users = [f"user-{number}" for number in range(4000)]
+        os.mkdir(os.path.join(self.folder, "log"))
+        self.put("log/worker-1.log", "".join(self.note(user) + "\n" for user in users) + self.note("torn"))
+        child = self.start("--log", "log", "--workers", "1")
+        self.assertEqual(self.metrics("ofrep_notes_total"), [0])
+        self.assertEqual(self.evaluated(*users[::100], "torn", "new"), [*users, "torn", "new"])
+        self.assertEqual(self.metrics("ofrep_notes_total"), [2])
+        self.restarted(child)
+        self.assertEqual(self.evaluated("new", "torn", *users[:3], "late"), [*users, "torn", "new", "late"])
+
+    def test_a_restart_remembers_the_last_lines(self):
+        """As many as are remembered, of which those that were used last stay."""
+        child = self.start("--log", "log", "--workers", "1")
+        self.assertEqual(self.evaluated("a", "b", "c"), ["a", "b", "c"])
+        child = self.restarted(child, "--remember", "2")
+        self.assertEqual(self.evaluated("c", "b", "a", "b"), ["a", "b", "c", "a"])
+        self.restarted(child, "--remember", "0")
+        self.assertEqual(self.evaluated("b"), ["a", "b", "c", "a", "b"])
+
+    def test_what_a_restart_has_read_is_forgotten_with_its_file(self):
+        child = self.start("--log", "log", "--workers", "1")
+        self.evaluated("a", "b")
+        child = self.restarted(child)
+        log = os.path.join(self.folder, "log", "worker-1.log")
+        os.rename(log, os.path.join(self.folder, "rotated"))
+        self.told(child, "its path is opened anew")
+        self.assertEqual(self.evaluated("a"), ["a"])
+
+    def test_a_restart_forgets_no_kind_of_line(self):
+        """Lines of the other kind are no notes of this one."""
+        child = self.start("--log", "log", "--workers", "1")
+        self.evaluated("a")
+        self.restarted(child, "--log-points")
+        self.assertEqual(self.flag("color", context("a"))[0], 200)
+        self.assertEqual(self.notes(), [self.note("a"), compact(["color", 0, None, murmur3(b"colora")])])
+
     def test_hashes_in_the_place_of_inputs(self):
         if "--log-points" not in run(["ofrep", "--help"], {}).out:
             self.skipTest("waits for a release that writes hashes")

@@ -1,3 +1,4 @@
 mod LastLine
 mod Pieces
 mod Lengths
+pub mod LastLines

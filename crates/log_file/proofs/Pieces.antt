@@ -43,7 +43,7 @@ none (Some bs) h = (omega arith, inl refl, h.1)
 
 -- ---- one piece
 
-ends_after : (before part : List ℕ) → EndsLine part → 0 < length part → EndsLine (before ++ part)
+pub ends_after : (before part : List ℕ) → EndsLine part → 0 < length part → EndsLine (before ++ part)
 ends_after before part (inl empty) some = absurd (omega (arith, some, ap (λ (l : List ℕ). length l) empty))
 ends_after before part (inr line) some = inr (before ++ line.0, ap (λ (l : List ℕ). before ++ l) line.1 ∙ sym (append_assoc before line.0 (10 ∷ [])))
 

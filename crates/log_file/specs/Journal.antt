@@ -1,5 +1,5 @@
 -- What becomes of a log's bytes as it opens and as it is looked for.
-use Rattle.std.specs.Prelude.{◌≡◌, ℕ, Bool, true, List, take, ⊤, Option, Some, None, IfSome, MatchOption}
+use Rattle.std.specs.Prelude.{◌≡◌, ℕ, Bool, true, List, [], take, ⊤, Option, Some, None, IfSome, MatchOption}
 use Rattle.log_file.specs.Line.{EndsLine, IsWholePart}
 use Rattle.log_file.specs.declared.journal.Look.{Look}
 use Rattle.log_file.specs.declared.journal.Look.TheVariants.{Stands, Reopened, Lost}
@@ -20,6 +20,12 @@ abbrev pub lost_after : Look → Option Loss
 lost_after Stands = None
 lost_after (Reopened loss) = None
 lost_after (Lost loss fault) = Some loss
+
+-- what is left of the lines that were read of it: none of a file that is lost
+abbrev pub last_after : Look → List ℕ → List ℕ
+last_after Stands last = last
+last_after (Reopened loss) last = []
+last_after (Lost loss fault) last = []
 
 -- the path of a file that was lost so was opened anew, or could not be
 abbrev pub IsOpenedAnew : Loss → Look → Type 0

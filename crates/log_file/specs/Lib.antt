@@ -1,6 +1,7 @@
 pub use Rattle.flag_text.specs.Outlet
 pub mod Fault
 pub mod Line
+pub mod Last
 pub mod Loss
 pub mod Modes
 pub mod File

@@ -3,16 +3,19 @@ ghost use Rattle.std.specs.Prelude.{◌≡◌, ◌+◌, ◌<◌, true, false, No
 ghost use Rattle.std.specs.Io.{WritesAtMost};
 ghost use Rattle.flag_text.specs.Outlet.{is_fault};
 ghost use Rattle.log_file.specs.File.{GrowsByTaken, IsLength, count_of};
-ghost use Rattle.log_file.specs.Journal.{IsOpenedAnew, LeavesLines, Looked, lost_after};
+ghost use Rattle.log_file.specs.Journal.{IsOpenedAnew, LeavesLines, Looked, last_after, lost_after};
+ghost use Rattle.log_file.specs.Last.{AreLastLines};
 ghost use Rattle.log_file.specs.Line.{EndsLine};
 
 use crate::fault::{LogFault, fault_of};
 use crate::file::LogFile;
+use crate::last::last_lines;
 use crate::loss::Loss;
 use crate::paths::LogPaths;
 use crate::torn::cut_torn_line;
 use std::alloc::Global;
 use std::io::{self, ErrorKind};
+use std::mem;
 
 /// A log at the end of a file. It is whole lines when it opens.
 #[derive(Drop)]
@@ -22,8 +25,11 @@ pub struct Journal<F: LogFile> {
     len: u64,
     /// How the file was lost, until its path is opened anew.
     lost: Option<Loss>,
+    /// The last lines that the file had when the log was opened, until they are taken or the file is lost.
+    last: Vec<u8>,
     ghost is_there: { lost ≡ None → F.stands file ≡ true },
     ghost is_length: { lost ≡ None → ∥ IsLength len (F.bytes file) ∥₁ },
+    ghost is_whole: { ∥ EndsLine last.items ∥₁ },
 }
 
 /// What a look for a log's file came to.
@@ -38,20 +44,23 @@ pub enum Look {
 }
 
 impl<F: LogFile + Drop> Journal<F> {
-    /// Opens a log: of what the file has, the whole lines are left.
-    #[tactic(auto, using(crate::proofs::Lengths::exact_length))]
-    pub fn open(alloc: Global, file: F) -> Result<Journal<F>, LogFault>
+    /// Opens a log: of what the file has, the whole lines are left, and the last ones are read, so many of them, or all where there
+    /// are fewer.
+    #[tactic(auto, using(crate::proofs::Lengths::exact_length, crate::proofs::Lengths::left_ends))]
+    pub fn open(alloc: Global, file: F, most: u64) -> Result<Journal<F>, LogFault>
         requires { F.stands file ≡ true }
         ensures path { IfOk result (λ j. F.path j.file ≡ F.path file) }
         ensures left { IfOk result (λ j. LeavesLines (F.bytes file) (F.bytes j.file)) }
+        ensures last { IfOk result (λ j. IfSome (F.bytes j.file) (λ bs. AreLastLines most bs j.last.items)) }
         ensures stands { IfOk result (λ j. (j.lost ≡ None) × (F.stands j.file ≡ true)) }
     {
         let mut file = file;
-        match cut_torn_line(alloc, &mut file) {
-            Ok(len) => Ok(Journal {
+        match left_lines(alloc, &mut file, most) {
+            Ok((len, last)) => Ok(Journal {
                 file,
                 len,
                 lost: None,
+                last,
             }),
             Err(error) => Err(fault_of(&error)),
         }
@@ -59,6 +68,16 @@ impl<F: LogFile + Drop> Journal<F> {
 }
 
 impl<F: LogFile> Journal<F> {
+    /// Takes the last lines that the file had when the log was opened. They are taken once.
+    pub fn take_last(&mut self, alloc: Global) -> Vec<u8>
+        ensures last { result ≡ self.old.last }
+        ensures whole { ∥ EndsLine result.items ∥₁ }
+        ensures file { self.new.file ≡ self.old.file }
+        ensures lost { self.new.lost ≡ self.old.lost }
+    {
+        mem::replace(&mut self.last, Vec::new(alloc))
+    }
+
     /// Whether the file is lost, and its path not opened anew yet.
     pub fn is_lost(&self) -> bool
         ensures lost { result ≡ is_some self.now.lost }
@@ -97,6 +116,7 @@ impl<F: LogFile> Journal<F> {
     pub fn look<P: LogPaths>(&mut self, alloc: Global, paths: &P) -> Look
         ensures looked { Looked result (F.bytes self.old.file) (F.bytes self.new.file) (F.stands self.new.file) }
         ensures lost { self.new.lost ≡ lost_after result }
+        ensures last { self.new.last.items ≡ last_after result self.old.last.items }
         ensures path { F.path self.new.file ≡ F.path self.old.file }
         ensures looks { F.looks self.old.file < F.looks self.new.file }
         ensures faults { F.faults self.new.file ≡ F.faults self.old.file }
@@ -114,16 +134,18 @@ impl<F: LogFile> Journal<F> {
     }
 
     /// Opens the path of a file that is lost anew. Where that can't be done, it stays lost.
-    #[tactic(auto, using(crate::proofs::Lengths::exact_length))]
+    #[tactic(auto, using(crate::proofs::Lengths::exact_length, crate::proofs::LastLines::none_left))]
     fn open_anew<P: LogPaths>(&mut self, alloc: Global, paths: &P, loss: Loss) -> Look
         ensures reported { IsOpenedAnew loss result }
         ensures looked { Looked result (F.bytes self.old.file) (F.bytes self.new.file) (F.stands self.new.file) }
         ensures lost { self.new.lost ≡ lost_after result }
+        ensures last { self.new.last.items ≡ last_after result self.old.last.items }
         ensures path { F.path self.new.file ≡ F.path self.old.file }
         ensures looks { F.looks self.old.file < F.looks self.new.file }
         ensures faults { F.faults self.new.file ≡ F.faults self.old.file }
     {
         self.lost = Some(loss);
+        self.last.clear();
         match reopened(alloc, paths, &mut self.file) {
             Ok(len) => {
                 self.len = len;
@@ -133,6 +155,21 @@ impl<F: LogFile> Journal<F> {
             Err(fault) => Look::Lost(loss, fault),
         }
     }
+}
+
+/// Cuts off a last line without its end, and says how many bytes are left, and what the last lines of them are.
+#[tactic(auto, using(crate::proofs::Lengths::left_ends))]
+fn left_lines<F: LogFile>(alloc: Global, file: &mut F, most: u64) -> io::Result<(u64, Vec<u8>)>
+    ensures left { OnOk result (LeavesLines (F.bytes file.old) (F.bytes file.new)) }
+    ensures length { IfOk result (λ r. IfSome (F.bytes file.new) (λ bs. r.0 ≡ length bs)) }
+    ensures whole { IfOk result (λ r. EndsLine r.1.items) }
+    ensures last { IfOk result (λ r. IfSome (F.bytes file.new) (λ bs. AreLastLines most bs r.1.items)) }
+    ensures stands { F.stands file.new ≡ F.stands file.old }
+    ensures path { F.path file.new ≡ F.path file.old }
+{
+    let len = cut_torn_line(alloc, file)?;
+    let last = last_lines(alloc, file, len, most)?;
+    Ok((len, last))
 }
 
 /// Opens the path of a file anew, cuts off a last line without its end, and says how many bytes are left.

@@ -12,6 +12,7 @@
 mod fault;
 mod file;
 mod journal;
+mod last;
 mod loss;
 mod paths;
 mod system;
@@ -24,4 +25,4 @@ pub use journal::{Journal, Look};
 pub use loss::Loss;
 pub use paths::LogPaths;
 pub use system::{SystemLog, make_folder};
-pub use whole::whole_lines;
+pub use whole::{lines_in, whole_lines};

@@ -10,7 +10,7 @@ use std::alloc::{AllocError, Global};
 use std::io;
 
 /// The bytes that are read at once where the end of the last whole line is looked for.
-const PIECE: usize = 65_536;
+pub(crate) const PIECE: usize = 65_536;
 
 /// Cuts off a last line without its end, and says how many bytes are left.
 #[tactic(auto, using(crate::proofs::Lengths::cut_length, crate::proofs::Lengths::left, crate::proofs::Lengths::all_left, crate::proofs::Lengths::all_length))]

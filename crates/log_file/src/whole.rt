@@ -1,5 +1,6 @@
 //! The whole lines of a file.
-ghost use Rattle.log_file.specs.Line.{IsWholePart};
+ghost use Rattle.std.specs.Prelude.{◌≡◌};
+ghost use Rattle.log_file.specs.Line.{IsWholePart, lines_in};
 
 use memchr::memrchr;
 
@@ -11,4 +12,11 @@ pub fn whole_lines(bytes: &[u8]) -> usize
         Some(place) => place + 1,
         None => 0,
     }
+}
+
+/// How many lines end in the bytes.
+pub fn lines_in(bytes: &[u8]) -> u64
+    ensures { result ≡ lines_in bytes.now }
+{
+    bytes.iter().filter(|byte| **byte == b'\n').count() as u64
 }

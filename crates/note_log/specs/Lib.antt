@@ -4,3 +4,4 @@ pub mod Sound
 pub mod Log
 pub mod Handing
 pub mod Batch
+pub mod Recalled

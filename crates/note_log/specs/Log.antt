@@ -8,13 +8,14 @@ use Rattle.log_file.specs.declared.journal.Look.TheVariants.{Stands, Reopened, L
 use Rattle.note_lines.specs.Hashed.{line_as}
 use Rattle.note_lines.specs.Note.{Noted, most_noted}
 use Rattle.note_lines.specs.declared.form.NoteForm.{NoteForm}
+use Rattle.log_file.specs.Line.{lines_in}
 use Rattle.note_log.specs.Line.{HasLine}
-use Rattle.note_log.specs.Sound.{Remembered, earlier_in, handed_in, lines_in}
+use Rattle.note_log.specs.Sound.{Remembered, earlier_in, handed_in}
 use Rattle.note_log.specs.declared.log.NoteLog.{NoteLog}
 use Rattle.note_log.specs.declared.trouble.Trouble.{Trouble}
 use Rattle.note_log.specs.declared.trouble.Trouble.TheVariants as trouble
 
--- the form of its lines, what each file that was lost was handed, what the one that is open was handed, and what of the lines waits
+-- the form of its lines, what each file that was lost was handed, what the one that is open was handed, and what of the lines waits; before what the first file was handed stands what was read of it: its last lines when it was opened
 pub record Logged : Type 0 where
   pub form : NoteForm
   pub earlier : List (List ℕ)
@@ -28,7 +29,7 @@ logged log = record { form = log.form; earlier = earlier_in log.earlier.items; h
 abbrev pub files_of : Logged → List (List ℕ)
 files_of l = l.earlier ++ l.handed ∷ []
 
--- how many lines the files have taken whole
+-- how many lines the files have taken whole, and those that were read of the first one
 abbrev pub lines_of : Logged → ℕ
 lines_of l = sum_by lines_in (files_of l)
 

@@ -1,10 +1,10 @@
 -- What holds of every log of notes.
-use Rattle.std.specs.Prelude.{◌≡◌, ◌+◌, ◌-◌, ◌^◌, ◌==◌, ℕ, Bool, List, ◌++◌, count_by, map, min, take, Contains, Vec}
+use Rattle.std.specs.Prelude.{◌≡◌, ◌≤◌, ◌+◌, ◌-◌, ◌^◌, ℕ, List, ◌++◌, map, min, take, Contains, Vec}
 use Rattle.std.specs.List.{flat_map}
 use Rattle.std.specs.declared.alloc.Global.{Global}
 use Rattle.bytes.specs.declared.unique.BytesMut.{BytesMut}
 use Rattle.http_server.specs.declared.log.Log.{Log}
-use Rattle.log_file.specs.Line.{EndsLine}
+use Rattle.log_file.specs.Line.{EndsLine, lines_in}
 use Rattle.note_log.specs.Line.{HasLine}
 
 -- the bytes that were taken by writes, of each of which this says what it was given and how much it took
@@ -15,17 +15,9 @@ handed_in writes = flat_map (λ w. take w.1 w.0.items) writes
 abbrev pub earlier_in : List (Log (BytesMut Global) ℕ × ℕ) → List (List ℕ)
 earlier_in files = map (λ f. handed_in f.0.items) files
 
--- a line feed (ASCII)
-abbrev pub ends_line : ℕ → Bool
-ends_line byte = byte == 10
-
--- how many lines end in the bytes
-abbrev pub lines_in : List ℕ → ℕ
-lines_in bytes = count_by ends_line bytes
-
--- n counts so many lines and those of the bytes, as far as 64 bits go
-abbrev pub IsCounted : ℕ → List ℕ → ℕ → Type 0
-IsCounted before handed n = n ≡ min (before + lines_in handed) (2 ^ 64 - 1)
+-- n counts the lines of some bytes, so many in those before and those of the last ones, without so many that were read, as far as 64 bits go
+abbrev pub IsCounted : ℕ → ℕ → List ℕ → ℕ → Type 0
+IsCounted read before handed n = (read ≤ before + lines_in handed) × (n ≡ min (before + lines_in handed - read) (2 ^ 64 - 1))
 
 -- lines that are remembered
 abbrev pub Remembered : Type 0
@@ -35,7 +27,7 @@ Remembered = List (Vec ℕ Global × Unit {0})
 abbrev pub Stand : List ℕ → Remembered → Type 0
 Stand bytes remembered = (e : Vec ℕ Global × Unit {0}) → Contains remembered e → HasLine e.0.items bytes
 
--- it ends with a whole line, once what waits is handed over, and what is remembered was handed over
+-- it ends with a whole line, once what waits is handed over, and what is remembered was handed over, or was read there
 pub record IsSound (handed waiting : List ℕ) (remembered : Remembered) : Type 0 where
   pub ends : EndsLine (handed ++ waiting)
   pub stand : Stand handed remembered

@@ -55,12 +55,14 @@ impl Batch {
             self.too_long = self.too_long.saturating_add(1);
             return Ok(());
         }
-        let line = line_as(alloc, form, &note.page, note.input.as_str())?;
+        let mut line = line_as(alloc, form, &note.page, note.input.as_str())?;
         if remembered.contains(line.as_slice()) {
             self.known.push(line)?;
             return Ok(());
         }
         self.bytes.extend_from_slice(line.as_slice())?;
+        // It may be remembered for long, and was printed into more room than it needs.
+        line.shrink_to_fit();
         self.lines.push(line)?;
         Ok(())
     }

@@ -1,12 +1,12 @@
 //! Bytes handed to a log.
 ghost use Rattle.std.specs.Prelude.{◌≡◌, ◌<◌, ◌≤◌, ◌==◌, ℕ, None, false, true, length, take};
 ghost use Rattle.std.specs.Io.KnownBytes.{append_known};
-ghost use Rattle.note_log.specs.Sound.{IsCounted, handed_in, lines_in};
+ghost use Rattle.note_log.specs.Sound.{IsCounted, handed_in};
 ghost use Rattle.note_log.specs.Handing.{Moves};
 
 use bytes::{Buf, BytesMut};
 use http_server::Log;
-use log_file::{Journal, LogFile};
+use log_file::{Journal, LogFile, lines_in};
 
 /// Hands over the bytes that wait, as far as the log takes them, and says whether it took all. It takes all unless it is lost or a
 /// write fails. The lines of which it took the end are counted.
@@ -17,7 +17,7 @@ pub(crate) fn hand_over<F: LogFile>(
     written: &mut u64,
 ) -> bool
     ensures moves { Moves (F.bytes journal.old.file) (F.bytes journal.new.file) (handed_in handed.old.items) (handed_in handed.new.items) waiting.old.items waiting.new.items }
-    ensures written { (before : ℕ) → IsCounted before (handed_in handed.old.items) written.old → IsCounted before (handed_in handed.new.items) written.new }
+    ensures written { (read before : ℕ) → IsCounted read before (handed_in handed.old.items) written.old → IsCounted read before (handed_in handed.new.items) written.new }
     ensures all { result ≡ (length waiting.new.items == 0) }
     ensures lost { journal.new.lost ≡ journal.old.lost }
     ensures looks { F.looks journal.new.file ≡ F.looks journal.old.file }
@@ -51,11 +51,4 @@ fn hand_front<F: LogFile>(journal: &mut Journal<F>, bytes: &[u8]) -> usize
         Ok(count) => count,
         Err(_) => 0,
     }
-}
-
-/// How many lines end in the bytes.
-fn lines_in(bytes: &[u8]) -> u64
-    ensures { result ≡ lines_in bytes.now }
-{
-    bytes.iter().filter(|byte| **byte == b'\n').count() as u64
 }

@@ -15,6 +15,7 @@ mod batch;
 mod handing;
 mod log;
 mod memory;
+mod recalled;
 mod trouble;
 
 pub use log::NoteLog;

@@ -1,15 +1,17 @@
 //! The log.
-ghost use Rattle.std.specs.Prelude.{◌≡◌, ◌<◌, ◌⊎◌, ◌-◌, ◌^◌, [], true, false, OnErr, IfOk, IfSome, is_none, is_some, min, sum_by};
+ghost use Rattle.std.specs.Prelude.{◌≡◌, ◌<◌, ◌≤◌, ◌⊎◌, ◌-◌, ◌^◌, [], true, false, OnErr, IfOk, IfSome, is_none, is_some, min, sum_by};
+ghost use Rattle.log_file.specs.Line.{lines_in};
 ghost use Rattle.std.specs.NonZero.{non_zero_usize_get};
-ghost use Rattle.note_log.specs.Sound.{IsCounted, IsSound, earlier_in, handed_in, lines_in};
+ghost use Rattle.note_log.specs.Sound.{IsCounted, IsSound, earlier_in, handed_in};
 
 use crate::batch::{Batch, batch_of};
 use crate::handing::hand_over;
-use crate::memory::{remember, table_of, use_again};
+use crate::memory::{remember, use_again};
+use crate::recalled::recalled_table;
 use crate::trouble::Trouble;
 use bytes::BytesMut;
 use http_server::Log;
-use log_file::{Journal, LogFile, LogPaths, Look};
+use log_file::{Journal, LogFile, LogPaths, Look, lines_in};
 use lru::LruCache;
 use note_lines::{Note, NoteForm};
 use std::alloc::{AllocError, Global};
@@ -22,7 +24,8 @@ pub struct NoteLog<F: LogFile> {
     /// What the lines have of the inputs.
     form: NoteForm,
     journal: Journal<F>,
-    /// What each file that was lost was handed, and what the one that is open was handed, which only proofs read.
+    /// What each file that was lost was handed, and what the one that is open was handed, behind what was read of it, which only
+    /// proofs read.
     earlier: Log<Log<BytesMut, usize>, u8>,
     handed: Log<BytesMut, usize>,
     /// The bytes of lines that the file has not taken.
@@ -30,17 +33,22 @@ pub struct NoteLog<F: LogFile> {
     remembered: LruCache<Vec<u8>, (), RandomState>,
     /// No line is remembered.
     forgets: bool,
+    /// How many lines of its first file were read when that was opened.
+    read: u64,
     written: u64,
     too_long: u64,
     ghost sound: { ∥ IsSound (handed_in handed.items) waiting.items remembered.entries ∥₁ },
-    ghost counted: { IsCounted (sum_by lines_in (earlier_in earlier.items)) (handed_in handed.items) written },
+    ghost counted: { IsCounted read (sum_by lines_in (earlier_in earlier.items)) (handed_in handed.items) written },
 }
 
 impl<F: LogFile + Drop> NoteLog<F> {
     ghost use Rattle.note_log.specs.Log.{logged};
+    ghost use Rattle.note_log.specs.Recalled.{Recalls};
 
-    /// A log that nothing was recorded in yet, of lines in this form. It remembers so many lines, of which it forgets the least recently used first, or none.
-    /// `keys` are for a table of lines, whose texts others choose.
+    /// A log that nothing was recorded in yet, of lines in this form. It remembers so many lines, of which it forgets the least
+    /// recently used first, or none; at first those that its journal has read. `keys` are for a table of lines, whose texts others
+    /// choose.
+    #[tactic(auto, using(crate::proofs::Anew::first_write, crate::proofs::Anew::begins_sound, crate::proofs::Anew::begins_counted))]
     pub fn new(
         alloc: Global,
         keys: RandomState,
@@ -48,21 +56,27 @@ impl<F: LogFile + Drop> NoteLog<F> {
         journal: Journal<F>,
         remember: Option<NonZeroUsize>,
     ) -> Result<NoteLog<F>, AllocError>
-        ensures fresh { IfOk result (λ log. logged log ≡ record { form = form; earlier = []; handed = []; waiting = [] }) }
+        ensures fresh { IfOk result (λ log. logged log ≡ record { form = form; earlier = []; handed = journal.last.items; waiting = [] }) }
         ensures form { IfOk result (λ log. log.form ≡ form) }
-        ensures journal { IfOk result (λ log. log.journal ≡ journal) }
+        ensures file { IfOk result (λ log. log.journal.file ≡ journal.file) }
+        ensures lost { IfOk result (λ log. log.journal.lost ≡ journal.lost) }
+        ensures read { IfOk result (λ log. log.read ≡ lines_in journal.last.items) }
         ensures remember { IfOk result (λ log. IfSome remember (λ most. log.remembered.cap ≡ non_zero_usize_get most)) }
+        ensures recalls { IfOk result (λ log. IfSome remember (λ most. lines_in journal.last.items ≤ non_zero_usize_get most → ∥ Recalls journal.last.items log.remembered.entries ∥₁)) }
         ensures forgets { IfOk result (λ log. log.forgets ≡ is_none remember) }
     {
-        let remembered = table_of(alloc, keys, remember.unwrap_or(NonZeroUsize::MIN))?;
+        let mut journal = journal;
+        let last = BytesMut::from_vec(journal.take_last(alloc));
+        let remembered = recalled_table(alloc, keys, last.as_slice(), remember)?;
         Ok(NoteLog {
             form,
             journal,
             earlier: Log::new(),
-            handed: Log::new(),
+            handed: Log::new().and(&last, &last.len()),
             waiting: BytesMut::new(alloc),
             remembered,
             forgets: remember.is_none(),
+            read: lines_in(last.as_slice()),
             written: 0,
             too_long: 0,
         })
@@ -165,7 +179,7 @@ impl<F: LogFile> NoteLog<F> {
     /// How many lines its files have taken whole.
     #[tactic(auto, using(crate::proofs::Counted::counted_all))]
     pub fn written(&self) -> u64
-        ensures { result ≡ min (lines_of (logged self.now)) (2 ^ 64 - 1) }
+        ensures { result ≡ min (lines_of (logged self.now) - self.now.read) (2 ^ 64 - 1) }
     {
         self.written
     }

@@ -17,12 +17,13 @@ const FILE_MODE: u32 = 0o600;
 pub type Journal = log_file::Journal<SystemLog>;
 
 /// Opens the logs of so many workers in a folder, which is made where it is missing: one for each worker, or none where no folder is
-/// named. No other process may have one of them open.
+/// named. So many of the last lines of each are read. No other process may have one of them open.
 pub fn open_logs<P: LogPaths>(
     paths: &P,
     alloc: Global,
     folder: Option<&str>,
     workers: usize,
+    lines: u64,
 ) -> Result<Vec<Option<Journal>>, LogFault>
     ensures logs { IfOk result (λ logs. map path_in logs.items ≡ paths_of (option_map (λ f. f.now) folder.entry) workers) }
     ensures fault { IfErr result (λ fault. folder.entry ≡ None → fault ≡ WantOfMemory) }
@@ -32,7 +33,7 @@ pub fn open_logs<P: LogPaths>(
     }
     let mut logs = Vec::new(alloc);
     for worker in 0..workers {
-        let log = open_log(paths, alloc, folder, worker + 1)?;
+        let log = open_log(paths, alloc, folder, worker + 1, lines)?;
         logs.push(log)?;
     }
     Ok(logs)
@@ -44,12 +45,13 @@ fn open_log<P: LogPaths>(
     alloc: Global,
     folder: Option<&str>,
     worker: usize,
+    lines: u64,
 ) -> Result<Option<Journal>, LogFault>
     ensures log { IfOk result (λ log. path_in log ≡ path_at (option_map (λ f. f.now) folder.entry) worker) }
     ensures fault { IfErr result (λ fault. folder.entry ≡ None → fault ≡ WantOfMemory) }
 {
     match folder {
-        Some(folder) => Ok(Some(open_in(paths, alloc, folder, worker)?)),
+        Some(folder) => Ok(Some(open_in(paths, alloc, folder, worker, lines)?)),
         None => Ok(None),
     }
 }
@@ -60,12 +62,13 @@ fn open_in<P: LogPaths>(
     alloc: Global,
     folder: &str,
     worker: usize,
+    lines: u64,
 ) -> Result<Journal, LogFault>
     ensures { IfOk result (λ log. string_bytes log.file.path ≡ path_of folder.now worker) }
 {
     let path = log_path(alloc, folder, worker)?;
     let file = SystemLog::open(paths, path)?;
-    Journal::open(alloc, file)
+    Journal::open(alloc, file, lines)
 }
 
 /// The path of the log of a worker.

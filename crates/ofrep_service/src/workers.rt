@@ -5,6 +5,7 @@ ghost use Rattle.std.specs.Prelude.{◌≡◌, List, IfOk, IfSome, is_none, opti
 ghost use Rattle.http_server.specs.Exchange.{Call};
 ghost use Rattle.std.specs.List.{flat_map};
 ghost use Rattle.ofrep_guards.specs.Asked.{first_keys, rules_view};
+ghost use Rattle.note_log.specs.Log.{logged};
 ghost use Rattle.recorded_answers.specs.Stand.{AllStand, Works};
 ghost use Rattle.ofrep_service.specs.Limits.{HasLimits};
 
@@ -235,7 +236,8 @@ fn serve_recorded<S: Recording, R: Net + Clock>(
     )
 }
 
-/// The worker of a post: it answers from the snapshots of a seat, and records in the post's log, where it has one.
+/// The worker of a post: it answers from the snapshots of a seat, and records in the post's log, where it has one, of which it
+/// remembers the lines that were read as it was opened.
 pub(crate) fn worker_of<'a, J: ShareName, R: Clock>(
     rt: &'a R,
     alloc: Global,
@@ -245,7 +247,8 @@ pub(crate) fn worker_of<'a, J: ShareName, R: Clock>(
     journal: Option<Journal>,
 ) -> Result<OfrepWorker<'a, J, R, SystemLog>, AllocError>
     ensures seat { IfOk result (λ worker. worker.seat ≡ seat) }
-    ensures log { IfOk result (λ worker. option_map (λ l. l.journal) worker.log ≡ journal) }
+    ensures log { IfOk result (λ worker. option_map (λ l. l.journal.file) worker.log ≡ option_map (λ j. j.file) journal) }
+    ensures recalls { IfOk result (λ worker. IfSome journal (λ j. IfSome worker.log (λ l. (logged l).handed ≡ j.last.items))) }
     ensures without { IfOk result (λ worker. worker.without_record ≡ board.now.without_record) }
     ensures remember { IfOk result (λ worker. IfSome worker.log (λ l. IfSome board.now.remember (λ most. l.remembered.cap ≡ non_zero_usize_get most))) }
     ensures form { IfOk result (λ worker. IfSome worker.log (λ l. l.form ≡ board.now.form)) }

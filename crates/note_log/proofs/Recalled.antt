@@ -1,0 +1,178 @@
+-- Lines that were read of a file and are remembered, one after the other.
+use Rattle.std.proofs.Common.{◌≡◌, ◌≤◌, ◌<◌, ◌+◌, ◌-◌, ℕ, Bool, true, false, cond, List, [], ◌∷◌, ◌++◌, length, take, Option, Some, None, Vec, nat_eq, refl, sym, ap, ◌∙◌, subst, append_assoc, append-nil, inl, inr, ◌⊎◌, arith}
+use Rattle.std.specs.Cmp.Lexicographic.{pointwise, same_text}
+use Rattle.std.specs.List.{flat_map, Contains}
+use Rattle.std.specs.Map.{lookup_entry, remove_entry}
+use Rattle.std.specs.Option.{option_map_or}
+use Rattle.std.specs.declared.alloc.Global.{Global}
+use Rattle.std.proofs.Math.Logic.{∥∥₁_map}
+use Rattle.std.proofs.lemmas.Grind.{flat_map-append}
+use Rattle.std.proofs.lemmas.List.{length-append, length-take, take_all}
+use Rattle.std.proofs.lemmas.List.Elements.{Contains-append_left, Contains-append_right, Contains-push, Contains-push_cases, Contains-append_cases}
+use Rattle.std.proofs.lemmas.List.Sums.{sum_by-cons}
+use Rattle.line_batches.specs.Lines.{HasNoFeed, IsFirst}
+use Rattle.log_file.specs.Line.{EndsLine, ends_line, lines_in}
+use Rattle.log_file.proofs.LastLines.{ends_rest, lines_both, no_lines}
+use Rattle.lru.specs.LruCache.{LruCache, put_entries}
+use Rattle.lru.proofs.CallerLemmas.{Contains-lookup_entry, Contains-put_entries}
+use Rattle.note_log.specs.Line.{HasLine}
+use Rattle.note_log.specs.Recalled.{AllRecalled, IsOneLine, Recalled, Recalls, RecallsFirst, joined}
+use Rattle.note_log.specs.Sound.{Remembered, Stand}
+use Rattle.note_log.proofs.Lines.{not_in}
+
+abbrev pub Entry : Type 0
+Entry = Vec ℕ Global × Unit {0}
+
+at_head : {X : Type 0} (x : X) (xs : List X) → Contains (x ∷ xs) x
+at_head x xs = Contains-append_left (x ∷ []) xs x (Contains-push [] x)
+
+one_feed : lines_in (10 ∷ []) ≡ 1
+one_feed = omega (arith, sum_by-cons (λ (b : ℕ). cond (ends_line b) 1 0) 10 [])
+
+take_few : (n : ℕ) (es : Remembered) → length (take n es) ≤ length es
+take_few n es = omega (arith, length-take n es)
+
+-- ---- an entry more in a table
+
+module _ (test : Vec ℕ Global → Bool) where
+  removed : (es : Remembered) (f e : Entry) → lookup_entry test es ≡ Some f → Contains es e → (f ≡ e) ⊎ Contains (remove_entry test es) e
+  removed [] f e h c = absurd (not_in e c)
+  removed (x ∷ es) f e h c = (elim (test x.0) as (λ y. test x.0 ≡ y → (f ≡ e) ⊎ Contains (remove_entry test (x ∷ es)) e) [
+    | true ↦ λ t. let h' = rw t at h in let same : x ≡ f = cc in elim (Contains-append_cases (x ∷ []) es e c) [
+      | inl d ↦ elim (Contains-push_cases [] x e d) [
+        | inl none ↦ absurd (not_in e none)
+        | inr is ↦ inl (sym same ∙ is)
+      ]
+      | inr d ↦ inr (rw t d)
+    ]
+    | false ↦ λ t. elim (Contains-append_cases (x ∷ []) es e c) [
+      | inl d ↦ elim (Contains-push_cases [] x e d) [
+        | inl none ↦ absurd (not_in e none)
+        | inr is ↦ inr (rw t (subst (Contains (x ∷ remove_entry test es)) is (at_head x (remove_entry test es))))
+      ]
+      | inr d ↦ elim (removed es f e (rw t at h) d) [
+        | inl is ↦ inl is
+        | inr r ↦ inr (rw t (Contains-append_right (x ∷ []) (remove_entry test es) e r))
+      ]
+    ]
+  ]) refl
+
+  fewer : (es : Remembered) → length (remove_entry test es) ≤ length es
+  fewer [] = omega arith
+  fewer (x ∷ es) = (elim (test x.0) as (λ y. test x.0 ≡ y → length (remove_entry test (x ∷ es)) ≤ length (x ∷ es)) [
+    | true ↦ λ t. rw t (omega arith)
+    | false ↦ λ t. rw t (omega (arith, fewer es))
+  ]) refl
+
+abbrev pub eq : Vec ℕ Global → Vec ℕ Global → Bool
+eq a b = pointwise nat_eq a.items b.items
+
+module _ (old : LruCache (Vec ℕ Global) (Unit {0})) (line : Vec ℕ Global) (v : Unit {0}) where
+  abbrev after : Option Entry → Remembered
+  after o = option_map_or (λ (e : Entry). (e.0, v) ∷ remove_entry (eq line) old.entries) o ((line, v) ∷ take (old.cap - 1) old.entries)
+
+  few_after : (o : Option Entry) → length (after o) ≤ length old.entries + 1
+  few_after None = omega (arith, take_few (old.cap - 1) old.entries)
+  few_after (Some f) = omega (arith, fewer (eq line) old.entries)
+
+  put_after : (o : Option Entry) → lookup_entry (eq line) old.entries ≡ o → Recalled (after o) line.items
+  put_after None h = ((line, v), at_head (line, v) (take (old.cap - 1) old.entries), refl)
+  put_after (Some f) h =
+      ((f.0, v), at_head (f.0, v) (remove_entry (eq line) old.entries), sym (same_text line.items f.0.items (sym (Contains-lookup_entry (eq line) old.entries f h).1)))
+
+  kept_after : (o : Option Entry) → lookup_entry (eq line) old.entries ≡ o → length old.entries < old.cap → (text : List ℕ) → Recalled old.entries text → Recalled (after o) text
+  kept_after None h room text r =
+      let all : take (old.cap - 1) old.entries ≡ old.entries = take_all (old.cap - 1) old.entries (omega (arith, room)) in
+      (r.0, subst (λ (es : Remembered). Contains ((line, v) ∷ es) r.0) (sym all) (Contains-append_right ((line, v) ∷ []) old.entries r.0 r.1), r.2)
+  kept_after (Some f) h room text r = elim (removed (eq line) old.entries f r.0 h r.1) [
+    | inl same ↦ ((f.0, v), at_head (f.0, v) (remove_entry (eq line) old.entries), ap (λ (e : Entry). e.0.items) same ∙ r.2)
+    | inr there ↦ (r.0, Contains-append_right ((f.0, v) ∷ []) (remove_entry (eq line) old.entries) r.0 there, r.2)
+  ]
+
+-- ---- a line more
+
+begins : (bytes : List ℕ) (cap : ℕ) → RecallsFirst bytes bytes cap []
+begins bytes cap = record {
+  lines = [];
+  parts = refl;
+  ends = inl refl;
+  count = refl;
+  each = λ line c. absurd (not_in line c);
+  few = omega arith;
+  stand = λ e c. absurd (not_in e c);
+  all = λ room line c. absurd (not_in line c);
+}
+
+pub recalls_none : (bytes : List ℕ) (cap : ℕ) (remembered : Remembered) → remembered ≡ [] → RecallsFirst bytes bytes cap remembered
+recalls_none bytes cap remembered none = subst (RecallsFirst bytes bytes cap) (sym none) (begins bytes cap)
+
+module _ (bytes rest : List ℕ) (cap : ℕ) (old new : LruCache (Vec ℕ Global) (Unit {0})) (line : Vec ℕ Global) (v : Unit {0}) (behind : List ℕ)
+    (r : RecallsFirst bytes rest cap old.entries) (room : old.cap ≡ cap) (f : IsFirst rest line.items behind) (is : new.entries ≡ put_entries eq old line v) where
+  abbrev o : Option Entry
+  o = lookup_entry (eq line) old.entries
+
+  abbrev more : List (List ℕ)
+  more = r.lines ++ line.items ∷ []
+
+  joined_more : joined more ≡ joined r.lines ++ line.items
+  joined_more = flat_map-append (λ (l : List ℕ). l) r.lines (line.items ∷ []) ∙ ap (λ (t : List ℕ). joined r.lines ++ t) (append-nil line.items)
+
+  rest_parts : rest ≡ line.items ++ behind
+  rest_parts = f.whole ∙ sym (ap (λ (t : List ℕ). t ++ behind) f.ended ∙ append_assoc f.text (10 ∷ []) behind)
+
+  there : HasLine line.items bytes
+  there = record { before = joined r.lines; after = behind; parts = r.parts ∙ ap (λ (t : List ℕ). joined r.lines ++ t) rest_parts; starts = r.ends }
+
+  stands : Stand bytes (put_entries eq old line v)
+  stands e c = elim (Contains-put_entries eq old line v e c) [
+    | inl was ↦ r.stand e was
+    | inr put ↦ elim put.1 [
+      | inl same ↦ subst (λ (k : Vec ℕ Global). HasLine k.items bytes) (sym same) there
+      | inr was ↦ r.stand (e.0, was.0) was.1
+    ]
+  ]
+
+  all_more : length more ≤ cap → AllRecalled (put_entries eq old line v) more
+  all_more fits l c =
+      let count = length-append r.lines (line.items ∷ []) in
+      elim (Contains-push_cases r.lines line.items l c) [
+        | inl was ↦ kept_after old line v o refl (omega (arith, r.few, room, fits, count)) l (r.all (omega (arith, fits, count)) l was)
+        | inr same ↦ subst (Recalled (put_entries eq old line v)) same (put_after old line v o refl)
+      ]
+
+  put_line : RecallsFirst bytes behind cap (put_entries eq old line v)
+  put_line = record {
+    lines = more;
+    parts = r.parts ∙ ap (λ (t : List ℕ). joined r.lines ++ t) rest_parts ∙ sym (append_assoc (joined r.lines) line.items behind) ∙ ap (λ (t : List ℕ). t ++ behind) (sym joined_more);
+    ends = inr (joined r.lines ++ f.text, joined_more ∙ ap (λ (t : List ℕ). joined r.lines ++ t) f.ended ∙ sym (append_assoc (joined r.lines) f.text (10 ∷ [])));
+    count = omega (arith, r.count, ap lines_in joined_more ∙ lines_both (joined r.lines) line.items, ap lines_in f.ended ∙ lines_both f.text (10 ∷ []), no_lines f.text f.none, one_feed, length-append r.lines (line.items ∷ []));
+    each = λ l c. elim (Contains-push_cases r.lines line.items l c) [
+      | inl was ↦ r.each l was
+      | inr same ↦ subst IsOneLine same (f.text, f.none, f.ended)
+    ];
+    few = omega (arith, r.few, few_after old line v o, length-append r.lines (line.items ∷ []));
+    stand = stands;
+    all = all_more;
+  }
+
+  pub recalls_more : RecallsFirst bytes behind cap new.entries
+  recalls_more = subst (RecallsFirst bytes behind cap) (sym is) put_line
+
+-- ---- all of them
+
+no_rest : (rest : List ℕ) → EndsLine rest → HasNoFeed rest → rest ≡ []
+no_rest rest (inl none) h = none
+no_rest rest (inr line) h = absurd (omega (arith, no_lines rest h, ap lines_in line.1 ∙ lines_both line.0 (10 ∷ []), one_feed))
+
+recalls_all : (bytes rest : List ℕ) (cap : ℕ) (remembered : Remembered) → RecallsFirst bytes rest cap remembered → EndsLine bytes → HasNoFeed rest → lines_in bytes ≤ cap → Recalls bytes remembered
+recalls_all bytes rest cap remembered r ends none fits =
+    let nothing : rest ≡ [] = no_rest rest (ends_rest (joined r.lines) rest (subst EndsLine r.parts ends)) none in
+    let whole : bytes ≡ joined r.lines = r.parts ∙ ap (λ (t : List ℕ). joined r.lines ++ t) nothing ∙ append-nil (joined r.lines) in
+    record { lines = r.lines; parts = whole; each = r.each; all = r.all (omega (arith, fits, ap lines_in whole, r.count)) }
+
+pub recalls_each : (bytes rest : List ℕ) (cap : ℕ) (remembered : Remembered) → RecallsFirst bytes rest cap remembered → ∥ EndsLine bytes ∥₁ → HasNoFeed rest → lines_in bytes ≤ cap → ∥ Recalls bytes remembered ∥₁
+recalls_each bytes rest cap remembered r ends none fits = ∥∥₁_map ends (λ (e : EndsLine bytes). recalls_all bytes rest cap remembered r e none fits)
+
+-- nothing is remembered
+pub stands_none : (bytes : List ℕ) (remembered : Remembered) → remembered ≡ [] → ∥ Stand bytes remembered ∥₁
+stands_none bytes remembered none = ∣ (λ e c. absurd (not_in e (subst (λ (all : Remembered). Contains all e) none c))) ∣₁
