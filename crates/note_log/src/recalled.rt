@@ -13,7 +13,7 @@ use std::hash::RandomState;
 use std::num::NonZeroUsize;
 
 /// A table of so many lines that remembers these, the last one as the most recently used; or of none.
-#[tactic(auto, using(crate::proofs::Recalled::stands_none))]
+#[tactic(auto, using(crate::proofs::Recalling::stands_none))]
 pub(crate) fn recalled_table(
     alloc: Global,
     keys: RandomState,
@@ -36,7 +36,7 @@ pub(crate) fn recalled_table(
 }
 
 /// Remembers each of these lines, the last one as the most recently used.
-#[tactic(auto, using(crate::proofs::Recalled::recalls_none, crate::proofs::Recalled::recalls_line, crate::proofs::Recalled::recalls_each))]
+#[tactic(auto, using(crate::proofs::Recalling::recalls_none, crate::proofs::Recalling::recalls_line, crate::proofs::Recalling::recalls_each))]
 fn remember_lines(
     alloc: Global,
     remembered: &mut LruCache<Vec<u8>, (), RandomState>,
