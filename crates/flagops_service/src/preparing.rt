@@ -71,13 +71,7 @@ where
     judge_origins(answering)?;
     let clients = read_keys(alloc, files, answering)?;
     let lines = lines_of(answering.remember, answering.workers);
-    let logs = match open_logs(
-        rt,
-        alloc,
-        answering.log,
-        answering.workers as usize,
-        lines,
-    ) {
+    let logs = match open_logs(rt, alloc, answering.log, answering.workers as usize, lines) {
         Ok(logs) => logs,
         Err(LogFault::WantOfMemory) => return Err(Unready::WantOfMemory),
         Err(fault) => return Err(Unready::Stopped(Stop::NoLog(fault))),

@@ -1,5 +1,5 @@
 -- How many bytes a file has as it is cut and grows.
-use Rattle.std.proofs.Common.{◌≡◌, ◌≤◌, ◌<◌, ◌+◌, ◌-◌, ◌^◌, ℕ, List, length, min, take, ◌++◌, Option, Some, None, IfSome, refl, inl, inr, sym, ap, ◌∙◌, subst, arith}
+use Rattle.std.proofs.Common.{◌≡◌, ◌≤◌, ◌<◌, ◌+◌, ◌-◌, ◌^◌, ℕ, List, length, min, take, Option, Some, None, IfSome, refl, sym, ap, subst, arith}
 use Rattle.std.proofs.Math.Logic.{∥∥₁_map}
 use Rattle.std.proofs.lemmas.List.{length-append, length-take-le, take_all}
 use Rattle.std.specs.Io.KnownBytes.{append_known}

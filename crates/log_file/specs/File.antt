@@ -1,5 +1,5 @@
 -- What the calls of a log's file do to its bytes, where they are known.
-use Rattle.std.specs.Prelude.{◌≡◌, ◌^◌, ◌-◌, ◌≤◌, ◌<◌, ℕ, Bool, true, false, List, ◌++◌, length, min, take, Option, Result, IfSome, MatchResult, option_map}
+use Rattle.std.specs.Prelude.{◌≡◌, ◌^◌, ◌-◌, ℕ, Bool, true, false, List, ◌++◌, length, min, take, Option, Result, IfSome, MatchResult, option_map}
 use Rattle.std.specs.Io.KnownBytes.{append_known}
 
 -- n is how many bytes there are, as far as 64 bits go

@@ -6,4 +6,4 @@ mod Kept
 mod Faults
 mod Anew
 mod Counted
-mod Recalled
+mod Recalling

@@ -1,7 +1,9 @@
 -- Lines that were read of a file and are remembered.
-use Rattle.std.specs.Prelude.{◌≡◌, ◌+◌, ◌≤◌, ℕ, List, [], ◌∷◌, ◌++◌, length, Contains, Vec}
+use Rattle.std.specs.Prelude.{◌≡◌, ◌≤◌, ℕ, List, [], ◌∷◌, ◌++◌, length, Contains, Vec, nat_eq}
 use Rattle.std.specs.List.{flat_map}
+use Rattle.std.specs.Cmp.Lexicographic.{pointwise}
 use Rattle.std.specs.declared.alloc.Global.{Global}
+use Rattle.lru.specs.LruCache.{LruCache, put_entries}
 use Rattle.line_batches.specs.Lines.{HasNoFeed}
 use Rattle.log_file.specs.Line.{EndsLine, lines_in}
 use Rattle.note_log.specs.Sound.{Remembered, Stand}
@@ -26,6 +28,10 @@ pub record Recalls (bytes : List ℕ) (remembered : Remembered) : Type 0 where
   pub parts : bytes ≡ joined lines
   pub each : (line : List ℕ) → Contains lines line → IsOneLine line
   pub all : AllRecalled remembered lines
+
+-- in private contracts alone: the line was put into the table
+abbrev pub Puts : List ℕ → LruCache (Vec ℕ Global) (Unit {0}) → Remembered → Type 0
+Puts line old new = (key : Vec ℕ Global) × (key.items ≡ line) × (new ≡ put_entries (λ a b. pointwise nat_eq a.items b.items) old key tt)
 
 -- in private contracts alone: so it is for the lines before the rest, where a table of so many has room for them
 pub record RecallsFirst (bytes rest : List ℕ) (cap : ℕ) (remembered : Remembered) : Type 0 where

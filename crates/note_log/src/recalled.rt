@@ -2,7 +2,7 @@
 ghost use Rattle.std.specs.Prelude.{◌≡◌, ◌≤◌, [], IfOk, IfSome, OnOk};
 ghost use Rattle.std.specs.NonZero.{non_zero_usize_get};
 ghost use Rattle.log_file.specs.Line.{EndsLine, lines_in};
-ghost use Rattle.note_log.specs.Recalled.{Recalls};
+ghost use Rattle.note_log.specs.Recalled.{Puts, Recalls};
 ghost use Rattle.note_log.specs.Sound.{Stand};
 
 use crate::memory::table_of;
@@ -13,7 +13,7 @@ use std::hash::RandomState;
 use std::num::NonZeroUsize;
 
 /// A table of so many lines that remembers these, the last one as the most recently used; or of none.
-#[tactic(auto, using(crate::proofs::Recalled::stands_none))]
+#[tactic(auto, using(crate::proofs::Recalling::stands_none))]
 pub(crate) fn recalled_table(
     alloc: Global,
     keys: RandomState,
@@ -36,7 +36,7 @@ pub(crate) fn recalled_table(
 }
 
 /// Remembers each of these lines, the last one as the most recently used.
-#[tactic(auto, using(crate::proofs::Recalled::recalls_none, crate::proofs::Recalled::recalls_each))]
+#[tactic(auto, using(crate::proofs::Recalling::recalls_none, crate::proofs::Recalling::recalls_line, crate::proofs::Recalling::recalls_each))]
 fn remember_lines(
     alloc: Global,
     remembered: &mut LruCache<Vec<u8>, (), RandomState>,
@@ -50,8 +50,22 @@ fn remember_lines(
 {
     let mut rest = lines;
     'lines: while let Some((line, behind)) = cut_line(rest) {
-        remembered.put(Vec::from_slice(alloc, line)?, ())?;
+        remember_line(alloc, remembered, line)?;
         rest = behind;
     }
+    Ok(())
+}
+
+/// Remembers a line, as the most recently used.
+fn remember_line(
+    alloc: Global,
+    remembered: &mut LruCache<Vec<u8>, (), RandomState>,
+    line: &[u8],
+) -> Result<(), AllocError>
+    ensures cap { remembered.new.cap ≡ remembered.old.cap }
+    ensures puts { OnOk result (Puts line.now remembered.old remembered.new.entries) }
+{
+    let key = Vec::from_slice(alloc, line)?;
+    remembered.put(key, ())?;
     Ok(())
 }

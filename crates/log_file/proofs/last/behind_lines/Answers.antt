@@ -1,4 +1,4 @@
-use Rattle.std.proofs.Common.{rules, arith}
+use Rattle.std.proofs.Common.{arith}
 use Rattle.log_file.proofs.LastLines.{no_line_left, one_line}
 use Rattle.log_file.proofs.last.behind_lines.Goals as goal
 

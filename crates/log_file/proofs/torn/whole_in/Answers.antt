@@ -1,4 +1,4 @@
-use Rattle.std.proofs.Common.{◌≡◌, length, rules, arith}
+use Rattle.std.proofs.Common.{◌≡◌, length, rules}
 use Rattle.log_file.proofs.Pieces.{of_piece}
 use Rattle.log_file.proofs.torn.whole_in.Goals as goal
 

@@ -1,5 +1,4 @@
-use Rattle.std.proofs.Common.{arith}
-use Rattle.log_file.proofs.Pieces.{begins, none}
+use Rattle.log_file.proofs.Pieces.{begins}
 use Rattle.log_file.proofs.torn.whole_part.Goals as goal
 
 pub loop-end-init : goal.loop-end-init

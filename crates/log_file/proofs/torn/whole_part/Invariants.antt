@@ -1,4 +1,4 @@
-use Rattle.std.proofs.Common.{◌≡◌, ◌<◌, length, IfSome}
+use Rattle.std.proofs.Common.{◌<◌, length, IfSome}
 use Rattle.log_file.specs.Piece.{HasNoLineFrom}
 use Rattle.log_file.proofs.torn.whole_part.Given as goal
 

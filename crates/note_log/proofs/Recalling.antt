@@ -1,7 +1,7 @@
 -- Lines that were read of a file and are remembered, one after the other.
 use Rattle.std.proofs.Common.{◌≡◌, ◌≤◌, ◌<◌, ◌+◌, ◌-◌, ℕ, Bool, true, false, cond, List, [], ◌∷◌, ◌++◌, length, take, Option, Some, None, Vec, nat_eq, refl, sym, ap, ◌∙◌, subst, append_assoc, append-nil, inl, inr, ◌⊎◌, arith}
 use Rattle.std.specs.Cmp.Lexicographic.{pointwise, same_text}
-use Rattle.std.specs.List.{flat_map, Contains}
+use Rattle.std.specs.List.{Contains}
 use Rattle.std.specs.Map.{lookup_entry, remove_entry}
 use Rattle.std.specs.Option.{option_map_or}
 use Rattle.std.specs.declared.alloc.Global.{Global}
@@ -16,7 +16,7 @@ use Rattle.log_file.proofs.LastLines.{ends_rest, lines_both, no_lines}
 use Rattle.lru.specs.LruCache.{LruCache, put_entries}
 use Rattle.lru.proofs.CallerLemmas.{Contains-lookup_entry, Contains-put_entries}
 use Rattle.note_log.specs.Line.{HasLine}
-use Rattle.note_log.specs.Recalled.{AllRecalled, IsOneLine, Recalled, Recalls, RecallsFirst, joined}
+use Rattle.note_log.specs.Recalled.{AllRecalled, IsOneLine, Puts, Recalled, Recalls, RecallsFirst, joined}
 use Rattle.note_log.specs.Sound.{Remembered, Stand}
 use Rattle.note_log.proofs.Lines.{not_in}
 
@@ -157,6 +157,12 @@ module _ (bytes rest : List ℕ) (cap : ℕ) (old new : LruCache (Vec ℕ Global
 
   pub recalls_more : RecallsFirst bytes behind cap new.entries
   recalls_more = subst (RecallsFirst bytes behind cap) (sym is) put_line
+
+pub recalls_line : (bytes rest line behind : List ℕ) (cap : ℕ) (old new : LruCache (Vec ℕ Global) (Unit {0})) → RecallsFirst bytes rest cap old.entries × (old.cap ≡ cap) → IsFirst rest line behind
+    → Puts line old new.entries → new.cap ≡ old.cap → RecallsFirst bytes behind cap new.entries × (new.cap ≡ cap)
+recalls_line bytes rest line behind cap old new r f p same =
+    let first : IsFirst rest p.0.items behind = subst (λ (l : List ℕ). IsFirst rest l behind) (sym p.1) f in
+    (recalls_more bytes rest cap old new p.0 tt behind r.0 r.1 first p.2, same ∙ r.1)
 
 -- ---- all of them
 
