@@ -123,7 +123,7 @@ module _ (P : List ℕ → Bool) where
     placed_back p Token.bad b g h = absurd (false≢true g)
 
   both_have : (t : Token) (ls : List Lexeme) → Back t (λ n. punctuate n ls) → ((p : Place) → list_all is_good (punctuate p ls) ≡ true → tokens_have (punctuate p ls) ≡ true → have P ls ≡ true) → have P (token t ∷ ls) ≡ true
-  both_have t ls b more = and_from (token_has P t) (have P ls) b.0 (more b.1 b.2 b.3)
+  both_have t ls b more = and_from (token_has P t) (have P ls) b.0 (more b.1.0 b.1.1 b.1.2)
 
   pub lexemes_from : (ls : List Lexeme) (p : Place) → list_all is_good (punctuate p ls) ≡ true → tokens_have (punctuate p ls) ≡ true → have P ls ≡ true
   unfolding punctuate
