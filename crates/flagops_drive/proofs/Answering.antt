@@ -1,13 +1,10 @@
 -- What asks come to by flags of which some have floats.
-use Rattle.std.proofs.Common.{◌≡◌, ◌∙◌, ℕ, Bool, List, [], ◌∷◌, length, map, Some, refl, sym, ap, ap₂}
-use Rattle.std.proofs.lemmas.List.{length-map}
+use Rattle.std.proofs.Common.{◌≡◌, ℕ, Bool, List, [], ◌∷◌, map, Some, refl, ap, ap₂}
 use Rattle.book_share.specs.Asked.{resolved}
 use Rattle.book_share.specs.declared.ask.Ask as program
 use Rattle.flag_resolve.specs.Floats.{Marked, is_spelled}
 use Rattle.flag_resolve.specs.Resolution.{resolved_by}
 use Rattle.flag_resolve.specs.Resolved.{Resolved}
-use Rattle.flag_resolve.specs.Views.{resolution_view}
-use Rattle.flag_resolve.specs.declared.resolution.Resolution.{Resolution}
 use Rattle.flag_defs.specs.Document.{Definitions}
 use Rattle.flagops_drive.specs.Asks.{Ask, ask_view}
 use Rattle.flagops_drive.specs.Floats.{answered, answered_spelled, asked_as, spelled_of}
@@ -46,7 +43,3 @@ all-spelled flags (g ∷ given) [] h = cc
 all-spelled flags (g ∷ given) (a ∷ asks) h =
     ap₂ (λ b bs. b ∷ bs) (one-spelled flags g a (head-same (ask_view g) (asked_as flags a) (map ask_view given) (map (asked_as flags) asks) h))
     (all-spelled flags given asks (tail-same (ask_view g) (asked_as flags a) (map ask_view given) (map (asked_as flags) asks) h))
-
--- there is one for each ask
-pub one-each : (flags : Definitions) (given : List program.Ask) (rs : List Resolution) → map resolution_view rs ≡ map (resolved flags) given → length rs ≡ length given
-one-each flags given rs h = sym (length-map resolution_view rs) ∙ (ap length h ∙ length-map (resolved flags) given)

@@ -1,5 +1,5 @@
 //! The command over what it read.
-ghost use Rattle.std.specs.Prelude.{◌≡◌, ◌<◌, ◌^◌, true, IfErr, IfOk, IsErrOf, Ok, Some, length};
+ghost use Rattle.std.specs.Prelude.{◌≡◌, ◌<◌, ◌^◌, true, IfErr, IfOk, IsErrOf, Ok, Some};
 ghost use Rattle.book_core.specs.Reading.{book_of};
 ghost use Rattle.book_share.specs.DriveFault.{workers_fault};
 ghost use Rattle.flag_defs.specs.Floats.{marked_view};
@@ -148,7 +148,6 @@ fn output_of(
     before: Option<Book>,
     json: bool,
 ) -> Result<DriveOutput, DriveRefusal>
-    requires { length driven.answers.items ≡ length asks.now }
     ensures output { IfOk result (λ d. IsOutput before json (reached_view (marked_view flags.now) asks.now driven) (drive_output_view d)) }
     ensures tally { IfOk result (IsTallied before json) }
     ensures file { IfOk result (λ d. book_of d.book.items ≡ Ok d.rest.book) }

@@ -1,5 +1,5 @@
 //! The lines that are printed of what was driven.
-ghost use Rattle.std.specs.Prelude.{◌≡◌, IfOk, length, map, string_bytes};
+ghost use Rattle.std.specs.Prelude.{◌≡◌, IfOk, map, string_bytes};
 ghost use Rattle.flag_defs.specs.Floats.{marked_view};
 ghost use Rattle.flag_resolve.specs.Views.{resolution_view};
 ghost use Rattle.flagops_drive.specs.Floats.{spelled_of};
@@ -30,7 +30,6 @@ pub(crate) fn lines(
     counts: &Counts,
     json: bool,
 ) -> Result<String, AllocError>
-    requires { length answers.now ≡ length asks.now }
     ensures { IfOk result (λ s. string_bytes s ≡ drive_text json (spelled_of (marked_view flags.now) asks.now (map resolution_view answers.now)) (map resolution_view answers.now) counts.now.inputs counts.now.calls counts.now.news counts.now.full counts.now.long) }
 {
     let mut lines = resolution_lines(alloc, flags, asks, answers)?;
@@ -45,12 +44,18 @@ fn resolution_lines(
     asks: &[Ask<'_>],
     answers: &[Resolution],
 ) -> Result<String, AllocError>
-    requires { length answers.now ≡ length asks.now }
     ensures { IfOk result (λ s. string_bytes s ≡ resolution_lines (spelled_of (marked_view flags.now) asks.now (map resolution_view answers.now)) (map resolution_view answers.now)) }
 {
     let mut lines = String::new(alloc);
-    for (ask, answer) in asks.iter().zip(answers) {
-        let spelled = is_spelled(Some(flags), ask.key, answer);
+    let mut rest = asks;
+    for answer in answers {
+        let spelled = match rest.split_first() {
+            Some((ask, more)) => {
+                rest = more;
+                is_spelled(Some(flags), ask.key, answer)
+            }
+            None => false,
+        };
         push_resolution_spelled(alloc, &mut lines, answer, spelled)?;
         lines.push_str("\n")?;
     }

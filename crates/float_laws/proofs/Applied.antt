@@ -4,7 +4,7 @@ use Rattle.std.specs.Prelude.{IfOk, codes, nat_lt}
 use Rattle.bucket_core.specs.Rule.{total_weight}
 use Rattle.json.specs.Json.{Json}
 use Rattle.flag_defs.proofs.Marked.{none_marked}
-use Rattle.flag_defs.specs.Document.{Definitions, max_bytes, printed}
+use Rattle.flag_defs.specs.Document.{Definitions, printed}
 use Rattle.flag_defs.specs.Floats.{AreMarkedAs, Marks, are_unmarked, marked}
 use Rattle.flag_defs.specs.FloatsLaw.{NoneHasFloats}
 use Rattle.flag_text.specs.Grammar.{value_in}
@@ -12,7 +12,6 @@ use Rattle.flag_text.specs.Shape.{Shape}
 use Rattle.flag_text.specs.declared.fault.TextFault.{TextFault}
 use Rattle.float_variants.specs.Law.{FloatsChangeNothing}
 use Rattle.float_variants.specs.Marks.{marks_of_text, marks_or_none}
-use Rattle.kept_document.specs.Kept.{tree_as}
 use Rattle.plan_text.specs.Answer.{Answer, emit, none_exists}
 use Rattle.rollout.specs.Applied.{applied}
 use Rattle.rollout_checks.specs.declared.fault.RolloutFault.{RolloutFault}
@@ -24,8 +23,8 @@ use Rattle.flagops_rollouts.specs.declared.refusal.RolloutRefusal.{RolloutRefusa
 use Rattle.flagops_rollouts.specs.declared.refusal.RolloutRefusal.TheVariants.{Apply}
 use Rattle.flagops_shell.specs.Outcomes.{◌>>=◌, beside, done, refused_by}
 use Rattle.flagops_shell.specs.Report.{Report}
-use Rattle.float_laws.specs.Whole.{IsWholeText}
-use Rattle.float_laws.proofs.Read.{tree_so}
+use Rattle.kept_laws.specs.Numbers.{IsWholeText}
+use Rattle.float_laws.proofs.Read.{tree_as_so}
 
 -- ---- none is marked
 
@@ -75,14 +74,8 @@ module _ (floats other : Bool) (marks others : Marks) (one : are_unmarked marks 
   if_local flags key site answer (Err e) h = h
 
   module _ (trees : FloatsChangeNothing) (document : List ℕ) (whole : IsWholeText document) where
-    tree_as_so : (a b : Bool) → tree_as a document ≡ tree_as b document
-    tree_as_so true true = refl
-    tree_as_so true false = tree_so trees document max_bytes whole
-    tree_as_so false true = sym (tree_so trees document max_bytes whole)
-    tree_as_so false false = refl
-
     omitting_so : (flags : Definitions) → is_omitting floats document flags ≡ is_omitting other document flags
-    omitting_so flags = ap (λ (t : Result Shape TextFault). if_read t flags) (tree_as_so floats other)
+    omitting_so flags = ap (λ (t : Result Shape TextFault). if_read t flags) (tree_as_so trees document whole floats other)
 
     text_so : (flags : Definitions) (key : List ℕ) (site : ℕ) (strict : Bool) (answer : Answer) → told_report floats document flags marks key site strict answer ≡ told_report other document flags others key site strict answer
     unfolding told_report

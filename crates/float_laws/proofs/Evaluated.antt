@@ -30,7 +30,8 @@ use Rattle.flagops_shell.specs.Outcomes.{◌>>=◌, done, refused_by}
 use Rattle.flagops_shell.specs.Report.{Report}
 use Rattle.flagops_shell.specs.declared.files.LoadFault.{LoadFault}
 use Rattle.float_laws.specs.Evaluated.{DrivenStay, ResolvedStay}
-use Rattle.float_laws.specs.Whole.{IsWholeAt, IsWholeText}
+use Rattle.float_laws.specs.Whole.{IsWholeAt}
+use Rattle.kept_laws.specs.Numbers.{IsWholeText}
 use Rattle.float_laws.proofs.Applied.{bind-same, marked_so, unmarked}
 use Rattle.float_laws.proofs.Read.{means_so}
 

@@ -1,6 +1,8 @@
 mod Applied
 mod Evaluated
 mod Filters
+mod Kept
+mod KeptSteps
 mod Ramps
 mod Read
 mod Rollouts

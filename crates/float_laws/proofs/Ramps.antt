@@ -16,7 +16,8 @@ use Rattle.flagops_ramps.specs.declared.refusal.RampRefusal.{RampRefusal}
 use Rattle.flagops_shell.specs.Files.{Holding}
 use Rattle.plan_text.specs.Answer.{Answer}
 use Rattle.float_laws.specs.Ramps.{RampPicturesStay, RampVerdictsStay, RampsStay, StepsStay, verified_as}
-use Rattle.float_laws.specs.Whole.{IsWholeAt, IsWholeText}
+use Rattle.float_laws.specs.Whole.{IsWholeAt}
+use Rattle.kept_laws.specs.Numbers.{IsWholeText}
 use Rattle.float_laws.proofs.Applied.{marked_so, told_so, unmarked}
 use Rattle.float_laws.proofs.Read.{document_so, question_so}
 
@@ -38,9 +39,6 @@ module _ (trees : FloatsChangeNothing) where
   ramp_pictures_stay other at v r whole h = (h.0, found_so other at v h.0 whole h.1, h.2)
 
   module _ (none : NoneHasFloats) (other : Bool) (at : Holding) (a : Applying) (r : Came) (whole : IsWholeAt at a.document) where
-    other_words : Applying
-    other_words = record a { floats = other }
-
     module _ (document : List ℕ) (text : IsWholeText document) (flags : Definitions) (marks others : Marks) (one : are_unmarked marks ≡ true) (two : are_unmarked others ≡ true) where
       put_so : (answer : Option Answer) → IsStepPut a document flags marks answer r → IsStepPut (record a { floats = other }) document flags others answer r
       put_so None h = h

@@ -29,7 +29,9 @@ use Rattle.flagops_rollouts.specs.declared.refusal.RolloutRefusal.{RolloutRefusa
 use Rattle.flagops_shell.specs.Files.{Holding, load_of}
 use Rattle.flagops_shell.specs.Outcomes.{refused_by}
 use Rattle.flagops_shell.specs.declared.files.LoadFault.{LoadFault}
-use Rattle.float_laws.specs.Whole.{IsWholeAt, IsWholeText}
+use Rattle.kept_document.specs.Kept.{tree_as}
+use Rattle.float_laws.specs.Whole.{IsWholeAt}
+use Rattle.kept_laws.specs.Numbers.{IsWholeText}
 
 -- ---- the tree of a text
 
@@ -59,6 +61,12 @@ module _ (trees : FloatsChangeNothing) where
       by : (o : Option Json) → value_in bytes ≡ o → doc_with_floats bytes limit ≡ doc_of bytes limit
       by None e = no_value bytes limit e
       by (Some j) e = trees bytes limit j e (whole j e)
+
+  pub tree_as_so : (document : List ℕ) → IsWholeText document → (a b : Bool) → tree_as a document ≡ tree_as b document
+  tree_as_so document whole true true = refl
+  tree_as_so document whole true false = tree_so document max_bytes whole
+  tree_as_so document whole false true = sym (tree_so document max_bytes whole)
+  tree_as_so document whole false false = refl
 
   -- ---- its flags
 

@@ -17,7 +17,8 @@ use Rattle.snap_share.specs.declared.fault.ShareFault.TheVariants as share
 use Rattle.source_merge.specs.Sources.{SetsAs, SourceList}
 use Rattle.source_merge.specs.declared.fault.SourceFault.{SourceFault}
 use Rattle.float_laws.specs.Filters.{ServedStay}
-use Rattle.float_laws.specs.Whole.{AreWholeAt, IsWholeAt, IsWholeText}
+use Rattle.float_laws.specs.Whole.{AreWholeAt, IsWholeAt}
+use Rattle.kept_laws.specs.Numbers.{IsWholeText}
 use Rattle.float_laws.proofs.Read.{means_so}
 
 -- ---- the texts that are loaded

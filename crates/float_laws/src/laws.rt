@@ -1,6 +1,7 @@
 //! What holds of the definitions of the commands.
 ghost use Rattle.float_laws.specs.Evaluated.{DrivenStay, ResolvedStay};
 ghost use Rattle.float_laws.specs.Filters.{ChecksStay, RecordsStay, ServedStay, TalliesStay};
+ghost use Rattle.float_laws.specs.Kept.{KeptStay, KeptStepsStay};
 ghost use Rattle.float_laws.specs.Ramps.{RampPicturesStay, RampVerdictsStay, RampsStay, StepsStay};
 ghost use Rattle.float_laws.specs.Rollouts.{AppliedStay, ComparedStay, PicturesStay, PlannedPicturesStay, PlansStay, VerdictsStay};
 
@@ -49,4 +50,14 @@ pub fn floats_change_no_evaluation()
     flag_defs::floats_change_nothing();
     flagops_drive::floats_change_nothing();
     flag_resolve::floats_are_of_their_kind();
+}
+
+/// The same of `apply --keep` and `apply --step --keep`, with the document that they write, of plans and ramps whose rules have
+/// entries of weights that a document may have. A law: it computes nothing.
+pub fn floats_change_no_kept_rule()
+    ensures kept { KeptStay }
+    ensures steps { KeptStepsStay }
+{
+    float_variants::floats_change_nothing();
+    kept_laws::whole_numbers_stay();
 }

@@ -10,6 +10,6 @@
 mod laws;
 
 pub use laws::{
-    floats_change_no_evaluation, floats_change_no_filter, floats_change_no_ramp,
-    floats_change_no_rollout,
+    floats_change_no_evaluation, floats_change_no_filter, floats_change_no_kept_rule,
+    floats_change_no_ramp, floats_change_no_rollout,
 };

@@ -1,5 +1,6 @@
 mod Cut
 mod Marks
+pub mod Numbers
 mod Parts
 mod Places
 pub mod Spliced

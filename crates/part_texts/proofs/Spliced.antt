@@ -49,7 +49,7 @@ lexed : (m : Mode) (x : ℕ) (xs : List ℕ) → lex m (x ∷ xs) ≡ lex_byte m
 unfolding lex
 lexed m x xs = refl
 
-nothing_lexed : (m : Mode) → lex m [] ≡ []
+pub nothing_lexed : (m : Mode) → lex m [] ≡ []
 unfolding lex
 nothing_lexed m = refl
 
@@ -121,7 +121,7 @@ module _ (P : List ℕ → Bool) where
   abbrev pub have : List Lexeme → Bool
   have ls = list_all lexeme_has ls
 
-  text_has : (o : Option (List ℕ)) → lexeme_has (token (string_token o)) ≡ true
+  pub text_has : (o : Option (List ℕ)) → lexeme_has (token (string_token o)) ≡ true
   text_has None = refl
   text_has (Some s) = refl
 
@@ -264,7 +264,7 @@ end_class x e = elim (or_cases (is_operator x) (is_space x) e) [
     second false false false hq hb ho h = inr (ap (λ s. cond s space other) h)
 
 -- it is followed by the beginning of a lexeme
-ended_next : (m : Mode) (x : ℕ) (xs : List ℕ) → ends_number x ≡ true → Edge m (x ∷ xs) → next m (class x) ≡ between
+pub ended_next : (m : Mode) (x : ℕ) (xs : List ℕ) → ends_number x ≡ true → Edge m (x ∷ xs) → next m (class x) ≡ between
 ended_next m x xs e edge = by edge (end_class x e)
   where
     by : Edge m (x ∷ xs) → (class x ≡ operator) ⊎ (class x ≡ space) → next m (class x) ≡ between
@@ -350,7 +350,7 @@ module _ (text : List ℕ) where
   unfolding span
   spanned m x xs = refl
 
-  nothing_spanned : (m : Mode) → drop (span m []) [] ≡ []
+  nothing_spanned : (m : Mode) → drop (span m []) [] ≡ (let none : List ℕ = [] in none)
   unfolding span
   nothing_spanned m = refl
 

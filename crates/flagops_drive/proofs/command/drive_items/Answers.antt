@@ -1,16 +1,11 @@
 use Rattle.std.proofs.Common.{arith, map, refl}
-use Rattle.flag_defs.specs.Flags.{flags_view}
 use Rattle.flag_defs.specs.Floats.{marked_view}
 use Rattle.flag_resolve.specs.Views.{resolution_view}
 use Rattle.flagops_drive.specs.File.{items_of}
 use Rattle.flagops_drive.specs.Asks.{ask_view, asks_in}
 use Rattle.flagops_drive.specs.Driven.{reached_view}
-use Rattle.flagops_drive.proofs.Answering.{one-each}
 use Rattle.flagops_drive.proofs.Driving.{not_both, output_is, reached_of, refused_of}
 use Rattle.flagops_drive.proofs.command.drive_items.Goals as goal
-
-pub output_of-requires : goal.output_of-requires
-output_of-requires g c = one-each (flags_view c.args.flags.now) c.as_slice-asked.result.now c.in-Ok.driven.answers.items c.in-Ok.ensures.answers
 
 pub returns-in-Ok-clause-driven : goal.returns-in-Ok-clause-driven
 returns-in-Ok-clause-driven g c =
