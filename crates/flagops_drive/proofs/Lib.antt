@@ -7,4 +7,6 @@ pub mod PlainAsks
 pub mod PlainFile
 pub mod PlainMembers
 pub mod Refused
+pub mod Spelled
 pub mod Unmarked
+pub mod Wanted

@@ -1,8 +1,8 @@
 //! The lines that are printed of what was driven.
-ghost use Rattle.std.specs.Prelude.{◌≡◌, IfOk, map, string_bytes};
+ghost use Rattle.std.specs.Prelude.{◌≡◌, IfOk, drop, map, string_bytes};
 ghost use Rattle.flag_defs.specs.Floats.{marked_view};
 ghost use Rattle.flag_resolve.specs.Views.{resolution_view};
-ghost use Rattle.flagops_drive.specs.Floats.{spelled_of};
+ghost use Rattle.flagops_drive.specs.Floats.{is_first_spelled, spelled_of};
 ghost use Rattle.flagops_drive.specs.Lines.{count_lines, drive_text, resolution_lines};
 
 use book_share::Ask;
@@ -47,19 +47,23 @@ fn resolution_lines(
     ensures { IfOk result (λ s. string_bytes s ≡ resolution_lines (spelled_of (marked_view flags.now) asks.now (map resolution_view answers.now)) (map resolution_view answers.now)) }
 {
     let mut lines = String::new(alloc);
-    let mut rest = asks;
-    for answer in answers {
-        let spelled = match rest.split_first() {
-            Some((ask, more)) => {
-                rest = more;
-                is_spelled(Some(flags), ask.key, answer)
-            }
-            None => false,
-        };
+    for index in 0..answers.len() {
+        let answer = &answers[index];
+        let spelled = is_spelled_at(flags, asks, index, answer);
         push_resolution_spelled(alloc, &mut lines, answer, spelled)?;
         lines.push_str("\n")?;
     }
     Ok(lines)
+}
+
+/// Whether the value of the resolution of the ask at a place is printed by its spelling.
+fn is_spelled_at(flags: &Flags, asks: &[Ask<'_>], index: usize, answer: &Resolution) -> bool
+    ensures { result ≡ is_first_spelled (marked_view flags.now) (drop index asks.now) (resolution_view answer.now) }
+{
+    match asks.get(index) {
+        Some(ask) => is_spelled(Some(flags), ask.key, answer),
+        None => false,
+    }
 }
 
 /// The counts, a line each, or an object in one line.
