@@ -1,5 +1,5 @@
 -- What asks come to by flags of which some have floats.
-use Rattle.std.proofs.Common.{◌≡◌, ℕ, Bool, List, [], ◌∷◌, map, Some, refl, ap, ap₂}
+use Rattle.std.proofs.Common.{◌≡◌, List, [], ◌∷◌, map, Some, refl, ap, ap₂}
 use Rattle.book_share.specs.Asked.{resolved}
 use Rattle.book_share.specs.declared.ask.Ask as program
 use Rattle.flag_resolve.specs.Floats.{Marked, is_spelled}

@@ -1,9 +1,9 @@
 -- Asks, each for the kind that its flag is asked for.
-use Rattle.std.proofs.Common.{◌≡◌, ◌∙◌, ℕ, ◌+◌, ◌-◌, ◌<◌, List, [], ◌∷◌, ◌++◌, Some, ap, arith, drop, get_or, length, map, set, sym, take}
+use Rattle.std.proofs.Common.{◌≡◌, ◌∙◌, ℕ, ◌+◌, ◌-◌, ◌<◌, List, [], ◌∷◌, ◌++◌, ap, arith, drop, get_or, length, map, set, sym, take}
 use Rattle.std.proofs.lemmas.Grind.{drop_more_same}
 use Rattle.std.proofs.lemmas.List.{drop-set-lt, drop_more, length-drop, map-append, take_more, take_more_set}
 use Rattle.book_share.specs.declared.ask.Ask as program
-use Rattle.flag_resolve.specs.Floats.{Marked, floats_in, kind_asked}
+use Rattle.flag_resolve.specs.Floats.{Marked}
 use Rattle.flagops_drive.specs.Asks.{Ask, ask_view}
 use Rattle.flagops_drive.specs.Floats.{asked_as}
 

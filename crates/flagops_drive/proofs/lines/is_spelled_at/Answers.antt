@@ -1,4 +1,4 @@
-use Rattle.std.proofs.Common.{◌≡◌, ℕ, ◌<◌, ◌≤◌, List, ap, arith, drop, drop_of_length-le, get_or, length, sym, ◌∙◌}
+use Rattle.std.proofs.Common.{◌≡◌, ◌<◌, ◌≤◌, List, ap, arith, drop_of_length-le, get_or, length, sym, ◌∙◌}
 use Rattle.book_share.specs.declared.ask.Ask.{Ask}
 use Rattle.flag_defs.specs.Floats.{marked_view}
 use Rattle.flag_resolve.specs.Views.{resolution_view}
