@@ -1,0 +1,6 @@
+mod Zeros
+mod Values
+mod Orders
+mod Signs
+mod Numbers
+mod Rationals
