@@ -1,6 +1,6 @@
-mod Zeros
-mod Values
+mod Kept
 mod Orders
-mod Signs
-mod Numbers
 mod Rationals
+mod Signs
+mod Values
+mod Zeros

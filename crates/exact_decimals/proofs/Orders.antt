@@ -43,9 +43,6 @@ some_units d ds k a l =
     let u : 0 * 10 ^ k < digits_value 10 (d ∷ ds) * 10 ^ k = mul-lt-mul_of_pos_right (is_positive d ds a l) (ten_pos k) in
     omega (arith, u)
 
-ByDigits : List ℕ → List ℕ → ℕ → ℕ → Type 0
-ByDigits xs ys m n = nat_cmp (digits_value 10 xs * 10 ^ m) (digits_value 10 ys * 10 ^ n) ≡ slice_cmp nat_cmp xs ys
-
 first_decides : (a b : ℕ) (xs ys : List ℕ) (m n : ℕ) → AllDigits 10 (a ∷ xs) → AllDigits 10 (b ∷ ys) → length xs + m ≡ length ys + n
     → a < b → digits_value 10 (a ∷ xs) * 10 ^ m < digits_value 10 (b ∷ ys) * 10 ^ n
 first_decides a b xs ys m n da db e l =

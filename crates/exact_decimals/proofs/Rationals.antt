@@ -5,11 +5,12 @@ use Rattle.std.proofs.Math.Nat.{mul_comm, mul_right_comm}
 use Rattle.std.specs.Prelude.{◌&&◌, nat_le, if◌then◌else◌}
 use Rattle.std.specs.Str.Parse.{digits_value}
 use Rattle.fast_float.specs.Text.{Parts, digits_of, tens_down, tens_up, with_sign}
-use Rattle.exact_decimals.specs.Decimal.{Number, all_digits, is_within, most_digits, most_exponent, number_of, numeral_number, significant, spelled, trailing_zeros, units, zero_number, zeros_of}
+use Rattle.exact_decimals.specs.Decimal.{Number, all_digits, most_digits, most_exponent, number_of, numeral_number, significant, spelled, trailing_zeros, units, zero_number, zeros_of}
 use Rattle.exact_decimals.specs.Law.{Fraction, fraction_cmp, fraction_of}
 use Rattle.exact_decimals.specs.declared.fault.DecimalFault.{DecimalFault}
 use Rattle.exact_decimals.proofs.Signs.{signed_scaled}
 use Rattle.exact_decimals.proofs.Values.{significant_value, ten_pos}
+use Rattle.exact_decimals.proofs.Zeros.{not_both}
 
 -- the number in an answer
 abbrev number_in : Result Number DecimalFault → Number → Number
@@ -22,9 +23,6 @@ is_some (Err e) = false
 
 none_given : {X : Type 0} (e : DecimalFault) (a : Number) → Err e ≡ Ok a → X
 none_given e a h = absurd (not_both (ap is_some h))
-  where
-    not_both : false ≡ true → ⊥
-    not_both e = cc
 
 -- so many units, with this sign, are the digits by these powers of ten
 IsUnits : Bool → ℕ → ℕ → ℕ → Number → Type 0

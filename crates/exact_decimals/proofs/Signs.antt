@@ -7,6 +7,7 @@ use Rattle.fast_float.specs.Text.{with_sign}
 use Rattle.std.specs.Str.Parse.{digits_value}
 use Rattle.exact_decimals.specs.Decimal.{IsNormal}
 use Rattle.exact_decimals.proofs.Values.{digits_by_test, is_positive, ten_pos}
+use Rattle.exact_decimals.proofs.Zeros.{not_both}
 use Rattle.exact_decimals.proofs.Orders.{is_equal, is_greater, is_less}
 
 -- a factor of both makes no difference
@@ -70,9 +71,6 @@ signed_scaled true false x y k h =
 -- a negative number is not zero
 some_units : (s : Bool) (ds : List ℕ) (n : ℕ) → IsNormal s ds n → s ≡ true → 0 < digits_value 10 ds * 10 ^ n
 some_units s [] n h e = absurd (not_both (sym (h.zero refl).0 ∙ e))
-  where
-    not_both : false ≡ true → ⊥
-    not_both e = cc
 some_units s (d ∷ ds) n h e =
     let a = digits_by_test (d ∷ ds) h.are_digits in
     let u : 0 * 10 ^ n < digits_value 10 (d ∷ ds) * 10 ^ n = mul-lt-mul_of_pos_right (is_positive d ds a h.last) (ten_pos n) in

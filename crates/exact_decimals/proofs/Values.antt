@@ -10,7 +10,7 @@ use Rattle.std.specs.List.{list_all}
 use Rattle.std.specs.Str.Parse.{AllDigits, digits_value, digits_value_after}
 use Rattle.std.specs.Prelude.{◌==◌, ◌&&◌, if◌then◌else◌}
 use Rattle.exact_decimals.specs.Decimal.{led_by, significant, trailing_zeros, without_leading_zeros, without_trailing_zeros}
-use Rattle.exact_decimals.proofs.Zeros.{first_counts, last_counts, rest_kept}
+use Rattle.exact_decimals.proofs.Zeros.{last_counts, left, rest_kept, right}
 
 value_after : (n : ℕ) (cs : List ℕ) → digits_value_after 10 n cs ≡ n * 10 ^ length cs + digits_value 10 cs
 value_after n [] = omega (arith, ap (λ x. n * x) (pow-zero 10))
@@ -123,17 +123,6 @@ counts d h n = elim (cases_order 0 (digit_value d)) [
   | inl e ↦ absurd (n (omega (arith, e, code_of d h)))
   | inr o ↦ elim o [ inl l ↦ l | inr g ↦ absurd (omega (arith, g)) ]
 ]
-
-left : (a b : Bool) → (a && b) ≡ true → a ≡ true
-left true b e = refl
-left false b e = e
-
-not_both : false ≡ true → ⊥
-not_both e = cc
-
-right : (a b : Bool) → (a && b) ≡ true → b ≡ true
-right true b e = e
-right false b e = absurd (not_both e)
 
 -- digits by the test of bytes
 pub digits_by_test : (ds : List ℕ) → list_all is_ascii_digit ds ≡ true → AllDigits 10 ds

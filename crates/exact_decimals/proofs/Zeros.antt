@@ -1,14 +1,22 @@
 -- Zeros at the ends of digits.
 use Rattle.std.proofs.Common.{◌≡◌, ◌≤◌, ◌<◌, ℕ, zero, suc, ◌+◌, Bool, true, false, List, [], ◌∷◌, ◌++◌, length, refl, ap, sym, ◌∙◌, arith, inl, inr, eqb-true, eq-eqb}
 use Rattle.std.proofs.lemmas.Bool.{cases_Bool}
-use Rattle.std.specs.Prelude.{◌==◌, if◌then◌else◌}
+use Rattle.std.specs.Prelude.{◌==◌, ◌&&◌, if◌then◌else◌}
 use Rattle.exact_decimals.specs.Decimal.{led_by, without_leading_zeros, without_trailing_zeros}
 
 pub no_cons : {x : ℕ} {xs : List ℕ} → x ∷ xs ≡ [] → ⊥
 no_cons {x} {xs} e = let l : length (x ∷ xs) ≡ 0 = ap length e in omega (arith, l)
 
-not_both : false ≡ true → ⊥
+pub left : (a b : Bool) → (a && b) ≡ true → a ≡ true
+left true b e = refl
+left false b e = e
+
+pub not_both : false ≡ true → ⊥
 not_both e = cc
+
+pub right : (a b : Bool) → (a && b) ≡ true → b ≡ true
+right true b e = e
+right false b e = absurd (not_both e)
 
 -- digits are there where their count is not 0
 pub some_there : (ds : List ℕ) (b : Bool) → b ≡ false → b ≡ (length ds == 0) → ds ≡ [] → ⊥

@@ -1,5 +1,5 @@
 use Rattle.std.proofs.Common.{◌≡◌, ◌∙◌}
-use Rattle.exact_decimals.proofs.Numbers.{is_normal}
+use Rattle.exact_decimals.proofs.Kept.{is_normal}
 use Rattle.exact_decimals.proofs.Zeros.{some_there}
 use Rattle.exact_decimals.proofs.numeral.number.Goals as goal
 
