@@ -1,0 +1,6 @@
+mod Kept
+mod Orders
+mod Rationals
+mod Signs
+mod Values
+mod Zeros
