@@ -1,3 +1,2 @@
 mod Followed
-mod Numbers
 mod Replaced

@@ -1,5 +1,4 @@
 //! What holds of the definitions of a kept document and of trees.
-ghost use Rattle.kept_laws.specs.Numbers.{WholeNumbersStay};
 ghost use Rattle.kept_laws.specs.Replaced.{ReplacedIsRead};
 
 use part_texts::the_bytes_of_a_part_read_as_it;
@@ -8,14 +7,6 @@ use part_texts::the_bytes_of_a_part_read_as_it;
 /// nothing.
 pub fn what_is_replaced_is_read()
     ensures { ReplacedIsRead }
-{
-    the_bytes_of_a_part_read_as_it();
-}
-
-/// Where the numbers of a document are whole, so are those of the document with a rule in the place of a site's buckets, if the
-/// rule has entries of weights that a document may have. A law: it computes nothing.
-pub fn whole_numbers_stay()
-    ensures { WholeNumbersStay }
 {
     the_bytes_of_a_part_read_as_it();
 }

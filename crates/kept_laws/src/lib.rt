@@ -6,9 +6,8 @@
 //! [`what_is_replaced_is_read`] says, over the definitions of `specs/`: where a document is kept with a rule in the place of a
 //! site's buckets, its tree has a list on the way to the site, and the bytes that are replaced begin with those of the list's
 //! first bucket and end with those of its last item; by themselves they read as these items (`Replaced`).
-//! [`whole_numbers_stay`] says that no number but a whole one comes into a document so (`Numbers`).
 #![tactic(auto)]
 
 mod laws;
 
-pub use laws::{what_is_replaced_is_read, whole_numbers_stay};
+pub use laws::what_is_replaced_is_read;

@@ -1,9 +1,0 @@
-mod Applied
-mod Evaluated
-mod Filters
-mod Kept
-mod KeptSteps
-mod Ramps
-mod Read
-mod Rollouts
-mod Served
