@@ -1,6 +1,6 @@
 -- The same of a step of a rollout.
 use Rattle.std.proofs.Common.{◌≡◌, ℕ, zero, suc, ◌-◌, Bool, true, false, List, [], ◌∷◌, drop, Option, Result, Ok, Err}
-use Rattle.std.specs.Prelude.{All}
+use Rattle.std.specs.List.{AllByRecursion}
 use Rattle.bucket_core.specs.Rule.{Entries}
 use Rattle.flag_defs.specs.Document.{Definitions}
 use Rattle.float_variants.specs.Law.{FloatsChangeNothing}
@@ -26,7 +26,7 @@ use Rattle.kept_laws.specs.Numbers.{IsWholeText}
 use Rattle.float_laws.proofs.Kept.{kept_at}
 use Rattle.float_laws.proofs.Read.{question_so}
 
-all-drop : {X : Type 0} (P : X → Type 0) (n : ℕ) (xs : List X) → All P xs → All P (drop n xs)
+all-drop : {X : Type 0} (P : X → Type 0) (n : ℕ) (xs : List X) → AllByRecursion P xs → AllByRecursion P (drop n xs)
 all-drop P zero xs h = h
 all-drop P (suc n) [] h = h
 all-drop P (suc n) (x ∷ xs) h = all-drop P n xs h.1
@@ -46,13 +46,13 @@ module _ (trees : FloatsChangeNothing) (stay : WholeNumbersStay) (other : Bool) 
     by_so requests before answer writable (Err e) r h = h
     by_so requests before answer writable (Ok u) r h = with_so _ before answer writable r h
 
-  from_so : (floats : Bool) (document : List ℕ) → IsWholeText document → (refine : Option ℕ) (q : Question) (requests : List (List ℕ)) (before : Option Answer) (answers : List Answer) → All IsWritableAnswer answers → (r : Result Kept RampRefusal)
+  from_so : (floats : Bool) (document : List ℕ) → IsWholeText document → (refine : Option ℕ) (q : Question) (requests : List (List ℕ)) (before : Option Answer) (answers : List Answer) → AllByRecursion IsWritableAnswer answers → (r : Result Kept RampRefusal)
       → IsKeptFrom floats refine document q requests before answers r → IsKeptFrom other refine document q requests before answers r
   from_so floats document text refine q requests before [] writable r h = h
   from_so floats document text refine q requests before (answer ∷ answers) writable r h = (h.0, h.1, by_so floats document text q.flags requests before answer writable.0 h.0 r h.2)
 
   module _ (at : Holding) (after : Option Holding) (k : Keeping) (whole : IsWholeAt at k.answered.rollout.document) where
-    over_so : (document : List ℕ) → IsWholeText document → (q : Question) (answers : List Answer) → All IsWritableAnswer answers → (requests : Result (List (List ℕ)) StepsFault) (r : Came)
+    over_so : (document : List ℕ) → IsWholeText document → (q : Question) (answers : List Answer) → AllByRecursion IsWritableAnswer answers → (requests : Result (List (List ℕ)) StepsFault) (r : Came)
         → IsKeepOver at after k document q answers requests r → IsKeepOver at after (record k { answered = verified_as other k.answered }) document q answers requests r
     over_so document text q answers writable (Err e) r h = h
     over_so document text q answers writable (Ok requests) r h =

@@ -1,5 +1,6 @@
 -- The same of the rule that is put into a document: `apply --keep`, and `apply --step --keep`.
-use Rattle.std.specs.Prelude.{ℕ, Bool, List, All, Option, Result, Ok, Err}
+use Rattle.std.specs.Prelude.{ℕ, Bool, List, Option, Result, Ok, Err}
+use Rattle.std.specs.List.{AllByRecursion}
 use Rattle.flagops_ramps.specs.Judging.{answers_at}
 use Rattle.flagops_ramps.specs.Keep as ramps
 use Rattle.flagops_ramps.specs.Report as ramps_report
@@ -25,7 +26,7 @@ IsWritablePlan (Err e) = Unit {0}
 
 -- and of each step of a ramp
 abbrev pub AreWritable : {E : Type 0} → Result (List Answer) E → Type 0
-AreWritable (Ok answers) = All IsWritableAnswer answers
+AreWritable (Ok answers) = AllByRecursion IsWritableAnswer answers
 AreWritable (Err e) = Unit {0}
 
 -- of `apply --keep`

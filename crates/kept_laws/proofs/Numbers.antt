@@ -1,10 +1,10 @@
 -- The numbers of a document with a rule in the place of a site's buckets: those of the document, and the weights.
 use Rattle.std.proofs.Common.{◌≡◌, ◌∙◌, ◌⊎◌, inl, inr, ◌<◌, ◌≤◌, ◌+◌, ◌^◌, ℕ, pos, Bool, true, false, cond, ◌&&◌, List, [], ◌∷◌, ◌++◌, length, Option, Some, None, is_some, option_and_then, option_map, decimal, Result, Ok, Err, refl, sym, ap, ap₂, subst, arith, append_assoc, true≢false}
-use Rattle.std.specs.Prelude.{All, nat_lt}
+use Rattle.std.specs.Prelude.{nat_lt}
 use Rattle.std.proofs.lemmas.Bool.{cases_Bool, ltb-false, ltb-true}
 use Rattle.std.proofs.lemmas.List.{append_cancel_left}
 use Rattle.std.proofs.lemmas.List.Folds.{list_all-append}
-use Rattle.std.specs.List.{list_all}
+use Rattle.std.specs.List.{AllByRecursion, list_all}
 use Rattle.std.specs.Str.{is_utf8}
 use Rattle.bucket_core.specs.Rule.{Entries}
 use Rattle.flag_defs.specs.Document.{max_bytes}
@@ -62,9 +62,9 @@ value_there None p t e h = cc
 value_there (Some d) None t e h = cc
 value_there (Some d) (Some j) t e h = (j, refl)
 
-doc_value : (bytes : List ℕ) (t : Shape) → doc_of bytes max_bytes ≡ Ok t → (j : Json) × (value_in bytes ≡ Some j)
+doc_value : (bytes : List ℕ) (limit : ℕ) (t : Shape) → doc_of bytes limit ≡ Ok t → (j : Json) × (value_in bytes ≡ Some j)
 unfolding json_of
-doc_value bytes t e = by (nat_lt max_bytes (length bytes)) (is_utf8 bytes) e
+doc_value bytes limit t e = by (nat_lt limit (length bytes)) (is_utf8 bytes) e
   where
     by : (long utf8 : Bool) → cond long (Err TooLarge) (if_json (cond utf8 (read bytes) None)) ≡ Ok t → (j : Json) × (value_in bytes ≡ Some j)
     by true u h = cc
@@ -83,9 +83,9 @@ no_tokens (json.string s) h = cc
 no_tokens (json.array js) h = cc
 no_tokens (json.object ms) h = cc
 
-not_empty : {X : Type 0} (bytes : List ℕ) (t : Shape) → doc_of bytes max_bytes ≡ Ok t → bytes ≡ [] → X
-not_empty bytes t e is =
-    let v = doc_value bytes t e in
+not_empty : {X : Type 0} (bytes : List ℕ) (limit : ℕ) (t : Shape) → doc_of bytes limit ≡ Ok t → bytes ≡ [] → X
+not_empty bytes limit t e is =
+    let v = doc_value bytes limit t e in
     no_tokens v.0 (sym nothing_there ∙ ap (λ l. tokens l) (sym is) ∙ tokens_of bytes v.0 v.1)
 
 first_empty : (a b : List ℕ) → a ++ b ≡ [] → a ≡ []
@@ -133,11 +133,11 @@ module _ (reads : BytesReadAsPart) (document : List ℕ) (t : Shape) (document_r
   Fine l = have is_whole_number (lex between l) ≡ true
 
   fine : Fine document
-  fine = let v = doc_value document t document_read in text_from is_whole_number document v.0 v.1 (sym (value_whole v.0) ∙ whole v.0 v.1)
+  fine = let v = doc_value document max_bytes t document_read in text_from is_whole_number document v.0 v.1 (sym (value_whole v.0) ∙ whole v.0 v.1)
 
   -- the bytes of a value are some
   some_bytes : {X : Type 0} (path : List Step) (front old back : List ℕ) → Stands document path front old back → old ≡ [] → X
-  some_bytes path front old back h e = let part = reads document max_bytes path front old back t document_read h in not_empty old part.0 part.2 e
+  some_bytes path front old back h e = let part = reads document max_bytes path front old back t document_read h in not_empty old max_bytes part.0 part.2 e
 
   module _ (list : List Step) (first last : ℕ) (rule : Entries) (kept : List ℕ) (k : IsKept document list first last rule kept) where
     at_first : Starts (after between k.front) (k.one ++ k.behind_one)
@@ -174,7 +174,7 @@ module _ (reads : BytesReadAsPart) (document : List ℕ) (t : Shape) (document_r
             let old_fine : Fine (k.mark ++ rest) = left_has is_whole_number (k.mark ++ rest) before between from (ap (λ l. have is_whole_number (lex between l)) (sym there) ∙ fine) in
             spliced is_whole_number rest u h k.mark between inside (starts_with (after between k.mark) rest u ended inside) old_fine
 
-    rest_fine : (es : Entries) → All (λ (e : List ℕ × ℕ). e.1 < 2 ^ 53) es → Fine (entries_text k.mark true es ++ k.back)
+    rest_fine : (es : Entries) → AllByRecursion (λ (e : List ℕ × ℕ). e.1 < 2 ^ 53) es → Fine (entries_text k.mark true es ++ k.back)
     rest_fine [] small = back_fine
     rest_fine (e ∷ es) small =
         let more = entries_text k.mark true es ++ k.back in

@@ -1,5 +1,6 @@
 -- The numbers of a document in which a rule was put.
-use Rattle.std.specs.Prelude.{◌≡◌, ◌≢◌, ◌<◌, ◌^◌, ℕ, List, [], true, All, Some, Ok}
+use Rattle.std.specs.Prelude.{◌≡◌, ◌≢◌, ◌<◌, ◌^◌, ℕ, List, [], true, Some, Ok}
+use Rattle.std.specs.List.{AllByRecursion}
 use Rattle.bucket_core.specs.Rule.{Entries}
 use Rattle.flag_defs.specs.Document.{max_bytes}
 use Rattle.flag_text.specs.Grammar.{value_in}
@@ -17,7 +18,7 @@ IsWholeText bytes = (j : Json) → value_in bytes ≡ Some j → has_whole_numbe
 -- a rule has entries, and their weights are numbers that a document may have
 pub record IsWritable (rule : Entries) : Type 0 where
   pub some : rule ≢ []
-  pub small : All (λ e. e.1 < 2 ^ 53) rule
+  pub small : AllByRecursion (λ e. e.1 < 2 ^ 53) rule
 
 -- Where the numbers of a document are whole, so are those of the document with such a rule in the place of a site's buckets.
 abbrev pub WholeNumbersStay : Type 0
