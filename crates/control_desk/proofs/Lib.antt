@@ -1,0 +1,4 @@
+pub mod Crossings
+pub mod Items
+mod LogFiles
+mod Outcomes
