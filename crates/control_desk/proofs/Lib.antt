@@ -2,3 +2,4 @@ pub mod Crossings
 pub mod Items
 mod LogFiles
 mod Outcomes
+mod Routes

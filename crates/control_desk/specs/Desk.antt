@@ -26,6 +26,7 @@ use Rattle.control_desk.specs.Sent.{IsPage}
 use Rattle.control_desk.specs.Told.{IsRefusal, TellsCheck, TellsDocument, TellsFlags, TellsHistory, TellsPlan, TellsRecord}
 use Rattle.control_desk.specs.declared.page.ConsolePage as program
 use Rattle.control_desk.specs.declared.reply.Reply.TheVariants.{Busy, Leaves, Unreadable, Unserved}
+use Rattle.control_desk.specs.declared.sources.SourceText.{SourceText}
 use Rattle.control_desk.specs.declared.route.Route.{Route}
 use Rattle.control_desk.specs.declared.route.Route.TheVariants.{Behind, Replied, Called}
 
@@ -68,9 +69,9 @@ HoldsHistory (Some at) path history = history ≡ unwrap_or (at path) []
 
 -- what the files hold before and after a call, what the desk goes by, its page, its seat before and after, what is asked, and the response
 module _ (naming : Option Naming) (before after : Option Holding) (rules : Rules) (page : Page) (seat seat' : Seat) (asked : CallAsked) (response : Response) where
-  -- of the newest snapshot that the seat then knows, with the text of a document
+  -- of the newest snapshot that the seat then knows, with the text that was set for its number
   abbrev pub OfSnapshot : (Snapshot → Type 0) → Type 0
-  OfSnapshot Next = (s : Numbered) × WasRead seat (Some s) seat' × ((document : List ℕ) × Next (with_document s document))
+  OfSnapshot Next = (s : Numbered) × WasRead seat (Some s) seat' × ((text : SourceText) × (text.number ≡ s.number) × Next (with_document s (string_bytes text.document)))
 
   -- of such a snapshot, of all logs of the folder, and of the names of those that are compressed
   abbrev pub OfLogs : List ℕ → (Snapshot → List (List ℕ) → List (List ℕ) → Type 0) → Type 0

@@ -105,6 +105,7 @@ impl<J: ShareName, R: Clock, F, S> ControlDesk<'_, J, R, F, S> {
     /// The current snapshot with what is known of its documents; none where a later one is published meanwhile.
     pub(crate) fn hold(&mut self) -> Result<Option<HeldSnapshot>, ShareFault>
         ensures read { IfOk result (λ o. IfSome o (λ held. WasRead self.old.seat (Some (numbered_of held)) self.new.seat)) }
+        ensures number { IfOk result (λ o. IfSome o (λ held. held.text.number ≡ (numbered_of held).number)) }
         ensures post { self.new.post ≡ self.old.post }
         ensures page { self.new.page ≡ self.old.page }
         ensures keys { self.new.keys ≡ self.old.keys }
@@ -119,7 +120,9 @@ impl<J: ShareName, R: Clock, F, S> ControlDesk<'_, J, R, F, S> {
     }
 
     /// What is known of the documents of the snapshot of a number. It is set a moment after the snapshot is published.
-    fn text_of(&self, number: u64) -> Result<Option<SourceText>, AllocError> {
+    fn text_of(&self, number: u64) -> Result<Option<SourceText>, AllocError>
+        ensures { IfOk result (λ o. IfSome o (λ text. text.number ≡ number)) }
+    {
         for _look in 0..LOOKS {
             match self.post.sources().find(self.alloc, number)? {
                 FoundText::Held(text) => return Ok(Some(text)),

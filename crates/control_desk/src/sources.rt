@@ -1,6 +1,7 @@
 //! What is known of the documents of a snapshot beside their flags.
-ghost use Rattle.std.specs.Prelude.{◌≡◌, Some};
+ghost use Rattle.std.specs.Prelude.{◌≡◌, IfOk, Some};
 ghost use Rattle.std.specs.Sync.Mutex.{mutex_guard_value};
+ghost use Rattle.control_desk.specs.Held.{IsOfNumber};
 
 use std::alloc::{AllocError, Global};
 use std::sync::{Mutex, MutexGuard, Wait};
@@ -18,7 +19,9 @@ pub struct SourceText {
 
 impl SourceText {
     /// An equal one.
-    fn copied(&self, alloc: Global) -> Result<SourceText, AllocError> {
+    fn copied(&self, alloc: Global) -> Result<SourceText, AllocError>
+        ensures { IfOk result (λ text. text.number ≡ self.now.number) }
+    {
         Ok(SourceText {
             number: self.number,
             document: String::from_str(alloc, self.document.as_str())?,
@@ -61,7 +64,9 @@ impl PublishedSources {
     }
 
     /// What is known of the snapshot of a number.
-    pub(crate) fn find(&self, alloc: Global, number: u64) -> Result<FoundText, AllocError> {
+    pub(crate) fn find(&self, alloc: Global, number: u64) -> Result<FoundText, AllocError>
+        ensures { IfOk result (IsOfNumber number) }
+    {
         let Some(last) = self.last.try_lock() else {
             return Ok(FoundText::Unset);
         };

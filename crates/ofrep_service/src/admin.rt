@@ -4,6 +4,8 @@ ghost use Rattle.std.specs.Prelude.{◌≡◌, List, IfOk, false};
 ghost use Rattle.http_server.specs.Exchange.{Call};
 ghost use Rattle.ofrep_guards.specs.Hosts.{hosts_view, named_at};
 ghost use Rattle.recorded_answers.specs.Stand.{Works};
+ghost use Rattle.ofrep_guards.specs.Asked.{first_keys};
+ghost use Rattle.control_desk.specs.Desk.{keys_in};
 ghost use Rattle.ofrep_service.specs.Limits.{HasUsualLimits};
 
 use crate::board::Board;
@@ -179,17 +181,7 @@ fn answer_operations<J: ShareName, R: Net + LogPaths + DeskPaths + Clock>(
         may_stop,
     } = post;
     let worker = worker_of(rt, alloc, keys, board, seat, None)?;
-    let desk = ControlDesk::new(
-        rt,
-        alloc,
-        &board.desks,
-        page(alloc)?,
-        &board.is_stopping,
-        held_keys(alloc, &board.keys)?,
-        desk,
-        SystemDeskFiles::new(rt),
-        worker,
-    );
+    let desk = desk_of(rt, alloc, board, desk, worker)?;
     let rules = AdminRules::new(&hosts, may_stop);
     let guard = AdminGuard::new(rules, &board.is_stopping, desk);
     let logged = LoggedService::new(rt, alloc, board.lines.as_ref(), guard);
@@ -197,11 +189,40 @@ fn answer_operations<J: ShareName, R: Net + LogPaths + DeskPaths + Clock>(
     serve_operations(rt, alloc, keys, board, listener, &mut dated).into_outcome()
 }
 
+/// A desk before a worker, which goes by the rules and the keys of a board and answers from the snapshots of a seat.
+fn desk_of<'a, J: ShareName, R: DeskPaths, S>(
+    rt: &'a R,
+    alloc: Global,
+    board: &'a Board,
+    seat: ReadSeat<J>,
+    worker: S,
+) -> io::Result<ControlDesk<'a, J, R, SystemDeskFiles<'a, R>, S>>
+    ensures post { IfOk result (λ desk. desk.post.now ≡ board.now.desks) }
+    ensures keys { IfOk result (λ desk. keys_in desk.keys ≡ first_keys board.now.keys) }
+    ensures seat { IfOk result (λ desk. desk.seat ≡ seat) }
+    ensures worker { IfOk result (λ desk. desk.service ≡ worker) }
+{
+    let keys = held_keys(alloc, &board.keys)?;
+    Ok(ControlDesk::new(
+        rt,
+        alloc,
+        &board.desks,
+        page(alloc)?,
+        &board.is_stopping,
+        keys,
+        seat,
+        SystemDeskFiles::new(rt),
+        worker,
+    ))
+}
+
 /// The keys that calls on rollouts begin with, where one is wanted.
 fn held_keys<'a>(
     alloc: Global,
     ring: &'a Option<KeyRing>,
-) -> Result<Option<HeldKeys<'a>>, AllocError> {
+) -> Result<Option<HeldKeys<'a>>, AllocError>
+    ensures { IfOk result (λ held. keys_in held ≡ first_keys ring.now) }
+{
     match ring {
         Some(ring) => Ok(Some(HeldKeys::new(alloc, ring)?)),
         None => Ok(None),
