@@ -32,7 +32,7 @@ module _ {S : Type 0} (answers : S → Request (List ℕ) → Response → S →
       → Desks answers keys naming before after rules page seat seat' old request response new → Stands stands new request response
   desked given keys naming before after rules page seat seat' old request response new is =
       by_route given (route_of (is_some rules.applied_to) (is_admitted keys (asked_of request)) (call_asked request).method (call_asked request).path) naming before after rules page seat seat' old request response new
-      (λ o. inl (is_some rules.applied_to, (is_admitted keys (asked_of request), o))) is
+      (λ o. inl (is_some rules.applied_to, is_admitted keys (asked_of request), o)) is
 
   -- another state in which all that stood stands
   abbrev Stays : S → S → Type 0
@@ -55,7 +55,7 @@ module _ {S : Type 0} (answers : S → Request (List ℕ) → Response → S →
       → (route : Route) (naming : Option Naming) (before after : Option Holding) (rules : Rules) (page : Page) (seat seat' : Seat) (old : S) (request : Request (List ℕ)) (response : Response) (new : S)
       → DesksBy answers route naming before after rules page seat seat' old request response new → Stays old new
   stays_by stays Behind naming before after rules page seat seat' old request response new is = passed_stays stays old request response new is.2
-  stays_by stays (Replied reply) naming before after rules page seat seat' old request response new is = same old new is.2.0
+  stays_by stays (Replied reply) naming before after rules page seat seat' old request response new is = same old new is.2
   stays_by stays (Called called) naming before after rules page seat seat' old request response new is = same old new is.0
 
   pub desked_stays : ((old : S) (request : Request (List ℕ)) (response : Response) (new : S) → answers old request response new

@@ -54,7 +54,7 @@ pub(crate) fn apply<F: DeskFiles>(
     response: &mut Response,
 ) -> Result<(), AllocError>
     requires { IsBlank response.old }
-    ensures ok { OnOk result (TellsApply applying.folder.now applying.path.now token.now (held_view held.now) (files_view logs.now) (F.holding files.old) (F.holding files.new) response.new) }
+    ensures ok { OnOk result (TellsApply applying.entry.folder.now applying.entry.path.now token.now (held_view held.now) (files_view logs.now) (F.holding files.old) (F.holding files.new) response.new) }
     ensures err { OnErr result (F.holding files.new ≡ F.holding files.old) }
 {
     match apply_answer(applying.alloc, &held.snapshot(), token, logs) {
@@ -73,7 +73,7 @@ fn write<F: DeskFiles>(
 ) -> Result<(), AllocError>
     requires blank { IsBlank response.old }
     requires asked { IsAsked (applied_view applied.now).request }
-    ensures ok { OnOk result (AppliesOr applying.folder.now applying.path.now (held_view held.now) (applied_view applied.now) (F.holding files.old) (F.holding files.new) response.new) }
+    ensures ok { OnOk result (AppliesOr applying.entry.folder.now applying.entry.path.now (held_view held.now) (applied_view applied.now) (F.holding files.old) (F.holding files.new) response.new) }
     ensures err { OnErr result (F.holding files.new ≡ F.holding files.old) }
 {
     let alloc = applying.alloc;
@@ -120,8 +120,8 @@ fn note_and_replace<F: DeskFiles>(
     row: &[u8],
     document: &[u8],
 ) -> io::Result<()>
-    ensures ok { OnOk result (Writes (F.holding files.old) (F.holding files.new) paths.0.now row.now paths.1.now document.now) }
-    ensures err { OnErr result (KeepsOthers (F.holding files.old) (F.holding files.new) paths.0.now) }
+    ensures ok { OnOk result (Writes (F.holding files.old) (F.holding files.new) paths.entry.0.now row.now paths.entry.1.now document.now) }
+    ensures err { OnErr result (KeepsOthers (F.holding files.old) (F.holding files.new) paths.entry.0.now) }
 {
     files.append(alloc, paths.0, row)?;
     files.replace(alloc, paths.1, document)

@@ -57,8 +57,8 @@ impl<'a, J: ShareName, R, F, S> ControlDesk<'a, J, R, F, S> {
         service: S,
     ) -> ControlDesk<'a, J, R, F, S>
         ensures post { result.post ≡ post.entry }
-        ensures page { result.page ≡ page }
-        ensures keys { result.keys ≡ keys }
+        ensures page { result.page ≡ page.entry }
+        ensures keys { result.keys ≡ keys.entry }
         ensures seat { result.seat ≡ seat }
         ensures files { result.files ≡ files }
         ensures service { result.service ≡ service }

@@ -12,7 +12,7 @@ ghost use Rattle.flagops_service.specs.Merging.{AreMerged, ArePublished};
 ghost use Rattle.flagops_service.specs.Starting.{StartsOn, StartsTo, stops_in, stops_on};
 ghost use Rattle.flagops_shell.specs.Console.{IsOpen};
 ghost use Rattle.flagops_service.specs.Unready.{HasKeys};
-ghost use Rattle.flagops_service.specs.Words.{answering_view, form_of, operators_of, paths_served, seats_of, share_of, subscribers_of};
+ghost use Rattle.flagops_service.specs.Words.{answering_view, applied_to, form_of, operators_of, paths_served, seats_of, share_of, subscribers_of};
 ghost use Rattle.ofrep_service.specs.Logs.{path_in, paths_of};
 
 use crate::asked::{Answering, OnBroken};
@@ -400,6 +400,8 @@ where
     requires max_body { board.now.limits.body_bytes ≡ answering.now.max_body }
     requires may_stop { IfSome admin (λ post. post.may_stop ≡ answering.now.allow_stop) }
     requires origins { map string_bytes board.now.origins.items ≡ (answering_view answering.now).cors }
+    requires folder { option_map string_bytes board.now.desks.rules.folder ≡ (answering_view answering.now).log }
+    requires applied_to { option_map string_bytes board.now.desks.rules.applied_to ≡ applied_to (answering_view answering.now) }
     requires clients { HasKeys (F.holding files.old) (answering_view answering.now).keys (option_map (λ ring. ring.first) board.now.keys) }
 {
     let alloc = rt.alloc();

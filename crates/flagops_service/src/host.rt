@@ -23,7 +23,6 @@ where
     R: AllocGlobal
         + LogPaths
         + DeskPaths
-        + DeskPaths
         + Net<Listener = TcpListener, Stream = TcpStream>
         + Clock
         + RandomSource
