@@ -100,6 +100,12 @@ fn sentence_of(refusal: &ControlRefusal) -> &'static str {
         ControlRefusal::Unread =>
             "a member of the request is passed over: it may ask something else than was meant",
         ControlRefusal::Unrecorded => "nothing is recorded of the site",
-        _ => "out of memory",
+        ControlRefusal::WantOfMemory => "out of memory",
+        // The fault of each of these says more.
+        ControlRefusal::Rollout(_) => "the request is refused",
+        ControlRefusal::Logs(_) => "the logs have no tally of the page",
+        ControlRefusal::ReadPlan(_) => "what was sent is no plan",
+        ControlRefusal::PrintPlan(_) => "the plan is too large for a file",
+        ControlRefusal::Check(_) => "the plan is not right",
     }
 }
