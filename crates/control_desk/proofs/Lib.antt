@@ -3,3 +3,4 @@ pub mod Items
 mod LogFiles
 mod Outcomes
 mod Routes
+mod Seen

@@ -6,6 +6,7 @@ ghost use Rattle.control_desk.specs.Asked.{call_asked};
 ghost use Rattle.control_desk.specs.Desk.{keys_in};
 ghost use Rattle.control_desk.specs.Held.{numbered_of};
 ghost use Rattle.control_desk.specs.Route.{route_of};
+ghost use Rattle.control_desk.specs.Rules.{rules_view};
 
 use crate::held::HeldSnapshot;
 use crate::page::ConsolePage;
@@ -79,8 +80,9 @@ impl<'a, J: ShareName, R, F, S> ControlDesk<'a, J, R, F, S> {
 
 impl<J: ShareName, R, F, S> ControlDesk<'_, J, R, F, S> {
     /// Where a request leads.
+    #[tactic(auto, using(crate::proofs::Seen::seen_alike))]
     pub(crate) fn route(&self, request: &Request<Bytes>) -> Route
-        ensures { result ≡ route_of (is_some self.now.post.now.rules.applied_to) (is_admitted (keys_in self.now.keys) (asked_of request.now)) (call_asked request.now).method (call_asked request.now).path }
+        ensures { result ≡ route_of (is_some (rules_view self.now.post.now.rules).applied_to) (is_admitted (keys_in self.now.keys) (asked_of request.now)) (call_asked request.now).method (call_asked request.now).path }
     {
         route_of(
             self.post.rules.applied_to.is_some(),

@@ -28,6 +28,7 @@ use std::collections::BTreeMap;
 use text_spans::{Step, find};
 
 /// Fills a response with the flags of a snapshot.
+#[tactic(auto, using(crate::proofs::Seen::seen_alike))]
 pub(crate) fn tell_flags(
     alloc: Global,
     rules: &DeskRules,
