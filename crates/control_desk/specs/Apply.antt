@@ -37,10 +37,6 @@ abbrev pub cost_of : Answer → ℕ
 cost_of (emit rule c) = c.cost
 cost_of (none_exists kind names) = 0
 
--- the request can be read
-abbrev pub IsAsked : List ℕ → Type 0
-IsAsked request = (asked : Asked) × (asked_of request ≡ Ok asked)
-
 -- the line tells what is applied to these flags, at some time, by somebody
 pub record IsRowOf (flags : Definitions) (a : Applied) (line : List ℕ) : Type 0 where
   pub asked : Asked
@@ -66,11 +62,13 @@ HoldsText same None path text = Unit {0}
 HoldsText true (Some at) path text = at path ≡ Some text
 HoldsText false (Some at) path text = ¬ (at path ≡ Some text)
 
--- the line stands at the end of the history, and then the document at its path
+-- the line stands at the end of the history, and then the document at its path; nothing else is written
 pub record Writes (before after : Option Holding) (history line path document : List ℕ) : Type 0 where
   pub between : Option Holding
   pub noted : Appends before between history line
+  pub beside : KeepsOthers before between history
   pub stored : Stores between after path document
+  pub others : KeepsOthers between after path
 
 -- ---- the answer
 

@@ -1,5 +1,5 @@
 //! A plan that is applied to the document of the service.
-ghost use Rattle.std.specs.Prelude.{◌≡◌, IfOk, OnErr, OnOk, string_bytes};
+ghost use Rattle.std.specs.Prelude.{◌≡◌, IfOk, Ok, OnErr, OnOk, string_bytes};
 ghost use Rattle.bucket_core.specs.Rule.{entries_view};
 ghost use Rattle.control_answers.specs.Apply.{applied_view};
 ghost use Rattle.flag_defs.specs.Flags.{flags_view};
@@ -7,7 +7,8 @@ ghost use Rattle.flagops_shell.specs.Files.{KeepsOthers};
 ghost use Rattle.http_server.specs.Response.{IsBlank};
 ghost use Rattle.log_tallies.specs.Lines.{files_view};
 ghost use Rattle.plan_text.specs.Answer.{planned_view};
-ghost use Rattle.control_desk.specs.Apply.{AppliesOr, HoldsText, IsAsked, IsRowOf, TellsApply, Writes, cost_of, old_rule, rule_of, written_text};
+ghost use Rattle.price_core.specs.Request.{asked_of};
+ghost use Rattle.control_desk.specs.Apply.{AppliesOr, HoldsText, IsRowOf, TellsApply, Writes, cost_of, old_rule, rule_of, written_text};
 ghost use Rattle.control_desk.specs.Held.{held_view};
 
 use crate::files::DeskFiles;
@@ -24,6 +25,7 @@ use http_server::Response;
 use log_tallies::LogFile;
 use logic_ast::{LogicFault, site};
 use plan_text::Planned;
+use price_core::Request;
 use std::alloc::{AllocError, Global};
 use std::io;
 
@@ -71,8 +73,7 @@ fn write<F: DeskFiles>(
     applied: &Applied,
     response: &mut Response,
 ) -> Result<(), AllocError>
-    requires blank { IsBlank response.old }
-    requires asked { IsAsked (applied_view applied.now).request }
+    requires { IsBlank response.old }
     ensures ok { OnOk result (AppliesOr applying.entry.folder.now applying.entry.path.now (held_view held.now) (applied_view applied.now) (F.holding files.old) (F.holding files.new) response.new) }
     ensures err { OnErr result (F.holding files.new ≡ F.holding files.old) }
 {
@@ -90,7 +91,12 @@ fn write<F: DeskFiles>(
             response,
         );
     }
-    let row = row_of(applying, held.flags(), applied)?;
+    let Ok(asked) = applied.request.asked() else {
+        // What is applied was asked for.
+        respond(Reply::Unreadable, response);
+        return Ok(());
+    };
+    let row = row_of(applying, held.flags(), asked, applied)?;
     let history = path_in(alloc, applying.folder, HISTORY)?;
     let document = applied.document.as_bytes();
     let text = written_text(alloc, document.len())?;
@@ -136,15 +142,15 @@ fn written_text(alloc: Global, bytes: usize) -> Result<String, AllocError>
 }
 
 /// The row of the history for what is applied.
-fn row_of(applying: Applying<'_>, flags: &Flags, applied: &Applied) -> Result<String, AllocError>
-    requires { IsAsked (applied_view applied.now).request }
+fn row_of(
+    applying: Applying<'_>,
+    flags: &Flags,
+    asked: &Request,
+    applied: &Applied,
+) -> Result<String, AllocError>
+    requires { asked_of (applied_view applied.now).request ≡ Ok asked.now }
     ensures { IfOk result (λ row. IsRowOf (flags_view flags.now) (applied_view applied.now) (string_bytes row)) }
 {
-    let asked = match applied.request.asked() {
-        Ok(asked) => asked,
-        // What is applied was asked for.
-        Err(_) => unreachable!(),
-    };
     let alloc = applying.alloc;
     let old = old_rule(alloc, flags, asked.flag(), asked.site())?;
     let new = new_rule(alloc, &applied.planned)?;

@@ -32,5 +32,6 @@ pub trait DeskFiles {
     /// Replaces the file at a path, whole or not at all.
     fn replace(&mut self, alloc: Global, path: &str, bytes: &[u8]) -> io::Result<()>
         ensures stored { OnOk result (Stores (holding self.old) (holding self.new) path.now bytes.now) }
-        ensures kept { OnErr result (holding self.new ≡ holding self.old) };
+        ensures kept { OnErr result (holding self.new ≡ holding self.old) }
+        ensures others { KeepsOthers (holding self.old) (holding self.new) path.now };
 }
