@@ -52,7 +52,7 @@ Node-sync : IsSync Node.the_row
 Node-sync = search (sendable, crosses, Node-parts-sync) depth 40
 
 Expr-sync : IsSync Expr.the_row
-Expr-sync = declared_sync Expr.the_type (Node-sync, tt)
+Expr-sync = declared_sync Expr.the_type (Node-sync, (search (sendable, crosses) depth 40, tt))
 
 Flag-sync : IsSync Flag.the_row
 Flag-sync = search (sendable, crosses, Tree-sync, Expr-sync) depth 40
@@ -87,7 +87,7 @@ Node-send : IsSend Node.the_row
 Node-send = search (sendable, crosses, Node-parts-send) depth 40
 
 Expr-send : IsSend Expr.the_row
-Expr-send = declared_send Expr.the_type (Node-send, tt)
+Expr-send = declared_send Expr.the_type (Node-send, (search (sendable, crosses) depth 40, tt))
 
 Flag-send : IsSend Flag.the_row
 Flag-send = search (sendable, crosses, Tree-send, Expr-send) depth 40

@@ -14,6 +14,7 @@ pub mod Refusals
 pub mod Replaced
 pub mod Sizes
 pub mod Stripped
+pub mod Summed
 pub mod Trees
 pub mod Views
 pub mod WellFormed

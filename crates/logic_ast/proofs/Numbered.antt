@@ -1,5 +1,5 @@
 -- The sites of an expression that is formed have the numbers from k on, in preorder.
-use Rattle.std.proofs.Common.{◌≡◌, ℕ, zero, suc, ◌+◌, ◌<◌, Bool, true, false, not, ◌&&◌, ◌||◌, ◌==◌, List, [], ◌∷◌, ◌++◌, length, Some, refl, sym, ap, ◌∙◌, arith, length-append}
+use Rattle.std.proofs.Common.{◌≡◌, ℕ, zero, suc, ◌+◌, ◌<◌, Bool, true, false, not, ◌&&◌, ◌||◌, ◌==◌, List, [], ◌∷◌, ◌++◌, length, Some, eqb-true, refl, sym, ap, ◌∙◌, arith, length-append}
 use Rattle.std.specs.List.{find, slice_get}
 use Rattle.std.specs.Option.{is_some, IfSome}
 use Rattle.std.proofs.lemmas.Grind.{common_steps}
@@ -131,3 +131,12 @@ unfolding are_numbered
 number-at k i n [] h e = tt
 number-at k zero n (s ∷ ss) h e = equal-place s.number k 0 n (left (s.number == k) _ h) e
 number-at k (suc i) n (s ∷ ss) h e = number-at (suc k) i n ss (right (s.number == k) _ h) (omega arith)
+
+-- the first of them has the number k, and the others go on from there
+pub number-first : (k : ℕ) (s : Site) (ss : List Site) → are_numbered k (s ∷ ss) ≡ true → s.number ≡ k
+unfolding are_numbered
+number-first k s ss h = eqb-true s.number k (left (s.number == k) _ h)
+
+pub numbered-rest : (k : ℕ) (s : Site) (ss : List Site) → are_numbered k (s ∷ ss) ≡ true → are_numbered (suc k) ss ≡ true
+unfolding are_numbered
+numbered-rest k s ss h = right (s.number == k) _ h

@@ -1,3 +1,4 @@
+pub mod Ends
 pub mod Expr
 pub mod Expression
 pub mod Fault
@@ -12,5 +13,6 @@ pub mod Site
 pub mod Sites
 pub mod Size
 pub mod Stripped
+pub mod Summing
 pub mod View
 pub mod Writing

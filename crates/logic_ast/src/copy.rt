@@ -14,7 +14,7 @@ impl Expr {
         ensures { IfOk result (λ e. view e ≡ view self.now) }
     {
         let root = lowered(alloc, &self.root, 0)?;
-        Ok(Expr { root })
+        Ok(Expr::of(alloc, root)?)
     }
 }
 

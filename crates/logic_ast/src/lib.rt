@@ -23,6 +23,7 @@
 
 mod check;
 mod copy;
+mod ends;
 mod expr;
 mod fault;
 mod find;

@@ -98,7 +98,7 @@ pub fn site(alloc: Global, expr: &Expr, n: u32) -> Result<Site, LogicFault>
         None => None,
         Some(by) => {
             let root = lowered(alloc, by, n + 1)?;
-            Some(Expr { root })
+            Some(Expr::of(alloc, root)?)
         }
     };
     Ok(Site { by, entries })

@@ -55,7 +55,7 @@ pub fn into_expr(alloc: Global, tree: Tree) -> Result<Expr, AllocError>
 {
     let mut next = 0;
     let root = read_node(alloc, tree, &mut next)?;
-    Ok(Expr { root })
+    Ok(Expr::of(alloc, root)?)
 }
 
 /// Why a tree is refused: it is too big, or it has a fault.

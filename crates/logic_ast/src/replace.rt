@@ -38,7 +38,7 @@ pub fn replace_site(alloc: Global, expr: &Expr, n: u32, rule: &Rule) -> Result<E
     }
     prove!(rule.total() < 1 << 31);
     let root = with_entries(alloc, &expr.root, n, rule)?;
-    Ok(Expr { root })
+    Ok(Expr::of(alloc, root)?)
 }
 
 #[cycle(replace)]

@@ -49,7 +49,7 @@ Node-sync : IsSync Node.the_row
 Node-sync = search (sendable, crosses, Node-parts-sync) depth 40
 
 Expr-sync : IsSync Expr.the_row
-Expr-sync = declared_sync Expr.the_type (Node-sync, tt)
+Expr-sync = declared_sync Expr.the_type (Node-sync, (search (sendable, crosses) depth 40, tt))
 
 Flag-sync : IsSync Flag.the_row
 Flag-sync = search (sendable, crosses, Tree-sync, Expr-sync) depth 40

@@ -13,7 +13,7 @@ use Rattle.logic_ast.proofs.Inner.{not-none, parts_at-none, parts_at-some, if_en
 use Rattle.logic_ast.proofs.Refusals.{computed-none, parts_at-absent, parts_at-literal}
 use Rattle.logic_ast.proofs.Written.{left}
 use Rattle.logic_ast.proofs.lookup.site.Goals as goal
-use Rattle.logic_ast.proofs.lookup.site.Goals.{in-None, in-Some-by+in_ok-root-in-Some-by}
+use Rattle.logic_ast.proofs.lookup.site.Goals.{in-None, in-Some-by+in_ok-root-in-Some-by+in_ok-of-in-Some-by}
 
 pub returns-in_default : goal.returns-in_default
 returns-in_default c =
@@ -40,16 +40,14 @@ overflow_add-n c =
     let e = view c.args.expr.now in
     omega (arith, next-fits c.args.n e (boxed_view c.in-Some.by.now) (buckets_view c.in-Some.buckets.now.items) c.args.expr.now.well_formed (sym c.find.ensures ∙ ap (option_map parts_view) c.in-Some.is))
 
-pub invariant_of-by : goal.invariant_of-by
-invariant_of-by c =
+pub of-requires : goal.of-requires
+of-requires c =
     let n = c.args.n in
     let e = view c.args.expr.now in
     let bs = buckets_view c.in-Some.buckets.now.items in
     let inner = node_view c.in-Some-by.by.value in
     let is = sym c.find.ensures ∙ (ap (option_map parts_view) c.in-Some.is ∙ ap (λ (b : Option (Box Node Global)). Some (boxed_view b, bs)) c.in-Some-by.is) in
-    record {
-      well_formed = ap is_well_formed (c.in_ok-root-in-Some-by.ensures ∙ (ap (λ x. lowered (n + 1) (node_view x)) c.deref.ensures ∙ ap (λ k. lowered k inner) (add-one n))) ∙ own n e inner bs c.args.expr.now.well_formed is;
-    }
+    ap is_well_formed (c.in_ok-root-in-Some-by.ensures ∙ (ap (λ x. lowered (n + 1) (node_view x)) c.deref.ensures ∙ ap (λ k. lowered k inner) (add-one n))) ∙ own n e inner bs c.args.expr.now.well_formed is
 
 pub returns : goal.returns
 returns c =
@@ -67,10 +65,10 @@ returns c =
         no_site = λ none. not-none n e b bs (left (is_formed 0 e) _ c.args.expr.now.well_formed) (sym c.find.ensures ∙ ap (option_map parts_view) c.in-Some.is) none;
         computed = λ refused. parts_at-literal c.args.n (view c.args.expr.now) (boxed_view c.in-Some.by.now) (buckets_view c.in-Some.buckets.now.items) (left (is_formed 0 (view c.args.expr.now)) _ c.args.expr.now.well_formed) (sym c.find.ensures ∙ ap (option_map parts_view) c.in-Some.is) (sym c.are_all_literal.ensures ∙ c.if-not-are_all_literal.false) refused;
       }
-      | in-Some-by+in_ok-root-in-Some-by w ↦ record {
+      | in-Some-by+in_ok-root-in-Some-by+in_ok-of-in-Some-by w ↦ record {
         exact = done
             (ap (λ (x : Option (Box Node Global)). by_lowered (suc n) (boxed_view x)) w.in-Some-by.is
-            ∙ (ap by (sym (w.in_ok-root-in-Some-by.ensures ∙ (ap (λ x. lowered (n + 1) (node_view x)) w.deref.ensures ∙ ap (λ k. lowered k (node_view w.in-Some-by.by.value)) (add-one n))))
+            ∙ (ap by (sym (w.in_ok-of-in-Some-by.ensures ∙ w.in_ok-root-in-Some-by.ensures ∙ (ap (λ x. lowered (n + 1) (node_view x)) w.deref.ensures ∙ ap (λ k. lowered k (node_view w.in-Some-by.by.value)) (add-one n))))
             ∙ sym (ap (λ (o : Option Expr). by_of (option_map view o)) w.by-is)));
         no_site = λ none. not-none n e b bs (left (is_formed 0 e) _ c.args.expr.now.well_formed) (sym c.find.ensures ∙ ap (option_map parts_view) c.in-Some.is) none;
         computed = λ refused. parts_at-literal c.args.n (view c.args.expr.now) (boxed_view c.in-Some.by.now) (buckets_view c.in-Some.buckets.now.items) (left (is_formed 0 (view c.args.expr.now)) _ c.args.expr.now.well_formed) (sym c.find.ensures ∙ ap (option_map parts_view) c.in-Some.is) (sym c.are_all_literal.ensures ∙ c.if-not-are_all_literal.false) refused;
@@ -82,8 +80,16 @@ returns-in_err-root-in-Some-by-clause-no_site c =
     let e = view c.args.expr.now in
     λ none. not-none c.args.n e (boxed_view c.in-Some.by.now) (buckets_view c.in-Some.buckets.now.items) (left (is_formed 0 e) _ c.args.expr.now.well_formed) (sym c.find.ensures ∙ ap (option_map parts_view) c.in-Some.is) none
 
+pub returns-in_err-of-in-Some-by-clause-no_site : goal.returns-in_err-of-in-Some-by-clause-no_site
+returns-in_err-of-in-Some-by-clause-no_site c =
+    let e = view c.args.expr.now in
+    λ none. not-none c.args.n e (boxed_view c.in-Some.by.now) (buckets_view c.in-Some.buckets.now.items) (left (is_formed 0 e) _ c.args.expr.now.well_formed) (sym c.find.ensures ∙ ap (option_map parts_view) c.in-Some.is) none
+
 pub returns-in_err-root-in-Some-by-clause-computed : goal.returns-in_err-root-in-Some-by-clause-computed
 returns-in_err-root-in-Some-by-clause-computed c = λ refused. parts_at-literal c.args.n (view c.args.expr.now) (boxed_view c.in-Some.by.now) (buckets_view c.in-Some.buckets.now.items) (left (is_formed 0 (view c.args.expr.now)) _ c.args.expr.now.well_formed) (sym c.find.ensures ∙ ap (option_map parts_view) c.in-Some.is) (sym c.are_all_literal.ensures ∙ c.if-not-are_all_literal.false) refused
+
+pub returns-in_err-of-in-Some-by-clause-computed : goal.returns-in_err-of-in-Some-by-clause-computed
+returns-in_err-of-in-Some-by-clause-computed c = λ refused. parts_at-literal c.args.n (view c.args.expr.now) (boxed_view c.in-Some.by.now) (buckets_view c.in-Some.buckets.now.items) (left (is_formed 0 (view c.args.expr.now)) _ c.args.expr.now.well_formed) (sym c.find.ensures ∙ ap (option_map parts_view) c.in-Some.is) (sym c.are_all_literal.ensures ∙ c.if-not-are_all_literal.false) refused
 
 pub returns-then-not-are_all_literal-clause-exact : goal.returns-then-not-are_all_literal-clause-exact
 returns-then-not-are_all_literal-clause-exact c =

@@ -15,10 +15,10 @@ use Rattle.logic_ast.proofs.read.into_expr.Goals as goal
 pub read_node-requires : goal.read_node-requires
 read_node-requires c = omega (arith, numbers-fit (view c.args.tree) (is_small (view c.args.tree) c.requires.accepted))
 
-pub invariant_of-result : goal.invariant_of-result
-invariant_of-result c =
+pub of-requires : goal.of-requires
+of-requires c =
     let tree = view c.args.tree in
-    record { well_formed = ap is_well_formed c.in_ok-root.ensures.value ∙ is_well_formed-from tree c.requires.whole (is_small tree c.requires.accepted) (has_no_fault tree c.requires.accepted) }
+    ap is_well_formed c.in_ok-root.ensures.value ∙ is_well_formed-from tree c.requires.whole (is_small tree c.requires.accepted) (has_no_fault tree c.requires.accepted)
 
 pub returns-clause-size : goal.returns-clause-size
 returns-clause-size c =
@@ -28,7 +28,7 @@ returns-clause-size c =
     let formed = is_well_formed-from tree c.requires.whole (is_small tree c.requires.accepted) no_fault in
     sym (size-from 0 tree no_fault)
     ∙ (size-written 0 read (left (is_formed 0 read) _ formed)
-    ∙ ap (λ e. full_size (written (without_literals e))) (sym c.in_ok-root.ensures.value))
+    ∙ ap (λ e. full_size (written (without_literals e))) (sym (c.in_ok-of.ensures ∙ c.in_ok-root.ensures.value)))
 
 pub returns-clause-exact : goal.returns-clause-exact
-returns-clause-exact c = is_read (view c.args.tree) c.requires.accepted ∙ ap Ok (sym c.in_ok-root.ensures.value)
+returns-clause-exact c = is_read (view c.args.tree) c.requires.accepted ∙ ap Ok (sym (c.in_ok-of.ensures ∙ c.in_ok-root.ensures.value))

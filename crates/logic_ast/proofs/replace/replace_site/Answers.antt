@@ -28,8 +28,8 @@ returns-then-not-are_all_literal-clause-exact c =
 pub with_entries-requires : goal.with_entries-requires
 with_entries-requires c = omega (arith, c.total.ensures.value, c.total.ensures.allowed)
 
-pub invariant_of-result : goal.invariant_of-result
-invariant_of-result c =
+pub of-requires : goal.of-requires
+of-requires c =
     let n = c.args.n in
     let e = view c.args.expr.now in
     let bs = buckets_view c.in-Some.buckets.now.items in
@@ -38,7 +38,7 @@ invariant_of-result c =
     let place : n ≡ 0 + n = omega arith in
     let literal = literal-at 0 n n (preorder e) _ (numbered-preorder 0 e formed) place at.1 (sym c.are_all_literal.ensures ∙ c.if-not-are_all_literal.false) in
     let small = small-total c.args.rule.now (omega (arith, c.total.ensures.value, c.total.ensures.allowed)) in
-    record { well_formed = ap is_well_formed c.in_ok-root.ensures ∙ is_well_formed-with n c.args.rule.now e small literal c.args.expr.now.well_formed }
+    ap is_well_formed c.in_ok-root.ensures ∙ is_well_formed-with n c.args.rule.now e small literal c.args.expr.now.well_formed
 
 pub returns-clause-exact : goal.returns-clause-exact
 returns-clause-exact c =
@@ -47,13 +47,13 @@ returns-clause-exact c =
     let bs = buckets_view c.in-Some.buckets.now.items in
     replaced-some n c.args.rule.now e (boxed_view c.in-Some.field-0-0.now) bs (left (is_formed 0 e) _ c.args.expr.now.well_formed) (sym c.find.ensures ∙ ap (option_map parts_view) c.in-Some.is)
     ∙ (if_entries-some (entries_of bs) (with_entries n c.args.rule.now e) (sym c.are_all_literal.ensures ∙ c.if-not-are_all_literal.false)
-    ∙ ap Ok (sym c.in_ok-root.ensures))
+    ∙ ap Ok (sym (c.in_ok-of.ensures ∙ c.in_ok-root.ensures)))
 
 pub returns-clause-rest : goal.returns-clause-rest
 returns-clause-rest c =
     let n = c.args.n in
     let e = view c.args.expr.now in
-    λ q. ap (with_entries n q) c.in_ok-root.ensures ∙ with_entries-again n q c.args.rule.now e
+    λ q. ap (with_entries n q) (c.in_ok-of.ensures ∙ c.in_ok-root.ensures) ∙ with_entries-again n q c.args.rule.now e
 
 pub returns-then-not-are_all_literal-clause-no_site : goal.returns-then-not-are_all_literal-clause-no_site
 returns-then-not-are_all_literal-clause-no_site c =
@@ -62,6 +62,11 @@ returns-then-not-are_all_literal-clause-no_site c =
 
 pub returns-in_err-root-clause-no_site : goal.returns-in_err-root-clause-no_site
 returns-in_err-root-clause-no_site c =
+    let e = view c.args.expr.now in
+    λ none. not-none c.args.n e (boxed_view c.in-Some.field-0-0.now) (buckets_view c.in-Some.buckets.now.items) (left (is_formed 0 e) _ c.args.expr.now.well_formed) (sym c.find.ensures ∙ ap (option_map parts_view) c.in-Some.is) none
+
+pub returns-in_err-of-clause-no_site : goal.returns-in_err-of-clause-no_site
+returns-in_err-of-clause-no_site c =
     let e = view c.args.expr.now in
     λ none. not-none c.args.n e (boxed_view c.in-Some.field-0-0.now) (buckets_view c.in-Some.buckets.now.items) (left (is_formed 0 e) _ c.args.expr.now.well_formed) (sym c.find.ensures ∙ ap (option_map parts_view) c.in-Some.is) none
 
@@ -77,7 +82,7 @@ returns-clause-entries c =
     let e = view c.args.expr.now in
     let formed = left (is_formed 0 e) _ c.args.expr.now.well_formed in
     let at = at-some n e (boxed_view c.in-Some.field-0-0.now) (buckets_view c.in-Some.buckets.now.items) formed (sym c.find.ensures ∙ ap (option_map parts_view) c.in-Some.is) in
-    let made = c.in_ok-root.ensures in
+    let made = c.in_ok-of.ensures ∙ c.in_ok-root.ensures in
     let place : n ≡ 0 + n = omega arith in
     let literal = literal-at 0 n n (preorder e) _ (numbered-preorder 0 e formed) place at.1 (sym c.are_all_literal.ensures ∙ c.if-not-are_all_literal.false) in
     let small = small-total r (omega (arith, c.total.ensures.value, c.total.ensures.allowed)) in
@@ -90,7 +95,7 @@ returns-clause-bucketing c =
     let e = view c.args.expr.now in
     let formed = left (is_formed 0 e) _ c.args.expr.now.well_formed in
     let at = at-some n e (boxed_view c.in-Some.field-0-0.now) (buckets_view c.in-Some.buckets.now.items) formed (sym c.find.ensures ∙ ap (option_map parts_view) c.in-Some.is) in
-    let made = c.in_ok-root.ensures in
+    let made = c.in_ok-of.ensures ∙ c.in_ok-root.ensures in
     let place : n ≡ 0 + n = omega arith in
     let literal = literal-at 0 n n (preorder e) _ (numbered-preorder 0 e formed) place at.1 (sym c.are_all_literal.ensures ∙ c.if-not-are_all_literal.false) in
     let small = small-total r (omega (arith, c.total.ensures.value, c.total.ensures.allowed)) in
@@ -103,7 +108,7 @@ returns-clause-others c =
     let e = view c.args.expr.now in
     let formed = left (is_formed 0 e) _ c.args.expr.now.well_formed in
     let at = at-some n e (boxed_view c.in-Some.field-0-0.now) (buckets_view c.in-Some.buckets.now.items) formed (sym c.find.ensures ∙ ap (option_map parts_view) c.in-Some.is) in
-    let made = c.in_ok-root.ensures in
+    let made = c.in_ok-of.ensures ∙ c.in_ok-root.ensures in
     let place : n ≡ 0 + n = omega arith in
     let literal = literal-at 0 n n (preorder e) _ (numbered-preorder 0 e formed) place at.1 (sym c.are_all_literal.ensures ∙ c.if-not-are_all_literal.false) in
     let small = small-total r (omega (arith, c.total.ensures.value, c.total.ensures.allowed)) in
@@ -116,6 +121,9 @@ returns-in_default-clause-computed c =
 
 pub returns-in_err-root-clause-computed : goal.returns-in_err-root-clause-computed
 returns-in_err-root-clause-computed c = λ refused. replaced-literal c.args.n c.args.rule.now (view c.args.expr.now) (boxed_view c.in-Some.field-0-0.now) (buckets_view c.in-Some.buckets.now.items) (left (is_formed 0 (view c.args.expr.now)) _ c.args.expr.now.well_formed) (sym c.find.ensures ∙ ap (option_map parts_view) c.in-Some.is) (sym c.are_all_literal.ensures ∙ c.if-not-are_all_literal.false) refused
+
+pub returns-in_err-of-clause-computed : goal.returns-in_err-of-clause-computed
+returns-in_err-of-clause-computed c = λ refused. replaced-literal c.args.n c.args.rule.now (view c.args.expr.now) (boxed_view c.in-Some.field-0-0.now) (buckets_view c.in-Some.buckets.now.items) (left (is_formed 0 (view c.args.expr.now)) _ c.args.expr.now.well_formed) (sym c.find.ensures ∙ ap (option_map parts_view) c.in-Some.is) (sym c.are_all_literal.ensures ∙ c.if-not-are_all_literal.false) refused
 
 pub returns-clause-computed : goal.returns-clause-computed
 returns-clause-computed c = λ refused. replaced-literal c.args.n c.args.rule.now (view c.args.expr.now) (boxed_view c.in-Some.field-0-0.now) (buckets_view c.in-Some.buckets.now.items) (left (is_formed 0 (view c.args.expr.now)) _ c.args.expr.now.well_formed) (sym c.find.ensures ∙ ap (option_map parts_view) c.in-Some.is) (sym c.are_all_literal.ensures ∙ c.if-not-are_all_literal.false) refused

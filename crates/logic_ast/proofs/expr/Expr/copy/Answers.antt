@@ -4,8 +4,8 @@ use Rattle.logic_ast.specs.Expr.{view}
 use Rattle.logic_ast.proofs.Lowered.{lowered-zero}
 use Rattle.logic_ast.proofs.expr.Expr.copy.Goals as goal
 
-pub invariant_of-result : goal.invariant_of-result
-invariant_of-result c = record { well_formed = ap is_well_formed (c.in_ok-root.ensures ∙ lowered-zero (view c.args.self.now)) ∙ c.args.self.now.well_formed }
+pub of-requires : goal.of-requires
+of-requires c = ap is_well_formed (c.in_ok-root.ensures ∙ lowered-zero (view c.args.self.now)) ∙ c.args.self.now.well_formed
 
 pub returns : goal.returns
-returns c = c.in_ok-root.ensures ∙ lowered-zero (view c.args.self.now)
+returns c = c.in_ok-of.ensures ∙ (c.in_ok-root.ensures ∙ lowered-zero (view c.args.self.now))
