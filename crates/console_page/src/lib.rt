@@ -1,8 +1,8 @@
 //! The console: one page for release engineers, with its style and script in it, and the policy by which a browser takes nothing else.
 //!
-//! A crate of its own, as its source is made of `console/console.html` by `tools/embed_console.py`; the gate compares both.
+//! A crate of its own, as its sources are made of `console/console.html` by `tools/embed_console.py`; the gate compares them.
 #![tactic(auto)]
 
 mod page;
 
-pub use page::{PAGE, POLICY};
+pub use page::{page, policy};
