@@ -20,8 +20,22 @@ from embed_console import policy_of
 CONSOLE = os.path.join(ROOT, "console", "console.html")
 
 
+class Spelled(str):
+    """A number that is not whole, as it is spelled."""
+
+    MARK = "\ufdd0"
+
+    def __new__(cls, text):
+        return super().__new__(cls, cls.MARK + text)
+
+
+def parsed(text):
+    return json.loads(text, parse_float=Spelled)
+
+
 def compact(value):
-    return json.dumps(value, separators=(",", ":"), sort_keys=True, ensure_ascii=False)
+    text = json.dumps(value, separators=(",", ":"), sort_keys=True, ensure_ascii=False)
+    return re.sub(f'"{Spelled.MARK}([^"]*)"', r"\1", text)
 
 
 def spelled(value):
@@ -77,6 +91,23 @@ def switches_of(old, new, counts):
     return [{"from": one, "inputs": users, "to": other} for (one, other), users in sorted(pairs.items())]
 
 
+def kind_of(values):
+    """The word for the type of a flag with these values."""
+    kinds = {bool: "bool", str: "text", int: "whole", Spelled: "float", dict: "object"}
+    return "float" if Spelled in map(type, values) else kinds[type(values[0])]
+
+
+# What is doubted of a flag ends with its name.
+DOUBTS = ["Weight", "Variant", "Never"]
+DOUBTED = re.compile(r'^note: .*?: flag ("(?:[^"\\]|\\.)*") .*\((Weight|Variant|Never)\)$')
+
+# Logs with such an end are not read.
+COMPRESSED = (".gz", ".xz", ".zst", ".bz2")
+
+# What is told of a broken flag begins with its place in the document.
+BROKEN = re.compile(r'broken: flags(?:\.([\w-]+)|\[("(?:[^"\\]|\\.)*")\])')
+
+
 def tag_of(text):
     return hashlib.sha256(text.encode()).hexdigest()[:32]
 
@@ -93,8 +124,8 @@ class Refused(Exception):
 class Control:
     """What is answered of a document at a path and of the logs in a folder."""
 
-    def __init__(self, document, logs, allow_apply=False):
-        self.document, self.logs, self.allow_apply = document, logs, allow_apply
+    def __init__(self, document, logs, allow_apply=False, counts=False):
+        self.document, self.logs, self.allow_apply, self.counts = document, logs, allow_apply, counts
         self.number, self.seen, self.read = 0, None, {}
 
     def text(self):
@@ -113,9 +144,13 @@ class Control:
             raise Refused(found[1], int(found[2]), found[3], told.strip())
         return out, told
 
+    def names(self):
+        """The names of all logs, those that were rotated among them."""
+        return [name for name in sorted(os.listdir(self.logs)) if re.fullmatch(r"worker-.*\.log.*", name)]
+
     def lines(self):
         """The lines of all logs, each once, as they are sorted."""
-        names = [name for name in sorted(os.listdir(self.logs)) if re.fullmatch(r"worker-\d+\.log(?!.*\.(gz|xz|zst)$).*", name)] if self.logs else []
+        names = [name for name in self.names() if not name.endswith(COMPRESSED)]
         state = [(name, os.stat(os.path.join(self.logs, name)).st_size) for name in names]
         if self.read.get("state") != state:
             found = set()
@@ -127,25 +162,34 @@ class Control:
 
     def tally(self, key, site):
         if self.logs is None:
-            raise Refused("tally", 0, "NoRecord", "The service keeps no log.", 409)
-        return self.run(["tally", self.document, key, str(site)], b"".join(self.lines()))[0]
+            raise Refused("control", 1, "NoRecord", "The service keeps no log.", 409)
+        return self.run(["tally", "--floats", self.document, key, str(site)], b"".join(self.lines()))[0]
 
     def flags(self):
-        """The merged flags, as `flag_defs` prints them, and what is told of them: a broken one is an empty object."""
+        """The flags of the document as the service prints them, and what is told of them: a broken one is an empty object."""
         text = self.text()
-        remarks = self.run(["check", self.document])[1]
-        broken = {key for key, flag in json.loads(text)["flags"].items() if re.search(f"^broken: flags\\.({re.escape(key)}|{re.escape(compact(key))})[. ]", remarks, re.MULTILINE)}
-        merged, sites = {}, []
-        for key, flag in sorted(json.loads(text)["flags"].items(), key=lambda it: it[0].encode()):
+        remarks = self.run(["check", "--floats", self.document])[1].splitlines()
+        broken = {found[1] or json.loads(found[2]) for found in map(BROKEN.match, remarks) if found}
+        merged, sites, kinds = {}, [], []
+        for key, flag in sorted(parsed(text)["flags"].items(), key=lambda it: it[0].encode()):
             members = {name: spelled(flag[name]) if name == "targeting" else flag[name] for name in ("defaultVariant", "state", "targeting", "variants") if flag.get(name) is not None}
             merged[key] = {} if key in broken else members
+            if key not in broken:
+                kinds.append([key, kind_of([*flag["variants"].values()])])
             for site, given in enumerate(rules_of(merged[key].get("targeting"))):
                 by, rule = site_of(given)
-                sites.append({"by": by, "flag": key, "site": site, "rule": rule})
-        return {
-            "snapshot": self.number, "may_apply": self.allow_apply, "remarks": "".join(line + "\n" for line in remarks.splitlines() if line.startswith("broken: ")),
-            "sources": [os.path.basename(self.document)], "sites": sites, "doubts": [], "merged": {"flags": merged},
-        }
+                total = sum(weight for _, weight in rule) if rule else None
+                sites.append({"by": by, "flag": key, "site": site, "rule": rule, "total": total, "inputs": self.counted(key, site, by)})
+        doubts = sorted(([json.loads(found[1]), found[2]] for found in map(DOUBTED.search, remarks) if found), key=lambda it: (it[0].encode(), DOUBTS.index(it[1])))
+        told = {"snapshot": self.number, "may_apply": self.allow_apply, "remarks": "".join(line + "\n" for line in remarks if BROKEN.match(line))}
+        return {**told, "sources": [self.document], "sites": sites, "doubts": doubts, "kinds": kinds, "merged": {"flags": merged}}
+
+    def counted(self, key, site, by):
+        """How many inputs are noted of a page; nothing where that is not counted."""
+        if not self.counts or self.logs is None:
+            return None
+        front = compact([key, site, by])[:-1].encode() + b","
+        return sum(line.startswith(front) for line in self.lines())
 
     def plan(self, body):
         text = self.text()
@@ -156,7 +200,7 @@ class Control:
                 file.write(body)
             with open(path("tally"), "w", encoding="utf-8") as file:
                 file.write(self.tally(request["flag"], request.get("site", 0)))
-            printed, told = self.run(["plan", "--explain", "--picture", path("picture"), self.document, path("request"), path("tally")])
+            printed, told = self.run(["plan", "--floats", "--explain", "--picture", path("picture"), self.document, path("request"), path("tally")])
             with open(path("plan"), "w", encoding="utf-8") as file:
                 file.write(printed)
             plan = json.loads(printed)
@@ -165,24 +209,28 @@ class Control:
             with open(path("tally"), encoding="utf-8") as file:
                 head, *points = [json.loads(line) for line in file.read().splitlines()[1:]]
             new = plan.get("rule")
-            document = self.run(["apply", "--keep", self.document, path("plan"), path("request"), path("tally")])[0] if new else None
-        _, old = site_of(rules_of(json.loads(text)["flags"][request["flag"]]["targeting"])[request.get("site", 0)])
+            document = self.run(["apply", "--keep", "--floats", self.document, path("plan"), path("request"), path("tally")])[0] if new else None
+        _, old = site_of(rules_of(parsed(text)["flags"][request["flag"]]["targeting"])[request.get("site", 0)])
         counts = dict(points)
         switches = switches_of(old, new, counts) if new else []
         by_hand = sum(row["inputs"] for row in switches_of(old, obvious(old, new), counts)) if new else None
-        return {
+        answer = {
             "by_hand": by_hand, "inputs": head["inputs"], "snapshot": self.number, "switch": sum(row["inputs"] for row in switches), "switches": switches,
             "document": document, "explained": told.replace(path("request"), "request"), "picture": picture, "plan": plan, "token": {"document": tag_of(text), "plan": plan, "request": request},
         }
+        passed_over = [name for name in self.names() if name.endswith(COMPRESSED)]
+        return {**answer, "passed_over": passed_over} if passed_over else answer
 
     def apply(self, body, who):
         if not self.allow_apply:
-            raise Refused("apply", 1, "NotAllowed", "The service was not started with --allow-apply.", 403)
+            raise Refused("apply", 1, "NotAllowed", "The service was not started with --allow-apply.", 404)
         token = json.loads(body)
         before = self.text()
         if token["document"] != tag_of(before):
-            raise Refused("apply", 2, "OtherDocument", "The document has changed since this was planned.", 409)
+            raise Refused("control", 3, "OtherDocument", "The document has changed since this was planned.", 409)
         made = self.plan(compact(token["request"]).encode())
+        if not made["inputs"]:
+            raise Refused("apply", 17, "Unrecorded", "Nothing is recorded of the site.")
         if made["plan"] != token["plan"]:
             raise Refused("verify", 6, "Cost", "The plan is not right on what is recorded now.")
         request = token["request"]
@@ -199,7 +247,9 @@ class Control:
         return {"written": len(made["document"].encode())}
 
     def history(self):
-        path = os.path.join(self.logs or "", "applied.log")
+        if self.logs is None:
+            raise Refused("control", 1, "NoRecord", "The service keeps no log.", 409)
+        path = os.path.join(self.logs, "applied.log")
         if not os.path.exists(path):
             return []
         with open(path, encoding="utf-8") as file:
@@ -261,7 +311,7 @@ class Answers(http.server.BaseHTTPRequestHandler):
             elif url.path == "/history":
                 self.answered(control.history)
             elif url.path == "/metrics":
-                self.told(200, b"", "text/plain; version=0.0.4")
+                self.told(200, self.server.metrics.encode(), "text/plain; version=0.0.4")
             else:
                 self.told(404, b"{}")
 
@@ -285,11 +335,11 @@ class Answers(http.server.BaseHTTPRequestHandler):
 class ControlServer:
     """A server of these calls on the loopback."""
 
-    def __init__(self, document, logs, allow_apply=False):
-        self.control = Control(document, logs, allow_apply)
+    def __init__(self, document, logs, **how):
+        self.control = Control(document, logs, **how)
         self.control.lock = threading.Lock()
         self.server = http.server.ThreadingHTTPServer(("127.0.0.1", 0), Answers)
-        self.server.control = self.control
+        self.server.control, self.server.metrics = self.control, ""
         with open(CONSOLE, encoding="utf-8") as file:
             self.server.policy = policy_of(file.read())
         self.origin = f"http://127.0.0.1:{self.server.server_port}"

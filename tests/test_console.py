@@ -22,6 +22,31 @@ def note(page, key):
     return json.dumps([page, 0, None, f"{page}{key}"], separators=(",", ":"), ensure_ascii=False) + "\n"
 
 
+# What is wrong in how the page looks and is told: it is wider than the window, a control has no name, a text has too little contrast
+# (W3C, Web Content Accessibility Guidelines 2.2, 1.4.3: 4.5).
+LOOKED_AT = """
+const found = [], root = document.documentElement;
+if (root.scrollWidth > innerWidth) found.push(`wide: ${root.scrollWidth}`);
+const seen = one => one.checkVisibility ? one.checkVisibility() && one.getClientRects().length : one.getClientRects().length;
+for (const one of document.querySelectorAll("input, button, a[href], summary, [tabindex='0'], [role=img], img, table, dialog")) {
+    const name = one.getAttribute("aria-label") || one.getAttribute("aria-labelledby") || one.alt || (one.labels && one.labels.length && one.labels[0].textContent.trim()) || one.textContent.trim();
+    if (seen(one) && !name) found.push(`nameless: ${one.outerHTML.slice(0, 80)}`);
+}
+const part = value => value / 255 <= 0.04045 ? value / 255 / 12.92 : ((value / 255 + 0.055) / 1.055) ** 2.4;
+const light = ([r, g, b]) => 0.2126 * part(r) + 0.7152 * part(g) + 0.0722 * part(b);
+const color = text => text.match(/[\d.]+/g).map(Number);
+const ground = one => { for (; one; one = one.parentElement) { const it = color(getComputedStyle(one).backgroundColor); if (it.length === 3 || it[3] === 1) return it; } return [255, 255, 255]; };
+const walk = document.createTreeWalker(document.body, NodeFilter.SHOW_TEXT);
+while (walk.nextNode()) {
+    const one = walk.currentNode.parentElement, text = walk.currentNode.data.trim();
+    if (!text || !seen(one) || one.closest("script, style, .sr, :disabled, dialog:not([open])")) continue;
+    const [low, high] = [light(color(getComputedStyle(one).color)), light(ground(one))].sort((a, b) => a - b);
+    if ((high + 0.05) / (low + 0.05) < 4.5) found.push(`faint: ${text.slice(0, 40)} ${((high + 0.05) / (low + 0.05)).toFixed(2)}`);
+}
+return found;
+"""
+
+
 def serves_console():
     """Whether the program itself has the calls."""
     return "--allow-apply" in subprocess.run([PROGRAM, "ofrep", "--help"], capture_output=True, text=True, check=False).stdout
@@ -46,6 +71,9 @@ def is_open(port):
     with socket.socket() as probe:
         return probe.connect_ex(("127.0.0.1", port)) == 0
 
+
+# The server here tells how many inputs are recorded of each site.
+COUNTED = {} if serves_console() else {"counts": True}
 
 BROWSERS = {}
 
@@ -117,17 +145,19 @@ class ConsoleTest(unittest.TestCase):
         """What a plan is told as, once it is there."""
         return self.until("document.querySelector('#result[aria-busy=false]') && document.getElementById('outcome').textContent")
 
-    def picture(self, name):
-        """Screenshots at two widths, light and dark, where they are asked for."""
-        for width in (400, 1600) if PICTURES else ():
-            for scheme in ("light", "dark"):
-                self.browser.look(width, scheme == "dark")
-                self.browser.run("await new Promise(go => setTimeout(go, 300));")
-                with open(os.path.join(PICTURES, f"{type(self.browser).__name__.lower()}-{name}-{width}-{scheme}.png"), "wb") as file:
-                    file.write(self.browser.picture())
-        if PICTURES:
-            self.browser.look(1366, False)
-
+    def look(self, name):
+        """The page is good to look at, at two widths, light and dark. Screenshots, where they are asked for."""
+        for width in (400, 1600):
+            for is_dark in (False, True):
+                self.browser.look(width, is_dark)
+                self.until(f"Math.abs(innerWidth - {width}) < 2 && matchMedia('(prefers-color-scheme: dark)').matches === {str(is_dark).lower()}")
+                self.assertEqual(self.browser.run(LOOKED_AT), [], f"{name}, {width}, {is_dark}")
+                if PICTURES:
+                    self.browser.run("await new Promise(go => setTimeout(go, 300));")
+                    path = os.path.join(PICTURES, f"{type(self.browser).__name__.lower()}-{name}-{width}-{'dark' if is_dark else 'light'}.png")
+                    with open(path, "wb") as file:
+                        file.write(self.browser.picture())
+        self.browser.look(1366, False)
 
 def shop():
     with open(os.path.join(DEMO, "flags", "shop.json"), encoding="utf-8") as file:
@@ -145,12 +175,12 @@ class Rollouts(ConsoleTest):
 
     @in_each_browser
     def test_from_the_first_click_to_the_changed_file(self):
-        self.begin(shop(), shop_lines(), allow_apply=True)
+        self.begin(shop(), shop_lines(), allow_apply=True, **COUNTED)
         before = self.text("flags.json")
-        self.picture("flags")
+        self.look("flags")
         self.browser.click("a[href='#flag/checkout']")
         self.until("document.querySelectorAll('.counts div').length === 100")
-        self.picture("flag")
+        self.look("flag")
         self.browser.click("#sites button")
         self.assertEqual(self.outcome(), "0 of 300 recorded users switch, where an edit by hand would switch 0. No rule that fits costs less.")
         self.browser.fill("#total-1", "10")
@@ -164,7 +194,7 @@ class Rollouts(ConsoleTest):
         self.assertIs(self.browser.run("return document.getElementById('change').hidden;"), True)
         self.browser.click("#show-diff")
         self.until("document.querySelectorAll('#diff .added').length")
-        self.picture("rollout")
+        self.look("rollout")
         self.assertEqual(self.text("flags.json"), before)
         self.browser.click("#apply")
         self.until("document.getElementById('sure').open")
@@ -177,7 +207,7 @@ class Rollouts(ConsoleTest):
         self.assertEqual(sum(weight for name, weight in rule if name == "on"), 10)
         self.browser.click("#history-rows button")
         self.until("/would switch/.test(document.getElementById('history-rows').textContent)")
-        self.picture("history")
+        self.look("history")
 
     @in_each_browser
     def test_by_the_keyboard_alone(self):
@@ -204,6 +234,48 @@ class Rollouts(ConsoleTest):
         self.until("/^1 of 300/.test(document.getElementById('outcome').textContent)")
 
     @in_each_browser
+    def test_the_command_line_does_the_same(self):
+        self.begin(shop(), shop_lines())
+        self.put("log/worker-3.log.gz", "")
+        self.browser.run("location.hash = 'rollout/checkout/0';")
+        self.outcome()
+        self.browser.fill("#total-1", "10")
+        self.until("/^1 of 300/.test(document.getElementById('outcome').textContent)")
+        self.assertEqual(self.browser.run("return document.getElementById('passed').textContent;"), "Not counted, as they are compressed: worker-3.log.gz.")
+        line, plan = self.browser.run("return [commandLine(), answer.plan];")
+        os.symlink(PROGRAM, self.path("flagops"))
+        ran = subprocess.run(["sh", "-ec", line], cwd=self.folder, env={**os.environ, "PATH": f"{self.folder}:{os.environ['PATH']}"}, capture_output=True, check=True)
+        self.assertEqual(json.loads(ran.stdout), plan)
+
+    @in_each_browser
+    def test_prices_and_prohibitions(self):
+        names = ["blue", "green", "red"]
+        rule = {"fractional": [[name, 10] for name in names]}
+        self.begin(json.dumps({"flags": {"color": {"state": "ENABLED", "variants": {name: name for name in names}, "defaultVariant": "red", "targeting": rule}}}), [note("color", key) for key in range(300)])
+        self.browser.run("location.hash = 'rollout/color/0';")
+        self.outcome()
+        for fold in ("forbid", "prices"):
+            self.browser.run(f"document.getElementById('{fold}').closest('details').open = true;")
+        self.browser.fill("#total-0", "14")
+        self.browser.click("#forbid-1-0")
+        self.browser.fill("#price-2-1", "3")
+        self.until("document.querySelector('#result[aria-busy=false]') && document.querySelectorAll('#switch-rows tr').length")
+        asked = self.browser.run("return answer.token.request;")
+        self.assertEqual((asked["forbid"], asked["prices"], sum(asked["totals"].values())), ([["green", "blue"]], [["red", "green", 3]], 30))
+        rows = self.browser.run("return [...document.querySelectorAll('#switch-rows tr')].map(row => [...row.cells].slice(0, 2).map(cell => cell.textContent));")
+        self.assertNotIn(["green", "blue"], rows)
+        self.look("prices")
+
+    @in_each_browser
+    def test_how_much_is_evaluated(self):
+        self.begin(shop(), shop_lines())
+        if isinstance(self.server, ControlServer):
+            for count in (100, 160):
+                self.server.server.metrics = f'ofrep_evaluations_total{{reason="SPLIT"}} {count}\n'
+                self.browser.run("await rates();")
+            self.assertRegex(self.browser.run("return document.getElementById('rates').textContent;"), "^A minute: SPLIT [1-9]")
+
+    @in_each_browser
     def test_no_rule_can(self):
         self.begin(shop(), shop_lines())
         self.browser.run("location.hash = 'rollout/checkout/0';")
@@ -212,7 +284,7 @@ class Rollouts(ConsoleTest):
         self.browser.click("#keep-0")
         self.until("/^No rule can/.test(document.getElementById('outcome').textContent)")
         self.assertIs(self.browser.run("return document.getElementById('show-diff').disabled;"), True)
-        self.picture("none")
+        self.look("none")
 
     @in_each_browser
     def test_a_document_that_changed_is_not_written(self):
@@ -229,6 +301,10 @@ class Rollouts(ConsoleTest):
         self.browser.click("#apply-yes")
         self.until("document.getElementById('message').className === 'bad'")
         self.assertEqual(self.text("flags.json"), changed)
+        self.browser.fill("#total-1", "11")
+        self.until("document.querySelector('#message button')")
+        self.browser.click("#message button")
+        self.until("document.getElementById('total-1').value === '5'")
 
 
 class Names(ConsoleTest):
@@ -237,23 +313,38 @@ class Names(ConsoleTest):
     @in_each_browser
     def test_markup_in_names(self):
         evil = "<img src=x onerror=document.title='bad'>\"'&"
-        rule = {"fractional": [[evil, 5], ["off", 95]]}
-        document = {"flags": {evil: {"state": "ENABLED", "variants": {evil: True, "off": False}, "defaultVariant": evil, "targeting": rule}}}
+        rule = {"fractional": [[evil, 5], ["__proto__", 5], ["off", 90]]}
+        document = {"flags": {evil: {"state": "ENABLED", "variants": {evil: True, "off": False, "__proto__": True}, "defaultVariant": evil, "targeting": rule}}}
         self.begin(json.dumps(document), [note(evil, key) for key in range(50)])
         self.browser.click("#flag-rows a")
         self.until("document.querySelectorAll('.counts div').length")
         self.browser.click("#sites button")
         self.outcome()
         self.browser.fill("#total-0", "20")
-        self.until("document.querySelectorAll('#switch-rows tr').length || document.getElementById('picture').src")
+        self.until("answer && answer.token.request.totals[site.names[0]] === 20")
+        self.look("markup")
         self.assertEqual(self.browser.run("return [document.title, document.images.length, document.getElementById('rollout-flag').textContent];"), ["flagops", 1, evil])
 
     @in_each_browser
-    def test_broken_flags_come_first(self):
-        self.begin(shop(), shop_lines())
+    def test_broken_and_doubted_flags_come_first(self):
+        on = {"state": "ENABLED", "variants": {"on": True, "off": False}, "defaultVariant": "off"}
+        flags = {"a": on, "b.c \"d\"": {**on, "state": "ON"}, "e": {**on, "targeting": {"fractional": [["on", 0]]}}, "f": {**on, "state": "DISABLED"}, "g": {**on, "variants": {}}}
+        self.begin(json.dumps({"flags": flags}), [])
         rows = self.browser.run("return [...document.querySelectorAll('#flag-rows tr')].map(row => row.textContent);")
-        self.assertRegex(rows[0], "^discount.*broken.*not whole")
-        self.assertEqual([row[:6] for row in rows[1:]], ["banner", "checko", "theme "])
+        for row, told in zip(rows, ['^b.c "d".*broken.*state is "ON"', "^g.*broken.*variants", "^e.*doubtful.*weights", "^a.*enabled", "^f.*disabled"], strict=True):
+            self.assertRegex(row, told)
+        self.look("broken")
+        self.browser.click("#flag-rows a")
+        self.until("/This flag is broken/.test(document.getElementById('flag-notes').textContent)")
+        self.look("broken-flag")
+
+    @in_each_browser
+    def test_numbers_are_shown_as_they_are_spelled(self):
+        flags = '{"flags":{"rate":{"state":"ENABLED","variants":{"low":0.50,"high":12345678901234567890,"other":1e3},"defaultVariant":"low"}}}'
+        self.begin(flags, [])
+        self.browser.click("#flag-rows a")
+        self.assertEqual(self.browser.run("return [...document.querySelectorAll('#variant-rows td')].map(cell => cell.textContent);"), ["12345678901234567890", "0.50", "1e3"])
+        self.assertRegex(self.browser.run("return document.getElementById('flag-chips').textContent;"), "number")
 
     @in_each_browser
     def test_ten_thousand_flags(self):

@@ -1,5 +1,5 @@
 #!/usr/bin/env python3
-"""Makes the source that embeds the console (`crates/console_page/src/page.rt`) of `console/console.html`; with `check`, says whether it is
+"""Makes the source that embeds the console (`crates/console_page/src/source.rt`) of `console/console.html`; with `check`, says whether it is
 that already. The policy beside it names the page's own style and script by their digests, and nothing else."""
 import base64
 import hashlib
@@ -9,7 +9,7 @@ import sys
 
 ROOT = os.path.dirname(os.path.dirname(os.path.abspath(__file__)))
 PAGE = os.path.join(ROOT, "console", "console.html")
-SOURCE = os.path.join(ROOT, "crates", "console_page", "src", "page.rt")
+SOURCE = os.path.join(ROOT, "crates", "console_page", "src", "source.rt")
 
 
 def policy_of(page):
@@ -20,7 +20,7 @@ def policy_of(page):
         assert len(found) == 1, tag
         return "'sha256-" + base64.b64encode(hashlib.sha256(found[0].encode()).digest()).decode() + "'"
 
-    return f"default-src 'none'; style-src {own('style')}; script-src {own('script')}; connect-src 'self'; img-src blob:; base-uri 'none'; form-action 'none'; frame-ancestors 'none'"
+    return f"default-src 'none'; style-src {own('style')}; script-src {own('script')}; connect-src 'self'; img-src blob: data:; base-uri 'none'; form-action 'none'; frame-ancestors 'none'"
 
 
 def source_of(page):
@@ -42,7 +42,7 @@ def main():
     if sys.argv[1:] == ["check"]:
         with open(SOURCE, encoding="utf-8") as file:
             if file.read() != wanted:
-                sys.exit("crates/console_page/src/page.rt is not that of console/console.html: run tools/embed_console.py")
+                sys.exit("crates/console_page/src/source.rt is not that of console/console.html: run tools/embed_console.py")
     else:
         with open(SOURCE, "w", encoding="utf-8") as file:
             file.write(wanted)

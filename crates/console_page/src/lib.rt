@@ -3,6 +3,6 @@
 //! A crate of its own, as its sources are made of `console/console.html` by `tools/embed_console.py`; the gate compares them.
 #![tactic(auto)]
 
-mod page;
+mod source;
 
-pub use page::{page, policy};
+pub use source::{page, policy};
