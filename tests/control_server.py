@@ -157,13 +157,16 @@ class Control:
             for name in names:
                 with open(os.path.join(self.logs, name), "rb") as file:
                     found.update(line + b"\n" for line in file.read().split(b"\n")[:-1] if line)
-            self.read = {"state": state, "lines": sorted(found)}
+            self.read = {"state": state, "lines": sorted(found), "tallies": {}}
         return self.read["lines"]
 
     def tally(self, key, site):
         if self.logs is None:
             raise Refused("control", 1, "NoRecord", "The service keeps no log.", 409)
-        return self.run(["tally", "--floats", self.document, key, str(site)], b"".join(self.lines()))[0]
+        lines, asked = self.lines(), (self.text(), key, site)
+        if asked not in self.read["tallies"]:
+            self.read["tallies"][asked] = self.run(["tally", "--floats", self.document, key, str(site)], b"".join(lines))[0]
+        return self.read["tallies"][asked]
 
     def flags(self):
         """The flags of the document as the service prints them, and what is told of them: a broken one is an empty object."""

@@ -357,7 +357,7 @@ class Names(ConsoleTest):
 
     @in_each_browser
     def test_a_record_of_a_million_inputs(self):
-        self.begin(shop(), [note("checkout", f"user-{number}") for number in range(1_000_000)])
+        self.begin(shop(), [f'["checkout",0,null,"checkoutuser-{number}"]\n' for number in range(1_000_000)])
         self.browser.run("location.hash = 'rollout/checkout/0';")
         self.outcome()
         self.browser.fill("#total-1", "10")
