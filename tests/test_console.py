@@ -141,6 +141,10 @@ class ConsoleTest(unittest.TestCase):
         self.assertNotIsInstance(told, dict, script)
         return told
 
+    def asked(self):
+        """The request that the page makes of its fields."""
+        return json.loads(self.browser.run("return JSON.stringify(request(wantedNow()));"))
+
     def outcome(self):
         """What a plan is told as, once it is there."""
         return self.until("document.querySelector('#result[aria-busy=false]') && document.getElementById('outcome').textContent")
@@ -242,10 +246,13 @@ class Rollouts(ConsoleTest):
         self.browser.fill("#total-1", "10")
         self.until("/^1 of 300/.test(document.getElementById('outcome').textContent)")
         self.assertEqual(self.browser.run("return document.getElementById('passed').textContent;"), "Not counted, as they are compressed: worker-3.log.gz.")
-        line, plan = self.browser.run("return [commandLine(), answer.plan];")
+        line = self.browser.run("return commandLine();")
         os.symlink(PROGRAM, self.path("flagops"))
         ran = subprocess.run(["sh", "-ec", line], cwd=self.folder, env={**os.environ, "PATH": f"{self.folder}:{os.environ['PATH']}"}, capture_output=True, check=True)
-        self.assertEqual(json.loads(ran.stdout), plan)
+        client = http.client.HTTPConnection(self.server.origin[7:])
+        self.after.callback(client.close)
+        client.request("POST", "/plan", json.dumps(self.asked()))
+        self.assertEqual(json.loads(ran.stdout), json.loads(client.getresponse().read())["plan"])
 
     @in_each_browser
     def test_prices_and_prohibitions(self):
@@ -260,7 +267,7 @@ class Rollouts(ConsoleTest):
         self.browser.click("#forbid-1-0")
         self.browser.fill("#price-2-1", "3")
         self.until("document.querySelector('#result[aria-busy=false]') && document.querySelectorAll('#switch-rows tr').length")
-        asked = self.browser.run("return answer.token.request;")
+        asked = self.asked()
         self.assertEqual((asked["forbid"], asked["prices"], sum(asked["totals"].values())), ([["green", "blue"]], [["red", "green", 3]], 30))
         rows = self.browser.run("return [...document.querySelectorAll('#switch-rows tr')].map(row => [...row.cells].slice(0, 2).map(cell => cell.textContent));")
         self.assertNotIn(["green", "blue"], rows)
@@ -302,7 +309,7 @@ class Rollouts(ConsoleTest):
         self.until("document.getElementById('message').className === 'bad'")
         self.assertEqual(self.text("flags.json"), changed)
         self.browser.fill("#total-1", "11")
-        self.until("document.querySelector('#message button')")
+        self.until("!!document.querySelector('#message button')")
         self.browser.click("#message button")
         self.until("document.getElementById('total-1').value === '5'")
 
@@ -321,7 +328,8 @@ class Names(ConsoleTest):
         self.browser.click("#sites button")
         self.outcome()
         self.browser.fill("#total-0", "20")
-        self.until("answer && answer.token.request.totals[site.names[0]] === 20")
+        self.assertRegex(self.outcome(), "^[0-9]+ of 50 recorded users switch")
+        self.assertEqual(self.asked()["totals"], {evil: 20, "__proto__": 5, "off": 75})
         self.look("markup")
         self.assertEqual(self.browser.run("return [document.title, document.images.length, document.getElementById('rollout-flag').textContent];"), ["flagops", 1, evil])
 

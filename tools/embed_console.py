@@ -30,30 +30,35 @@ def literal(text):
     return '"' + text.replace("\\", "\\\\").replace('"', '\\"').replace("\n", "\\n") + '"'
 
 
-def files_of(page):
-    """The texts of the files that embed a page, by their paths."""
-    assert set(page) <= {"\n", *map(chr, range(32, 127))}, "the page has other bytes than those of ASCII that print, and line feeds"
-    assert page.count("\n") <= MOST_LINES, f"the page has more than {MOST_LINES} lines"
-    source = f"""//! The page and its policy, made of `console/console.html` by `tools/embed_console.py`.
+def source_of(page):
+    assert '"##' not in page
+    return f"""//! The page and its policy, made of `console/console.html` by `tools/embed_console.py`.
 ghost use Rattle.std.specs.Prelude.{{◌≡◌}};
 ghost use Rattle.console_page.specs.Page.{{page_text, policy_text}};
 
-/// The page: HTML, in UTF-8.
-pub fn page() -> &'static str
+/// The page: HTML, in ASCII.
+pub fn page_html() -> &'static str
     ensures {{ result.now ≡ page_text }}
 {{
-    {literal(page)}
+    PAGE
 }}
 
 /// The value of the field `Content-Security-Policy` that it is sent with: its own style and script, by their digests, and nothing from
 /// elsewhere.
-pub fn policy() -> &'static str
+pub fn page_policy() -> &'static str
     ensures {{ result.now ≡ policy_text }}
 {{
-    {literal(policy_of(page))}
+    POLICY
 }}
+
+const PAGE: &str = r##"{page}"##;
+
+const POLICY: &str = {literal(policy_of(page))};
 """
-    spec = f"""-- The page of the console, and the policy by which a browser takes nothing else (W3C, Content Security Policy Level 3).
+
+
+def spec_of(page):
+    return f"""-- The page of the console, and the policy by which a browser takes nothing else (W3C, Content Security Policy Level 3).
 -- Made of `console/console.html` by `tools/embed_console.py`.
 use Rattle.std.specs.Prelude.{{ℕ, List, codes}}
 
@@ -63,7 +68,13 @@ page_text = codes {literal(page)}
 abbrev pub policy_text : List ℕ
 policy_text = codes {literal(policy_of(page))}
 """
-    return {os.path.join(CRATE, "src", "source.rt"): source, os.path.join(CRATE, "specs", "Page.antt"): spec}
+
+
+def files_of(page):
+    """The texts of the files that embed a page, by their paths."""
+    assert set(page) <= {"\n", *map(chr, range(32, 127))}, "the page has other bytes than line feeds and those of ASCII that print"
+    assert page.count("\n") <= MOST_LINES, f"the page has more than {MOST_LINES} lines"
+    return {os.path.join(CRATE, "src", "source.rt"): source_of(page), os.path.join(CRATE, "specs", "Page.antt"): spec_of(page)}
 
 
 def text_at(path):

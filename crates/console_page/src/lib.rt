@@ -7,4 +7,4 @@
 
 mod source;
 
-pub use source::{page, policy};
+pub use source::{page_html, page_policy};
