@@ -35,7 +35,7 @@ class Chromium:
         how = {"stdout": subprocess.PIPE, "stderr": subprocess.DEVNULL, "stdin": subprocess.DEVNULL, "text": True}
         self.driver = subprocess.Popen([found("chromedriver"), "--port=0"], **how)
         self.session = None
-        self.port = next(int(told[1]) for told in map(re.compile(r"started successfully on port (\d+)").search, self.driver.stdout) if told)
+        self.port = next(int(answer[1]) for answer in map(re.compile(r"started successfully on port (\d+)").search, self.driver.stdout) if answer)
 
     def begin(self):
         """Starts it; before anything else."""
@@ -48,12 +48,12 @@ class Chromium:
         client = http.client.HTTPConnection("127.0.0.1", self.port, timeout=SECONDS)
         try:
             client.request(method, path, None if value is None else json.dumps(value), {"Content-Type": "application/json"})
-            told = json.loads(client.getresponse().read())["value"]
+            answer = json.loads(client.getresponse().read())["value"]
         finally:
             client.close()
-        if isinstance(told, dict) and "error" in told:
-            raise OSError(f"{told['error']}: {told['message']}")
-        return told
+        if isinstance(answer, dict) and "error" in answer:
+            raise OSError(f"{answer['error']}: {answer['message']}")
+        return answer
 
     def post(self, path, **given):
         return self.asked("POST", f"/session/{self.session}{path}", given)
@@ -148,10 +148,10 @@ class Firefox:
     def send(self, name, given):
         body = json.dumps([0, next(self.numbers), name, given]).encode()
         self.socket.sendall(f"{len(body)}:".encode() + body)
-        _, _, fault, told = self.read()
+        _, _, fault, answer = self.read()
         if fault:
             raise OSError(f"{fault['error']}: {fault['message']}")
-        return told["value"] if isinstance(told, dict) and "value" in told else told
+        return answer["value"] if isinstance(answer, dict) and "value" in answer else answer
 
     def open(self, url):
         self.post("Navigate", url=url)
@@ -215,8 +215,8 @@ def asynchronous(script):
     return f"const end = arguments[arguments.length - 1]; (async (...given) => {{ {script} }})(...arguments).then(end, fault => end({{fault: fault.name}}));"
 
 
-def reference_of(told):
-    return next(iter(told.values()))
+def reference_of(answer):
+    return next(iter(answer.values()))
 
 
 def presses(text):

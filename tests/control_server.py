@@ -104,12 +104,12 @@ DOUBTED = re.compile(r'^note: .*?: flag ("(?:[^"\\]|\\.)*") .*\((Weight|Variant|
 # Logs with such an end are not read.
 COMPRESSED = (".gz", ".xz", ".zst", ".bz2")
 
-# What is told of a broken flag begins with its place in the document.
+# What is said of a broken flag begins with its place in the document.
 BROKEN = re.compile(r'broken: flags(?:\.([\w-]+)|\[("(?:[^"\\]|\\.)*")\])')
 
 
 def tag_of(text):
-    return hashlib.sha256(text.encode()).hexdigest()[:32]
+    return hashlib.sha256(text.encode()).hexdigest()
 
 
 class Refused(Exception):
@@ -138,11 +138,11 @@ class Control:
     def run(self, words, given=None):
         """What a command prints; its refusal where it is refused."""
         ended = subprocess.run([PROGRAM, *words], input=given, capture_output=True, check=False)
-        out, told = ended.stdout.decode(), ended.stderr.decode()
+        out, err = ended.stdout.decode(), ended.stderr.decode()
         if ended.returncode not in (0, 3):
             found = re.search(r"^refused (\w+) (\d+) (\w+)", out, re.MULTILINE)
-            raise Refused(found[1], int(found[2]), found[3], told.strip())
-        return out, told
+            raise Refused(found[1], int(found[2]), found[3], err.strip())
+        return out, err
 
     def names(self):
         """The names of all logs, those that were rotated among them."""
@@ -169,7 +169,7 @@ class Control:
         return self.read["tallies"][asked]
 
     def flags(self):
-        """The flags of the document as the service prints them, and what is told of them: a broken one is an empty object."""
+        """The flags of the document as the service prints them, and what is said of them: a broken one is an empty object."""
         text = self.text()
         remarks = self.run(["check", "--floats", self.document])[1].splitlines()
         broken = {found[1] or json.loads(found[2]) for found in map(BROKEN.match, remarks) if found}
@@ -184,15 +184,15 @@ class Control:
                 total = sum(weight for _, weight in rule) if rule else None
                 sites.append({"by": by, "flag": key, "site": site, "rule": rule, "total": total, "inputs": self.counted(key, site, by)})
         doubts = sorted(([json.loads(found[1]), found[2]] for found in map(DOUBTED.search, remarks) if found), key=lambda it: (it[0].encode(), DOUBTS.index(it[1])))
-        told = {"snapshot": self.number, "may_apply": self.allow_apply, "remarks": "".join(line + "\n" for line in remarks if BROKEN.match(line))}
-        return {**told, "sources": [self.document], "sites": sites, "doubts": doubts, "kinds": kinds, "merged": {"flags": merged}}
+        head = {"snapshot": self.number, "may_apply": self.allow_apply, "remarks": "".join(line + "\n" for line in remarks if BROKEN.match(line))}
+        return {**head, "sources": [self.document], "sites": sites, "doubts": doubts, "kinds": kinds, "merged": {"flags": merged}}
 
     def counted(self, key, site, by):
         """How many inputs are noted of a page; nothing where that is not counted."""
         if not self.counts or self.logs is None:
             return None
-        front = compact([key, site, by])[:-1].encode() + b","
-        return sum(line.startswith(front) for line in self.lines())
+        page = compact([key, site, by])[:-1].encode() + b","
+        return sum(line.startswith(page) for line in self.lines())
 
     def plan(self, body):
         text = self.text()
@@ -203,7 +203,7 @@ class Control:
                 file.write(body)
             with open(path("tally"), "w", encoding="utf-8") as file:
                 file.write(self.tally(request["flag"], request.get("site", 0)))
-            printed, told = self.run(["plan", "--floats", "--explain", "--picture", path("picture"), self.document, path("request"), path("tally")])
+            printed, words = self.run(["plan", "--floats", "--explain", "--picture", path("picture"), self.document, path("request"), path("tally")])
             with open(path("plan"), "w", encoding="utf-8") as file:
                 file.write(printed)
             plan = json.loads(printed)
@@ -219,7 +219,7 @@ class Control:
         by_hand = sum(row["inputs"] for row in switches_of(old, obvious(old, new), counts)) if new else None
         answer = {
             "by_hand": by_hand, "inputs": head["inputs"], "snapshot": self.number, "switch": sum(row["inputs"] for row in switches), "switches": switches,
-            "document": document, "explained": told.replace(path("request"), "request"), "picture": picture, "plan": plan, "token": {"document": tag_of(text), "plan": plan, "request": request},
+            "document": document, "explained": words.replace(path("request"), "request"), "picture": picture, "plan": plan, "token": {"document": tag_of(text), "plan": plan, "request": request},
         }
         passed_over = [name for name in self.names() if name.endswith(COMPRESSED)]
         return {**answer, "passed_over": passed_over} if passed_over else answer
@@ -264,7 +264,7 @@ class Answers(http.server.BaseHTTPRequestHandler):
 
     protocol_version = "HTTP/1.1"
 
-    def told(self, status, body, kind="application/json", **headers):
+    def send(self, status, body, kind="application/json", **headers):
         self.send_response(status)
         self.send_header("Content-Type", kind)
         self.send_header("Content-Length", str(len(body)))
@@ -275,16 +275,16 @@ class Answers(http.server.BaseHTTPRequestHandler):
 
     def answered(self, ask):
         try:
-            self.told(200, (compact(ask()) + "\n").encode())
+            self.send(200, (compact(ask()) + "\n").encode())
         except Refused as refused:
-            self.told(refused.status, (compact(refused.body) + "\n").encode())
+            self.send(refused.status, (compact(refused.body) + "\n").encode())
 
     def is_own(self):
         port = self.server.server_port
         hosts = {f"127.0.0.1:{port}", f"localhost:{port}"}
         origin = self.headers.get("Origin")
         if self.headers.get("Host") not in hosts or origin not in {None, *(f"http://{host}" for host in hosts)}:
-            self.told(403, b"{}")
+            self.send(403, b"{}")
             return False
         return True
 
@@ -295,28 +295,28 @@ class Answers(http.server.BaseHTTPRequestHandler):
         with control.lock:
             if url.path == "/":
                 with open(CONSOLE, "rb") as file:
-                    self.told(200, file.read(), "text/html; charset=utf-8", Content_Security_Policy=self.server.policy)
+                    self.send(200, file.read(), "text/html; charset=utf-8", Content_Security_Policy=self.server.policy)
             elif url.path == "/flags":
                 self.answered(control.flags)
             elif url.path == "/snapshot":
                 text = control.text()
                 tag = f'"{tag_of(text)}"'
                 if self.headers.get("If-None-Match") == tag:
-                    self.told(304, b"", ETag=tag)
+                    self.send(304, b"", ETag=tag)
                 else:
-                    self.told(200, text.encode(), ETag=tag, X_Snapshot=str(control.number))
+                    self.send(200, text.encode(), ETag=tag, X_Snapshot=str(control.number))
             elif url.path == "/record":
                 asked = parse_qs(url.query)
                 try:
-                    self.told(200, control.tally(asked["flag"][0], int(asked["site"][0])).encode(), "application/jsonl")
+                    self.send(200, control.tally(asked["flag"][0], int(asked["site"][0])).encode(), "application/jsonl")
                 except Refused as refused:
-                    self.told(refused.status, compact(refused.body).encode())
+                    self.send(refused.status, compact(refused.body).encode())
             elif url.path == "/history":
                 self.answered(control.history)
             elif url.path == "/metrics":
-                self.told(200, self.server.metrics.encode(), "text/plain; version=0.0.4")
+                self.send(200, self.server.metrics.encode(), "text/plain; version=0.0.4")
             else:
-                self.told(404, b"{}")
+                self.send(404, b"{}")
 
     def do_POST(self):
         control = self.server.control
@@ -329,7 +329,7 @@ class Answers(http.server.BaseHTTPRequestHandler):
             elif self.path == "/apply":
                 self.answered(lambda: control.apply(body, self.headers.get("From", "")))
             else:
-                self.told(404, b"{}")
+                self.send(404, b"{}")
 
     def log_message(self, *_):
         pass
@@ -349,5 +349,7 @@ class ControlServer:
         threading.Thread(target=self.server.serve_forever, daemon=True).start()
 
     def close(self):
+        # What is asked from now on finds no files any more.
+        self.server.handle_error = lambda *_: None
         self.server.shutdown()
         self.server.server_close()

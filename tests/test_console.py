@@ -22,7 +22,7 @@ def note(page, key):
     return json.dumps([page, 0, None, f"{page}{key}"], separators=(",", ":"), ensure_ascii=False) + "\n"
 
 
-# What is wrong in how the page looks and is told: it is wider than the window, a control has no name, a text has too little contrast
+# What is wrong in how the page looks: it is wider than the window, a control has no name, a text has too little contrast
 # (W3C, Web Content Accessibility Guidelines 2.2, 1.4.3: 4.5).
 LOOKED_AT = """
 const found = [], root = document.documentElement;
@@ -136,17 +136,17 @@ class ConsoleTest(unittest.TestCase):
 
     def until(self, script, seconds=SECONDS):
         """What the script comes to, once it comes to something."""
-        body = f"const end = Date.now() + given[0]; while (Date.now() < end) {{ const told = {script}; if (told) return told; await new Promise(go => setTimeout(go, 20)); }} throw new Error();"
-        told = self.browser.run(body, 1000 * seconds)
-        self.assertNotIsInstance(told, dict, script)
-        return told
+        body = f"const end = Date.now() + given[0]; while (Date.now() < end) {{ const found = {script}; if (found) return found; await new Promise(go => setTimeout(go, 20)); }} throw new Error();"
+        found = self.browser.run(body, 1000 * seconds)
+        self.assertNotIsInstance(found, dict, script)
+        return found
 
     def asked(self):
         """The request that the page makes of its fields."""
         return json.loads(self.browser.run("return JSON.stringify(request(wantedNow()));"))
 
     def outcome(self):
-        """What a plan is told as, once it is there."""
+        """The words for the plan, once it is there."""
         return self.until("document.querySelector('#result[aria-busy=false]') && document.getElementById('outcome').textContent")
 
     def look(self, name):
@@ -186,11 +186,11 @@ class Rollouts(ConsoleTest):
         self.until("document.querySelectorAll('.counts div').length === 100")
         self.look("flag")
         self.browser.click("#sites button")
-        self.assertEqual(self.outcome(), "0 of 300 recorded users switch, where an edit by hand would switch 0. No rule that fits costs less.")
+        self.assertEqual(self.outcome(), "0 of 300 recorded users switch; 0 would switch if you edited it by hand. No rule that fits costs less.")
         self.browser.fill("#total-1", "10")
         self.browser.click("#keep-1")
         self.until("/^1 of 300/.test(document.getElementById('outcome').textContent)")
-        self.assertEqual(self.outcome(), "1 of 300 recorded users switch, where an edit by hand would switch 10. No rule that fits costs less.")
+        self.assertEqual(self.outcome(), "1 of 300 recorded users switch; 10 would switch if you edited it by hand. No rule that fits costs less.")
         self.assertEqual(self.browser.run("return document.getElementById('total-0').value;"), "90")
         self.until("document.getElementById('picture').complete && document.getElementById('picture').naturalWidth")
         self.browser.click("#steps")
@@ -271,6 +271,7 @@ class Rollouts(ConsoleTest):
         self.assertEqual((asked["forbid"], asked["prices"], sum(asked["totals"].values())), ([["green", "blue"]], [["red", "green", 3]], 30))
         rows = self.browser.run("return [...document.querySelectorAll('#switch-rows tr')].map(row => [...row.cells].slice(0, 2).map(cell => cell.textContent));")
         self.assertNotIn(["green", "blue"], rows)
+        self.assertRegex(self.outcome(), "by hand, also in ways that are not allowed")
         self.look("prices")
 
     @in_each_browser
@@ -339,8 +340,8 @@ class Names(ConsoleTest):
         flags = {"a": on, "b.c \"d\"": {**on, "state": "ON"}, "e": {**on, "targeting": {"fractional": [["on", 0]]}}, "f": {**on, "state": "DISABLED"}, "g": {**on, "variants": {}}}
         self.begin(json.dumps({"flags": flags}), [])
         rows = self.browser.run("return [...document.querySelectorAll('#flag-rows tr')].map(row => row.textContent);")
-        for row, told in zip(rows, ['^b.c "d".*broken.*state is "ON"', "^g.*broken.*variants", "^e.*doubtful.*weights", "^a.*enabled", "^f.*disabled"], strict=True):
-            self.assertRegex(row, told)
+        for row, words in zip(rows, ['^b.c "d".*broken.*state is "ON"', "^g.*broken.*variants", "^e.*doubtful.*weights", "^a.*enabled", "^f.*disabled"], strict=True):
+            self.assertRegex(row, words)
         self.look("broken")
         self.browser.click("#flag-rows a")
         self.until("/This flag is broken/.test(document.getElementById('flag-notes').textContent)")
@@ -377,13 +378,13 @@ class Strangers(ConsoleTest):
     """Pages of other origins, and other names of the host."""
 
     @in_each_browser
-    def test_another_origin_is_told_nothing(self):
+    def test_another_origin_gets_nothing(self):
         self.begin(shop(), shop_lines())
         pages = Pages()
         self.after.callback(pages.close)
         self.browser.open(pages.origin)
-        told = self.browser.run("const found = []; for (const path of ['flags', 'history', 'snapshot']) found.push(await fetch(given[0] + path).then(() => 'told', fault => fault.name)); return found;", self.server.origin + "/")
-        self.assertEqual(told, ["TypeError"] * 3)
+        found = self.browser.run("const found = []; for (const path of ['flags', 'history', 'snapshot']) found.push(await fetch(given[0] + path).then(() => 'answered', fault => fault.name)); return found;", self.server.origin + "/")
+        self.assertEqual(found, ["TypeError"] * 3)
         # What the browser says of this is no error of the console's.
         self.browser.faults()
         self.browser.open(self.server.origin + "/")

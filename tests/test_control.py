@@ -102,8 +102,8 @@ class ControlTest(unittest.TestCase):
         client = http.client.HTTPConnection(self.service.origin[7:], timeout=SECONDS)
         try:
             client.request(method, path, body, headers)
-            told = client.getresponse()
-            return told.status, dict(told.getheaders()), told.read()
+            response = client.getresponse()
+            return response.status, dict(response.getheaders()), response.read()
         finally:
             client.close()
 
@@ -130,11 +130,11 @@ class Plans(ControlTest):
         for number in range(DRAWN):
             request = drawn_request(draw, flags)
             with self.subTest(number=number, request=request):
-                (status, told), (wanted_status, wanted) = self.planned(request), self.commanded(request)
+                (status, answer), (wanted_status, wanted) = self.planned(request), self.commanded(request)
                 self.assertEqual(status, wanted_status)
                 for name in ("explained", "details", "snapshot"):
-                    told.pop(name, None), wanted.pop(name, None)
-                self.assertEqual(told, wanted)
+                    answer.pop(name, None), wanted.pop(name, None)
+                self.assertEqual(answer, wanted)
 
     def test_the_record_is_the_tally_of_the_lines(self):
         document, lines = drawn_document(random.Random(7))
@@ -158,13 +158,13 @@ class Plans(ControlTest):
 
 
 @unittest.skipUnless(serves_console(), "the program has no such calls yet")
-class Told(ControlTest):
-    """Whoever was told a variant before a request came is among the inputs that it is planned on."""
+class Recorded(ControlTest):
+    """Whoever was given a variant before a request came is among the inputs that it is planned on."""
 
-    def test_while_others_are_told(self):
+    def test_while_others_are_answered(self):
         document = compact({"flags": {"color": {"state": "ENABLED", "variants": {"red": 1, "blue": 2}, "defaultVariant": "red", "targeting": {"fractional": [["red", 50], ["blue", 50]]}}}})
         self.begin(document, [])
-        told, ended = [], threading.Event()
+        given, ended = [], threading.Event()
 
         def ask_on(which):
             client = http.client.HTTPConnection("127.0.0.1", self.service.port, timeout=SECONDS)
@@ -173,7 +173,7 @@ class Told(ControlTest):
                 key = f"user-{which}-{number}"
                 client.request("POST", EVALUATE + "color", compact({"context": {"targetingKey": key}}))
                 if client.getresponse().read():
-                    told.append(key)
+                    given.append(key)
                 number += 1
             client.close()
 
@@ -181,7 +181,7 @@ class Told(ControlTest):
         for thread in threads:
             thread.start()
         for _ in range(20):
-            before = len(told)
+            before = len(given)
             status, answer = self.planned({"plan": 1, "flag": "color", "site": 0, "totals": {"red": 40, "blue": 60}})
             self.assertEqual(status, 200)
             self.assertGreaterEqual(answer["inputs"], before)

@@ -226,7 +226,7 @@ const calmly = (...words) => inTurn(async () => {
   }
 });
 const planOf = async (request) => JSON.parse((await calmly("POST", "plan", JSON.stringify(request))).text);
-const hasRule = (told) => "rule" in told.plan;
+const hasRule = (reply) => "rule" in reply.plan;
 
 // ---- pages
 const PAGES = ["flags", "flag", "rollout", "history"];
@@ -268,7 +268,7 @@ function printed(value, indent = "", width = 72) {
   return `${list ? "[" : "{"}\n${parts.map((part) => inner + part).join(",\n")}\n${indent}${list ? "]" : "}"}`;
 }
 
-// The flags of an answer, each with what is told of it elsewhere there.
+// The flags of an answer, each with what the answer says of it elsewhere.
 const DOUBTS = { Weight: "weights that give nobody a variant", Variant: "its targeting can give what is no variant", Never: "its targeting never gives a variant" };
 const KINDS = { bool: "boolean", text: "text", whole: "whole number", float: "number", object: "object" };
 function flagsOf(all) {
@@ -280,9 +280,9 @@ function flagsOf(all) {
     const found = /^broken: flags(?:\.([\w-]+)|\[("(?:[^"\\]|\\.)*")\])\.?(.*)$/.exec(line);
     if (found) broken.set(found[1] === undefined ? JSON.parse(found[2]) : found[1], found[3].trim());
   }
-  return Object.entries(all.merged.flags).map(([key, told]) => ({
-    key, state: told.state, kind: KINDS[kinds.get(key)], default: told.defaultVariant, variants: told.variants || {}, targeting: told.targeting, sites: sites.get(key) || [], doubts: doubts.get(key) || [],
-    broken: told.variants ? null : broken.get(key) || "It can't be read.",
+  return Object.entries(all.merged.flags).map(([key, definition]) => ({
+    key, state: definition.state, kind: KINDS[kinds.get(key)], default: definition.defaultVariant, variants: definition.variants || {}, targeting: definition.targeting, sites: sites.get(key) || [], doubts: doubts.get(key) || [],
+    broken: definition.variants ? null : broken.get(key) || "It can't be read.",
   }));
 }
 // Reads the flags that are served now.
@@ -312,8 +312,8 @@ const shareOf = (rule) => {
 };
 function barOf(flag, rule, thin) {
   const names = namesOf(flag, rule), totals = shareOf(rule), all = [...totals.values()].reduce((sum, n) => sum + n, 0);
-  const told = [...totals].map(([name, points]) => `${name} ${spelled(points)}`).join(", ");
-  const bar = make("div", { class: thin ? "bar thin" : "bar", role: "img", "aria-label": `${told}, of ${plural(all, "point")}`, title: told });
+  const parts = [...totals].map(([name, points]) => `${name} ${spelled(points)}`).join(", ");
+  const bar = make("div", { class: thin ? "bar thin" : "bar", role: "img", "aria-label": `${parts}, of ${plural(all, "point")}`, title: parts });
   for (const [name, weight] of thin ? totals : rule) {
     const piece = make("div", { class: shade(names, name), title: `${name}: ${spelled(weight)}` }, thin || weight * (innerWidth > 900 ? 25 : 9) < all ? "" : name);
     piece.style.flex = `${weight} ${weight} 0`;
@@ -344,8 +344,8 @@ function list() {
 function openFlag(flag) {
   $("flag-title").textContent = named(flag.key);
   $("flag-chips").replaceChildren(badge(flag), ...[flag.kind, flag.default == null ? null : `default ${flag.default}`].filter(Boolean).map((text) => chip(text)));
-  const told = flag.broken ? [flag.broken] : flag.doubts;
-  $("flag-notes").replaceChildren(...(told.length ? [make("div", { class: `card ${flag.broken ? "bad" : "warn"}` }, make("h3", {}, flag.broken ? "This flag is broken" : "Doubtful"), ...told.map((text) => make("p", { class: "small" }, text)))] : []));
+  const notes = flag.broken ? [flag.broken] : flag.doubts;
+  $("flag-notes").replaceChildren(...(notes.length ? [make("div", { class: `card ${flag.broken ? "bad" : "warn"}` }, make("h3", {}, flag.broken ? "This flag is broken" : "Doubtful"), ...notes.map((text) => make("p", { class: "small" }, text)))] : []));
   $("variant-rows").replaceChildren(...Object.entries(flag.variants).map(([name, value]) => make("tr", {}, make("th", { scope: "row" }, make("span", { class: `swatch ${shade(namesOf(flag), name)}` }), name), make("td", { class: "mono" }, printed(value, "", 40)))));
   $("targeting").textContent = flag.targeting == null ? "none" : printed(flag.targeting);
   $("sites").replaceChildren(...flag.sites.map((one) => siteOf(flag, one)));
@@ -454,8 +454,8 @@ async function plan() {
   while (site && finished !== turn) {
     const mine = turn;
     try {
-      const told = await planOf(request(wantedNow()));
-      if (mine === turn) planned(told);
+      const reply = await planOf(request(wantedNow()));
+      if (mine === turn) planned(reply);
     } catch (error) { if (mine === turn) unplanned(error); }
     finished = mine;
   }
@@ -480,31 +480,48 @@ function unplanned(error) {
   $("outcome").className = "bad";
 }
 const figure = (value, text, second) => make("div", { class: second ? "second" : "" }, make("b", {}, value), make("span", { class: "soft" }, text));
-const noRule = (told) => `No rule can: ${told.plan.none.map((name) => `"${name}"`).join(", ")} ${told.plan.side === "under" ? "would need more points than may change to it" : "would keep or get more points than wanted"}.`;
+const noRule = ({ plan: { none, side } }) => {
+  const names = none.map((name) => `"${name}"`).join(", ");
+  return side === "under" ? `No rule can: too few points may have ${names}.` : `No rule can: of the points that have ${names} now, too many may neither stay nor change.`;
+};
 function showPicture(image, text, alt) {
   if (image.src) URL.revokeObjectURL(image.src);
   if (text) { image.src = URL.createObjectURL(new Blob([text], { type: "image/svg+xml" })); image.alt = alt; }
 }
-function planned(told) {
-  answer = told;
-  if (told.snapshot !== snapshot) $("message").replaceChildren("The flags have changed since they were read here. ", make("button", { type: "button", onclick: load }, "Read them again"));
-  const fits = hasRule(told);
+// Whether the obvious edit, which gives each variant one block in the order of the rule, makes a change that is not allowed.
+function isForbiddenByHand(reply) {
+  const totals = shareOf(reply.plan.rule), forbid = new Set((reply.token.request.forbid || []).map((pair) => JSON.stringify(pair)));
+  const names = [...new Set([...site.one.rule, ...reply.plan.rule].map(([name]) => name))];
+  const after = names.map((name) => [name, totals.get(name) || 0]).filter(([, n]) => n);
+  for (let i = 0, j = 0, before = 0, end = 0; i < site.one.rule.length && j < after.length; ) {
+    const [from, n] = site.one.rule[i], [to, m] = after[j], next = Math.min(before + n, end + m);
+    if (next > Math.max(before, end) && forbid.has(JSON.stringify([from, to]))) return true;
+    if (before + n === next) { before += n; i += 1; }
+    if (end + m === next) { end += m; j += 1; }
+  }
+  return false;
+}
+function planned(reply) {
+  answer = reply;
+  if (reply.snapshot !== snapshot) $("message").replaceChildren("The flags have changed since they were read here. ", make("button", { type: "button", onclick: load }, "Read them again"));
+  const fits = hasRule(reply);
   $("result").setAttribute("aria-busy", "false");
-  buttons(fits && told.document != null);
-  $("figures").replaceChildren(...(fits ? [figure(spelled(told.switch), `of ${plural(told.inputs, "recorded user")} switch`), ...(told.by_hand == null ? [] : [figure(spelled(told.by_hand), "would switch if you edited it by hand", true)]),
-    ...(told.plan.cost === told.switch ? [] : [figure(spelled(told.plan.cost), "is what they cost", true)])] : []));
+  buttons(fits && reply.document != null);
+  const hand = !fits || reply.by_hand == null ? null : `would switch if you edited it by hand${isForbiddenByHand(reply) ? ", also in ways that are not allowed" : ""}`;
+  $("figures").replaceChildren(...(fits ? [figure(spelled(reply.switch), `of ${plural(reply.inputs, "recorded user")} switch`), ...(hand ? [figure(spelled(reply.by_hand), hand, true)] : []),
+    ...(reply.plan.cost === reply.switch ? [] : [figure(spelled(reply.plan.cost), "is what they cost", true)])] : []));
   $("outcome").className = fits ? "soft" : "bad";
   $("outcome").replaceChildren(...(fits
-    ? [make("span", { class: "sr" }, `${spelled(told.switch)} of ${plural(told.inputs, "recorded user")} switch${told.by_hand == null ? "" : `, where an edit by hand would switch ${spelled(told.by_hand)}`}. `), "No rule that fits costs less."]
-    : [noRule(told)]));
-  const passed = told.passed_over || [];
-  $("passed").textContent = [told.inputs === 0 ? "Nobody is recorded here, so this says nothing of who switches." : "", passed.length ? `Not counted, as they are compressed: ${passed.join(", ")}.` : ""].filter(Boolean).join(" ");
-  $("words-fold").hidden = !told.explained;
-  $("words").textContent = told.explained;
-  $("switch-rows").replaceChildren(...told.switches.map((row) => make("tr", {}, cell(make("span", { class: `swatch ${shade(site.names, row.from)}` }), row.from), cell(make("span", { class: `swatch ${shade(site.names, row.to)}` }), row.to), number(row.inputs))));
-  $("switch-table").hidden = told.switches.length === 0;
-  $("picture-place").hidden = !told.picture;
-  showPicture($("picture"), told.picture, $("outcome").textContent);
+    ? [make("span", { class: "sr" }, `${spelled(reply.switch)} of ${plural(reply.inputs, "recorded user")} switch${hand ? `; ${spelled(reply.by_hand)} ${hand}` : ""}. `), "No rule that fits costs less."]
+    : [noRule(reply)]));
+  const passed = reply.passed_over || [];
+  $("passed").textContent = [reply.inputs === 0 ? "Nobody is recorded here, so this says nothing of who switches." : "", passed.length ? `Not counted, as they are compressed: ${passed.join(", ")}.` : ""].filter(Boolean).join(" ");
+  $("words-fold").hidden = !reply.explained;
+  $("words").textContent = reply.explained;
+  $("switch-rows").replaceChildren(...reply.switches.map((row) => make("tr", {}, cell(make("span", { class: `swatch ${shade(site.names, row.from)}` }), row.from), cell(make("span", { class: `swatch ${shade(site.names, row.to)}` }), row.to), number(row.inputs))));
+  $("switch-table").hidden = reply.switches.length === 0;
+  $("picture-place").hidden = !reply.picture;
+  showPicture($("picture"), reply.picture, $("outcome").textContent);
 }
 // A part of the way, in whole points: the largest remainders are rounded up.
 function partOf(percent) {
@@ -520,14 +537,14 @@ async function steps() {
   $("steps").disabled = true;
   for (const percent of percents) {
     const wanted = partOf(percent), points = site.names.map((name, i) => `${name} ${spelled(wanted[i])}`).join(", ");
-    let text, told = null;
+    let text, reply = null;
     try {
-      told = await planOf(request(wanted));
-      text = hasRule(told) ? `${spelled(told.switch)} of ${plural(told.inputs, "user")} switch${told.by_hand == null ? "" : `, by hand ${spelled(told.by_hand)}`}` : noRule(told);
+      reply = await planOf(request(wanted));
+      text = hasRule(reply) ? `${spelled(reply.switch)} of ${plural(reply.inputs, "user")} switch${reply.by_hand == null ? "" : `, by hand ${spelled(reply.by_hand)}`}` : noRule(reply);
     } catch (error) { text = error.message; }
     if (mine !== site) break;
     const fold = make("details", {}, make("summary", {}, `${percent} percent: ${text}`), make("p", { class: "soft small" }, points));
-    if (told && told.picture) { const image = make("img", { class: "picture" }); showPicture(image, told.picture, text); fold.append(make("div", { class: "scroll", tabindex: 0, role: "group", "aria-label": "Picture" }, image)); }
+    if (reply && reply.picture) { const image = make("img", { class: "picture" }); showPicture(image, reply.picture, text); fold.append(make("div", { class: "scroll", tabindex: 0, role: "group", "aria-label": "Picture" }, image)); }
     found.push(fold);
   }
   $("steps").disabled = false;
@@ -557,9 +574,9 @@ function difference(before, after) {
   const [head, tail] = equalEnds(one, other);
   const [start, end] = [one, other].some((lines) => lines.slice(head, lines.length - tail).some((line) => line.length > LONG)) ? equalEnds(one[head] || "", other[head] || "") : [0, 0];
   const cut = (line, from, rest) => (from > AROUND ? "\u2026" : "") + line.slice(Math.max(0, from - AROUND), rest > AROUND ? line.length - rest + AROUND : line.length) + (rest > AROUND ? "\u2026" : "");
-  const told = (lines, sign, kind) => lines.map((line, i) => make("span", { class: kind }, `${sign} ${kind ? cut(line, i ? 0 : start, i ? 0 : end) : cut(line, 0, Math.max(0, line.length - LONG))}`));
-  return [...told(one.slice(Math.max(0, head - 2), head), " ", ""), ...told(one.slice(head, one.length - tail), "-", "gone"), ...told(other.slice(head, other.length - tail), "+", "added"),
-    ...told(one.slice(one.length - tail, one.length - tail + 2), " ", "")];
+  const marked = (lines, sign, kind) => lines.map((line, i) => make("span", { class: kind }, `${sign} ${kind ? cut(line, i ? 0 : start, i ? 0 : end) : cut(line, 0, Math.max(0, line.length - LONG))}`));
+  return [...marked(one.slice(Math.max(0, head - 2), head), " ", ""), ...marked(one.slice(head, one.length - tail), "-", "gone"), ...marked(other.slice(head, other.length - tail), "+", "added"),
+    ...marked(one.slice(one.length - tail, one.length - tail + 2), " ", "")];
 }
 // How many items are equal at the beginning, and at the end, of two lists.
 function equalEnds(one, other) {
@@ -617,8 +634,8 @@ async function goingBack(row, button) {
   button.disabled = true;
   let text;
   try {
-    const told = await planOf({ plan: 1, flag: row.flag, site: row.site, totals });
-    text = hasRule(told) ? `${spelled(told.switch)} of ${plural(told.inputs, "user")} would switch` : "no rule can";
+    const reply = await planOf({ plan: 1, flag: row.flag, site: row.site, totals });
+    text = hasRule(reply) ? `${spelled(reply.switch)} of ${plural(reply.inputs, "user")} would switch` : "no rule can";
   } catch (error) { text = error.message; }
   button.replaceWith(make("span", { role: "status" }, text));
 }
@@ -629,8 +646,8 @@ async function rates() {
     const { text } = await call("GET", "metrics");
     const now = new Map([...text.matchAll(/^ofrep_evaluations_total\{reason="([^"]+)"\} (\d+)$/gm)].map(([, reason, n]) => [reason, Number(n)])), at = Date.now();
     if (counted) {
-      const told = [...now].map(([reason, n]) => [reason, Math.round((n - (counted.now.get(reason) || 0)) * 60000 / (at - counted.at))]).filter(([, n]) => n > 0);
-      $("rates").textContent = told.length ? `A minute: ${told.map(([reason, n]) => `${reason} ${spelled(n)}`).join(", ")}` : "";
+      const grown = [...now].map(([reason, n]) => [reason, Math.round((n - (counted.now.get(reason) || 0)) * 60000 / (at - counted.at))]).filter(([, n]) => n > 0);
+      $("rates").textContent = grown.length ? `A minute: ${grown.map(([reason, n]) => `${reason} ${spelled(n)}`).join(", ")}` : "";
     }
     counted = { now, at };
   } catch { $("rates").textContent = ""; }
@@ -660,4 +677,4 @@ rates();
 </html>
 "##;
 
-const POLICY: &str = "default-src 'none'; style-src 'sha256-wvxU2zJqknZE8Nv7J1sCHI2OkCsXPBiIKPsQMk57oZI='; script-src 'sha256-tMpyHH5mLcpUsiL/OgfS0Ijk072j6vyjOpfj6vF18Bw='; connect-src 'self'; img-src blob: data:; base-uri 'none'; form-action 'none'; frame-ancestors 'none'";
+const POLICY: &str = "default-src 'none'; style-src 'sha256-wvxU2zJqknZE8Nv7J1sCHI2OkCsXPBiIKPsQMk57oZI='; script-src 'sha256-E0cyzZhuZLV+ZzudXgQxM71u4qXM9gTwQQJLt6zEdUU='; connect-src 'self'; img-src blob: data:; base-uri 'none'; form-action 'none'; frame-ancestors 'none'";
