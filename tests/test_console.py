@@ -100,6 +100,7 @@ def in_each_browser(test):
                 self.browser = browser_of(kind)
                 self.folder = self.after.enter_context(tempfile.TemporaryDirectory())
                 os.mkdir(self.path("log"))
+                self.browser.faults()
                 test(self)
                 self.assertEqual(self.browser.faults(), [])
                 names = self.browser.run("return performance.getEntriesByType('resource').map(one => one.name);")
@@ -131,6 +132,7 @@ class ConsoleTest(unittest.TestCase):
         paths = self.path("flags.json"), self.path("log")
         self.server = Service(self, *paths, **how) if serves_console() else ControlServer(*paths, **how)
         self.after.callback(self.server.close)
+        self.after.callback(self.browser.open, "about:blank")
         self.browser.open(self.server.origin + "/")
         self.until("document.querySelectorAll('#flag-rows tr').length")
 

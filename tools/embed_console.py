@@ -40,7 +40,7 @@ ghost use Rattle.console_page.specs.Page.{{page_text, policy_text}};
 pub fn page_html() -> &'static str
     ensures {{ result.now ≡ page_text }}
 {{
-    PAGE
+    r##"{page}"##
 }}
 
 /// The value of the field `Content-Security-Policy` that it is sent with: its own style and script, by their digests, and nothing from
@@ -48,12 +48,8 @@ pub fn page_html() -> &'static str
 pub fn page_policy() -> &'static str
     ensures {{ result.now ≡ policy_text }}
 {{
-    POLICY
+    {literal(policy_of(page))}
 }}
-
-const PAGE: &str = r##"{page}"##;
-
-const POLICY: &str = {literal(policy_of(page))};
 """
 
 

@@ -6,18 +6,7 @@ ghost use Rattle.console_page.specs.Page.{page_text, policy_text};
 pub fn page_html() -> &'static str
     ensures { result.now ≡ page_text }
 {
-    PAGE
-}
-
-/// The value of the field `Content-Security-Policy` that it is sent with: its own style and script, by their digests, and nothing from
-/// elsewhere.
-pub fn page_policy() -> &'static str
-    ensures { result.now ≡ policy_text }
-{
-    POLICY
-}
-
-const PAGE: &str = r##"<!doctype html>
+    r##"<!doctype html>
 <html lang="en">
 <head>
 <meta charset="utf-8">
@@ -170,7 +159,7 @@ dialog{border:1px solid var(--line);border-radius:12px;background:var(--card);co
     <p id="history-none" class="empty" hidden>Nothing was applied yet.</p></div>
   </section>
 </main>
-<dialog id="sure" aria-labelledby="sure-title"><h3 id="sure-title">Apply this plan?</h3><p id="sure-text"></p><div class="row"><button id="apply-yes" type="button" class="main">Apply</button><button id="apply-no" type="button">Not now</button></div></dialog>
+<dialog id="sure" aria-labelledby="sure-title"><h3 id="sure-title">Apply this plan?</h3><p id="sure-text"></p><div class="row"><button id="apply-yes" type="button" class="main">Apply</button><button id="apply-no" type="button" autofocus>Not now</button></div></dialog>
 <script>
 "use strict";
 const $ = (id) => document.getElementById(id);
@@ -540,7 +529,7 @@ async function steps() {
     let text, reply = null;
     try {
       reply = await planOf(request(wanted));
-      text = hasRule(reply) ? `${spelled(reply.switch)} of ${plural(reply.inputs, "user")} switch${reply.by_hand == null ? "" : `, by hand ${spelled(reply.by_hand)}`}` : noRule(reply);
+      text = hasRule(reply) ? `${spelled(reply.switch)} of ${plural(reply.inputs, "user")} switch${reply.by_hand == null ? "" : `, by hand ${spelled(reply.by_hand)}`}${reply.plan.cost === reply.switch ? "" : `, cost ${spelled(reply.plan.cost)}`}` : noRule(reply);
     } catch (error) { text = error.message; }
     if (mine !== site) break;
     const fold = make("details", {}, make("summary", {}, `${percent} percent: ${text}`), make("p", { class: "soft small" }, points));
@@ -675,6 +664,13 @@ rates();
 </script>
 </body>
 </html>
-"##;
+"##
+}
 
-const POLICY: &str = "default-src 'none'; style-src 'sha256-wvxU2zJqknZE8Nv7J1sCHI2OkCsXPBiIKPsQMk57oZI='; script-src 'sha256-E0cyzZhuZLV+ZzudXgQxM71u4qXM9gTwQQJLt6zEdUU='; connect-src 'self'; img-src blob: data:; base-uri 'none'; form-action 'none'; frame-ancestors 'none'";
+/// The value of the field `Content-Security-Policy` that it is sent with: its own style and script, by their digests, and nothing from
+/// elsewhere.
+pub fn page_policy() -> &'static str
+    ensures { result.now ≡ policy_text }
+{
+    "default-src 'none'; style-src 'sha256-wvxU2zJqknZE8Nv7J1sCHI2OkCsXPBiIKPsQMk57oZI='; script-src 'sha256-MO7F3sRFwfw3IZoTZEw14Ddk+Z8AhdggzgQsC+v7Jpc='; connect-src 'self'; img-src blob: data:; base-uri 'none'; form-action 'none'; frame-ancestors 'none'"
+}
