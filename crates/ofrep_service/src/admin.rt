@@ -5,13 +5,14 @@ ghost use Rattle.http_server.specs.Exchange.{Call};
 ghost use Rattle.ofrep_guards.specs.Hosts.{hosts_view, named_at};
 ghost use Rattle.recorded_answers.specs.Stand.{Works};
 ghost use Rattle.ofrep_guards.specs.Asked.{first_keys};
+ghost use Rattle.console_page.specs.Page.{page_text, policy_text};
 ghost use Rattle.control_desk.specs.Desk.{keys_in};
 ghost use Rattle.ofrep_service.specs.Limits.{HasUsualLimits};
 
 use crate::board::Board;
 use crate::workers::worker_of;
 use access_lines::LoggedService;
-use console_page::{PAGE, POLICY};
+use console_page::{page_html, page_policy};
 use control_desk::{ConsolePage, ControlDesk, DeskPaths, SystemDeskFiles};
 use dated_answers::Dated;
 use http::HeaderValue;
@@ -229,10 +230,16 @@ fn held_keys<'a>(
     }
 }
 
-/// The console.
-fn page(alloc: Global) -> io::Result<ConsolePage<'static>> {
-    match HeaderValue::from_str(alloc, POLICY) {
-        Ok(policy) => Ok(ConsolePage { text: PAGE, policy }),
+/// The console, with its policy.
+fn page(alloc: Global) -> io::Result<ConsolePage<'static>>
+    ensures text { IfOk result (λ page. page.text.now ≡ page_text) }
+    ensures policy { IfOk result (λ page. page.policy.bytes ≡ policy_text) }
+{
+    match HeaderValue::from_str(alloc, page_policy()) {
+        Ok(policy) => Ok(ConsolePage {
+            text: page_html(),
+            policy,
+        }),
         Err(_) => Err(Error::from(ErrorKind::InvalidData)),
     }
 }
