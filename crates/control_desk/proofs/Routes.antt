@@ -7,7 +7,7 @@ use Rattle.control_desk.specs.Route.{is_console, other_method, route_at, route_o
 use Rattle.control_desk.specs.declared.reply.Reply.{Reply}
 use Rattle.control_desk.specs.declared.reply.Reply.TheVariants.{Unauthorized}
 use Rattle.control_desk.specs.declared.route.Route.{Route}
-use Rattle.control_desk.specs.declared.route.Route.TheVariants.{Behind, Replied, Called}
+use Rattle.control_desk.specs.declared.route.Route.TheVariants.{Forwarded, Replied, Called}
 
 -- a call leads to the place that was found
 at : (taken known : Bool) (found place : ControlPlace) (reply : Reply) → found ≢ Elsewhere

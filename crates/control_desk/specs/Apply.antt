@@ -19,7 +19,7 @@ use Rattle.std.specs.Str.{bytes_eq}
 use Rattle.control_desk.specs.Files.{Appends, path_in}
 use Rattle.control_desk.specs.Reply.{Replies}
 use Rattle.control_desk.specs.Sent.{type_field}
-use Rattle.control_desk.specs.Told.{IsRefusal}
+use Rattle.control_desk.specs.Bodies.{IsRefusal}
 use Rattle.control_desk.specs.declared.giving.Media.TheVariants.{Json}
 use Rattle.control_desk.specs.declared.reply.Reply.TheVariants.{Unreadable, Unwritten}
 
@@ -85,7 +85,7 @@ module _ (folder path : List ℕ) (s : Snapshot) (a : Applied) (before after : O
     pub line : List ℕ
     pub row : IsRowOf s.flags a line
     pub writes : Writes before after history line path a.document
-    pub told : IsResponse 200 (type_field Json) (written_text (length a.document)) response
+    pub response_is : IsResponse 200 (type_field Json) (written_text (length a.document)) response
 
   -- the file holds another text by now; nothing is written
   abbrev pub IsOther : Type 0

@@ -23,12 +23,12 @@ use Rattle.control_desk.specs.Reply.{Replies}
 use Rattle.control_desk.specs.Route.{route_of}
 use Rattle.control_desk.specs.Rules.{Rules}
 use Rattle.control_desk.specs.Sent.{IsPage}
-use Rattle.control_desk.specs.Told.{IsRefusal, TellsCheck, TellsDocument, TellsFlags, TellsHistory, TellsPlan, TellsRecord}
+use Rattle.control_desk.specs.Bodies.{IsRefusal, TellsCheck, TellsDocument, TellsFlags, TellsHistory, TellsPlan, TellsRecord}
 use Rattle.control_desk.specs.declared.page.ConsolePage as program
 use Rattle.control_desk.specs.declared.reply.Reply.TheVariants.{Busy, Leaves, Unreadable, Unserved}
 use Rattle.control_desk.specs.declared.sources.SourceText.{SourceText}
 use Rattle.control_desk.specs.declared.route.Route.{Route}
-use Rattle.control_desk.specs.declared.route.Route.TheVariants.{Behind, Replied, Called}
+use Rattle.control_desk.specs.declared.route.Route.TheVariants.{Forwarded, Replied, Called}
 
 -- the page of the console, and its policy
 pub record Page : Type 0 where
@@ -78,48 +78,48 @@ module _ (naming : Option Naming) (before after : Option Holding) (rules : Rules
   OfLogs folder Next = (files : List (List ℕ)) × (passed : List (List ℕ)) × AreLogs naming before folder files passed × OfSnapshot (λ s. Next s files passed)
 
   -- where plans may be applied to a document
-  abbrev pub ToldApplied : Option (List ℕ) → List ℕ → Snapshot → List (List ℕ) → Type 0
-  ToldApplied (Some path) folder s files = TellsApply folder path asked.body s files before after response
-  ToldApplied None folder s files = Replies Unserved response × (after ≡ before)
+  abbrev pub RespondsApplied : Option (List ℕ) → List ℕ → Snapshot → List (List ℕ) → Type 0
+  RespondsApplied (Some path) folder s files = TellsApply folder path asked.body s files before after response
+  RespondsApplied None folder s files = Replies Unserved response × (after ≡ before)
 
-  abbrev pub ToldOn : ControlPlace → List ℕ → Snapshot → List (List ℕ) → List (List ℕ) → Type 0
-  ToldOn place.Record folder s files passed = TellsRecord (record_of asked.query) s files response × (after ≡ before)
-  ToldOn place.Plan folder s files passed = TellsPlan asked.body passed s files response × (after ≡ before)
-  ToldOn place.Check folder s files passed = TellsCheck asked.body passed s files response × (after ≡ before)
-  ToldOn place.Apply folder s files passed = ToldApplied rules.applied_to folder s files
-  ToldOn place.Console folder s files passed = ⊥
-  ToldOn place.Flags folder s files passed = ⊥
-  ToldOn place.Snapshot folder s files passed = ⊥
-  ToldOn place.History folder s files passed = ⊥
-  ToldOn place.Elsewhere folder s files passed = ⊥
+  abbrev pub RespondsOn : ControlPlace → List ℕ → Snapshot → List (List ℕ) → List (List ℕ) → Type 0
+  RespondsOn place.Record folder s files passed = TellsRecord (record_of asked.query) s files response × (after ≡ before)
+  RespondsOn place.Plan folder s files passed = TellsPlan asked.body passed s files response × (after ≡ before)
+  RespondsOn place.Check folder s files passed = TellsCheck asked.body passed s files response × (after ≡ before)
+  RespondsOn place.Apply folder s files passed = RespondsApplied rules.applied_to folder s files
+  RespondsOn place.Console folder s files passed = ⊥
+  RespondsOn place.Flags folder s files passed = ⊥
+  RespondsOn place.Snapshot folder s files passed = ⊥
+  RespondsOn place.History folder s files passed = ⊥
+  RespondsOn place.Elsewhere folder s files passed = ⊥
 
   -- where logs are kept
-  abbrev pub ToldRecorded : ControlPlace → Option (List ℕ) → Type 0
-  ToldRecorded called None = IsRefusal (name_of called) NoRecord response × (after ≡ before)
-  ToldRecorded called (Some folder) = OfLogs folder (ToldOn called folder)
+  abbrev pub RespondsRecorded : ControlPlace → Option (List ℕ) → Type 0
+  RespondsRecorded called None = IsRefusal (name_of called) NoRecord response × (after ≡ before)
+  RespondsRecorded called (Some folder) = OfLogs folder (RespondsOn called folder)
 
-  abbrev pub ToldHistory : Option (List ℕ) → Type 0
-  ToldHistory None = IsRefusal (codes "history") NoRecord response
-  ToldHistory (Some folder) = (history : List ℕ) × HoldsHistory before (path_in folder (codes "applied.log")) history × TellsHistory history response
+  abbrev pub RespondsHistory : Option (List ℕ) → Type 0
+  RespondsHistory None = IsRefusal (codes "history") NoRecord response
+  RespondsHistory (Some folder) = (history : List ℕ) × HoldsHistory before (path_in folder (codes "applied.log")) history × TellsHistory history response
 
   -- what is told at a place
-  abbrev pub Told : ControlPlace → Type 0
-  Told place.Console = IsPage page.text page.policy response × (after ≡ before)
-  Told place.Flags = ((s : Numbered) × WasRead seat (Some s) seat' × TellsFlags rules s response) × (after ≡ before)
-  Told place.Snapshot = OfSnapshot (λ s. TellsDocument asked.held s response) × (after ≡ before)
-  Told place.History = ToldHistory rules.folder × (after ≡ before)
-  Told place.Record = ToldRecorded place.Record rules.folder
-  Told place.Plan = ToldRecorded place.Plan rules.folder
-  Told place.Check = ToldRecorded place.Check rules.folder
-  Told place.Apply = ToldRecorded place.Apply rules.folder
-  Told place.Elsewhere = ⊥
+  abbrev pub Responds : ControlPlace → Type 0
+  Responds place.Console = IsPage page.text page.policy response × (after ≡ before)
+  Responds place.Flags = ((s : Numbered) × WasRead seat (Some s) seat' × TellsFlags rules s response) × (after ≡ before)
+  Responds place.Snapshot = OfSnapshot (λ s. TellsDocument asked.held s response) × (after ≡ before)
+  Responds place.History = RespondsHistory rules.folder × (after ≡ before)
+  Responds place.Record = RespondsRecorded place.Record rules.folder
+  Responds place.Plan = RespondsRecorded place.Plan rules.folder
+  Responds place.Check = RespondsRecorded place.Check rules.folder
+  Responds place.Apply = RespondsRecorded place.Apply rules.folder
+  Responds place.Elsewhere = ⊥
 
   -- it is not the desk's turn, or files can't be read
   abbrev pub IsPutOff : Type 0
   IsPutOff = (Replies Busy response ⊎ Replies Unreadable response) × (after ≡ before)
 
   abbrev pub Answered : ControlPlace → Type 0
-  Answered called = IsPutOff ⊎ Told called
+  Answered called = IsPutOff ⊎ Responds called
 
   -- So a call is answered; or memory ran out, and the response is empty: it tells nothing, and nothing is written.
   abbrev pub Answers : ControlPlace → Type 0
@@ -133,7 +133,7 @@ IsLeaving request response = ((call_asked request).path ≡ codes "/readyz") × 
 
 -- what is asked is for the desk
 abbrev pub IsOwn : Route → Type 0
-IsOwn Behind = ⊥
+IsOwn Forwarded = ⊥
 IsOwn (Replied reply) = Unit {0}
 IsOwn (Called called) = Unit {0}
 
@@ -144,7 +144,7 @@ module _ {S : Type 0} (answers : S → Request (List ℕ) → Response → S →
 
   -- What becomes of a request by where it leads. What the desk answers itself leaves the service behind it as it was.
   abbrev pub DesksBy : Route → Option Naming → Option Holding → Option Holding → Rules → Page → Seat → Seat → S → Request (List ℕ) → Response → S → Type 0
-  DesksBy Behind naming before after rules page seat seat' old request response new = (seat' ≡ seat) × (after ≡ before) × Passes old request response new
+  DesksBy Forwarded naming before after rules page seat seat' old request response new = (seat' ≡ seat) × (after ≡ before) × Passes old request response new
   DesksBy (Replied reply) naming before after rules page seat seat' old request response new = (seat' ≡ seat) × (after ≡ before) × (new ≡ old) × Replies reply response
   DesksBy (Called called) naming before after rules page seat seat' old request response new =
       (new ≡ old) × Answers naming before after rules page seat seat' (call_asked request) response called

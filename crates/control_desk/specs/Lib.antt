@@ -10,7 +10,7 @@ pub mod Reply
 pub mod Route
 pub mod Rules
 pub mod Held
-pub mod Told
+pub mod Bodies
 pub mod Apply
 pub mod Desk
 pub mod Laws

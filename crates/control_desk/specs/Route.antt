@@ -7,7 +7,7 @@ use Rattle.control_calls.specs.declared.place.ControlPlace.TheVariants.{Console,
 use Rattle.control_desk.specs.declared.reply.Reply.{Reply}
 use Rattle.control_desk.specs.declared.reply.Reply.TheVariants.{OnlyGet, OnlyPost, Unauthorized}
 use Rattle.control_desk.specs.declared.route.Route.{Route}
-use Rattle.control_desk.specs.declared.route.Route.TheVariants.{Behind, Replied, Called}
+use Rattle.control_desk.specs.declared.route.Route.TheVariants.{Forwarded, Replied, Called}
 
 -- the application of plans is no place, unless it is allowed
 abbrev pub served : Bool → ControlPlace → ControlPlace
@@ -29,7 +29,7 @@ abbrev pub admitted : Bool → ControlPlace → Route
 admitted is_admitted place = if is_admitted || is_console place then Called place else Replied Unauthorized
 
 abbrev pub route_at : Bool → List ℕ → ControlPlace → Option (List ℕ) → Route
-route_at is_admitted method place None = Behind
+route_at is_admitted method place None = Forwarded
 route_at is_admitted method place (Some taken) = if takes taken method then admitted is_admitted place else Replied (other_method taken)
 
 abbrev pub route_of : Bool → Bool → List ℕ → List ℕ → Route

@@ -10,7 +10,7 @@ use http::{HeaderName, HeaderValue, Request};
 use std::str;
 
 /// How many characters of a key tell whose it is.
-const KEY_FRONT: usize = 4;
+const KEY_PREFIX: usize = 4;
 
 /// The query of a request, empty where it has none.
 pub(crate) fn query_of(request: &Request<Bytes>) -> &str
@@ -51,11 +51,11 @@ pub(crate) fn asker_of(request: &Request<Bytes>) -> &str {
         return text_of(from.as_bytes());
     }
     if let Some(key) = headers.get(HeaderName::from_static("x-api-key")) {
-        return front_of(text_of(key.as_bytes()));
+        return prefix_of(text_of(key.as_bytes()));
     }
     match headers.get(AUTHORIZATION) {
         Some(value) => match text_of(value.as_bytes()).split_once(' ') {
-            Some((_, key)) => front_of(key),
+            Some((_, key)) => prefix_of(key),
             None => "",
         },
         None => "",
@@ -71,9 +71,9 @@ fn text_of(bytes: &[u8]) -> &str {
 }
 
 /// The first characters of a key.
-fn front_of(key: &str) -> &str {
-    match key.get(..KEY_FRONT) {
-        Some(front) => front,
+fn prefix_of(key: &str) -> &str {
+    match key.get(..KEY_PREFIX) {
+        Some(prefix) => prefix,
         None => "",
     }
 }

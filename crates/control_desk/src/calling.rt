@@ -3,7 +3,7 @@ ghost use Rattle.std.specs.Prelude.{◌≡◌, ◌≢◌, ◌⊎◌, OnErr, OnOk
 ghost use Rattle.http_server.specs.Response.{IsBlank};
 ghost use Rattle.log_tallies.specs.Lines.{files_view};
 ghost use Rattle.control_desk.specs.Asked.{CallAsked, call_asked};
-ghost use Rattle.control_desk.specs.Desk.{Answered, Answers, IsOnRecord, IsPutOff, ToldApplied, ToldOn, ToldRecorded, name_of, page_view};
+ghost use Rattle.control_desk.specs.Desk.{Answered, Answers, IsOnRecord, IsPutOff, RespondsApplied, RespondsOn, RespondsRecorded, name_of, page_view};
 ghost use Rattle.control_desk.specs.Held.{held_view};
 ghost use Rattle.control_desk.specs.Logs.{bytes_of, passed_by};
 ghost use Rattle.control_desk.specs.Rules.{rules_view};
@@ -150,7 +150,7 @@ impl<J: ShareName, R: Clock, F: DeskFiles, S> ControlDesk<'_, J, R, F, S> {
     ) -> Result<(), ShareFault>
         requires blank { IsBlank response.old }
         requires place { IsOnRecord place }
-        ensures ok { OnOk result (IsPutOff (F.naming self.old.files) (F.holding self.old.files) (F.holding self.new.files) (rules_view self.old.post.now.rules) (page_view self.old.page) self.old.seat self.new.seat (call_asked request.now) response.new ⊎ ToldRecorded (F.naming self.old.files) (F.holding self.old.files) (F.holding self.new.files) (rules_view self.old.post.now.rules) (page_view self.old.page) self.old.seat self.new.seat (call_asked request.now) response.new place (rules_view self.old.post.now.rules).folder) }
+        ensures ok { OnOk result (IsPutOff (F.naming self.old.files) (F.holding self.old.files) (F.holding self.new.files) (rules_view self.old.post.now.rules) (page_view self.old.page) self.old.seat self.new.seat (call_asked request.now) response.new ⊎ RespondsRecorded (F.naming self.old.files) (F.holding self.old.files) (F.holding self.new.files) (rules_view self.old.post.now.rules) (page_view self.old.page) self.old.seat self.new.seat (call_asked request.now) response.new place (rules_view self.old.post.now.rules).folder) }
         ensures err { OnErr result (F.holding self.new.files ≡ F.holding self.old.files) }
         ensures post { self.new.post ≡ self.old.post }
         ensures page { self.new.page ≡ self.old.page }
@@ -180,7 +180,7 @@ impl<J: ShareName, R: Clock, F: DeskFiles, S> ControlDesk<'_, J, R, F, S> {
     ) -> Result<(), ShareFault>
         requires blank { IsBlank response.old }
         requires place { IsOnRecord place }
-        ensures ok { OnOk result (IsPutOff (F.naming self.old.files) (F.holding self.old.files) (F.holding self.new.files) (rules_view self.old.post.now.rules) (page_view self.old.page) self.old.seat self.new.seat (call_asked request.now) response.new ⊎ ToldRecorded (F.naming self.old.files) (F.holding self.old.files) (F.holding self.new.files) (rules_view self.old.post.now.rules) (page_view self.old.page) self.old.seat self.new.seat (call_asked request.now) response.new place (Some folder.now)) }
+        ensures ok { OnOk result (IsPutOff (F.naming self.old.files) (F.holding self.old.files) (F.holding self.new.files) (rules_view self.old.post.now.rules) (page_view self.old.page) self.old.seat self.new.seat (call_asked request.now) response.new ⊎ RespondsRecorded (F.naming self.old.files) (F.holding self.old.files) (F.holding self.new.files) (rules_view self.old.post.now.rules) (page_view self.old.page) self.old.seat self.new.seat (call_asked request.now) response.new place (Some folder.now)) }
         ensures err { OnErr result (F.holding self.new.files ≡ F.holding self.old.files) }
         ensures post { self.new.post ≡ self.old.post }
         ensures page { self.new.page ≡ self.old.page }
@@ -210,7 +210,7 @@ impl<J: ShareName, R: Clock, F: DeskFiles, S> ControlDesk<'_, J, R, F, S> {
     ) -> Result<(), AllocError>
         requires blank { IsBlank response.old }
         requires place { IsOnRecord place }
-        ensures ok { OnOk result (ToldOn (F.naming self.old.files) (F.holding self.old.files) (F.holding self.new.files) (rules_view self.old.post.now.rules) (page_view self.old.page) self.old.seat self.new.seat (call_asked request.now) response.new place folder.now (held_view held.now) (bytes_of logs.now) (passed_by logs.now)) }
+        ensures ok { OnOk result (RespondsOn (F.naming self.old.files) (F.holding self.old.files) (F.holding self.new.files) (rules_view self.old.post.now.rules) (page_view self.old.page) self.old.seat self.new.seat (call_asked request.now) response.new place folder.now (held_view held.now) (bytes_of logs.now) (passed_by logs.now)) }
         ensures err { OnErr result (F.holding self.new.files ≡ F.holding self.old.files) }
         ensures post { self.new.post ≡ self.old.post }
         ensures page { self.new.page ≡ self.old.page }
@@ -251,7 +251,7 @@ impl<J: ShareName, R: Clock, F: DeskFiles, S> ControlDesk<'_, J, R, F, S> {
         response: &mut Response,
     ) -> Result<(), AllocError>
         requires { IsBlank response.old }
-        ensures ok { OnOk result (ToldApplied (F.naming self.old.files) (F.holding self.old.files) (F.holding self.new.files) (rules_view self.old.post.now.rules) (page_view self.old.page) self.old.seat self.new.seat (call_asked request.now) response.new (rules_view self.old.post.now.rules).applied_to folder.now (held_view held.now) (files_view logs.now)) }
+        ensures ok { OnOk result (RespondsApplied (F.naming self.old.files) (F.holding self.old.files) (F.holding self.new.files) (rules_view self.old.post.now.rules) (page_view self.old.page) self.old.seat self.new.seat (call_asked request.now) response.new (rules_view self.old.post.now.rules).applied_to folder.now (held_view held.now) (files_view logs.now)) }
         ensures err { OnErr result (F.holding self.new.files ≡ F.holding self.old.files) }
         ensures post { self.new.post ≡ self.old.post }
         ensures page { self.new.page ≡ self.old.page }

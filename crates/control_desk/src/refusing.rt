@@ -3,7 +3,7 @@ ghost use Rattle.std.specs.Prelude.{◌≡◌, ◌≢◌, OnOk};
 ghost use Rattle.http_server.specs.Response.{IsBlank};
 ghost use Rattle.control_answers.specs.Refusal.{status_of};
 ghost use Rattle.control_answers.specs.declared.refusal.ControlRefusal.TheVariants.{WantOfMemory};
-ghost use Rattle.control_desk.specs.Told.{IsRefusal};
+ghost use Rattle.control_desk.specs.Bodies.{IsRefusal};
 
 use crate::giving::{Media, finish};
 use control_answers::ControlRefusal;
@@ -21,7 +21,7 @@ pub(crate) fn tell_refusal(
     response: &mut Response,
 ) -> Result<(), AllocError>
     requires { IsBlank response.old }
-    ensures told { OnOk result (IsRefusal asked.now refusal.now response.new) }
+    ensures refusal { OnOk result (IsRefusal asked.now refusal.now response.new) }
     ensures known { OnOk result (refusal.now ≢ WantOfMemory) }
 {
     if let ControlRefusal::WantOfMemory = refusal {

@@ -9,7 +9,7 @@ use control_calls::ControlPlace;
 #[derive(Clone, Copy, Debug, PartialEq, Eq)]
 pub(crate) enum Route {
     /// To the service behind the desk.
-    Behind,
+    Forwarded,
     /// To a reply.
     Replied(Reply),
     /// To a call.
@@ -29,7 +29,7 @@ pub(crate) fn route_of(may_apply: bool, is_admitted: bool, method: &str, path: &
                 Route::Replied(other_method(taken))
             }
         }
-        None => Route::Behind,
+        None => Route::Forwarded,
     }
 }
 

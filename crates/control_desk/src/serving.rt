@@ -71,7 +71,7 @@ impl<J: ShareName, R: Clock, F: DeskFiles, S: Service + CountsStatus> Service
         response: &mut Response,
     ) -> Result<(), AllocError> {
         match self.route(request) {
-            Route::Behind => self.pass_on(request, response),
+            Route::Forwarded => self.pass_on(request, response),
             Route::Replied(reply) => {
                 self.reply(reply, response);
                 Ok(())

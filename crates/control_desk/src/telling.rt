@@ -6,7 +6,7 @@ ghost use Rattle.control_answers.specs.Token.{HasNoMember, IsMember};
 ghost use Rattle.control_calls.specs.Calls.{asked_view, record_of};
 ghost use Rattle.control_desk.specs.Held.{held_view, numbered_of};
 ghost use Rattle.control_desk.specs.Rules.{rules_view};
-ghost use Rattle.control_desk.specs.Told.{IsNoPair, IsPair, TellsCheck, TellsDocument, TellsFlags, TellsHistory, TellsObject, TellsPlan, TellsRecord, names_text, with_passed_over};
+ghost use Rattle.control_desk.specs.Bodies.{IsNoPair, IsPair, TellsCheck, TellsDocument, TellsFlags, TellsHistory, TellsObject, TellsPlan, TellsRecord, names_text, with_passed_over};
 
 use crate::giving::{Media, add_number, add_tag, finish, respond};
 use crate::held::HeldSnapshot;
@@ -38,7 +38,7 @@ pub(crate) fn tell_flags(
     requires { IsBlank response.old }
     ensures { OnOk result (TellsFlags (rules_view rules.now) (numbered_of held.now) response.new) }
 {
-    let sources = lent(alloc, rules.documents.as_slice())?;
+    let sources = borrowed(alloc, rules.documents.as_slice())?;
     let recorded = BTreeMap::new(alloc);
     let asked = FlagsAsked {
         number: held.shared.number(),
@@ -54,14 +54,14 @@ pub(crate) fn tell_flags(
 
 /// Texts, by where they lie.
 #[tactic(auto, using(crate::proofs::Items::one_more))]
-fn lent<'a>(alloc: Global, texts: &'a [String]) -> Result<Vec<&'a str>, AllocError>
+fn borrowed<'a>(alloc: Global, texts: &'a [String]) -> Result<Vec<&'a str>, AllocError>
     ensures { IfOk result (λ v. map (λ t. t.now) v.items ≡ map string_bytes texts.now) }
 {
-    let mut lent = Vec::with_capacity(alloc, texts.len())?;
+    let mut borrowed = Vec::with_capacity(alloc, texts.len())?;
     for text in texts {
-        lent.push(text.as_str())?;
+        borrowed.push(text.as_str())?;
     }
-    Ok(lent)
+    Ok(borrowed)
 }
 
 /// Fills a response with the document of a snapshot, or with nothing where whoever asks has it, by this value of `If-None-Match`.
@@ -158,7 +158,7 @@ fn tell_object(
 }
 
 /// An object with the names of files that were passed over, where there are some.
-#[tactic(auto, unfolding(crate::specs::Told::with_passed_over))]
+#[tactic(auto, unfolding(crate::specs::Bodies::with_passed_over))]
 fn with_passed_over(
     alloc: Global,
     passed_over: &[String],

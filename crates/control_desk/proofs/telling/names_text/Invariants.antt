@@ -1,5 +1,5 @@
 use Rattle.std.proofs.Common.{◌≡◌, ◌++◌, drop, false, map, string_bytes}
-use Rattle.control_desk.specs.Told.{names_text}
+use Rattle.control_desk.specs.Bodies.{names_text}
 use Rattle.control_desk.proofs.telling.names_text.Given as goal
 
 -- the names so far, and those of what is left, are all

@@ -5,7 +5,7 @@ use Rattle.control_answers.specs.Plan.{IsPlanAnswer}
 use Rattle.control_answers.specs.Snapshot.{Snapshot, snapshot_view}
 use Rattle.control_answers.specs.View.{bytes_view}
 use Rattle.control_answers.specs.declared.refusal.ControlRefusal.{ControlRefusal}
-use Rattle.control_desk.specs.Told.{TellsObject}
+use Rattle.control_desk.specs.Bodies.{TellsObject}
 use Rattle.control_desk.proofs.Outcomes.{given, refused}
 use Rattle.control_desk.proofs.telling.tell_plan.Goals as goal
 
@@ -29,4 +29,4 @@ returns-in-Err c =
     let response = c.tell_refusal.new.response in
     subst (λ (s : Snapshot). OnOk c.tell_refusal.result ((r : Result (List ℕ) ControlRefusal) × IsPlanAnswer s c.args.request.now files r × TellsObject (codes "plan") passed r response)) c.snapshot.ensures
     (subst (λ (request : List ℕ). OnOk c.tell_refusal.result ((r : Result (List ℕ) ControlRefusal) × IsPlanAnswer (snapshot_view c.snapshot.result) request files r × TellsObject (codes "plan") passed r response)) own
-    (refused bytes_view (IsPlanAnswer (snapshot_view c.snapshot.result) c.in_ok-request.request.items files) (λ (r : Result (List ℕ) ControlRefusal). TellsObject (codes "plan") passed r response) c.tell_refusal.result c.in-Err.refusal c.in-Err.ensures.exact c.tell_refusal.ensures.told c.tell_refusal.ensures.known))
+    (refused bytes_view (IsPlanAnswer (snapshot_view c.snapshot.result) c.in_ok-request.request.items files) (λ (r : Result (List ℕ) ControlRefusal). TellsObject (codes "plan") passed r response) c.tell_refusal.result c.in-Err.refusal c.in-Err.ensures.exact c.tell_refusal.ensures.refusal c.tell_refusal.ensures.known))

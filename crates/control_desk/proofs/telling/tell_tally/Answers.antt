@@ -6,7 +6,7 @@ use Rattle.http_server.specs.declared.response.Response.{Response}
 use Rattle.log_tallies.specs.Lines.{files_view}
 use Rattle.control_answers.specs.Record.{IsRecordAnswer}
 use Rattle.control_answers.specs.declared.refusal.ControlRefusal.{ControlRefusal}
-use Rattle.control_desk.specs.Told.{Tells}
+use Rattle.control_desk.specs.Bodies.{Tells}
 use Rattle.control_desk.specs.declared.giving.Media.TheVariants.{Lines}
 use Rattle.control_desk.proofs.Outcomes.{given, refused}
 use Rattle.control_desk.proofs.telling.tell_tally.Goals as goal
@@ -29,4 +29,4 @@ returns-in-Err c =
     let files = files_view c.args.files.now in
     let response = c.tell_refusal.new.response in
     subst (λ (flags : Definitions). OnOk c.tell_refusal.result ((r : Result (List ℕ) ControlRefusal) × IsRecordAnswer flags key site files r × Tells (codes "tally") Lines r response)) c.flags.ensures
-    (refused string_bytes (IsRecordAnswer (flags_view c.flags.result.now) key site files) (λ (r : Result (List ℕ) ControlRefusal). Tells (codes "tally") Lines r response) c.tell_refusal.result c.in-Err.refusal c.in-Err.ensures.exact c.tell_refusal.ensures.told c.tell_refusal.ensures.known)
+    (refused string_bytes (IsRecordAnswer (flags_view c.flags.result.now) key site files) (λ (r : Result (List ℕ) ControlRefusal). Tells (codes "tally") Lines r response) c.tell_refusal.result c.in-Err.refusal c.in-Err.ensures.exact c.tell_refusal.ensures.refusal c.tell_refusal.ensures.known)

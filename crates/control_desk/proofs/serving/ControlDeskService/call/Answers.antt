@@ -6,19 +6,19 @@ use Rattle.control_desk.specs.Desk.{DesksBy, Passes, keys_in, page_view}
 use Rattle.control_desk.specs.Route.{route_of}
 use Rattle.control_desk.specs.Rules.{rules_view}
 use Rattle.control_desk.specs.declared.route.Route.{Route}
-use Rattle.control_desk.specs.declared.route.Route.TheVariants.{Behind, Replied, Called}
+use Rattle.control_desk.specs.declared.route.Route.TheVariants.{Forwarded, Replied, Called}
 use Rattle.control_desk.proofs.Routes.{called}
 use Rattle.control_desk.proofs.serving.ControlDeskService.call.Goals as goal
 
 -- the service behind answers
-pub returns-in-Behind-clause-ok : goal.returns-in-Behind-clause-ok
-returns-in-Behind-clause-ok g c =
+pub returns-in-Forwarded-clause-ok : goal.returns-in-Forwarded-clause-ok
+returns-in-Forwarded-clause-ok g c =
     let old = c.args.self.now in
     let new = c.pass_on.new.self in
     let request = c.args.request.now in
     let response = c.pass_on.new.response in
     let rules = rules_view old.post.now.rules in
-    let leads : route_of (is_some rules.applied_to) (is_admitted (keys_in old.keys) (asked_of request)) (call_asked request).method (call_asked request).path ≡ Behind = sym c.route.ensures ∙ c.in-Behind.is in
+    let leads : route_of (is_some rules.applied_to) (is_admitted (keys_in old.keys) (asked_of request)) (call_asked request).method (call_asked request).path ≡ Forwarded = sym c.route.ensures ∙ c.in-Forwarded.is in
     on_ok_weaker c.pass_on.result
     (λ (passes : Passes g.S.Service.answers old.service request response new.service). (
       c.pass_on.ensures.post,
