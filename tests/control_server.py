@@ -156,8 +156,8 @@ class Control:
             found = set()
             for name in names:
                 with open(os.path.join(self.logs, name), "rb") as file:
-                    found.update(line + b"\n" for line in file.read().split(b"\n")[:-1] if line)
-            self.read = {"state": state, "lines": sorted(found), "tallies": {}}
+                    found.update(file.read().split(b"\n")[:-1])
+            self.read = {"state": state, "lines": sorted(found - {b""}), "tallies": {}}
         return self.read["lines"]
 
     def tally(self, key, site):
@@ -165,7 +165,7 @@ class Control:
             raise Refused("control", 1, "NoRecord", "The service keeps no log.", 409)
         lines, asked = self.lines(), (self.text(), key, site)
         if asked not in self.read["tallies"]:
-            self.read["tallies"][asked] = self.run(["tally", "--floats", self.document, key, str(site)], b"".join(lines))[0]
+            self.read["tallies"][asked] = self.run(["tally", "--floats", self.document, key, str(site)], b"".join(line + b"\n" for line in lines))[0]
         return self.read["tallies"][asked]
 
     def flags(self):

@@ -211,6 +211,7 @@ class Rollouts(ConsoleTest):
         self.until("document.querySelectorAll('#history-rows tr').length === 1 && !document.getElementById('history').hidden")
         rule = json.loads(self.text("flags.json"))["flags"]["checkout"]["targeting"]["if"][2]["fractional"]
         self.assertEqual(sum(weight for name, weight in rule if name == "on"), 10)
+        self.until("/served as snapshot 2/.test(document.getElementById('message').textContent)")
         self.browser.click("#history-rows button")
         self.until("/would switch/.test(document.getElementById('history-rows').textContent)")
         self.look("history")

@@ -598,10 +598,12 @@ async function apply() {
     history.pushState(null, "", "#history");
     route();
     say("The document is written. The service serves it once it has read it.");
-    for (let looks = 0, old = snapshot; looks < TRIES && snapshot === old; looks += 1) {
+    const old = snapshot;
+    for (let looks = 0; looks < TRIES && snapshot === old; looks += 1) {
       await new Promise((go) => setTimeout(go, 500));
       await read();
     }
+    if (snapshot !== old && $("message").textContent) say(`The document is written, and served as snapshot ${snapshot}.`);
   } catch (error) { say(error.message, true); scrollTo(0, 0); }
 }
 
@@ -672,5 +674,5 @@ rates();
 pub fn page_policy() -> &'static str
     ensures { result.now ≡ policy_text }
 {
-    "default-src 'none'; style-src 'sha256-wvxU2zJqknZE8Nv7J1sCHI2OkCsXPBiIKPsQMk57oZI='; script-src 'sha256-MO7F3sRFwfw3IZoTZEw14Ddk+Z8AhdggzgQsC+v7Jpc='; connect-src 'self'; img-src blob: data:; base-uri 'none'; form-action 'none'; frame-ancestors 'none'"
+    "default-src 'none'; style-src 'sha256-wvxU2zJqknZE8Nv7J1sCHI2OkCsXPBiIKPsQMk57oZI='; script-src 'sha256-IREENalyeG3j/mNUZ0goIzzyQSEJHJ1AoAvp4xLZoYE='; connect-src 'self'; img-src blob: data:; base-uri 'none'; form-action 'none'; frame-ancestors 'none'"
 }
