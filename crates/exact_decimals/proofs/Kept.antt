@@ -12,10 +12,6 @@ use Rattle.exact_decimals.proofs.Zeros.{left, rest_kept, right}
 both : (a b : Bool) → a ≡ true → b ≡ true → (a && b) ≡ true
 both a b e f = rw e f
 
-all_joined : (p : ℕ → Bool) (ds es : List ℕ) → list_all p ds ≡ true → list_all p es ≡ true → list_all p (ds ++ es) ≡ true
-all_joined p [] es h k = k
-all_joined p (d ∷ ds) es h k = both (p d) (list_all p (ds ++ es)) (left (p d) (list_all p ds) h) (all_joined p ds es (right (p d) (list_all p ds) h) k)
-
 all_led : (p : ℕ → Bool) (d : ℕ) (ws : List ℕ) → p d ≡ true → list_all p ws ≡ true → list_all p (led_by d ws) ≡ true
 all_led p d [] h k = elim (cases_Bool (d == 48)) [ inl t ↦ rw t refl | inr f ↦ rw f (both (p d) true h refl) ]
 all_led p d (w ∷ ws) h k = both (p d) (list_all p (w ∷ ws)) h k
@@ -45,13 +41,18 @@ trailing_kept [] h = refl
 trailing_kept (d ∷ ds) h = elim (cases_Bool (d == 48)) [ inl t ↦ rw t (trailing_kept ds (rest_kept d ds h)) | inr f ↦ rw f h ]
 
 -- the significant digits are a number's
+pub is_normal_of : (negative : Bool) (all ds : List ℕ) (n : ℕ) → AllDigits 10 all → ds ≡ significant all → (ds ≡ [] → ⊥) → IsNormal negative ds n
+is_normal_of negative all ds n digits is some = record {
+  are_digits = ap (list_all is_ascii_digit) is ∙ all_behind is_ascii_digit (without_trailing_zeros all) (all_before is_ascii_digit all (tested_digits all digits));
+  first = ap without_leading_zeros is ∙ leading_once (without_trailing_zeros all) ∙ sym is;
+  last = ap without_trailing_zeros is ∙ trailing_kept (without_trailing_zeros all) (trailing_once all) ∙ sym is;
+  zero = λ e. absurd (some e);
+}
+
+digits_joined : (ds es : List ℕ) → AllDigits 10 ds → AllDigits 10 es → AllDigits 10 (ds ++ es)
+digits_joined [] es h k = k
+digits_joined (d ∷ ds) es h k = (h.0, digits_joined ds es h.1 k)
+
 pub is_normal : (negative : Bool) (whole fraction ds : List ℕ) (n : ℕ) → AllDigits 10 whole → AllDigits 10 fraction → ds ≡ significant (whole ++ fraction) → (ds ≡ [] → ⊥)
     → IsNormal negative ds n
-is_normal negative whole fraction ds n w f is some =
-    let all = all_joined is_ascii_digit whole fraction (tested_digits whole w) (tested_digits fraction f) in
-    record {
-      are_digits = ap (list_all is_ascii_digit) is ∙ all_behind is_ascii_digit (without_trailing_zeros (whole ++ fraction)) (all_before is_ascii_digit (whole ++ fraction) all);
-      first = ap without_leading_zeros is ∙ leading_once (without_trailing_zeros (whole ++ fraction)) ∙ sym is;
-      last = ap without_trailing_zeros is ∙ trailing_kept (without_trailing_zeros (whole ++ fraction)) (trailing_once (whole ++ fraction)) ∙ sym is;
-      zero = λ e. absurd (some e);
-    }
+is_normal negative whole fraction ds n w f is some = is_normal_of negative (whole ++ fraction) ds n (digits_joined whole fraction w f) is some

@@ -3,4 +3,5 @@ mod Orders
 mod Rationals
 mod Signs
 mod Values
+mod Wholes
 mod Zeros

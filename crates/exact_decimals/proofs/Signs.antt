@@ -1,11 +1,11 @@
 -- The order of numbers with signs, by the order of natural ones.
-use Rattle.std.proofs.Common.{◌≡◌, ◌≤◌, ◌<◌, ℕ, zero, suc, ◌+◌, ◌*◌, ◌^◌, Bool, true, false, List, [], ◌∷◌, refl, ap, ap₂, sym, ◌∙◌, arith, inl, inr, pos, negsuc, neg_ℤ, nat_cmp, int_cmp, Ordering, Less, Equal, Greater, lt→ltb}
+use Rattle.std.proofs.Common.{◌≡◌, ◌≤◌, ◌<◌, ℕ, zero, suc, ◌+◌, ◌*◌, ◌^◌, Bool, true, false, List, [], ◌∷◌, refl, ap, ap₂, sym, ◌∙◌, arith, inl, inr, ℤ, pos, negsuc, neg_ℤ, nat_cmp, int_cmp, Ordering, Less, Equal, Greater, lt→ltb}
 use Rattle.std.proofs.lemmas.Bool.{cases_order}
 use Rattle.std.proofs.Math.Nat.{add-mul, mul-lt-mul_of_pos_right}
 use Rattle.std.specs.Cmp.{int_cmp_is}
 use Rattle.fast_float.specs.Text.{with_sign}
 use Rattle.std.specs.Str.Parse.{digits_value}
-use Rattle.exact_decimals.specs.Decimal.{IsNormal}
+use Rattle.exact_decimals.specs.Decimal.{IsNormal, whole_units}
 use Rattle.exact_decimals.proofs.Values.{digits_by_test, is_positive, ten_pos}
 use Rattle.exact_decimals.proofs.Zeros.{not_both}
 use Rattle.exact_decimals.proofs.Orders.{is_equal, is_greater, is_less}
@@ -67,6 +67,12 @@ signed_scaled true false x y k h =
   where
     zero_by : (k : ℕ) → 0 ≡ 0 * k
     zero_by k = omega arith
+
+pub whole_order : (m n : ℤ) → int_cmp (whole_units m) (whole_units n) ≡ int_cmp m n
+whole_order (pos m) (pos n) = signed_scaled false false m n (10 ^ 400) (ten_pos 400)
+whole_order (pos m) (negsuc n) = signed_scaled false true m (suc n) (10 ^ 400) (ten_pos 400)
+whole_order (negsuc m) (pos n) = signed_scaled true false (suc m) n (10 ^ 400) (ten_pos 400)
+whole_order (negsuc m) (negsuc n) = signed_scaled true true (suc m) (suc n) (10 ^ 400) (ten_pos 400)
 
 -- a negative number is not zero
 some_units : (s : Bool) (ds : List ℕ) (n : ℕ) → IsNormal s ds n → s ≡ true → 0 < digits_value 10 ds * 10 ^ n

@@ -1,5 +1,5 @@
 -- Decimal numbers, exactly: as JSON spells numbers (RFC 8259, section 6), and as texts of digits and a point spell them.
-use Rattle.std.specs.Prelude.{◌≡◌, ℕ, ◌+◌, ◌-◌, ◌*◌, ◌^◌, ◌==◌, ℤ, Bool, false, true, not, ◌&&◌, ◌||◌, nat_lt, nat_le, List, [], ◌∷◌, ◌++◌, length, if◌then◌else◌, Option, Some, None, Result, Ok, Err}
+use Rattle.std.specs.Prelude.{◌≡◌, ℕ, ◌+◌, ◌-◌, ◌*◌, ◌^◌, ◌==◌, suc, ℤ, pos, negsuc, Bool, false, true, not, ◌&&◌, ◌||◌, nat_lt, nat_le, List, [], ◌∷◌, ◌++◌, length, if◌then◌else◌, Option, Some, None, Result, Ok, Err}
 use Rattle.std.specs.Char.{is_ascii_digit}
 use Rattle.std.specs.List.{list_all}
 use Rattle.std.specs.Str.Parse.{digits_value}
@@ -48,6 +48,11 @@ pub record IsNormal (negative : Bool) (digits : List ℕ) (zeros : ℕ) : Type 0
 -- how often 10^-400 the number is
 abbrev pub units : Number → ℤ
 units n = with_sign n.negative (digits_value 10 n.digits * 10 ^ n.zeros)
+
+-- how often 10^-400 a whole number is
+abbrev pub whole_units : ℤ → ℤ
+whole_units (pos n) = with_sign false (n * 10 ^ 400)
+whole_units (negsuc n) = with_sign true (suc n * 10 ^ 400)
 
 abbrev pub zero_number : Number
 zero_number = record { negative = false; digits = []; zeros = 0 }

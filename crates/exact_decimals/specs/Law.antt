@@ -1,9 +1,9 @@
 -- What the numbers are: rationals, in the order of rationals.
-use Rattle.std.specs.Prelude.{◌≡◌, ℕ, ◌*◌, ◌^◌, Bool, Ok}
+use Rattle.std.specs.Prelude.{◌≡◌, ℕ, ◌*◌, ◌^◌, ℤ, Bool, Ok}
 use Rattle.std.specs.Ordering.{int_cmp}
 use Rattle.std.specs.declared.cmp.Ordering.{Ordering}
 use Rattle.fast_float.specs.Text.{Parts, digits_of, tens_down, tens_up, with_sign}
-use Rattle.exact_decimals.specs.Decimal.{Number, numeral_number, units}
+use Rattle.exact_decimals.specs.Decimal.{Number, numeral_number, units, whole_units}
 
 -- a fraction of natural numbers, the lower one not 0, with its sign
 pub record Fraction : Type 0 where
@@ -18,6 +18,10 @@ fraction_cmp a b = int_cmp (with_sign a.negative (a.upper * b.lower)) (with_sign
 -- a numeral, with this sign: its digits, by a power of ten for its exponent, and one for its point
 abbrev pub fraction_of : Bool → Parts → Fraction
 fraction_of negative p = record { negative = negative; upper = digits_of p * 10 ^ tens_up p; lower = 10 ^ tens_down p }
+
+-- Whole numbers are in their own order.
+abbrev pub OrderOfWholeNumbers : Type 0
+OrderOfWholeNumbers = (m n : ℤ) → int_cmp (whole_units m) (whole_units n) ≡ int_cmp m n
 
 -- Numbers are in the order of the fractions that their numerals spell.
 abbrev pub OrderOfRationals : Type 0

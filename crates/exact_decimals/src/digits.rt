@@ -26,7 +26,8 @@ pub(crate) fn without_trailing_zeros<'a>(head: &'a [u8], tail: &'a [u8]) -> (&'a
     }
 }
 
-fn after_zeros(digits: &[u8]) -> &[u8]
+/// The digits without the zeros at their beginning.
+pub(crate) fn after_zeros(digits: &[u8]) -> &[u8]
     ensures { result.now ≡ without_leading_zeros digits.now }
 {
     let mut rest = digits;
@@ -36,7 +37,8 @@ fn after_zeros(digits: &[u8]) -> &[u8]
     rest
 }
 
-fn before_zeros(digits: &[u8]) -> &[u8]
+/// The digits without the zeros at their end.
+pub(crate) fn before_zeros(digits: &[u8]) -> &[u8]
     ensures { result.now ≡ without_trailing_zeros digits.now }
 {
     let mut rest = digits;

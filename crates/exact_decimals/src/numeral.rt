@@ -55,7 +55,7 @@ fn significant<'a>(numeral: &Numeral<'a>) -> (&'a [u8], &'a [u8], usize)
 }
 
 /// The digits of both parts, where there are at most 40.
-fn joined(head: &[u8], tail: &[u8]) -> Option<ArrayVec<u8, 40>>
+pub(crate) fn joined(head: &[u8], tail: &[u8]) -> Option<ArrayVec<u8, 40>>
     ensures digits { MatchOption result (40 < length (head.now ++ tail.now)) (λ v. v.items ≡ head.now ++ tail.now) }
     ensures few { IfSome result (λ v. length v.items ≤ 40) }
 {
