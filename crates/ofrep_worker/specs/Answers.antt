@@ -116,7 +116,7 @@ Rises (Some old) (Some new) = old < new
 Rises None None = Unit {0}
 Rises _ _ = ⊥
 
--- the form of the lines of a log, and what its files were handed
+-- the form of the lines of a log, and what its files were handed, the first one behind what was read of it when the log was opened
 pub record Handed : Type 0 where
   pub form : NoteForm
   pub files : List (List ℕ)
