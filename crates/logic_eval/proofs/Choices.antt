@@ -100,7 +100,7 @@ name_end xs i point left r now h =
     let n : now.rest ≡ [] = cc e in
     now.same ∙ (ap (λ es. at es left) n ∙ at-nil left)
 
-not_zero : (a t : ℕ) → t ≡ a → t ≢ 0 → eqb a 0 ≡ false
+pub not_zero : (a t : ℕ) → t ≡ a → t ≢ 0 → eqb a 0 ≡ false
 not_zero a t e n = elim (cases_Bool (eqb a 0)) [ inl z ↦ absurd (n (e ∙ eqb-true a 0 z)) | inr z ↦ z ]
 
 pub buckets_entries : (ps : List (Shape × Shape)) (r : Entries) → buckets_of ps ≡ Some r → entries_of ps ≡ Some r
@@ -110,7 +110,7 @@ buckets_entries ps r h = go (entries_of ps) h
     go None e = absurd (cc e)
     go (Some es) e = elim (cases_Bool (nat_lt (total_weight es) (2 ^ 31))) [ inl z ↦ rw z at e | inr z ↦ absurd (cc (rw z at e)) ]
 
-chosen_gives : (q : Progress) (o : Option (List ℕ)) → paid q (chosen o) ≡ Ok (option_map_or text o null, q)
+pub chosen_gives : (q : Progress) (o : Option (List ℕ)) → paid q (chosen o) ≡ Ok (option_map_or text o null, q)
 chosen_gives q None = paid-gives q null
 chosen_gives q (Some name) = paid-gives q (text name)
 

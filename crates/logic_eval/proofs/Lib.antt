@@ -6,6 +6,7 @@ mod Chains
 mod Exits
 mod Items
 mod Joined
+mod Literals
 mod Names
 mod Parts
 mod Paths
@@ -17,6 +18,7 @@ mod Sites
 mod Sizes
 mod Values
 mod WholeValues
+mod Within
 pub mod Budgets
 pub mod Choices
 pub mod Replacing

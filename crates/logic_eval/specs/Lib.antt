@@ -12,6 +12,7 @@ pub mod Evaluated
 pub mod Evaluation
 pub mod Fractional
 pub mod Laws
+pub mod Literal
 pub mod Operators
 pub mod Run
 pub mod Scalar

@@ -63,7 +63,7 @@ fn chosen<'a>(alloc: Global, share: Option<&WeightedVariant<'a>>) -> Result<Valu
 }
 
 // What is hashed, where there is something.
-fn input_of(
+pub(crate) fn input_of(
     alloc: Global,
     default: &mut Option<HashInput>,
     input: &Input,

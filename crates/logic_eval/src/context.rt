@@ -6,6 +6,7 @@ ghost use Rattle.flag_text.specs.View.{view, members_view};
 
 use crate::scope::{Scope, Subject};
 use flag_text::{Tree, member_by_halving};
+use logic_ast::Expr;
 use logic_values::Root;
 use std::alloc::{AllocError, Global};
 
@@ -23,6 +24,9 @@ pub struct Context<'a> {
 }
 
 impl<'a> Context<'a> {
+    ghost use Rattle.logic_ast.specs.Expr.{view as expr_view};
+    ghost use Rattle.logic_ast.specs.Sites.{preorder};
+    ghost use Rattle.logic_eval.specs.Literal.{AreSummed};
     ghost use Rattle.logic_eval.specs.Scope.{flagd, root_scope, default_input};
     ghost use Rattle.logic_eval.specs.Views.{scope_view, default_view, situation};
 
@@ -66,9 +70,11 @@ impl<'a> Context<'a> {
         })
     }
 
-    /// What the default hash input is made of.
-    pub(crate) fn subject(&self) -> Subject<'_>
-        ensures { default_view result ≡ default_input (situation self.now) }
+    /// What the sites of an expression are decided by.
+    #[tactic(auto, unfolding(crate::specs::Literal::AreSummed))]
+    pub(crate) fn subject<'s>(&'s self, expr: &'s Expr) -> Subject<'s>
+        ensures default { default_view result ≡ default_input (situation self.now) }
+        ensures summed { AreSummed result (preorder (expr_view expr.now)) }
     {
         let key = match member_by_halving(self.members, "targetingKey") {
             Some(Tree::Text(key)) => Some(key.as_str()),
@@ -77,6 +83,7 @@ impl<'a> Context<'a> {
         Subject {
             flag: self.flag,
             key,
+            ends: expr.ends(),
         }
     }
 }

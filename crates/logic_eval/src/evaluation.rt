@@ -11,14 +11,13 @@ ghost use Rattle.logic_eval.specs.Evaluation.{evaluation_of, meaning};
 ghost use Rattle.logic_eval.specs.Laws.{IsOfSite};
 ghost use Rattle.logic_eval.specs.Scope.{flagd as flagd_of, default_input, root_scope};
 ghost use Rattle.logic_ast.specs.Sites.{sites};
-ghost use Rattle.logic_ast.specs.View.{node_view};
 ghost use Rattle.logic_eval.specs.Views.{progress, reach_view, situation};
 
 use crate::context::Context;
 use crate::meter::{Meter, Reached};
 use crate::nodes::evaluate_node;
 use flag_text::Tree;
-use logic_ast::{Expr, Node};
+use logic_ast::Expr;
 use logic_values::EvalFault;
 use std::alloc::Global;
 
@@ -33,9 +32,10 @@ pub(crate) const MOST_UNITS: u64 = 100_000;
 /// where a text that is made has more than 65,536 bytes; and `TooLong` where what came before costs
 /// more than 100,000 units. `WantOfMemory` may come at any step.
 ///
-/// It takes about as many steps as units, but for the buckets of each site that is reached, which are walked, and for a path
-/// inside an object that the expression holds, whose members are looked at one by one. In the context a member is found by
-/// halving. The default hash input is made and hashed once, and compared at each further site that it reaches.
+/// It takes about as many steps as units, but for the buckets of a site of which one is computed, which are walked, and for a
+/// path inside an object that the expression holds, whose members are looked at one by one. In the context a member is found by
+/// halving, and so is the bucket of a site whose buckets are all literal. The default hash input is made and hashed once, and
+/// compared at each further site that it reaches.
 pub fn eval(
     alloc: Global,
     expr: &Expr,
@@ -53,21 +53,22 @@ pub fn eval(
         reached: Vec::new(alloc),
         default: None,
     };
-    let tree = evaluated(&mut meter, expr.root(), context, &flagd)?;
+    let tree = evaluated(&mut meter, expr, context, &flagd)?;
     let Meter { reached, .. } = meter;
     Ok((tree, reached))
 }
 
-// The value of a node at the root scope.
+// The value of an expression at the root scope.
 fn evaluated<'a>(
     meter: &mut Meter,
-    node: &'a Node,
+    expr: &'a Expr,
     context: &'a Context<'a>,
     flagd: &'a Tree,
 ) -> Result<Tree, EvalFault>
     requires { tree_view flagd.now ≡ flagd_of (situation context.now) }
-    ensures exact { Follows tree_view (progress meter.old) (progress meter.new) result (meaning (default_input (situation context.now)) (node_view node.now) (root_scope (situation context.now))) }
+    ensures exact { Follows tree_view (progress meter.old) (progress meter.new) result (meaning (default_input (situation context.now)) (view expr.now) (root_scope (situation context.now))) }
 {
-    let value = evaluate_node(meter, node, context.scope(flagd), context.subject())?;
+    let subject = context.subject(expr);
+    let value = evaluate_node(meter, expr.root(), context.scope(flagd), subject)?;
     Ok(value.into_tree(meter.alloc)?)
 }

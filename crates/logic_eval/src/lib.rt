@@ -17,7 +17,7 @@
 //! ```
 //!
 //! It walks the nodes (`nodes`), looks paths up in their scope (`find`), pays from the `meter`, and lets each site choose
-//! (`choice`). The values, and the operators on values alone, are `logic_values`'s.
+//! (`choice`, and `literal` where its buckets are). The values, and the operators on values alone, are `logic_values`'s.
 //!
 //! Proved, over the definitions in `specs/`: value, reached list and fault are those of `evaluation_of` (`Evaluation`,
 //! `Operators`, `Scope`, `Fractional`, `Run`), for every expression and context; the value is whole; what is reached is of the
@@ -34,6 +34,7 @@ mod find;
 mod fractional;
 mod hashed;
 mod laws;
+mod literal;
 mod meter;
 mod missing;
 mod nodes;

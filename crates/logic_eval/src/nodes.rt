@@ -1,8 +1,10 @@
 //! The walk over an expression, node by node.
 ghost use Rattle.std.specs.Prelude.{◌≡◌, IfOk, map, drop};
-ghost use Rattle.logic_ast.specs.View.{node_view};
+ghost use Rattle.logic_ast.specs.Sites.{preorder, preorder_in, preorder_in_by, preorder_in_buckets};
+ghost use Rattle.logic_ast.specs.View.{node_view, nodes_view, boxed_view, buckets_view};
 ghost use Rattle.logic_eval.specs.Evaluated.{Evaluates, by_meaning_of, bucket_meanings_of, meaning_of, meanings_of};
 ghost use Rattle.logic_eval.specs.Evaluation.{input, pairs, part_of};
+ghost use Rattle.logic_eval.specs.Literal.{AreSummed};
 ghost use Rattle.logic_eval.specs.Operators.{values, operated, conditional, first_of_truth, strict, over, over_items, over_from_start, start, mapped, kept, occurs, reduced};
 ghost use Rattle.logic_values.specs.Views.{value_view};
 ghost use Rattle.logic_eval.specs.Views.{scope_view, default_view, input_view, weighted_variant_view};
@@ -10,8 +12,9 @@ ghost use Rattle.logic_eval.specs.Views.{scope_view, default_view, input_view, w
 use crate::apply::apply;
 use crate::choice::decide;
 use crate::fractional::{Input, WeightedVariant};
+use crate::literal::decide_literal;
 use crate::meter::{Meter, pay_for};
-use crate::scope::{Scope, Subject};
+use crate::scope::{Scope, Subject, ends_at};
 use crate::variable::variable;
 use logic_ast::{Bucket, Node, Operator};
 use logic_values::truth::is_true;
@@ -21,14 +24,17 @@ use std::alloc::{AllocError, Global};
 
 /// The value of a node in a scope, paid from what the meter has left: what is reached is added to what was reached before.
 ///
-/// `eval` starts it at the root of an expression, in the root scope and with the whole budget.
+/// `eval` starts it at the root of an expression, in the root scope and with the whole budget. The subject has the cumulative
+/// weights of the node's sites: of the functions below it is the same.
 #[cycle(evaluate)]
+#[tactic(auto, using(crate::proofs::Within::in_list, crate::proofs::Within::in_operation, crate::proofs::Within::in_by, crate::proofs::Within::in_buckets, crate::proofs::Within::own_ends))]
 pub(crate) fn evaluate_node<'s, 'a>(
     meter: &mut Meter,
     node: &'a Node,
     scope: Scope<'s, 'a>,
     subject: Subject<'a>,
 ) -> Result<Value<'a>, EvalFault>
+    requires { AreSummed subject (preorder (node_view node.now)) }
     ensures exact { Evaluates value_view meter.old meter.new result (meaning_of subject.entry node.now (scope_view scope.entry)) }
 {
     match node {
@@ -48,6 +54,10 @@ pub(crate) fn evaluate_node<'s, 'a>(
         Node::Fractional { site, by, buckets } => {
             meter.pay(1)?;
             let input = input(meter, by, scope, subject)?;
+            let ends = ends_at(subject, *site);
+            if !ends.is_empty() {
+                return decide_literal(meter, *site, input, buckets, ends, subject);
+            }
             let shares = shares(meter, buckets, scope, subject)?;
             decide(meter, *site, input, shares.as_slice(), subject)
         }
@@ -56,12 +66,14 @@ pub(crate) fn evaluate_node<'s, 'a>(
 
 // The values of all, from the left.
 #[cycle(evaluate)]
+#[tactic(auto, using(crate::proofs::Within::in_nodes))]
 fn evaluate_all<'s, 'a>(
     meter: &mut Meter,
     nodes: &'a Vec<Node>,
     scope: Scope<'s, 'a>,
     subject: Subject<'a>,
 ) -> Result<SmallVec<Value<'a>, 3>, EvalFault>
+    requires { AreSummed subject (preorder_in (nodes_view nodes.now.items)) }
     ensures exact { Evaluates (λ vs. map value_view vs.items) meter.old meter.new result (values (meanings_of subject.entry nodes.now.items) (scope_view scope.entry)) }
 {
     let mut values = SmallVec::new(meter.alloc);
@@ -92,6 +104,7 @@ fn operate<'s, 'a>(
     scope: Scope<'s, 'a>,
     subject: Subject<'a>,
 ) -> Result<Value<'a>, EvalFault>
+    requires { AreSummed subject (preorder_in (nodes_view arguments.now.items)) }
     ensures exact { Evaluates value_view meter.old meter.new result (operated operator (meanings_of subject.entry arguments.now.items) (scope_view scope.entry)) }
 {
     match operator {
@@ -117,12 +130,14 @@ fn operate<'s, 'a>(
 
 // `if`: pairs of a test and a result, and a last result.
 #[cycle(evaluate)]
+#[tactic(auto, using(crate::proofs::Within::in_nodes))]
 fn conditional<'s, 'a>(
     meter: &mut Meter,
     nodes: &'a Vec<Node>,
     scope: Scope<'s, 'a>,
     subject: Subject<'a>,
 ) -> Result<Value<'a>, EvalFault>
+    requires { AreSummed subject (preorder_in (nodes_view nodes.now.items)) }
     ensures exact { Evaluates value_view meter.old meter.new result (conditional (meanings_of subject.entry nodes.now.items) (scope_view scope.entry)) }
 {
     let pairs = nodes.len() / 2;
@@ -140,6 +155,7 @@ fn conditional<'s, 'a>(
 
 // `and` looks for a value that counts as false, `or` for one that counts as true: the first, else the last.
 #[cycle(evaluate)]
+#[tactic(auto, using(crate::proofs::Within::in_nodes))]
 fn first_of_truth<'s, 'a>(
     meter: &mut Meter,
     nodes: &'a Vec<Node>,
@@ -147,6 +163,7 @@ fn first_of_truth<'s, 'a>(
     scope: Scope<'s, 'a>,
     subject: Subject<'a>,
 ) -> Result<Value<'a>, EvalFault>
+    requires { AreSummed subject (preorder_in (nodes_view nodes.now.items)) }
     ensures exact { Evaluates value_view meter.old meter.new result (first_of_truth wanted (meanings_of subject.entry nodes.now.items) (scope_view scope.entry)) }
 {
     if nodes.is_empty() {
@@ -164,6 +181,7 @@ fn first_of_truth<'s, 'a>(
 
 // An operator that runs its second argument over the items of the first.
 #[cycle(evaluate)]
+#[tactic(auto, using(crate::proofs::Within::in_nodes))]
 fn over<'s, 'a>(
     meter: &mut Meter,
     arguments: &'a Vec<Node>,
@@ -171,6 +189,7 @@ fn over<'s, 'a>(
     scope: Scope<'s, 'a>,
     subject: Subject<'a>,
 ) -> Result<Value<'a>, EvalFault>
+    requires { AreSummed subject (preorder_in (nodes_view arguments.now.items)) }
     ensures exact { Evaluates value_view meter.old meter.new result (over operator (meanings_of subject.entry arguments.now.items) (scope_view scope.entry)) }
 {
     if arguments.len() < 2 {
@@ -189,6 +208,7 @@ fn over_items<'s, 'a>(
     items: &'s [Value<'a>],
     subject: Subject<'a>,
 ) -> Result<Value<'a>, EvalFault>
+    requires { AreSummed subject (preorder (node_view body.now)) }
     ensures exact { Evaluates value_view meter.old meter.new result (over_items operator (meaning_of subject.entry body.now) (map value_view items.now)) }
 {
     match operator {
@@ -214,6 +234,7 @@ fn mapped<'s, 'a>(
     items: &'s [Value<'a>],
     subject: Subject<'a>,
 ) -> Result<Vec<Value<'a>>, EvalFault>
+    requires { AreSummed subject (preorder (node_view body.now)) }
     ensures exact { Evaluates (λ v. map value_view v.items) meter.old meter.new result (mapped (meaning_of subject.entry body.now) (map value_view items.now)) }
 {
     let mut values = Vec::new(meter.alloc);
@@ -232,6 +253,7 @@ fn kept<'s, 'a>(
     items: &'s [Value<'a>],
     subject: Subject<'a>,
 ) -> Result<Vec<Value<'a>>, EvalFault>
+    requires { AreSummed subject (preorder (node_view body.now)) }
     ensures exact { Evaluates (λ v. map value_view v.items) meter.old meter.new result (kept (meaning_of subject.entry body.now) (map value_view items.now)) }
 {
     let mut values = Vec::new(meter.alloc);
@@ -253,6 +275,7 @@ fn occurs<'s, 'a>(
     items: &'s [Value<'a>],
     subject: Subject<'a>,
 ) -> Result<bool, EvalFault>
+    requires { AreSummed subject (preorder (node_view body.now)) }
     ensures exact { Evaluates (λ b. b) meter.old meter.new result (occurs wanted (meaning_of subject.entry body.now) (map value_view items.now)) }
 {
     for item in items {
@@ -266,12 +289,14 @@ fn occurs<'s, 'a>(
 
 // `reduce`: the list, then the start value, then the body from item to item.
 #[cycle(evaluate)]
+#[tactic(auto, using(crate::proofs::Within::in_nodes))]
 fn reduce<'s, 'a>(
     meter: &mut Meter,
     arguments: &'a Vec<Node>,
     scope: Scope<'s, 'a>,
     subject: Subject<'a>,
 ) -> Result<Value<'a>, EvalFault>
+    requires { AreSummed subject (preorder_in (nodes_view arguments.now.items)) }
     ensures exact { Evaluates value_view meter.old meter.new result (over_from_start (meanings_of subject.entry arguments.now.items) (scope_view scope.entry)) }
 {
     if arguments.len() < 2 {
@@ -285,12 +310,14 @@ fn reduce<'s, 'a>(
 
 // The start value of `reduce`, null where it is absent.
 #[cycle(evaluate)]
+#[tactic(auto, using(crate::proofs::Within::in_nodes))]
 fn start<'s, 'a>(
     meter: &mut Meter,
     arguments: &'a Vec<Node>,
     scope: Scope<'s, 'a>,
     subject: Subject<'a>,
 ) -> Result<Value<'a>, EvalFault>
+    requires { AreSummed subject (preorder_in (nodes_view arguments.now.items)) }
     ensures exact { Evaluates value_view meter.old meter.new result (start (meanings_of subject.entry (drop 2 arguments.now.items)) (scope_view scope.entry)) }
 {
     if arguments.len() < 3 {
@@ -307,6 +334,7 @@ fn reduced<'s, 'a>(
     items: &'s [Value<'a>],
     subject: Subject<'a>,
 ) -> Result<Value<'a>, EvalFault>
+    requires { AreSummed subject (preorder (node_view body.now)) }
     ensures exact { Evaluates value_view meter.old meter.new result (reduced (meaning_of subject.entry body.now) (value_view start.entry) (map value_view items.now)) }
 {
     let mut so_far = start;
@@ -319,12 +347,14 @@ fn reduced<'s, 'a>(
 
 // The input of a site: the value of its bucketing expression, where there is one.
 #[cycle(evaluate)]
+#[tactic(auto, using(crate::proofs::Within::in_boxed))]
 fn input<'s, 'a>(
     meter: &mut Meter,
     by: &'a Option<Box<Node>>,
     scope: Scope<'s, 'a>,
     subject: Subject<'a>,
 ) -> Result<Input<'a>, EvalFault>
+    requires { AreSummed subject (preorder_in_by (boxed_view by.now)) }
     ensures exact { Evaluates (input_view (default_view subject.entry)) meter.old meter.new result (input (default_view subject.entry) (by_meaning_of subject.entry by.now) (scope_view scope.entry)) }
 {
     match by {
@@ -335,12 +365,14 @@ fn input<'s, 'a>(
 
 // The names and weights, from the left.
 #[cycle(evaluate)]
+#[tactic(auto, using(crate::proofs::Within::in_name, crate::proofs::Within::in_weight))]
 fn shares<'s, 'a>(
     meter: &mut Meter,
     buckets: &'a Vec<Bucket<Node>>,
     scope: Scope<'s, 'a>,
     subject: Subject<'a>,
 ) -> Result<Vec<WeightedVariant<'a>>, EvalFault>
+    requires { AreSummed subject (preorder_in_buckets (buckets_view buckets.now.items)) }
     ensures exact { Evaluates (λ ss. map weighted_variant_view ss.items) meter.old meter.new result (pairs (bucket_meanings_of subject.entry buckets.now.items) (scope_view scope.entry)) }
 {
     let mut shares = Vec::with_capacity(meter.alloc, buckets.len())?;
@@ -367,6 +399,7 @@ fn part<'s, 'a>(
     scope: Scope<'s, 'a>,
     subject: Subject<'a>,
 ) -> Result<Value<'a>, EvalFault>
+    requires { AreSummed subject (preorder (node_view node.now)) }
     ensures exact { Evaluates value_view meter.old meter.new result (part_of (node_view node.now) (meaning_of subject.entry node.now) (scope_view scope.entry)) }
 {
     match node {

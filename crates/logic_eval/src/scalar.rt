@@ -3,7 +3,6 @@ ghost use Rattle.std.specs.Prelude.{◌≡◌, IfOk, map};
 ghost use Rattle.flag_text.specs.Outcome.{GivesUnless};
 ghost use Rattle.flag_text.specs.View.{view as tree_view};
 ghost use Rattle.logic_ast.specs.Expr.{view};
-ghost use Rattle.logic_ast.specs.View.{node_view};
 ghost use Rattle.logic_eval.specs.Scalar.{FollowsScalar, scalar_in, scalar_of};
 ghost use Rattle.logic_eval.specs.Evaluation.{evaluation_of, meaning};
 ghost use Rattle.logic_eval.specs.Scope.{flagd as flagd_of, default_input, root_scope};
@@ -16,7 +15,7 @@ use crate::evaluation::MOST_UNITS;
 use crate::meter::{Meter, Reached};
 use crate::nodes::evaluate_node;
 use flag_text::Tree;
-use logic_ast::{Expr, Node};
+use logic_ast::Expr;
 use logic_values::{EvalFault, Value};
 use std::alloc::{AllocError, Global};
 
@@ -38,22 +37,23 @@ pub fn eval_scalar(
         reached: Vec::new(alloc),
         default: None,
     };
-    let tree = evaluated(&mut meter, expr.root(), context, &flagd)?;
+    let tree = evaluated(&mut meter, expr, context, &flagd)?;
     let Meter { reached, .. } = meter;
     Ok((tree, reached))
 }
 
-// The scalar that a node gives at the root scope.
+// The scalar that an expression gives at the root scope.
 fn evaluated<'a>(
     meter: &mut Meter,
-    node: &'a Node,
+    expr: &'a Expr,
     context: &'a Context<'a>,
     flagd: &'a Tree,
 ) -> Result<Tree, EvalFault>
     requires { tree_view flagd.now ≡ flagd_of (situation context.now) }
-    ensures exact { FollowsScalar (progress meter.old) (progress meter.new) result (meaning (default_input (situation context.now)) (node_view node.now) (root_scope (situation context.now))) }
+    ensures exact { FollowsScalar (progress meter.old) (progress meter.new) result (meaning (default_input (situation context.now)) (view expr.now) (root_scope (situation context.now))) }
 {
-    let value = evaluate_node(meter, node, context.scope(flagd), context.subject())?;
+    let subject = context.subject(expr);
+    let value = evaluate_node(meter, expr.root(), context.scope(flagd), subject)?;
     Ok(scalar(meter.alloc, value)?)
 }
 

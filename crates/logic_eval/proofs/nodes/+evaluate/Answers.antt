@@ -1,17 +1,21 @@
-use Rattle.std.proofs.Common.{◌≡◌, ℕ, ◌+◌, ◌*◌, ◌<◌, ◌≤◌, List, [], length, drop, map, Some, Ok, pos, ap, ◌∙◌, sym, refl, arith, rules, true, false}
+use Rattle.std.proofs.Common.{◌≡◌, ℕ, ◌+◌, ◌*◌, ◌<◌, ◌≤◌, List, [], length, drop, map, Some, Ok, pos, ap, ◌∙◌, sym, refl, subst, arith, rules, true, false}
 use Rattle.std.proofs.lemmas.List.{drop_all}
 use Rattle.flag_text.specs.Shape.{Shape, list, text, whole}
 use Rattle.flag_text.specs.View.{items_of}
+use Rattle.logic_ast.specs.Sites.{preorder_in, preorder_in_buckets}
+use Rattle.logic_ast.specs.declared.node.Node.{the_lemmas}
 use Rattle.logic_ast.specs.View.{node_view, nodes_view, boxed_view, buckets_view}
 use Rattle.logic_ast.proofs.Views.{node_view-fractional}
 use Rattle.logic_eval.specs.Budget.{paid}
 use Rattle.logic_values.specs.Comparison.{bool_eq}
 use Rattle.logic_eval.specs.Evaluation.{meaning, meanings, by_meaning, bucket_meanings, input, pairs, part_of}
 use Rattle.logic_eval.specs.Fractional.{decided}
+use Rattle.logic_eval.specs.Literal.{AreSummed}
 use Rattle.logic_eval.specs.Operators.{values, operated, mapped, kept, occurs, reduced, over_items}
 use Rattle.logic_values.specs.Truth.{is_true}
 use Rattle.logic_eval.specs.Views.{progress, scope_view, default_view, input_view, weighted_variant_view}
 use Rattle.logic_values.specs.Views.{value_view}
+use Rattle.logic_eval.proofs.Branching.{literal_site}
 use Rattle.logic_eval.proofs.Branches.{node_view-literal, node_view-list, node_view-operation, as_seen, operated-other, conditional_err, conditional_true, conditional_false, conditional_end, first_of_truth_err, first_of_truth_found, first_of_truth_next, first_of_truth_none}
 use Rattle.logic_eval.proofs.Budgets.{bind_ok, bind_err, cost_ok, cost_err, paid-gives}
 use Rattle.logic_eval.proofs.Exits.{exits, gives_same, ended}
@@ -20,6 +24,7 @@ use Rattle.logic_eval.proofs.Items.{bool_eq-same, bool_eq-other, mapped_ok, mapp
 use Rattle.logic_eval.proofs.Sites.{literal_ok, computed_name_err, computed_weight_err, computed_ok}
 use Rattle.logic_values.proofs.Surfaces.{value_items, value_null, value_bool, value_lent}
 use Rattle.logic_eval.proofs.Values.{values_ok, values_err, prepended, prepended-err, prepended-none, prepended_all, one_more}
+use Rattle.logic_eval.proofs.Within.{in_nodes, in_name, in_weight, in_by, in_buckets, own_ends}
 use Rattle.logic_eval.proofs.nodes.+evaluate.Goals as goal
 use Rattle.logic_eval.proofs.nodes.+evaluate.Goals.{kept-then-is_true+in_ok-copy+in_ok-push, kept-else-is_true, shares-in-Literal+in_ok-push-in-Literal, shares-in-Computed+in_ok-name-in-Computed+in_ok-weight-in-Computed+in_ok-push-in-Computed}
 
@@ -102,6 +107,80 @@ evaluate_node-returns-in_err-input-in-Fractional t c = record {
   exact = exits _ _ _ _ c.from_residual-in_err-input-in-Fractional.ensures.1
       (λ n. as_seen _ _ _ _ _ (ap node_view c.in-Fractional.is ∙ node_view-fractional _ _ _) ∙ (cost_ok _ _ _ _ _ c.in_ok-pay-in-Fractional.ensures.exact ∙ bind_err _ _ _ _ (c.in_err-input-in-Fractional.ensures.exact n)));
 }
+
+pub evaluate_node-input-requires : goal.evaluate_node-input-requires
+evaluate_node-input-requires t c = (search (rules, the_lemmas), in_by c.args.subject c.args.node.now c.in-Fractional.site c.in-Fractional.by c.in-Fractional.buckets c.in-Fractional.is c.requires)
+
+pub evaluate_node-decide_literal-requires : goal.evaluate_node-decide_literal-requires
+evaluate_node-decide_literal-requires t c =
+    let some : 0 < length c.ends_at-ends.result.now = grind arith in
+    record {
+      ends = own_ends c.args.subject c.args.node.now c.in-Fractional.site c.in-Fractional.by c.in-Fractional.buckets c.in-Fractional.is c.requires c.ends_at-ends.result.now c.ends_at-ends.ensures some;
+      some = some;
+    }
+
+pub evaluate_node-returns-then-not-is_empty : goal.evaluate_node-returns-then-not-is_empty
+evaluate_node-returns-then-not-is_empty t c =
+    let some : 0 < length c.ends_at-ends.result.now = grind arith in
+    let are = own_ends c.args.subject c.args.node.now c.in-Fractional.site c.in-Fractional.by c.in-Fractional.buckets c.in-Fractional.is c.requires c.ends_at-ends.result.now c.ends_at-ends.ensures some in
+    let law = literal_site (default_view c.args.subject) c.in-Fractional.site (boxed_view c.in-Fractional.by) (buckets_view c.in-Fractional.buckets.items) _ (scope_view c.args.scope) are.literal are.small in record {
+      exact = gives_same _ _ _ _ (as_seen _ _ _ _ _ (ap node_view c.in-Fractional.is ∙ node_view-fractional _ _ _) ∙ (ap (paid (progress c.args.meter.now)) law ∙ (cost_ok _ _ _ _ _ c.in_ok-pay-in-Fractional.ensures.exact ∙ bind_ok _ _ _ _ _ c.in_ok-input-in-Fractional.ensures.exact))) c.decide_literal.ensures.exact;
+    }
+
+pub evaluate_node-shares-requires : goal.evaluate_node-shares-requires
+evaluate_node-shares-requires t c = (search (rules, the_lemmas), in_buckets c.args.subject c.args.node.now c.in-Fractional.site c.in-Fractional.by c.in-Fractional.buckets c.in-Fractional.is c.requires)
+
+-- what is known of the sites below a node
+
+pub evaluate_all-evaluate_node-requires : goal.evaluate_all-evaluate_node-requires
+evaluate_all-evaluate_node-requires t c =
+    let xs = c.deref-node-items.result.now in
+    let all : AreSummed c.args.subject (preorder_in (nodes_view xs)) = subst (λ ns. AreSummed c.args.subject (preorder_in (nodes_view ns))) (sym c.deref-node-items.ensures.value) c.requires in
+    (search (rules, the_lemmas), in_nodes c.args.subject xs c.loop-node.node-index c.node-item.result (omega arith) c.node-item.is all)
+
+pub conditional-evaluate_node-requires : goal.conditional-evaluate_node-requires
+conditional-evaluate_node-requires t c = (search (rules, the_lemmas), in_nodes c.args.subject c.args.nodes.now.items (2 * c.loop-pair.pair) c.index.result.now (omega arith) c.index.ensures c.requires)
+
+pub conditional-evaluate_node-requires-then-is_true : goal.conditional-evaluate_node-requires-then-is_true
+conditional-evaluate_node-requires-then-is_true t c = (search (rules, the_lemmas), in_nodes c.args.subject c.args.nodes.now.items (2 * c.loop-pair.pair + 1) c.index-then-is_true.result.now (omega arith) c.index-then-is_true.ensures c.requires)
+
+pub conditional-evaluate_node-requires-then-len-eq1 : goal.conditional-evaluate_node-requires-then-len-eq1
+conditional-evaluate_node-requires-then-len-eq1 t c = (search (rules, the_lemmas), in_nodes c.args.subject c.args.nodes.now.items _ c.index-then-len-eq1.result.now (omega arith) c.index-then-len-eq1.ensures c.requires)
+
+pub first_of_truth-evaluate_node-requires : goal.first_of_truth-evaluate_node-requires
+first_of_truth-evaluate_node-requires t c = (search (rules, the_lemmas), in_nodes c.args.subject c.args.nodes.now.items c.loop-place.place c.index.result.now (omega arith) c.index.ensures c.requires)
+
+pub first_of_truth-evaluate_node-requires-2 : goal.first_of_truth-evaluate_node-requires-2
+first_of_truth-evaluate_node-requires-2 t c =
+    let some : 0 < length c.args.nodes.now.items = grind arith in
+    (search (rules, the_lemmas), in_nodes c.args.subject c.args.nodes.now.items _ c.index-2.result.now (omega (arith, some)) c.index-2.ensures c.requires)
+
+pub over-evaluate_node-requires : goal.over-evaluate_node-requires
+over-evaluate_node-requires t c = (search (rules, the_lemmas), in_nodes c.args.subject c.args.arguments.now.items 0 c.index.result.now (omega arith) c.index.ensures c.requires)
+
+pub over-over_items-requires : goal.over-over_items-requires
+over-over_items-requires t c = (search (rules, the_lemmas), in_nodes c.args.subject c.args.arguments.now.items 1 c.index-2.result.now (omega arith) c.index-2.ensures c.requires)
+
+pub reduce-evaluate_node-requires : goal.reduce-evaluate_node-requires
+reduce-evaluate_node-requires t c = (search (rules, the_lemmas), in_nodes c.args.subject c.args.arguments.now.items 0 c.index.result.now (omega arith) c.index.ensures c.requires)
+
+pub reduce-reduced-requires : goal.reduce-reduced-requires
+reduce-reduced-requires t c = (search (rules, the_lemmas), in_nodes c.args.subject c.args.arguments.now.items 1 c.index-2.result.now (omega arith) c.index-2.ensures c.requires)
+
+pub start-evaluate_node-requires : goal.start-evaluate_node-requires
+start-evaluate_node-requires t c = (search (rules, the_lemmas), in_nodes c.args.subject c.args.arguments.now.items 2 c.index.result.now (omega arith) c.index.ensures c.requires)
+
+pub shares-part-requires : goal.shares-part-requires
+shares-part-requires t c =
+    let xs = c.deref-bucket-items.result.now in
+    let all : AreSummed c.args.subject (preorder_in_buckets (buckets_view xs)) = subst (λ bs. AreSummed c.args.subject (preorder_in_buckets (buckets_view bs))) (sym c.deref-bucket-items.ensures.value) c.requires in
+    (search (rules, the_lemmas), in_name c.args.subject xs c.loop-bucket.bucket-index c.bucket-item.result c.in-Computed.name c.in-Computed.weight (omega arith) c.bucket-item.is c.in-Computed.is all)
+
+pub shares-part-requires-in-Computed : goal.shares-part-requires-in-Computed
+shares-part-requires-in-Computed t c =
+    let xs = c.deref-bucket-items.result.now in
+    let all : AreSummed c.args.subject (preorder_in_buckets (buckets_view xs)) = subst (λ bs. AreSummed c.args.subject (preorder_in_buckets (buckets_view bs))) (sym c.deref-bucket-items.ensures.value) c.requires in
+    (search (rules, the_lemmas), in_weight c.args.subject xs c.loop-bucket.bucket-index c.bucket-item.result c.in-Computed.name c.in-Computed.weight (omega arith) c.bucket-item.is c.in-Computed.is all)
 
 pub evaluate_node-returns-in_err-shares-in-Fractional : goal.evaluate_node-returns-in_err-shares-in-Fractional
 evaluate_node-returns-in_err-shares-in-Fractional t c = record {
