@@ -4,6 +4,7 @@ use book_core::Page;
 use line_tally::{LineTally, PageTally, join};
 use note_lines::{hashed_line, note_line, read_hashed_note, read_note};
 use std::alloc::{AllocError, Global};
+use std::sync::Arc;
 use std::test::Fail;
 use tally_filters::join_all;
 
@@ -15,7 +16,7 @@ fn ended(alloc: Global, line: &str) -> Result<Vec<u8>, AllocError> {
 }
 
 /// The input of the note whose line this is, where it is printed so again.
-fn input_of(alloc: Global, line: &str) -> Option<String> {
+fn input_of(alloc: Global, line: &str) -> Option<Arc<String>> {
     let line = ended(alloc, line).ok()?;
     let note = read_note(alloc, line.as_slice()).ok()??;
     let again = note_line(alloc, &note.page, note.input.as_str()).ok()?;

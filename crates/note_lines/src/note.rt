@@ -8,23 +8,25 @@ use book_core::Page;
 use flag_text::Tree;
 use std::alloc::{AllocError, Global};
 use std::marker::Model;
+use std::sync::Arc;
 
 /// A hash input that reached the `fractional` operation of a page.
 #[derive(Debug, Drop)]
 pub struct Note {
     /// The operation.
     pub page: Page,
-    /// The hash input.
-    pub input: String,
+    /// The hash input: of an evaluation whose sites share it, their notes do too.
+    pub input: Arc<String>,
 }
 
 impl Model for Note {
+    ghost use Rattle.std.specs.Arc.{arc_value};
     ghost use Rattle.std.specs.Prelude.{string_bytes};
     ghost use Rattle.note_lines.specs.Note.{Noted};
 
     ghost Value = { Noted };
 
-    ghost view = { λ n. record { page = n.page; input = string_bytes n.input } };
+    ghost view = { λ n. record { page = n.page; input = string_bytes (arc_value n.input) } };
 }
 
 /// The note of a list `[FLAG,SITE,BY,INPUT]`.
@@ -37,6 +39,6 @@ pub(crate) fn tree_note(alloc: Global, tree: &Tree) -> Result<Option<Note>, Allo
     let Some(input) = last.as_text() else {
         return Ok(None);
     };
-    let input = String::from_str(alloc, input)?;
+    let input = Arc::new(alloc, String::from_str(alloc, input)?)?;
     Ok(Some(Note { page, input }))
 }

@@ -80,7 +80,7 @@ fn push_all(
     Ok(())
 }
 
-/// The note of a site that was reached: its page, and its hash input.
+/// The note of a site that was reached: its page, and its hash input, which is shared.
 fn note_at(
     alloc: Global,
     key: &str,
@@ -90,6 +90,6 @@ fn note_at(
     ensures { IfOk result (λ note. note ≡ note_at key.now (option_map (λ e. view e.now) targeting.entry) (reach_view reach.now)) }
 {
     let page = page_at(alloc, key, targeting, reach.site)?;
-    let input = String::from_str(alloc, reach.input.as_str())?;
+    let input = reach.input.clone()?;
     Ok(Note { page, input })
 }
