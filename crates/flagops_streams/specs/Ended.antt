@@ -26,11 +26,11 @@ module _ (old new : Shown) (status : ℕ) where
       Serves (IsServeLine s.port s.subscribers) (length s.documents) old.printed new.printed new.is_broken old.reported new.reported new.is_mute status
       ⊎ ShowsWordsWant old new status)
 
-  -- the lines of a stream, beside which nothing is told but that nothing came; or no connection, which is told
+  -- the lines of a stream, beside which nothing is told but that nothing came; or nobody listens on the port, which is told
   abbrev pub FollowsAsked : List Text → Type 0
   FollowsAsked words = IfSome (follow_by words) (λ f.
       (Follows old.printed new.printed new.is_broken status × TellsLate f.wait status old.reported new.reported new.is_mute)
-      ⊎ FindsNobody old.printed new.printed new.is_broken old.reported new.reported new.is_mute status
+      ⊎ FindsNobody f.port old.printed new.printed new.is_broken old.reported new.reported new.is_mute status
       ⊎ ShowsWordsWant old new status)
 
   -- words with a mistake are told by one of their mistakes

@@ -1,15 +1,18 @@
 //! What a person is told on the error outlet. It changes no answer. A line of a subscriber that can't be made is left out; why
 //! there was a refusal is told in any case, by a fixed sentence where there is no memory to say more.
 ghost use Rattle.std.specs.Prelude.{◌≡◌, ◌<◌, false, length, IfErr, IfOk, string_bytes};
-ghost use Rattle.sync_server.specs.End.{is_closed_end};
-ghost use Rattle.flagops_streams.specs.Told.{IsCame, IsForewarning, IsGone, IsLate, Says, TellsLines, TellsText, came_line, forewarning, gone_line, late_line, listening_line, reason_of};
+ghost use Rattle.flagops_streams.specs.Told.{IsCame, IsForewarning, IsGoneLine, MayTellLate, Says, TellsLines, TellsNobody, TellsText, came_line, forewarning, gone_line, late_line, listening_line, memory_line, nobody_line, reason_of};
 
+use crate::disconnected::Disconnected;
 use crate::refusal::Refusal;
 use flag_defs::DefFault;
 use flag_text::{Outlet, write_whole};
 use source_merge::SourceFault;
 use std::alloc::{AllocError, Global};
 use sync_server::StreamEnd;
+
+/// What is told where there is no memory to say more.
+const MEMORY: &str = "error: out of memory\n";
 
 /// What a document that is refused leaves.
 const PUBLISHED_BEFORE: &str = "  the subscribers have what was published before it\n";
@@ -44,18 +47,12 @@ fn came_line(alloc: Global, number: usize, subscribers: usize) -> Result<String,
     format!(in alloc; "serve: subscriber {number} of {subscribers} has come\n")
 }
 
-/// A subscriber has gone.
-pub(crate) fn say_gone<E: Outlet>(
-    alloc: Global,
-    err: &mut E,
-    number: usize,
-    end: StreamEnd,
-    snapshots: u64,
-)
-    ensures lines { TellsLines (IsGone (is_closed_end end)) (E.bytes err.old) (E.bytes err.new) (E.is_broken err.new) }
+/// A subscriber has gone, whose stream ended so.
+pub(crate) fn say_gone<E: Outlet>(alloc: Global, err: &mut E, number: usize, gone: Disconnected)
+    ensures lines { TellsLines (λ line. line ≡ gone_line number gone.frames gone.end) (E.bytes err.old) (E.bytes err.new) (E.is_broken err.new) }
     ensures stays { E.is_broken err.new ≡ false → E.is_broken err.old ≡ false }
 {
-    say_made(err, gone_line(alloc, number, end, snapshots));
+    say_made(err, gone_line(alloc, number, gone.end, gone.frames));
 }
 
 #[tactic(auto, unfolding(crate::specs::Told::gone_line))]
@@ -152,20 +149,24 @@ pub fn say_refused<E: Outlet>(alloc: Global, err: &mut E, refusal: Refusal)
 
 /// Nobody listens on the port.
 pub(crate) fn say_unreachable<E: Outlet>(alloc: Global, err: &mut E, port: u16)
-    ensures { TellsText (E.bytes err.old) (E.bytes err.new) (E.is_broken err.new) }
+    ensures { TellsNobody port (E.bytes err.old) (E.bytes err.new) (E.is_broken err.new) }
 {
-    say_lines(err, nobody(alloc, port));
+    match nobody_line(alloc, port) {
+        Ok(line) => say(err, line.as_str()),
+        Err(AllocError) => say(err, MEMORY),
+    }
 }
 
-fn nobody(alloc: Global, port: u16) -> Result<String, AllocError>
-    ensures { IfOk result (λ s. 0 < length (string_bytes s)) }
+#[tactic(auto, unfolding(crate::specs::Told::nobody_line))]
+fn nobody_line(alloc: Global, port: u16) -> Result<String, AllocError>
+    ensures { IfOk result (λ s. string_bytes s ≡ nobody_line port) }
 {
     format!(in alloc; "error: nobody listens on 127.0.0.1:{port}; 'flagops serve {port} ..' does\n")
 }
 
 /// Nothing came for so many seconds.
 pub(crate) fn say_late<E: Outlet>(alloc: Global, err: &mut E, wait: u64)
-    ensures { TellsLines (IsLate wait) (E.bytes err.old) (E.bytes err.new) (E.is_broken err.new) }
+    ensures { MayTellLate wait (E.bytes err.old) (E.bytes err.new) (E.is_broken err.new) }
 {
     say_made(err, late_line(alloc, wait));
 }
@@ -260,7 +261,7 @@ fn say_lines<E: Outlet>(err: &mut E, lines: Result<String, AllocError>)
 {
     match lines {
         Ok(lines) => say(err, lines.as_str()),
-        Err(AllocError) => say(err, "error: out of memory\n"),
+        Err(AllocError) => say(err, MEMORY),
     }
 }
 
