@@ -12,6 +12,7 @@ use Rattle.flagops_streams.specs.Refusal.{is_unreadable, is_want}
 use Rattle.flagops_streams.specs.declared.documents.Documents.{Documents}
 use Rattle.flagops_streams.specs.declared.refusal.Refusal.{Refusal}
 use Rattle.flagops_streams.specs.declared.refusal.Refusal.TheVariants.{Unloaded, Unreadable}
+use Rattle.flagops_streams.specs.Told.{TellsOfFile}
 use Rattle.flagops_streams.specs.Words.{Serving}
 use Rattle.flagops_streams.specs.declared.loading.Unloaded as code
 
@@ -64,6 +65,10 @@ refused_at at paths = refused_from at (record { sources = []; texts = [] }) path
 -- the path is that of the first document that is refused, where the files are known
 abbrev pub IsFirstRefused : Option Holding → List (List ℕ) → List ℕ → Type 0
 IsFirstRefused files paths path = IfSome files (λ at. refused_at at paths ≡ Some path)
+
+-- the first document that is refused was told by the path of its file
+abbrev pub TellsUnloaded : Option Holding → List (List ℕ) → Option (List ℕ) → Option (List ℕ) → Bool → Type 0
+TellsUnloaded files paths old new is_mute = (path : List ℕ) × IsFirstRefused files paths path × TellsOfFile path old new is_mute
 
 -- what was loaded is what the definition gives, unless memory ran out
 abbrev pub LoadsTo : Result Documents code.Unloaded → Result Loaded Refusal → Type 0

@@ -1,6 +1,7 @@
 -- What a person is told beside the output, on an outlet of its own.
 use Rattle.std.specs.Prelude.{◌≡◌, ◌⊎◌, ◌<◌, ℕ, Bool, true, false, List, [], ◌∷◌, ◌++◌, codes, decimal, length, Option, Some, None}
 use Rattle.std.specs.Io.KnownBytes.{Appends}
+use Rattle.file_diagnostics.specs.Named.{Names}
 use Rattle.flag_text.specs.Outlet.{AppendsPart}
 use Rattle.sync_server.specs.declared.end.StreamEnd.{StreamEnd}
 use Rattle.sync_server.specs.declared.end.StreamEnd.TheVariants.{Closed, Limit, WriteFault, ReadSeatFault, WantOfMemory}
@@ -28,6 +29,14 @@ TellsText old new is_mute = (text : List ℕ) × (0 < length text) × Says old n
 abbrev pub TellsWhy : (List ℕ → Type 0) → Option (List ℕ) → Option (List ℕ) → Bool → Type 0
 TellsWhy Is old new is_mute = (between : Option (List ℕ)) × TellsLines Is old between is_mute × TellsText between new is_mute
 
+-- the sentence in place of lines for which there is no memory
+abbrev pub memory_line : List ℕ
+memory_line = codes "error: out of memory\n"
+
+-- lines about a file were told, by its path
+abbrev pub TellsOfFile : List ℕ → Option (List ℕ) → Option (List ℕ) → Bool → Type 0
+TellsOfFile path old new is_mute = (text : List ℕ) × (Names path text ⊎ (text ≡ memory_line)) × Says old new is_mute text
+
 -- ---- the line of `follow`
 
 -- nothing came for so many seconds
@@ -45,10 +54,6 @@ TellsLate wait status old new is_mute = (new ≡ old) ⊎ ((status ≡ 1) × Say
 -- nobody listens on a port
 unfoldable pub nobody_line : ℕ → List ℕ
 nobody_line port = codes "error: nobody listens on 127.0.0.1:" ++ (decimal port ++ (codes "; 'flagops serve " ++ (decimal port ++ codes " ..' does\n")))
-
--- the sentence in place of lines for which there is no memory
-abbrev pub memory_line : List ℕ
-memory_line = codes "error: out of memory\n"
 
 -- that nobody listens is told
 abbrev pub TellsNobody : ℕ → Option (List ℕ) → Option (List ℕ) → Bool → Type 0

@@ -12,7 +12,7 @@ use std::alloc::{AllocError, Global};
 use sync_server::StreamEnd;
 
 /// What is told where there is no memory to say more.
-const MEMORY: &str = "error: out of memory\n";
+pub(crate) const MEMORY: &str = "error: out of memory\n";
 
 /// What a document that is refused leaves.
 const PUBLISHED_BEFORE: &str = "  the subscribers have what was published before it\n";
