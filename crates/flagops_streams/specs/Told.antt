@@ -1,5 +1,5 @@
 -- What a person is told beside the output, on an outlet of its own.
-use Rattle.std.specs.Prelude.{◌≡◌, ◌⊎◌, ◌<◌, ℕ, Bool, true, false, List, [], ◌∷◌, ◌++◌, codes, decimal, length, Option, Some, None}
+use Rattle.std.specs.Prelude.{◌≡◌, ◌⊎◌, ◌<◌, ◌≤◌, ℕ, Bool, true, false, List, [], ◌∷◌, ◌++◌, codes, decimal, length, Option, Some, None}
 use Rattle.std.specs.Io.KnownBytes.{Appends}
 use Rattle.file_diagnostics.specs.Named.{Names}
 use Rattle.flag_text.specs.Outlet.{AppendsPart}
@@ -88,7 +88,7 @@ gone_line number snapshots end =
     codes "serve: subscriber " ++ (decimal number ++ (codes " has gone after " ++ (decimal snapshots ++ (codes " snapshots: " ++ (reason_of end ++ codes "\n")))))
 
 abbrev pub IsCame : ℕ → List ℕ → Type 0
-IsCame subscribers line = (number : ℕ) × (line ≡ came_line number subscribers)
+IsCame subscribers line = (number : ℕ) × (0 < number) × (number ≤ subscribers) × (line ≡ came_line number subscribers)
 
 -- the same of one whose stream ended so
 abbrev pub IsGoneLine : Disconnected → List ℕ → Type 0

@@ -1,7 +1,7 @@
 //! What a person is told on the error outlet. It changes no answer. A line of a subscriber that can't be made is left out; why
 //! there was a refusal is told in any case, by a fixed sentence where there is no memory to say more.
 ghost use Rattle.std.specs.Prelude.{◌≡◌, ◌<◌, false, length, IfErr, IfOk, string_bytes};
-ghost use Rattle.flagops_streams.specs.Told.{IsCame, IsForewarning, IsGoneLine, MayTellLate, Says, TellsLines, TellsNobody, TellsText, came_line, forewarning, gone_line, late_line, listening_line, memory_line, nobody_line, reason_of};
+ghost use Rattle.flagops_streams.specs.Told.{IsForewarning, IsGoneLine, MayTellLate, Says, TellsLines, TellsNobody, TellsText, came_line, forewarning, gone_line, late_line, listening_line, memory_line, nobody_line, reason_of};
 
 use crate::disconnected::Disconnected;
 use crate::refusal::Refusal;
@@ -34,7 +34,7 @@ fn listening_line(alloc: Global, port: u16, subscribers: usize) -> Result<String
 
 /// A subscriber has come.
 pub(crate) fn say_came<E: Outlet>(alloc: Global, err: &mut E, number: usize, subscribers: usize)
-    ensures lines { TellsLines (IsCame subscribers) (E.bytes err.old) (E.bytes err.new) (E.is_broken err.new) }
+    ensures lines { TellsLines (λ line. line ≡ came_line number subscribers) (E.bytes err.old) (E.bytes err.new) (E.is_broken err.new) }
     ensures stays { E.is_broken err.new ≡ false → E.is_broken err.old ≡ false }
 {
     say_made(err, came_line(alloc, number, subscribers));
