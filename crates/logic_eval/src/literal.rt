@@ -74,7 +74,7 @@ fn name_of(bucket: &Bucket<Node>) -> Value<'_>
     ensures { value_view result ≡ literal_name (bucket_view bucket.now) }
 {
     match bucket {
-        Bucket::Literal(name, _) => Value::Name(name),
+        Bucket::Literal(_, _) => Value::Null,
         Bucket::Computed(_, _) => Value::Null,
     }
 }
