@@ -1,15 +1,13 @@
 -- What is told, one text after the other.
-use Rattle.std.proofs.Common.{◌≡◌, ◌∙◌, ◌+◌, ◌<◌, ℕ, List, [], ◌∷◌, ◌++◌, Bool, true, false, not, ◌||◌, is_ok, nat_eq, Option, Result, Ok, Err, IfOk, IfErr, inl, inr, refl, sym, subst, length, arith}
+use Rattle.std.proofs.Common.{◌≡◌, ◌∙◌, ◌+◌, ℕ, List, [], ◌∷◌, ◌++◌, Bool, true, false, not, ◌||◌, is_ok, nat_eq, Option, Result, Ok, Err, IfOk, IfErr, inl, inr, refl, sym, subst, length, arith}
 use Rattle.std.proofs.lemmas.Bool.{true≢false}
 use Rattle.std.proofs.lemmas.Bool.Decides.{nat_tests}
 use Rattle.std.proofs.lemmas.List.{take_all}
 use Rattle.std.specs.Bool.{OnTrue}
 use Rattle.std.specs.Io.KnownBytes.{Appends}
-use Rattle.file_diagnostics.specs.Named.{Names}
-use Rattle.file_diagnostics.specs.declared.lines.Opening.TheVariants as opening
 use Rattle.flag_text.specs.Outlet.{AppendsPart}
 use Rattle.flagops_streams.specs.Report.{RefusesBeside, Reports}
-use Rattle.flagops_streams.specs.Told.{IsGone, IsServeLine, MayTellLate, Says, SaysEach, TellsLate, TellsLines, TellsOfFile, TellsText, late_line, memory_line}
+use Rattle.flagops_streams.specs.Told.{IsGone, IsServeLine, MayTellLate, Says, SaysEach, TellsLate, TellsLines, late_line}
 use Rattle.sync_server.specs.End.{is_closed_end}
 use Rattle.sync_server.specs.declared.end.StreamEnd.{StreamEnd}
 use Rattle.sync_server.specs.declared.end.StreamEnd.TheVariants as ends
@@ -79,22 +77,6 @@ made_once bytes (Err e) wait text old new is_mute is exact said none = inl none
 pub told_late : (wait status : ℕ) (old new : Option (List ℕ)) (is_mute : Bool) → status ≡ 1 → MayTellLate wait old new is_mute → TellsLate wait status old new is_mute
 told_late wait status old new is_mute one (inl same) = inl same
 told_late wait status old new is_mute one (inr said) = inr (one, said)
-
-some_bytes : (x : ℕ) (xs : List ℕ) → 0 < length (x ∷ xs)
-some_bytes x xs = omega arith
-
--- lines about a file say something
-names_some : (path lines : List ℕ) → Names path lines → 0 < length lines
-unfolding Names
-names_some path lines (opening.Error, rest, is) = subst (λ (bs : List ℕ). 0 < length bs) (sym is) (some_bytes _ _)
-names_some path lines (opening.File, rest, is) = subst (λ (bs : List ℕ). 0 < length bs) (sym is) (some_bytes _ _)
-names_some path lines (opening.Request, rest, is) = subst (λ (bs : List ℕ). 0 < length bs) (sym is) (some_bytes _ _)
-names_some path lines (opening.Plan, rest, is) = subst (λ (bs : List ℕ). 0 < length bs) (sym is) (some_bytes _ _)
-names_some path lines (opening.Note, rest, is) = subst (λ (bs : List ℕ). 0 < length bs) (sym is) (some_bytes _ _)
-
-pub file_told : (path : List ℕ) (old new : Option (List ℕ)) (is_mute : Bool) → TellsOfFile path old new is_mute → TellsText old new is_mute
-file_told path old new is_mute (text, inl names, said) = (text, names_some path text names, said)
-file_told path old new is_mute (text, inr is, said) = (text, subst (λ (bs : List ℕ). 0 < length bs) (sym is) (some_bytes _ _), said)
 
 -- such lines are lines of another kind
 pub lines_as : (Is As : List ℕ → Type 0) → ((line : List ℕ) → Is line → As line) → (old new : Option (List ℕ)) (is_mute : Bool) → TellsLines Is old new is_mute → TellsLines As old new is_mute

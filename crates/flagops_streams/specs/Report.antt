@@ -18,7 +18,7 @@ RefusesBy refusal old new broken status = Writes old new broken status (line_of 
 
 -- The same, and why is told beside it, behind lines of which each is one of these.
 abbrev pub RefusesBeside : (List ℕ → Type 0) → Refusal → Option (List ℕ) → Option (List ℕ) → Bool → Option (List ℕ) → Option (List ℕ) → Bool → ℕ → Type 0
-RefusesBeside Is refusal old new broken err err_after is_mute status = RefusesBy refusal old new broken status × TellsWhy Is err err_after is_mute
+RefusesBeside Is refusal old new broken err err_after is_mute status = RefusesBy refusal old new broken status × TellsWhy Is refusal err err_after is_mute
 
 -- that of some refusal
 abbrev pub Refuses : (List ℕ → Type 0) → Option (List ℕ) → Option (List ℕ) → Bool → Option (List ℕ) → Option (List ℕ) → Bool → ℕ → Type 0

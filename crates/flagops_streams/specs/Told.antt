@@ -5,7 +5,9 @@ use Rattle.file_diagnostics.specs.Named.{Names}
 use Rattle.flag_text.specs.Outlet.{AppendsPart}
 use Rattle.sync_server.specs.declared.end.StreamEnd.{StreamEnd}
 use Rattle.sync_server.specs.declared.end.StreamEnd.TheVariants.{Closed, Limit, WriteFault, ReadSeatFault, WantOfMemory}
+use Rattle.flagops_streams.specs.Why.{IsWhy, memory_line}
 use Rattle.flagops_streams.specs.declared.disconnected.Disconnected.{Disconnected}
+use Rattle.flagops_streams.specs.declared.refusal.Refusal.{Refusal}
 
 -- the text was told, or a front of it where the outlet has failed
 abbrev pub Says : Option (List ℕ) → Option (List ℕ) → Bool → List ℕ → Type 0
@@ -25,13 +27,13 @@ TellsLines Is old new is_mute = (lines : List (List ℕ)) × SaysEach Is old new
 abbrev pub TellsText : Option (List ℕ) → Option (List ℕ) → Bool → Type 0
 TellsText old new is_mute = (text : List ℕ) × (0 < length text) × Says old new is_mute text
 
--- such lines, and behind them why there was a refusal
-abbrev pub TellsWhy : (List ℕ → Type 0) → Option (List ℕ) → Option (List ℕ) → Bool → Type 0
-TellsWhy Is old new is_mute = (between : Option (List ℕ)) × TellsLines Is old between is_mute × TellsText between new is_mute
+-- why there was a refusal was told
+abbrev pub TellsReason : Refusal → Option (List ℕ) → Option (List ℕ) → Bool → Type 0
+TellsReason refusal old new is_mute = (text : List ℕ) × IsWhy refusal text × Says old new is_mute text
 
--- the sentence in place of lines for which there is no memory
-abbrev pub memory_line : List ℕ
-memory_line = codes "error: out of memory\n"
+-- such lines, and behind them why there was a refusal
+abbrev pub TellsWhy : (List ℕ → Type 0) → Refusal → Option (List ℕ) → Option (List ℕ) → Bool → Type 0
+TellsWhy Is refusal old new is_mute = (between : Option (List ℕ)) × TellsLines Is old between is_mute × TellsReason refusal between new is_mute
 
 -- lines about a file were told, by its path
 abbrev pub TellsOfFile : List ℕ → Option (List ℕ) → Option (List ℕ) → Bool → Type 0

@@ -5,7 +5,7 @@ ghost use Rattle.flagops_streams.specs.Ended.{AnswersServe, RefusesUnread, Serve
 ghost use Rattle.flagops_streams.specs.Documents.{Answer, count_of};
 ghost use Rattle.flagops_streams.specs.Loading.{AnswersTo, TellsUnloaded};
 ghost use Rattle.flagops_streams.specs.Report.{RefusesBy, Reports, Serves};
-ghost use Rattle.flagops_streams.specs.Told.{IsServeLine, TellsOfFile, TellsText};
+ghost use Rattle.flagops_streams.specs.Told.{IsServeLine, TellsOfFile, TellsReason};
 ghost use Rattle.flagops_streams.specs.Words.{serving_view};
 ghost use Rattle.flagops_streams.specs.declared.refusal.Refusal.TheVariants.{Unreadable};
 
@@ -129,14 +129,14 @@ impl Remarks for AtPaths<'_, '_> {
 }
 
 /// Tells a person why documents were not loaded, where a file can't be read in the system's words, as far as these are known.
-#[tactic(auto, using(crate::proofs::Told::file_told))]
+#[tactic(auto, using(crate::proofs::Reasons::file_told))]
 fn tell_unloaded<E: Outlet>(
     alloc: Global,
     err: &mut E,
     unloaded: &Unloaded<'_>,
     trouble: Option<io::Error>,
 )
-    ensures told { TellsText (E.bytes err.old) (E.bytes err.new) (E.is_broken err.new) }
+    ensures told { TellsReason unloaded.now.refusal (E.bytes err.old) (E.bytes err.new) (E.is_broken err.new) }
     ensures names { unloaded.now.refusal ≡ Unreadable → TellsOfFile unloaded.now.path.now (E.bytes err.old) (E.bytes err.new) (E.is_broken err.new) }
 {
     match unloaded.refusal {

@@ -74,7 +74,7 @@ fn name_of(bucket: &Bucket<Node>) -> Value<'_>
     ensures { value_view result ≡ literal_name (bucket_view bucket.now) }
 {
     match bucket {
-        Bucket::Literal(_, _) => Value::Null,
+        Bucket::Literal(name, _) => Value::Name(name),
         Bucket::Computed(_, _) => Value::Null,
     }
 }
