@@ -159,12 +159,13 @@ fn next_move(runs: &[Run<'_>], point: u64, total: u64) -> u64
     total
 }
 
-/// Where the number of a band's users stands: on it or beside it, where there is room. The next band begins so far from the left.
+/// Where the number of a band's users stands: on it or beside it, where there is room, and always where it is too narrow to be
+/// seen. The next band begins so far from the left.
 fn label_for(users: u64, place: Place, extent: Extent, next: u64) -> Option<Place>
     ensures { is_at_edge place extent result ≡ true }
 {
     let room = digits_of(users).saturating_mul(DIGIT).saturating_add(16);
-    if extent.width >= room {
+    if extent.width >= room || extent.width == 0 {
         return Some(place);
     }
     let x = place.x.saturating_add(extent.width);
