@@ -1,3 +1,4 @@
+mod FirstNear
 pub mod Loops
 pub mod Matching
 pub mod Places

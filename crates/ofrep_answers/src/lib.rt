@@ -15,6 +15,7 @@ mod evaluation;
 mod every;
 mod kind;
 mod laws;
+mod near;
 mod one;
 mod reasons;
 mod request;
