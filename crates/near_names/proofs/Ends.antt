@@ -1,20 +1,15 @@
 -- Names of which one begins the other.
-use Rattle.std.proofs.Common.{◌≡◌, ◌-◌, ◌≤◌, ◌∷◌, [], ℕ, List, drop, length, nat_le, refl, ap, sym, ◌∙◌, arith}
+use Rattle.std.proofs.Common.{◌≡◌, ◌-◌, ◌≤◌, ◌∷◌, [], ℕ, List, drop, length, nat_le, refl, ap, sym, ◌∙◌}
 use Rattle.std.proofs.lemmas.List.{drop_all, length-drop}
 use Rattle.near_names.specs.Near.{is_slip}
 
 -- a name that is over
-first_over : (ys : List ℕ) → is_slip [] ys ≡ nat_le (length ys) 1
-first_over ys = refl
+over : (xs : List ℕ) → is_slip xs [] ≡ nat_le (length xs) 1
+over [] = refl
+over (x ∷ xs) = refl
 
-second_over : (xs : List ℕ) → is_slip xs [] ≡ nat_le (length xs) 1
-second_over [] = refl
-second_over (x ∷ xs) = refl
-
--- what is left of the longer name decides
-pub first_ended : (xs ys : List ℕ) (n : ℕ) → length xs ≤ n → is_slip (drop n xs) (drop n ys) ≡ nat_le (length ys - n) 1
-first_ended xs ys n ended = ap (λ (zs : List ℕ). is_slip zs (drop n ys)) (drop_all n xs ended) ∙ ap (λ k. nat_le k 1) (length-drop n ys)
-
-pub second_ended : (xs ys : List ℕ) (n : ℕ) → length ys ≤ n → is_slip (drop n xs) (drop n ys) ≡ nat_le (length xs - n) 1
-second_ended xs ys n ended =
-    ap (λ (zs : List ℕ). is_slip (drop n xs) zs) (drop_all n ys ended) ∙ (second_over (drop n xs) ∙ ap (λ k. nat_le k 1) (length-drop n xs))
+-- where the second name is over, what is left of the first decides
+pub ended : (xs ys : List ℕ) (n i : ℕ) → is_slip (drop i xs) (drop i ys) ≡ is_slip xs ys → i ≡ n → length ys ≤ n → nat_le (length xs - n) 1 ≡ is_slip xs ys
+ended xs ys n i left is short =
+    ap (λ k. nat_le k 1) (sym (length-drop n xs)) ∙ sym (over (drop n xs)) ∙ ap (λ (zs : List ℕ). is_slip (drop n xs) zs) (sym (drop_all n ys short))
+    ∙ ap (λ k. is_slip (drop k xs) (drop k ys)) (sym is) ∙ left

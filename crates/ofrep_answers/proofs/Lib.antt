@@ -1,3 +1,4 @@
+mod Bare
 mod FirstNear
 pub mod Loops
 pub mod Matching

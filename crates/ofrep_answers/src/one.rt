@@ -2,6 +2,8 @@
 ghost use Rattle.std.specs.Prelude.{◌≡◌, ◌<◌, ◌≢◌, ◌^◌, true, Some, IfOk, IsOk, option_copied, option_map, string_bytes, unwrap_or};
 ghost use Rattle.flag_defs.specs.Flags.{flags_view};
 ghost use Rattle.flag_defs.specs.Floats.{floats_view};
+ghost use Rattle.flag_metadata.specs.Merged.{flag_metadata};
+ghost use Rattle.flag_metadata.specs.View.{metadata_view};
 ghost use Rattle.flag_text.specs.Shape.{is_tidy};
 ghost use Rattle.flag_text.specs.View.{view};
 ghost use Rattle.ofrep_answers.specs.Answer.{answer_view, failed, fault_code, one_resolved, one_told, segment_of};
@@ -9,6 +11,7 @@ ghost use Rattle.ofrep_answers.specs.Answer as spec;
 ghost use Rattle.flag_resolve.specs.Views.{resolution_view};
 ghost use Rattle.flag_resolve.specs.declared.code.Code.TheVariants.{FlagNotFound};
 ghost use Rattle.ofrep_answers.specs.Evaluation.{evaluation};
+ghost use Rattle.ofrep_answers.specs.Metadata.{metadata_of};
 ghost use Rattle.ofrep_answers.specs.Near.{near_details};
 ghost use Rattle.ofrep_contexts.specs.Context.{context_of};
 ghost use Rattle.ofrep_requests.specs.Request as request;
@@ -19,6 +22,7 @@ use crate::evaluation::{evaluate, is_spelled};
 use crate::near::near_if;
 use crate::reasons::Reasons;
 use flag_defs::Flags;
+use flag_metadata::Metadata;
 use flag_resolve::{Code, Reason, Resolution};
 use flag_text::{Tree, print_tree};
 use json::Scratch;
@@ -38,16 +42,17 @@ const NO_KEY: &str = "the path has no key that can be decoded";
 pub(crate) fn one_flag(
     alloc: Global,
     flags: &Flags,
+    metadata: &Metadata,
     moment: u64,
     path: &str,
     body: &[u8],
     scratch: &mut Scratch,
 ) -> Result<Answer, AllocError>
     requires moment { moment < 2 ^ 53 }
-    ensures { IfOk result (λ a. answer_view a ≡ spec.one_flag (flags_view flags.now, floats_view flags.now) moment path.now (request.key_in path.now) body.now) }
+    ensures { IfOk result (λ a. answer_view a ≡ spec.one_flag (metadata_of (metadata_view metadata.now)) (flags_view flags.now, floats_view flags.now) moment path.now (request.key_in path.now) body.now) }
 {
     match key_in(alloc, path)? {
-        Some(key) => one_in(alloc, flags, moment, key.as_str(), body, scratch),
+        Some(key) => one_in(alloc, flags, metadata, moment, key.as_str(), body, scratch),
         None => failed(alloc, Some(segment_in(path)), Code::FlagNotFound, NO_KEY),
     }
 }
@@ -77,16 +82,17 @@ fn text_or<'a>(bytes: &'a [u8], other: &'a str) -> &'a str
 fn one_in(
     alloc: Global,
     flags: &Flags,
+    metadata: &Metadata,
     moment: u64,
     key: &str,
     body: &[u8],
     scratch: &mut Scratch,
 ) -> Result<Answer, AllocError>
     requires moment { moment < 2 ^ 53 }
-    ensures { IfOk result (λ a. answer_view a ≡ spec.one_in (flags_view flags.now, floats_view flags.now) moment key.now body.now (context_of body.now)) }
+    ensures { IfOk result (λ a. answer_view a ≡ spec.one_in (metadata_of (metadata_view metadata.now)) (flags_view flags.now, floats_view flags.now) moment key.now body.now (context_of body.now)) }
 {
     match read_context_with(alloc, body, scratch) {
-        Ok(context) => one_in_context(alloc, flags, moment, key, &context),
+        Ok(context) => one_in_context(alloc, flags, metadata, moment, key, &context),
         Err(ContextFault::WantOfMemory) => Err(AllocError),
         Err(fault) => without_context(alloc, Some(key), body, fault),
     }
@@ -96,45 +102,48 @@ fn one_in(
 fn one_in_context(
     alloc: Global,
     flags: &Flags,
+    metadata: &Metadata,
     moment: u64,
     key: &str,
     context: &Tree,
 ) -> Result<Answer, AllocError>
     requires moment { moment < 2 ^ 53 }
     requires context { is_tidy (view context.now) ≡ true }
-    ensures { IfOk result (λ a. answer_view a ≡ one_resolved (flags_view flags.now, floats_view flags.now) key.now (evaluation (flags_view flags.now) key.now (view context.now) moment)) }
+    ensures { IfOk result (λ a. answer_view a ≡ one_resolved (metadata_of (metadata_view metadata.now)) (flags_view flags.now, floats_view flags.now) key.now (evaluation (flags_view flags.now) key.now (view context.now) moment)) }
 {
     let resolution = evaluate(alloc, flags, key, context, moment)?;
-    one_resolved(alloc, flags, key, resolution)
+    one_resolved(alloc, flags, metadata, key, resolution)
 }
 
 /// The answer with a resolution of the flag of this key.
 fn one_resolved(
     alloc: Global,
     flags: &Flags,
+    metadata: &Metadata,
     key: &str,
     resolution: Resolution,
 ) -> Result<Answer, AllocError>
-    ensures { IfOk result (λ a. answer_view a ≡ one_resolved (flags_view flags.now, floats_view flags.now) key.now (resolution_view resolution)) }
+    ensures { IfOk result (λ a. answer_view a ≡ one_resolved (metadata_of (metadata_view metadata.now)) (flags_view flags.now, floats_view flags.now) key.now (resolution_view resolution)) }
 {
     match near_if(resolution.code, flags, key) {
         Some(near) => not_found(alloc, key, near, resolution.reason),
-        None => one_told(alloc, key, resolution, is_spelled(flags, key)),
+        None => one_told(alloc, metadata, key, resolution, is_spelled(flags, key)),
     }
 }
 
 /// The answer with a resolution, whose value may stand as its spelling.
 fn one_told(
     alloc: Global,
+    metadata: &Metadata,
     key: &str,
     resolution: Resolution,
     spelled: bool,
 ) -> Result<Answer, AllocError>
-    ensures { IfOk result (λ a. answer_view a ≡ one_told spelled key.now (resolution_view resolution)) }
+    ensures { IfOk result (λ a. answer_view a ≡ one_told spelled (flag_metadata (metadata_view metadata.now) key.now) key.now (resolution_view resolution)) }
 {
     let status = status_of(&resolution);
     let reasons = Reasons::of(resolution.reason);
-    let text = evaluation_text(alloc, key, &resolution, spelled)?.into_bytes();
+    let text = evaluation_text(alloc, metadata, key, &resolution, spelled)?.into_bytes();
     let mut reached = Vec::new(alloc);
     push_reached(alloc, &mut reached, key, resolution.reached)?;
     Ok(Answer {

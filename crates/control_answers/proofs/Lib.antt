@@ -1,0 +1,10 @@
+mod Checked
+mod Outcomes
+mod Planned
+mod Recorded
+mod Rows
+mod Tallied
+mod Texts
+mod Tokens
+mod Turns
+mod WithRule
