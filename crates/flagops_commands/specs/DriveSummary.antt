@@ -44,7 +44,7 @@ nothing_text = codes "  nothing was recorded: no ask reached a \"fractional\" wi
 unfoldable pub sharing_text : ℕ → ℕ → List ℕ
 sharing_text matched reached =
     if nat_le reached (matched / 20)
-    then codes "  there are " ++ (decimal (matched / reached) ++ codes " asks for each input: the same users asked again, or every context lacks what the bucketing expression reads\n")
+    then codes "  that is " ++ (decimal (matched / reached) ++ codes " asks for each input: the same users were asked again, or every context lacks what the bucketing expression reads\n")
     else []
 
 -- how many inputs the asks reached, how many of these were new to the book, and how many it has
