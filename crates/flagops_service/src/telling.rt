@@ -183,7 +183,7 @@ pub(crate) fn say_broken_metadata<E: Outlet>(alloc: Global, err: &mut E, path: &
         say_made(
             err,
             format!(in alloc;
-                "ofrep: the metadata of \"{path}\" is broken and left out of answers: it is no object, or has a value that is no boolean, text or number\n"
+                "ofrep: the metadata of \"{path}\" is broken and left out of answers: it is not an object, or has a value that is not a boolean, a number or a text\n"
             ),
         );
     }
@@ -196,7 +196,7 @@ pub(crate) fn say_broken_metadata<E: Outlet>(alloc: Global, err: &mut E, path: &
 fn of_broken_metadata(alloc: Global, path: &str, key: &str) -> Result<String, AllocError> {
     let key = quoted_name(alloc, key)?;
     format!(in alloc;
-        "ofrep: the metadata of the flag {key} of \"{path}\" is broken and left out of answers: it is no object, or has a value that is no boolean, text or number\n"
+        "ofrep: the metadata of the flag {key} of \"{path}\" is broken and left out of answers: it is not an object, or has a value that is not a boolean, a number or a text\n"
     )
 }
 
