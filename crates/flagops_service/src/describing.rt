@@ -19,7 +19,7 @@ fn metadata_of(alloc: Global, texts: &[Vec<u8>]) -> Result<Metadata, AllocError>
 {
     let mut metadata = Metadata::none(alloc);
     for text in texts {
-        let _broken = metadata.add(alloc, text.as_slice())?;
+        metadata.add(alloc, text.as_slice())?;
     }
     Ok(metadata)
 }
