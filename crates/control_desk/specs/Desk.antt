@@ -79,7 +79,7 @@ module _ (naming : Option Naming) (before after : Option Holding) (rules : Rules
 
   -- where plans may be applied to a document
   abbrev pub RespondsApplied : Option (List ℕ) → List ℕ → Snapshot → List (List ℕ) → Type 0
-  RespondsApplied (Some path) folder s files = TellsApply folder path asked.body s files before after response
+  RespondsApplied (Some path) folder s files = TellsApply folder path asked.asker asked.body s files before after response
   RespondsApplied None folder s files = Replies Unserved response × (after ≡ before)
 
   abbrev pub RespondsOn : ControlPlace → List ℕ → Snapshot → List (List ℕ) → List (List ℕ) → Type 0

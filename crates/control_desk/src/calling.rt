@@ -270,7 +270,7 @@ impl<J: ShareName, R: Clock, F: DeskFiles, S> ControlDesk<'_, J, R, F, S> {
             folder,
             path: path.as_str(),
             time: time.as_str(),
-            who: asker_of(request),
+            asker: asker_of(request),
         };
         let token = request.body().as_slice();
         apply(&mut self.files, applying, token, held, logs, response)
