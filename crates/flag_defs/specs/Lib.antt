@@ -1,6 +1,7 @@
 pub mod DefinitionError
 pub mod Changes
 pub mod Definition
+pub mod Described
 pub mod Document
 pub mod Entries
 pub mod Fault

@@ -14,6 +14,7 @@ use crate::fault::DefFault;
 use crate::flag::Flag;
 use crate::flags::Flags;
 use crate::lent::are_heavy;
+use flag_metadata::Metadata;
 use limits::FLAGS;
 use std::alloc::{AllocError, Global};
 
@@ -30,7 +31,10 @@ pub(crate) fn limited(alloc: Global, flags: Vec<(String, Flag)>) -> Result<Flags
     if weighs_too_much(alloc, flags.as_slice())? {
         return Err(DefFault::TooLarge);
     }
-    Ok(Flags { flags })
+    Ok(Flags {
+        flags,
+        metadata: Metadata::none(alloc),
+    })
 }
 
 /// Whether flags are printed in more bytes than a document may have. None is printed for it.

@@ -10,11 +10,14 @@ ghost use Rattle.flag_defs.specs.Document.{max_flags, max_bytes, printed};
 ghost use Rattle.flag_defs.specs.Flag.{entries_view, flag_view};
 
 use crate::flag::Flag;
+use flag_metadata::Metadata;
 
 /// Flags by their keys, which rise strictly as bytes: at most 10,000, printed in at most 4,194,304 bytes.
 #[derive(Drop)]
 pub struct Flags {
     pub(crate) flags: Vec<(String, Flag)>,
+    /// That of the documents that they are of, where it was given them.
+    pub(crate) metadata: Metadata,
     pub ghost rising: { IsStrictlySortedBy (slice_cmp nat_cmp) (keys_of (entries_view flags.items)) } by { IsStrictlySortedBy-prop (slice_cmp nat_cmp) (keys_of (entries_view flags.items)) },
     pub ghost few: { length flags.items ≤ max_flags },
     pub ghost small: { length (printed (entries_view flags.items)) ≤ max_bytes },

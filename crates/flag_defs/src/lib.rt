@@ -35,6 +35,7 @@ mod bounded;
 mod copy;
 mod definition;
 mod definition_error;
+mod described;
 mod document;
 mod entries;
 mod fault;

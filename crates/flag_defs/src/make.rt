@@ -19,6 +19,7 @@ use crate::flag::Flag;
 use crate::flags::Flags;
 use crate::lent::{are_heavy, copy_lent};
 use crate::sort::sort_entries;
+use flag_metadata::Metadata;
 use limits::FLAGS;
 use std::alloc::{AllocError, Global};
 
@@ -48,15 +49,21 @@ impl Flags {
             return Err(DefFault::TooLarge);
         }
         let flags = copy_lent(alloc, entries)?;
-        Ok(Flags { flags })
+        Ok(Flags {
+            flags,
+            metadata: Metadata::none(alloc),
+        })
     }
 
-    /// Equal flags.
+    /// Equal flags, without metadata.
     pub fn copy(&self, alloc: Global) -> Result<Flags, AllocError>
         ensures value { IfOk result (λ fs. flags_view fs ≡ flags_view self.now) }
         ensures floats { IfOk result (λ fs. floats_view fs ≡ floats_view self.now) }
     {
         let flags = copy_entries(alloc, self.flags.as_slice())?;
-        Ok(Flags { flags })
+        Ok(Flags {
+            flags,
+            metadata: Metadata::none(alloc),
+        })
     }
 }

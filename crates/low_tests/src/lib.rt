@@ -17,6 +17,8 @@ mod kept_tests;
 #[cfg(test)]
 mod line_tests;
 #[cfg(test)]
+mod metadata_tests;
+#[cfg(test)]
 mod murmur_tests;
 #[cfg(test)]
 mod note_tests;

@@ -1,3 +1,4 @@
+mod Bare
 pub mod Loops
 pub mod Matching
 pub mod Places

@@ -3,25 +3,26 @@ use Rattle.std.proofs.Common.{◌≡◌, ℕ, Bool, true, false, ◌||◌, ◌&&
 use Rattle.std.proofs.lemmas.Slice.Eq.{bytes_eq-Decides}
 use Rattle.std.specs.Str.{bytes_eq}
 use Rattle.flag_resolve.specs.Floats.{Marked}
-use Rattle.ofrep_answers.specs.Answer.{allow_of, answer_at, answer_by, answer_of, not_allowed, takes}
+use Rattle.ofrep_answers.specs.Answer.{allow_of, answer_at, answer_by, answer_with, not_allowed, takes}
+use Rattle.ofrep_answers.specs.Metadata.{AnswerMetadata}
 use Rattle.ofrep_answers.specs.Request.{Asked, evaluates}
 use Rattle.ofrep_requests.specs.Request.{method_at, place_of}
 use Rattle.ofrep_requests.specs.declared.place.Place.{Place}
 use Rattle.ofrep_requests.specs.declared.place.Place.TheVariants.{OneFlag, EveryFlag, Health, Metrics, Nowhere}
 
-by_method : (flags : Marked) (moment : ℕ) (r : Asked) (p : Place) (m : List ℕ) → p ≡ place_of r.path → Some m ≡ method_at p
-    → answer_of flags moment r ≡ (if takes m r.method then answer_at flags moment r (place_of r.path) else not_allowed (allow_of m))
-by_method flags moment r p m at is = ap (answer_by flags moment r (place_of r.path)) (sym (is ∙ ap method_at at))
+by_method : (metadata : AnswerMetadata) (flags : Marked) (moment : ℕ) (r : Asked) (p : Place) (m : List ℕ) → p ≡ place_of r.path → Some m ≡ method_at p
+    → answer_with metadata flags moment r ≡ (if takes m r.method then answer_at metadata flags moment r (place_of r.path) else not_allowed (allow_of m))
+by_method metadata flags moment r p m at is = ap (answer_by metadata flags moment r (place_of r.path)) (sym (is ∙ ap method_at at))
 
-pub refused : (flags : Marked) (moment : ℕ) (r : Asked) (p : Place) (m : List ℕ) → p ≡ place_of r.path → Some m ≡ method_at p → takes m r.method ≡ false
-    → not_allowed (allow_of m) ≡ answer_of flags moment r
-refused flags moment r p m at is h =
-    sym (by_method flags moment r p m at is ∙ ap (λ b. if b then answer_at flags moment r (place_of r.path) else not_allowed (allow_of m)) h)
+pub refused : (metadata : AnswerMetadata) (flags : Marked) (moment : ℕ) (r : Asked) (p : Place) (m : List ℕ) → p ≡ place_of r.path → Some m ≡ method_at p → takes m r.method ≡ false
+    → not_allowed (allow_of m) ≡ answer_with metadata flags moment r
+refused metadata flags moment r p m at is h =
+    sym (by_method metadata flags moment r p m at is ∙ ap (λ b. if b then answer_at metadata flags moment r (place_of r.path) else not_allowed (allow_of m)) h)
 
-pub taken : (flags : Marked) (moment : ℕ) (r : Asked) (p : Place) (m : List ℕ) → p ≡ place_of r.path → Some m ≡ method_at p → takes m r.method ≡ true
-    → answer_at flags moment r p ≡ answer_of flags moment r
-taken flags moment r p m at is h =
-    ap (answer_at flags moment r) at ∙ sym (by_method flags moment r p m at is ∙ ap (λ b. if b then answer_at flags moment r (place_of r.path) else not_allowed (allow_of m)) h)
+pub taken : (metadata : AnswerMetadata) (flags : Marked) (moment : ℕ) (r : Asked) (p : Place) (m : List ℕ) → p ≡ place_of r.path → Some m ≡ method_at p → takes m r.method ≡ true
+    → answer_at metadata flags moment r p ≡ answer_with metadata flags moment r
+taken metadata flags moment r p m at is h =
+    ap (answer_at metadata flags moment r) at ∙ sym (by_method metadata flags moment r p m at is ∙ ap (λ b. if b then answer_at metadata flags moment r (place_of r.path) else not_allowed (allow_of m)) h)
 
 or_false : (b : Bool) → (b || false) ≡ true → b ≡ true
 or_false true e = refl

@@ -19,6 +19,7 @@ use Rattle.ofrep_answers.specs.declared.answer.Content.TheVariants as content
 use Rattle.ofrep_answers.specs.declared.answer.FlagReached.{FlagReached}
 use Rattle.ofrep_bodies.specs.Bodies.{failure, flags_text}
 use Rattle.ofrep_bodies.specs.Evaluation.{body_text, status_of}
+use Rattle.ofrep_answers.specs.Metadata.{AnswerMetadata, no_metadata}
 use Rattle.ofrep_bodies.specs.Failure.{code_status}
 use Rattle.ofrep_contexts.specs.Context.{context_of}
 use Rattle.ofrep_contexts.specs.Way.{details_in}
@@ -94,12 +95,12 @@ without_context key body fault = failed key (fault_code fault) (details_in body 
 
 -- ---- one flag
 
-abbrev pub one_told : Bool → List ℕ → Resolved → Answered
-one_told spelled key r = record { status = status_of r; allow = None; tag = None; body = json (body_text spelled key r); reached = reached_at key r.reached }
+abbrev pub one_told : Bool → List ℕ → List ℕ → Resolved → Answered
+one_told spelled metadata key r = record { status = status_of r; allow = None; tag = None; body = json (body_text spelled metadata key r); reached = reached_at key r.reached }
 
-abbrev pub one_in : Marked → ℕ → List ℕ → List ℕ → Result Shape ContextFault → Answered
-one_in flags moment key body (Ok context) = one_told (is_spelled key flags) key (evaluation flags.0 key context moment)
-one_in flags moment key body (Err fault) = without_context (Some key) body fault
+abbrev pub one_in : AnswerMetadata → Marked → ℕ → List ℕ → List ℕ → Result Shape ContextFault → Answered
+one_in metadata flags moment key body (Ok context) = one_told (is_spelled key flags) (metadata.of_flag key) key (evaluation flags.0 key context moment)
+one_in metadata flags moment key body (Err fault) = without_context (Some key) body fault
 
 -- what stands in a path in the place of the key, as it was sent
 abbrev pub segment_of : List ℕ → List ℕ
@@ -109,9 +110,9 @@ segment_of path = if is_of_one_flag path then unwrap_or (text_if (drop (length o
 abbrev pub no_key : List ℕ → Answered
 no_key path = failed (Some (segment_of path)) (Some FlagNotFound) (codes "the path has no key that can be decoded")
 
-abbrev pub one_flag : Marked → ℕ → List ℕ → Option (List ℕ) → List ℕ → Answered
-one_flag flags moment path None body = no_key path
-one_flag flags moment path (Some key) body = one_in flags moment key body (context_of body)
+abbrev pub one_flag : AnswerMetadata → Marked → ℕ → List ℕ → Option (List ℕ) → List ℕ → Answered
+one_flag metadata flags moment path None body = no_key path
+one_flag metadata flags moment path (Some key) body = one_in metadata flags moment key body (context_of body)
 
 -- ---- every flag
 
@@ -129,18 +130,18 @@ tagged fields body reached = record {
   reached = reached;
 }
 
-abbrev pub every_in : Marked → ℕ → List (List ℕ) → List ℕ → Result Shape ContextFault → Answered
-every_in flags moment fields body (Ok context) = tagged fields (flags_text (bodies flags context moment flags.0)) (reached_in flags.0 context moment flags.0)
-every_in flags moment fields body (Err fault) = without_context None body fault
+abbrev pub every_in : AnswerMetadata → Marked → ℕ → List (List ℕ) → List ℕ → Result Shape ContextFault → Answered
+every_in metadata flags moment fields body (Ok context) = tagged fields (flags_text metadata.of_all (bodies metadata.of_flag flags context moment flags.0)) (reached_in flags.0 context moment flags.0)
+every_in metadata flags moment fields body (Err fault) = without_context None body fault
 
 -- ---- every request
 
-abbrev pub answer_at : Marked → ℕ → Asked → Place → Answered
-answer_at flags moment r OneFlag = one_flag flags moment r.path (key_in r.path) r.body
-answer_at flags moment r EveryFlag = every_in flags moment r.if_none_match r.body (context_of r.body)
-answer_at flags moment r Health = healthy
-answer_at flags moment r Metrics = bare 200 counts
-answer_at flags moment r Nowhere = nothing_here
+abbrev pub answer_at : AnswerMetadata → Marked → ℕ → Asked → Place → Answered
+answer_at metadata flags moment r OneFlag = one_flag metadata flags moment r.path (key_in r.path) r.body
+answer_at metadata flags moment r EveryFlag = every_in metadata flags moment r.if_none_match r.body (context_of r.body)
+answer_at metadata flags moment r Health = healthy
+answer_at metadata flags moment r Metrics = bare 200 counts
+answer_at metadata flags moment r Nowhere = nothing_here
 
 -- a place that takes a method takes a request of this one: HEAD where GET is taken (RFC 9110, 9.3.2)
 abbrev pub takes : List ℕ → List ℕ → Bool
@@ -151,13 +152,17 @@ abbrev pub allow_of : List ℕ → List ℕ
 allow_of method = if bytes_eq method (codes "GET") then codes "GET, HEAD" else method
 
 -- a place takes one method, and no place takes another
-abbrev pub answer_by : Marked → ℕ → Asked → Place → Option (List ℕ) → Answered
-answer_by flags moment r place None = nothing_here
-answer_by flags moment r place (Some method) = if takes method r.method then answer_at flags moment r place else not_allowed (allow_of method)
+abbrev pub answer_by : AnswerMetadata → Marked → ℕ → Asked → Place → Option (List ℕ) → Answered
+answer_by metadata flags moment r place None = nothing_here
+answer_by metadata flags moment r place (Some method) = if takes method r.method then answer_at metadata flags moment r place else not_allowed (allow_of method)
 
--- the answer to a request, of the flags, some of which may have floats, at the moment in seconds
+-- the answer to a request, of the flags, some of which may have floats, with this metadata, at the moment in seconds
+abbrev pub answer_with : AnswerMetadata → Marked → ℕ → Asked → Answered
+answer_with metadata flags moment r = answer_by metadata flags moment r (place_of r.path) (method_at (place_of r.path))
+
+-- the same without metadata
 abbrev pub answer_of : Marked → ℕ → Asked → Answered
-answer_of flags moment r = answer_by flags moment r (place_of r.path) (method_at (place_of r.path))
+answer_of flags moment r = answer_with no_metadata flags moment r
 
 -- ---- of the program
 

@@ -26,13 +26,13 @@ reached_at key (site ∷ sites) = (key, site ∷ sites) ∷ []
 abbrev pub is_spelled : List ℕ → Marked → Bool
 is_spelled key flags = is_some (floats_in (Some flags) key)
 
--- the text of the body that every flag's answer has of one flag: none, where there is no such flag for the caller
-abbrev pub body_if_told : Bool → List ℕ → Resolved → List (List ℕ)
-body_if_told spelled key r = if status_of r == 404 then [] else body_text spelled key r ∷ []
+-- the text of the body that every flag's answer has of one flag with its metadata: none, where there is no such flag for the caller
+abbrev pub body_if_told : Bool → List ℕ → List ℕ → Resolved → List (List ℕ)
+body_if_told spelled metadata key r = if status_of r == 404 then [] else body_text spelled metadata key r ∷ []
 
--- the texts of the bodies of every flag, in the order of the keys
-abbrev pub bodies : Marked → Shape → ℕ → Definitions → List (List ℕ)
-bodies flags context moment = flat_map (λ f. body_if_told (is_spelled f.0 flags) f.0 (evaluation flags.0 f.0 context moment))
+-- the texts of the bodies of every flag with its metadata, in the order of the keys
+abbrev pub bodies : (List ℕ → List ℕ) → Marked → Shape → ℕ → Definitions → List (List ℕ)
+bodies metadata flags context moment = flat_map (λ f. body_if_told (is_spelled f.0 flags) (metadata f.0) f.0 (evaluation flags.0 f.0 context moment))
 
 -- what the evaluations of every flag reached
 abbrev pub reached_in : Definitions → Shape → ℕ → Definitions → List (List ℕ × List Reach)

@@ -1,5 +1,5 @@
 -- What holds of every evaluation for a request, whatever the flags.
-use Rattle.std.specs.Prelude.{◌≡◌, ◌≢◌, ◌==◌, ℕ, true, List, [], ◌∷◌, ◌++◌, codes, if◌then◌else◌, Some}
+use Rattle.std.specs.Prelude.{◌≡◌, ◌≢◌, ◌==◌, ℕ, true, List, [], ◌∷◌, ◌++◌, codes, if◌then◌else◌, None, Some}
 use Rattle.std.specs.List.{All, flat_map}
 use Rattle.flag_defs.specs.Document.{Definitions}
 use Rattle.flag_defs.specs.Flag.{is_definition}
@@ -9,7 +9,13 @@ use Rattle.flag_resolve.specs.Words.{reason_word}
 use Rattle.flag_resolve.specs.declared.code.Code.TheVariants.{TypeMismatch}
 use Rattle.flag_text.specs.Printing.{text_of}
 use Rattle.flag_text.specs.Shape.{Shape, text}
+use Rattle.flag_metadata.specs.Document.{Described}
+use Rattle.flag_metadata.specs.Law.{AreBare}
+use Rattle.flag_resolve.specs.Floats.{Marked}
+use Rattle.ofrep_answers.specs.Answer.{answer_of, answer_with}
 use Rattle.ofrep_answers.specs.Evaluation.{bodies, evaluation, is_spelled}
+use Rattle.ofrep_answers.specs.Metadata.{metadata_of}
+use Rattle.ofrep_answers.specs.Request.{Asked}
 use Rattle.ofrep_bodies.specs.Bodies.{flags_shape, flags_text}
 use Rattle.ofrep_bodies.specs.Evaluation.{body_of, body_text, status_of}
 
@@ -26,14 +32,18 @@ told_body key r = if status_of r == 404 then [] else body_of key r ∷ []
 abbrev pub told_bodies : Definitions → Shape → ℕ → Definitions → List Shape
 told_bodies flags context moment = flat_map (λ f. told_body f.0 (evaluation flags f.0 context moment))
 
--- Flags of which none has floats are answered as flags without floats: the body of one flag is the text of its body, and that of every flag the text of theirs.
+-- Flags of which none has floats are answered without metadata as flags without floats: the body of one flag is the text of its body, and that of every flag the text of theirs.
 abbrev pub FloatsChangeNothing : Type 0
 FloatsChangeNothing = (flags : Definitions) (marks : Marks) → are_unmarked marks ≡ true
-    → ((key : List ℕ) (context : Shape) (moment : ℕ) → let r = evaluation flags key context moment in body_text (is_spelled key (flags, marks)) key r ≡ text_of (body_of key r))
-    × ((context : Shape) (moment : ℕ) → flags_text (bodies (flags, marks) context moment flags) ≡ text_of (flags_shape (told_bodies flags context moment flags)))
+    → ((key : List ℕ) (context : Shape) (moment : ℕ) → let r = evaluation flags key context moment in body_text (is_spelled key (flags, marks)) (codes "{}") key r ≡ text_of (body_of key r))
+    × ((context : Shape) (moment : ℕ) → flags_text None (bodies (λ key. codes "{}") (flags, marks) context moment flags) ≡ text_of (flags_shape (told_bodies flags context moment flags)))
 
 -- The value that the answer tells of a flag with floats is the bytes of the variant.
 abbrev pub ValuesAreSpelled : Type 0
-ValuesAreSpelled = (key : List ℕ) (r : Resolved) (name bytes : List ℕ) → r.variant ≡ Some name → r.value ≡ text bytes
-    → body_text true key r ≡ codes "{\"key\":" ++ (text_of (text key) ++ (codes ",\"metadata\":{},\"reason\":" ++ (text_of (text (reason_word r.reason)) ++ (codes ",\"value\":" ++ (bytes
-    ++ (codes ",\"variant\":" ++ (text_of (text name) ++ codes "}")))))))
+ValuesAreSpelled = (metadata key : List ℕ) (r : Resolved) (name bytes : List ℕ) → r.variant ≡ Some name → r.value ≡ text bytes
+    → body_text true metadata key r ≡ codes "{\"key\":" ++ (text_of (text key) ++ (codes ",\"metadata\":" ++ (metadata ++ (codes ",\"reason\":" ++ (text_of (text (reason_word r.reason)) ++ (codes ",\"value\":" ++ (bytes
+    ++ (codes ",\"variant\":" ++ (text_of (text name) ++ codes "}")))))))))
+
+-- Where no document and no flag has a member of metadata, the answers are those without metadata.
+abbrev pub MetadataChangesNothing : Type 0
+MetadataChangesNothing = (ds : List Described) → AreBare ds → (flags : Marked) (moment : ℕ) (r : Asked) → answer_with (metadata_of ds) flags moment r ≡ answer_of flags moment r

@@ -2,4 +2,5 @@ pub mod Answer
 pub mod Evaluation
 pub mod Kind
 pub mod Law
+pub mod Metadata
 pub mod Request

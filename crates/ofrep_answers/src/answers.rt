@@ -2,7 +2,9 @@
 ghost use Rattle.std.specs.Prelude.{◌≡◌, ◌≢◌, ◌<◌, ◌^◌, false, length, codes, IfOk, IsOk};
 ghost use Rattle.flag_defs.specs.Flags.{flags_view};
 ghost use Rattle.flag_defs.specs.Floats.{floats_view};
-ghost use Rattle.ofrep_answers.specs.Answer.{allow_of, answer_at, answer_of, answer_view, takes};
+ghost use Rattle.ofrep_answers.specs.Answer.{allow_of, answer_at, answer_of, answer_view, answer_with, takes};
+ghost use Rattle.flag_metadata.specs.View.{metadata_view};
+ghost use Rattle.ofrep_answers.specs.Metadata.{metadata_of};
 ghost use Rattle.ofrep_answers.specs.Request.{evaluates, request_view};
 ghost use Rattle.ofrep_contexts.specs.Context.{max_body};
 ghost use Rattle.ofrep_requests.specs.Request.{place_of};
@@ -12,6 +14,7 @@ use crate::every::every_flag;
 use crate::one::one_flag;
 use crate::request::Request;
 use flag_defs::Flags;
+use flag_metadata::Metadata;
 use http::StatusCode;
 use json::Scratch;
 use ofrep_requests::Place;
@@ -63,12 +66,32 @@ pub fn answer_to_with(
     ensures method { request.now.method.now ≢ codes "POST" → IsOk result }
     ensures large { place_of request.now.path.now ≡ Place.EveryFlag → max_body < length request.now.body.now → IsOk result }
 {
+    let none = Metadata::none(alloc);
+    answer_with_metadata(alloc, flags, &none, moment, request, scratch)
+}
+
+/// As [`answer_to_with`], with the metadata of the documents that the flags are of: an answer has that of each flag, and the answer of
+/// every flag has that of all documents together beside the flags, where one of them has a member.
+pub fn answer_with_metadata(
+    alloc: Global,
+    flags: &Flags,
+    metadata: &Metadata,
+    moment: u64,
+    request: &Request<'_>,
+    scratch: &mut Scratch,
+) -> Result<Answer, AllocError>
+    requires moment { moment < 2 ^ 53 }
+    ensures exact { IfOk result (λ a. answer_view a ≡ answer_with (metadata_of (metadata_view metadata.now)) (flags_view flags.now, floats_view flags.now) moment (request_view request.now)) }
+    ensures elsewhere { evaluates (place_of request.now.path.now) ≡ false → IsOk result }
+    ensures method { request.now.method.now ≢ codes "POST" → IsOk result }
+    ensures large { place_of request.now.path.now ≡ Place.EveryFlag → max_body < length request.now.body.now → IsOk result }
+{
     let place = Place::of(request.path);
     let Some(method) = place.method() else {
         return Ok(Answer::nothing_here(alloc));
     };
     if takes(method, request.method) {
-        return answer_at(alloc, flags, moment, request, place, scratch);
+        return answer_at(alloc, flags, metadata, moment, request, place, scratch);
     }
     Ok(Answer::not_allowed(alloc, allow_of(method)))
 }
@@ -91,21 +114,31 @@ fn allow_of(method: &'static str) -> &'static str
 fn answer_at(
     alloc: Global,
     flags: &Flags,
+    metadata: &Metadata,
     moment: u64,
     request: &Request<'_>,
     place: Place,
     scratch: &mut Scratch,
 ) -> Result<Answer, AllocError>
     requires moment { moment < 2 ^ 53 }
-    ensures exact { IfOk result (λ a. answer_view a ≡ answer_at (flags_view flags.now, floats_view flags.now) moment (request_view request.now) place) }
+    ensures exact { IfOk result (λ a. answer_view a ≡ answer_at (metadata_of (metadata_view metadata.now)) (flags_view flags.now, floats_view flags.now) moment (request_view request.now) place) }
     ensures elsewhere { evaluates place ≡ false → IsOk result }
     ensures large { place ≡ Place.EveryFlag → max_body < length request.now.body.now → IsOk result }
 {
     match place {
-        Place::OneFlag => one_flag(alloc, flags, moment, request.path, request.body, scratch),
+        Place::OneFlag => one_flag(
+            alloc,
+            flags,
+            metadata,
+            moment,
+            request.path,
+            request.body,
+            scratch,
+        ),
         Place::EveryFlag => every_flag(
             alloc,
             flags,
+            metadata,
             moment,
             request.if_none_match,
             request.body,

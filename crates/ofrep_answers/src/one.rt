@@ -2,11 +2,14 @@
 ghost use Rattle.std.specs.Prelude.{◌≡◌, ◌<◌, ◌≢◌, ◌^◌, true, Some, IfOk, IsOk, option_copied, option_map, unwrap_or};
 ghost use Rattle.flag_defs.specs.Flags.{flags_view};
 ghost use Rattle.flag_defs.specs.Floats.{floats_view};
+ghost use Rattle.flag_metadata.specs.Merged.{flag_metadata};
+ghost use Rattle.flag_metadata.specs.View.{metadata_view};
 ghost use Rattle.flag_text.specs.Shape.{is_tidy};
 ghost use Rattle.flag_text.specs.View.{view};
 ghost use Rattle.ofrep_answers.specs.Answer.{answer_view, failed, fault_code, one_told, segment_of};
 ghost use Rattle.ofrep_answers.specs.Answer as spec;
 ghost use Rattle.ofrep_answers.specs.Evaluation.{evaluation, is_spelled};
+ghost use Rattle.ofrep_answers.specs.Metadata.{metadata_of};
 ghost use Rattle.ofrep_contexts.specs.Context.{context_of};
 ghost use Rattle.ofrep_requests.specs.Request as request;
 ghost use Rattle.ofrep_requests.specs.Request.{text_if};
@@ -15,6 +18,7 @@ use crate::answer::{Answer, Content, push_reached};
 use crate::evaluation::{evaluate, is_spelled};
 use crate::reasons::Reasons;
 use flag_defs::Flags;
+use flag_metadata::Metadata;
 use flag_resolve::Code;
 use flag_text::{Tree, print_tree};
 use json::Scratch;
@@ -34,16 +38,17 @@ const NO_KEY: &str = "the path has no key that can be decoded";
 pub(crate) fn one_flag(
     alloc: Global,
     flags: &Flags,
+    metadata: &Metadata,
     moment: u64,
     path: &str,
     body: &[u8],
     scratch: &mut Scratch,
 ) -> Result<Answer, AllocError>
     requires moment { moment < 2 ^ 53 }
-    ensures { IfOk result (λ a. answer_view a ≡ spec.one_flag (flags_view flags.now, floats_view flags.now) moment path.now (request.key_in path.now) body.now) }
+    ensures { IfOk result (λ a. answer_view a ≡ spec.one_flag (metadata_of (metadata_view metadata.now)) (flags_view flags.now, floats_view flags.now) moment path.now (request.key_in path.now) body.now) }
 {
     match key_in(alloc, path)? {
-        Some(key) => one_in(alloc, flags, moment, key.as_str(), body, scratch),
+        Some(key) => one_in(alloc, flags, metadata, moment, key.as_str(), body, scratch),
         None => failed(alloc, Some(segment_in(path)), Code::FlagNotFound, NO_KEY),
     }
 }
@@ -73,16 +78,17 @@ fn text_or<'a>(bytes: &'a [u8], other: &'a str) -> &'a str
 fn one_in(
     alloc: Global,
     flags: &Flags,
+    metadata: &Metadata,
     moment: u64,
     key: &str,
     body: &[u8],
     scratch: &mut Scratch,
 ) -> Result<Answer, AllocError>
     requires moment { moment < 2 ^ 53 }
-    ensures { IfOk result (λ a. answer_view a ≡ spec.one_in (flags_view flags.now, floats_view flags.now) moment key.now body.now (context_of body.now)) }
+    ensures { IfOk result (λ a. answer_view a ≡ spec.one_in (metadata_of (metadata_view metadata.now)) (flags_view flags.now, floats_view flags.now) moment key.now body.now (context_of body.now)) }
 {
     match read_context_with(alloc, body, scratch) {
-        Ok(context) => one_told(alloc, flags, moment, key, &context),
+        Ok(context) => one_told(alloc, flags, metadata, moment, key, &context),
         Err(ContextFault::WantOfMemory) => Err(AllocError),
         Err(fault) => without_context(alloc, Some(key), body, fault),
     }
@@ -92,19 +98,20 @@ fn one_in(
 fn one_told(
     alloc: Global,
     flags: &Flags,
+    metadata: &Metadata,
     moment: u64,
     key: &str,
     context: &Tree,
 ) -> Result<Answer, AllocError>
     requires moment { moment < 2 ^ 53 }
     requires context { is_tidy (view context.now) ≡ true }
-    ensures { IfOk result (λ a. answer_view a ≡ one_told (is_spelled key.now (flags_view flags.now, floats_view flags.now)) key.now (evaluation (flags_view flags.now) key.now (view context.now) moment)) }
+    ensures { IfOk result (λ a. answer_view a ≡ one_told (is_spelled key.now (flags_view flags.now, floats_view flags.now)) (flag_metadata (metadata_view metadata.now) key.now) key.now (evaluation (flags_view flags.now) key.now (view context.now) moment)) }
 {
     let resolution = evaluate(alloc, flags, key, context, moment)?;
     let status = status_of(&resolution);
     let reasons = Reasons::of(resolution.reason);
     let spelled = is_spelled(flags, key);
-    let text = evaluation_text(alloc, key, &resolution, spelled)?.into_bytes();
+    let text = evaluation_text(alloc, metadata, key, &resolution, spelled)?.into_bytes();
     let mut reached = Vec::new(alloc);
     push_reached(alloc, &mut reached, key, resolution.reached)?;
     Ok(Answer {

@@ -17,8 +17,11 @@ use Rattle.ofrep_bodies.specs.Law.{FlagsTextIsOfBodies, TextsAreOfBodies}
 abbrev key_front : List ℕ
 key_front = codes "{\"key\":"
 
+abbrev metadata_front : List ℕ
+metadata_front = codes ",\"metadata\":"
+
 abbrev reason_front : List ℕ
-reason_front = codes ",\"metadata\":{},\"reason\":"
+reason_front = codes ",\"reason\":"
 
 abbrev value_front : List ℕ
 value_front = codes ",\"value\":"
@@ -30,29 +33,31 @@ abbrev end : List ℕ
 end = codes "}"
 
 -- one behind the other
-joined : (a b c d e f g h i : List ℕ) → (((((((a ++ b) ++ c) ++ d) ++ e) ++ f) ++ g) ++ h) ++ i ≡ a ++ (b ++ (c ++ (d ++ (e ++ (f ++ (g ++ (h ++ i)))))))
-joined a b c d e f g h i =
+joined : (a b m n c d e f g h i : List ℕ) → (((((((((a ++ b) ++ m) ++ n) ++ c) ++ d) ++ e) ++ f) ++ g) ++ h) ++ i ≡ a ++ (b ++ (m ++ (n ++ (c ++ (d ++ (e ++ (f ++ (g ++ (h ++ i)))))))))
+joined a b m n c d e f g h i =
     append_assoc _ h i ∙ append_assoc _ g (h ++ i) ∙ append_assoc _ f (g ++ (h ++ i)) ∙ append_assoc _ e (f ++ (g ++ (h ++ i)))
-    ∙ append_assoc _ d (e ++ (f ++ (g ++ (h ++ i)))) ∙ append_assoc _ c (d ++ (e ++ (f ++ (g ++ (h ++ i))))) ∙ append_assoc a b (c ++ (d ++ (e ++ (f ++ (g ++ (h ++ i))))))
+    ∙ append_assoc _ d (e ++ (f ++ (g ++ (h ++ i)))) ∙ append_assoc _ c (d ++ (e ++ (f ++ (g ++ (h ++ i)))))
+    ∙ append_assoc _ n (c ++ (d ++ (e ++ (f ++ (g ++ (h ++ i)))))) ∙ append_assoc _ m (n ++ (c ++ (d ++ (e ++ (f ++ (g ++ (h ++ i)))))))
+    ∙ append_assoc a b (m ++ (n ++ (c ++ (d ++ (e ++ (f ++ (g ++ (h ++ i))))))))
 
 module _ (key : List ℕ) (reason : Reason) (value : Shape) (variant : List ℕ) where
-  pub success_parts : (spelled : Bool) → (((((((key_front ++ text_of (text key)) ++ reason_front) ++ text_of (text (reason_word reason))) ++ value_front) ++ value_spelled spelled value) ++ variant_front) ++ text_of (text variant)) ++ end
-      ≡ success_text spelled key reason value variant
-  success_parts spelled =
-      joined key_front (text_of (text key)) reason_front (text_of (text (reason_word reason))) value_front (value_spelled spelled value) variant_front (text_of (text variant)) end
+  pub success_parts : (spelled : Bool) (metadata : List ℕ) → (((((((((key_front ++ text_of (text key)) ++ metadata_front) ++ metadata) ++ reason_front) ++ text_of (text (reason_word reason))) ++ value_front) ++ value_spelled spelled value) ++ variant_front) ++ text_of (text variant)) ++ end
+      ≡ success_text spelled metadata key reason value variant
+  success_parts spelled metadata =
+      joined key_front (text_of (text key)) metadata_front metadata reason_front (text_of (text (reason_word reason))) value_front (value_spelled spelled value) variant_front (text_of (text variant)) end
 
-  plain_parts : success_text false key reason value variant ≡ text_of (success key reason value variant)
+  plain_parts : success_text false (codes "{}") key reason value variant ≡ text_of (success key reason value variant)
   unfolding text_of escape_byte
   plain_parts = refl
 
 pub texts_of_bodies : TextsAreOfBodies
 texts_of_bodies key r = by r.variant
   where
-    by : (o : Option (List ℕ)) → told_text false key o r ≡ text_of (told_body key o r)
+    by : (o : Option (List ℕ)) → told_text false (codes "{}") key o r ≡ text_of (told_body key o r)
     by (Some variant) = plain_parts key r.reason r.value variant
     by None = refl
 
-others_written : (ts : List Shape) → items_text true (items_data (items_of ts)) ++ codes "}" ≡ others_text (map text_of ts)
+others_written : (ts : List Shape) → items_text true (items_data (items_of ts)) ++ codes "}" ≡ others_text None (map text_of ts)
 unfolding text_of
 others_written [] = refl
 others_written (t ∷ ts) =

@@ -30,18 +30,23 @@ flags_shape bodies = object (member (codes "flags") (list (items_of bodies)) no_
 
 -- ---- their texts
 
--- of a variant's body, where the value may stand as a text that is its spelling
-abbrev pub success_text : Bool → List ℕ → Reason → Shape → List ℕ → List ℕ
-success_text spelled key reason value variant =
-    codes "{\"key\":" ++ (text_of (text key) ++ (codes ",\"metadata\":{},\"reason\":" ++ (text_of (text (reason_word reason)) ++ (codes ",\"value\":" ++ (value_spelled spelled value
-    ++ (codes ",\"variant\":" ++ (text_of (text variant) ++ codes "}")))))))
+-- of a variant's body with metadata, of which the text is given, where the value may stand as a text that is its spelling
+abbrev pub success_text : Bool → List ℕ → List ℕ → Reason → Shape → List ℕ → List ℕ
+success_text spelled metadata key reason value variant =
+    codes "{\"key\":" ++ (text_of (text key) ++ (codes ",\"metadata\":" ++ (metadata ++ (codes ",\"reason\":" ++ (text_of (text (reason_word reason)) ++ (codes ",\"value\":" ++ (value_spelled spelled value
+    ++ (codes ",\"variant\":" ++ (text_of (text variant) ++ codes "}")))))))))
 
--- what follows the first body in the text of all
-abbrev pub others_text : List (List ℕ) → List ℕ
-others_text [] = codes "]}"
-others_text (b ∷ bs) = codes "," ++ (b ++ others_text bs)
+-- what follows the bodies in the text of all: the text of the metadata, where there is some
+abbrev pub end_text : Option (List ℕ) → List ℕ
+end_text None = codes "]}"
+end_text (Some metadata) = codes "],\"metadata\":" ++ (metadata ++ codes "}")
 
--- of all bodies, from their texts
-abbrev pub flags_text : List (List ℕ) → List ℕ
-flags_text [] = codes "{\"flags\":[]}"
-flags_text (b ∷ bs) = codes "{\"flags\":[" ++ (b ++ others_text bs)
+-- what follows the first body
+abbrev pub others_text : Option (List ℕ) → List (List ℕ) → List ℕ
+others_text metadata [] = end_text metadata
+others_text metadata (b ∷ bs) = codes "," ++ (b ++ others_text metadata bs)
+
+-- of all bodies, from their texts, and perhaps metadata
+abbrev pub flags_text : Option (List ℕ) → List (List ℕ) → List ℕ
+flags_text metadata [] = codes "{\"flags\":[" ++ end_text metadata
+flags_text metadata (b ∷ bs) = codes "{\"flags\":[" ++ (b ++ others_text metadata bs)

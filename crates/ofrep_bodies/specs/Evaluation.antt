@@ -23,10 +23,10 @@ told_body key None r = failure (Some key) (code_of r.code) (details_of r.code r.
 abbrev pub body_of : List ℕ → Resolved → Shape
 body_of key r = told_body key r.variant r
 
--- the text of the same, where the value of a variant may stand as a text that is its spelling
-abbrev pub told_text : Bool → List ℕ → Option (List ℕ) → Resolved → List ℕ
-told_text spelled key (Some variant) r = success_text spelled key r.reason r.value variant
-told_text spelled key None r = text_of (failure (Some key) (code_of r.code) (details_of r.code r.reason))
+-- the text of the same with metadata, of which the text is given, where the value of a variant may stand as a text that is its spelling
+abbrev pub told_text : Bool → List ℕ → List ℕ → Option (List ℕ) → Resolved → List ℕ
+told_text spelled metadata key (Some variant) r = success_text spelled metadata key r.reason r.value variant
+told_text spelled metadata key None r = text_of (failure (Some key) (code_of r.code) (details_of r.code r.reason))
 
-abbrev pub body_text : Bool → List ℕ → Resolved → List ℕ
-body_text spelled key r = told_text spelled key r.variant r
+abbrev pub body_text : Bool → List ℕ → List ℕ → Resolved → List ℕ
+body_text spelled metadata key r = told_text spelled metadata key r.variant r

@@ -15,8 +15,8 @@
 //! ```
 //!
 //! Proved, over the definitions of `specs/`: each body is the tree or text that its definition gives (`Bodies`, `Evaluation`), unless
-//! memory runs out; a status is exact and takes no memory. Where no value stands as a text that is its spelling, the texts are
-//! the compact texts of the bodies ([`texts_are_of_bodies`]).
+//! memory runs out; a status is exact and takes no memory. Where no value stands as a text that is its spelling, and
+//! there is no metadata, the texts are the compact texts of the bodies ([`texts_are_of_bodies`]).
 #![tactic(auto)]
 
 mod evaluation;

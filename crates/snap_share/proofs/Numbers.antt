@@ -36,19 +36,19 @@ is_known xs s (f, last, is) =
     let all : snapshots_of xs ≡ snapshots_of r.0 ++ numbered (1 + length r.0) f ∷ [] = ap snapshots_of r.1 ∙ numbered_append 1 r.0 (f ∷ []) in
     subst (λ (l : List Numbered). Contains l s) (sym all) (Contains-append_right (snapshots_of r.0) (numbered (1 + length r.0) f ∷ []) s (0, omega arith, sym here))
 
-pub answer_known : {X : Type 0} (view : X → Snapshot) (r : Result X ShareFault) (xs : List Flags) → IfOk r (λ s. IsLastOf xs (snapshot_view (view s))) → IfOk r (λ s. Contains (snapshots_of xs) (snapshot_view (view s)))
-answer_known view (Ok s) xs h = is_known xs (snapshot_view (view s)) h
-answer_known view (Err e) xs h = tt
-
--- a seat that was read, and what it answered
-pub answers : {X : Type 0} (view : X → Snapshot) (r : Result X ShareFault) (old new : Seat) → IsPrefix old.known new.known → new.reads ≡ old.reads + 1 → IfOk r (λ s. IsLastOf new.known (snapshot_view (view s)))
-    → MatchResult r (λ s. WasRead old (Some (snapshot_view (view s))) new) (λ _. WasRead old None new)
-answers view (Ok s) old new forward once last = (record { forward = forward; once = once }, last)
-answers view (Err e) old new forward once last = record { forward = forward; once = once }
-
 -- a snapshot of the last flags is the last of the snapshots
 pub is_last : (xs : List Flags) (s : Snapshot) → IsSnapshotOf xs s → IsLastOf xs (snapshot_view s)
 is_last xs s is = (s.flags, is.last, ap (λ (k : ℕ). numbered k s.flags) is.number)
+
+pub answer_known : {X : Type 0} (view : X → Snapshot) (r : Result X ShareFault) (xs : List Flags) → IfOk r (λ s. IsSnapshotOf xs (view s)) → IfOk r (λ s. Contains (snapshots_of xs) (snapshot_view (view s)))
+answer_known view (Ok s) xs h = is_known xs (snapshot_view (view s)) (is_last xs (view s) h)
+answer_known view (Err e) xs h = tt
+
+-- a seat that was read, and what it answered
+pub answers : {X : Type 0} (view : X → Snapshot) (r : Result X ShareFault) (old new : Seat) → IsPrefix old.known new.known → new.reads ≡ old.reads + 1 → IfOk r (λ s. IsSnapshotOf new.known (view s))
+    → MatchResult r (λ s. WasRead old (Some (snapshot_view (view s))) new) (λ _. WasRead old None new)
+answers view (Ok s) old new forward once last = (record { forward = forward; once = once }, is_last new.known (view s) last)
+answers view (Err e) old new forward once last = record { forward = forward; once = once }
 
 -- a snapshot of flags that were put behind others
 pub snapshot_of_snoc : (xs : List Flags) (s : Snapshot) → s.number ≡ length xs + 1 → IsSnapshotOf (xs ++ s.flags ∷ []) s

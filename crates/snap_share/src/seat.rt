@@ -4,7 +4,7 @@ ghost use mathlib.Core.List.{IsPrefix};
 ghost use Rattle.std.specs.Arc.{arc_value};
 ghost use Rattle.sync_frames.specs.Snapshots.{snapshot_view};
 ghost use Rattle.snap_share.specs.Fault.{is_of_current};
-ghost use Rattle.snap_share.specs.Known.{IsLastOf, WasRead, snapshots_of};
+ghost use Rattle.snap_share.specs.Known.{IsSnapshotOf, WasRead, snapshots_of};
 ghost use Rattle.snap_share.specs.Lists.{StartsWith};
 
 use crate::cell::{StampReader, read};
@@ -70,7 +70,7 @@ impl<J: ShareName> ReadSeat<J> {
     fn read_on(&mut self) -> Result<SharedSnapshot, ShareFault>
         ensures forward { IsPrefix self.old.known self.new.known }
         ensures once { self.new.reads ≡ self.old.reads + 1 }
-        ensures last { IfOk result (λ s. IsLastOf self.new.known (snapshot_view (arc_value s))) }
+        ensures last { IfOk result (λ s. IsSnapshotOf self.new.known (arc_value s)) }
         ensures faults { IfErr result (λ fault. is_of_current fault ≡ true) }
     {
         let stamp = self.read_stamp()?;
@@ -109,6 +109,7 @@ impl<J: ShareName> Current for ReadSeat<J> {
         ensures grows { StartsWith (snapshots_of self.new.known) (snapshots_of self.old.known) }
         ensures known { IfOk result (λ s. Contains (snapshots_of self.new.known) (snapshot_view (arc_value s))) }
         ensures read { MatchResult result (λ s. WasRead self.old (Some (snapshot_view (arc_value s))) self.new) (λ _. WasRead self.old None self.new) }
+        ensures last { IfOk result (λ s. IsSnapshotOf self.new.known (arc_value s)) }
         ensures faults { IfErr result (λ fault. is_of_current fault ≡ true) }
     {
         self.read_on()

@@ -2,8 +2,7 @@
 ghost use Rattle.std.specs.Prelude.{◌≡◌, length, IfOk};
 ghost use Rattle.std.specs.Bool.{MatchBool};
 ghost use Rattle.std.specs.Arc.{arc_value};
-ghost use Rattle.sync_frames.specs.Snapshots.{snapshot_view};
-ghost use Rattle.snap_share.specs.Known.{IsLastOf, IsSnapshotOf};
+ghost use Rattle.snap_share.specs.Known.{IsSnapshotOf};
 
 use crate::front::HistoryPrefix;
 use crate::history::ShareName;
@@ -74,7 +73,7 @@ impl<J: ShareName> Stamp<J> {
 
     /// The snapshot.
     pub(crate) fn into_snapshot(self) -> SharedSnapshot
-        ensures { IsLastOf self (snapshot_view (arc_value result)) }
+        ensures { IsSnapshotOf self (arc_value result) }
     {
         let Stamp {
             snapshot,

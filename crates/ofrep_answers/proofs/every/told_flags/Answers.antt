@@ -3,6 +3,8 @@ use Rattle.flag_defs.specs.Flags.{flags_view}
 use Rattle.flag_defs.specs.Floats.{floats_view}
 use Rattle.flag_defs.specs.Definition.{Definition}
 use Rattle.flag_defs.specs.Flag.{flag_view}
+use Rattle.flag_metadata.specs.Merged.{flag_metadata}
+use Rattle.flag_metadata.specs.View.{metadata_view}
 use Rattle.flag_resolve.specs.Floats.{Marked}
 use Rattle.flag_resolve.specs.Resolved.{Resolved}
 use Rattle.flag_resolve.specs.Views.{resolution_view}
@@ -16,14 +18,15 @@ pub loop-i-preserved : goal.loop-i-preserved
 loop-i-preserved c =
     let fs = flags_view c.args.flags.now in
     let marked : Marked = (fs, floats_view c.args.flags.now) in
+    let metadata = flag_metadata (metadata_view c.args.metadata.now) in
     let context = view c.args.context.now in
     let key = c.at.result.0.now in
     let d = flag_view c.at.result.1.now in
     let resolved = c.in_ok-resolution.ensures in
     record {
-      bodies = c.in_ok-add.ensures.bodies ∙ ap₂ (λ (ys : List (List ℕ)) (b : Bool). ys ++ body_if_told b key (resolution_view c.in_ok-resolution.resolution)) (c.count.ensures.bodies ∙ c.loop-i.invariant.bodies) c.is_spelled-spelled.ensures
-          ∙ ap (λ (r : Resolved). bodies marked context c.args.moment (take c.loop-i.i fs) ++ body_if_told (is_spelled key marked) key r) resolved
-          ∙ sym (flat_step (λ (f : List ℕ × Definition). body_if_told (is_spelled f.0 marked) f.0 (evaluation fs f.0 context c.args.moment)) fs c.loop-i.i (key, d) c.at.ensures);
+      bodies = c.in_ok-add.ensures.bodies ∙ ap₂ (λ (ys : List (List ℕ)) (b : Bool). ys ++ body_if_told b (metadata key) key (resolution_view c.in_ok-resolution.resolution)) (c.count.ensures.bodies ∙ c.loop-i.invariant.bodies) c.is_spelled-spelled.ensures
+          ∙ ap (λ (r : Resolved). bodies metadata marked context c.args.moment (take c.loop-i.i fs) ++ body_if_told (is_spelled key marked) (metadata key) key r) resolved
+          ∙ sym (flat_step (λ (f : List ℕ × Definition). body_if_told (is_spelled f.0 marked) (metadata f.0) f.0 (evaluation fs f.0 context c.args.moment)) fs c.loop-i.i (key, d) c.at.ensures);
       reached = c.in_ok-add.ensures.reached ∙ ap₂ (λ (ys : List (List ℕ × List Reach)) (r : Resolved). ys ++ reached_at key r.reached) (c.count.ensures.reached ∙ c.loop-i.invariant.reached) resolved
           ∙ sym (flat_step (λ (f : List ℕ × Definition). reached_at f.0 (evaluation fs f.0 context c.args.moment).reached) fs c.loop-i.i (key, d) c.at.ensures);
     }
