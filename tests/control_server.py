@@ -104,8 +104,8 @@ DOUBTED = re.compile(r'^note: .*?: flag ("(?:[^"\\]|\\.)*") .*\((Weight|Variant|
 # Logs with such an end are not read.
 COMPRESSED = (".gz", ".xz", ".zst", ".bz2")
 
-# What is said of a tally before a plan's words.
-NOBODY = re.compile(r'^note: "[^"]*" counts no input .*\n  .*\n', re.MULTILINE)
+# The words for a plan, among others on the request and the tally.
+EXPLAINED = re.compile(r'^note: "request": .*\n(?:  .*\n)*', re.MULTILINE)
 
 # What is said of a broken flag begins with its place in the document.
 BROKEN = re.compile(r'broken: flags(?:\.([\w-]+)|\[("(?:[^"\\]|\\.)*")\])')
@@ -222,7 +222,7 @@ class Control:
         by_hand = sum(row["inputs"] for row in switches_of(old, obvious(old, new), counts)) if new else None
         answer = {
             "by_hand": by_hand, "inputs": head["inputs"], "snapshot": self.number, "switch": sum(row["inputs"] for row in switches), "switches": switches,
-            "document": document, "explained": NOBODY.sub("", words).replace(path("request"), "request"), "picture": picture, "plan": plan, "token": {"document": tag_of(text), "plan": plan, "request": request},
+            "document": document, "explained": EXPLAINED.search(words.replace(path("request"), "request"))[0], "picture": picture, "plan": plan, "token": {"document": tag_of(text), "plan": plan, "request": request},
         }
         passed_over = [name for name in self.names() if name.endswith(COMPRESSED)]
         return {**answer, "passed_over": passed_over} if passed_over else answer
