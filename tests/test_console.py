@@ -115,6 +115,10 @@ class ConsoleTest(unittest.TestCase):
         self.assertNotIsInstance(found, dict, script)
         return found
 
+    def until_served(self, number):
+        """Waits until the service has read the document again: the snapshot of this number."""
+        self.until(f"(await fetch('snapshot')).headers.get('X-Snapshot') === '{number}'")
+
     def asked(self):
         """The request that the page makes of its fields."""
         return json.loads(self.browser.run("return JSON.stringify(request(wantedNow()));"))
@@ -186,7 +190,8 @@ class Rollouts(ConsoleTest):
         self.assertEqual((cells[1], cells[4]), ("checkouton 5 \u2192 10, off 95 \u2192 90", "Änne <b>"))
         rule = json.loads(self.text("flags.json"))["flags"]["checkout"]["targeting"]["if"][2]["fractional"]
         self.assertEqual(sum(weight for name, weight in rule if name == "on"), 10)
-        self.until("/served as snapshot 2/.test(document.getElementById('message').textContent)")
+        self.until("/^The document is written/.test(document.getElementById('message').textContent)")
+        self.until_served("2")
         self.browser.click("#history-rows button")
         self.until("/would switch/.test(document.getElementById('history-rows').textContent)")
         self.look("history")
@@ -259,7 +264,15 @@ class Rollouts(ConsoleTest):
             for count in (100, 160):
                 self.server.server.metrics = f'ofrep_evaluations_total{{reason="SPLIT"}} {count}\n'
                 self.browser.run("await rates();")
-            self.assertRegex(self.browser.run("return document.getElementById('rates').textContent;"), "^A minute: SPLIT [1-9]")
+        else:
+            self.browser.run("await rates();")
+            client = http.client.HTTPConnection("127.0.0.1", self.server.port)
+            self.after.callback(client.close)
+            for number in range(50):
+                client.request("POST", "/ofrep/v1/evaluate/flags/checkout", json.dumps({"context": {"targetingKey": f"late-{number}"}}))
+                client.getresponse().read()
+            self.browser.run("await rates();")
+        self.assertRegex(self.browser.run("return document.getElementById('rates').textContent;"), "^A minute: [A-Z_]+ [1-9]")
 
     @in_each_browser
     def test_no_rule_can(self):
@@ -287,6 +300,7 @@ class Rollouts(ConsoleTest):
         self.browser.click("#apply-yes")
         self.until("document.getElementById('message').className === 'bad'")
         self.assertEqual(self.text("flags.json"), changed)
+        self.until_served("2")
         self.browser.fill("#total-1", "11")
         self.until("!!document.querySelector('#message button')")
         self.browser.click("#message button")

@@ -196,6 +196,24 @@ class Plans(ControlTest):
         self.assertEqual(status, 400)
         self.assertIn(json.loads(body)["name"], {"Mixed", "Line"})
 
+    def test_many_at_once(self):
+        self.shop()
+        answers = [None] * 8
+
+        def ask_as(which):
+            status, headers, body = self.ask("POST", "/plan", compact(REQUEST).encode())
+            answers[which] = status, "Retry-After" in headers, body if status == 200 else None
+
+        threads = [threading.Thread(target=ask_as, args=(which,)) for which in range(len(answers))]
+        for thread in threads:
+            thread.start()
+        for thread in threads:
+            thread.join()
+        status, _, body = self.ask("POST", "/plan", compact(REQUEST).encode())
+        self.assertEqual(status, 200)
+        self.assertLessEqual(set(answers), {(200, False, body), (503, True, None)})
+        self.assertIn((200, False, body), answers)
+
     def test_a_snapshot_by_its_tag(self):
         document, lines = drawn_document(random.Random(3))
         self.begin(document, lines)
