@@ -74,16 +74,15 @@ def measured(count):
         size = sum(os.path.getsize(os.path.join(logs, name)) for name in os.listdir(logs))
         admin = free_port()
         service = Service(folder, logs, "--admin", f"127.0.0.1:{admin}")
+        assert service.serves, service.reports()
+        held = service.kilobytes("VmHWM")
+        print(f"{count:,} inputs, {size / 2**20:,.0f} MiB of logs; listening with {held / 1024:,.0f} MiB", flush=True)
+        asking = Asking(service)
         try:
-            assert service.serves, service.reports()
-            held = service.kilobytes("VmHWM")
-            print(f"{count:,} inputs, {size / 2**20:,.0f} MiB of logs; listening with {held / 1024:,.0f} MiB", flush=True)
-            asking = Asking(service)
             time.sleep(USUAL)
             asking.now = "planning"
             _, record = called(admin, "GET", "/record?flag=color&site=0")
             plans = [called(admin, "POST", "/plan", REQUEST) for _ in range(PLANS)]
-            asking.now = "after"
             asking.end()
             most = service.kilobytes("VmHWM")
             inputs = json.loads(plans[-1][0])["inputs"]
@@ -92,6 +91,7 @@ def measured(count):
             print(f"  record {record:.2f} s; plan {min(took for _, took in plans):.2f} to {max(took for _, took in plans):.2f} s; most memory {most / 1024:,.0f} MiB, {(most - held) * 1024 / count:.0f} bytes an input")
             print(f"  99th percentile of answers: {usual:.2f} ms before ({before:,}), {beside:.2f} ms beside the plans ({among:,}), {beside / usual:.2f} times", flush=True)
         finally:
+            asking.end()
             service.kill()
 
 
