@@ -24,7 +24,6 @@ mod asked;
 mod boards;
 mod command;
 mod describing;
-mod document_texts;
 mod host;
 mod keys;
 mod log_news;
