@@ -10,8 +10,9 @@ ghost use Rattle.picture.specs.Legible.{is_at_edge};
 ghost use Rattle.picture.specs.Spelling.{Adds};
 ghost use Rattle.picture.specs.Told.{behind, down, extent_of, look_of, place_of, runs_told, told};
 
+use crate::adding::add;
 use crate::bars::{BAR, LEFT, add_bar, edge, extent, look_of};
-use crate::element::{Band, Content, Element, Extent, Place, add};
+use crate::element::{Band, Content, Element, Extent, Place};
 use crate::print::place;
 use crate::switches::add_table;
 use crate::variants::add_variants;

@@ -1,10 +1,8 @@
 //! The elements of a picture.
-ghost use Rattle.std.specs.Prelude.{◌≡◌, ◌++◌, true, OnOk};
+ghost use Rattle.std.specs.Prelude.{◌≡◌, true};
 ghost use Rattle.picture.specs.Legible.{have_room, is_at_edge, is_legible};
-ghost use Rattle.picture.specs.Told.{told};
 
 use crate::words::{Style, Word};
-use std::alloc::AllocError;
 
 /// A place of a picture, from its upper left corner.
 #[derive(Clone, Copy, Debug)]
@@ -81,14 +79,4 @@ pub enum Element<'a> {
     Band(Band<'a>),
     /// A thin line, as between points.
     Line(Place, Extent),
-}
-
-/// Adds elements.
-pub(crate) fn add<'a>(
-    elements: &mut Vec<Element<'a>>,
-    more: &[Element<'a>],
-) -> Result<(), AllocError>
-    ensures { OnOk result (told elements.new.items ≡ told elements.old.items ++ told more.now) }
-{
-    elements.extend_from_slice(more)
 }

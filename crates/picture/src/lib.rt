@@ -14,6 +14,7 @@
 //! and how things look, is not.
 #![tactic(auto)]
 
+mod adding;
 mod bars;
 mod change;
 mod edit;

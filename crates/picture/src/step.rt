@@ -3,8 +3,9 @@ ghost use Rattle.std.specs.Prelude.{◌≡◌, ◌++◌, IfOk, OnErr, OnOk, stri
 ghost use Rattle.picture.specs.Spelling.{Adds};
 ghost use Rattle.picture.specs.Told.{down, step_height, step_told, told};
 
+use crate::adding::add;
 use crate::bars::LEFT;
-use crate::element::{Content, Element, Extent, Place, add};
+use crate::element::{Content, Element, Extent, Place};
 use crate::print::place;
 use crate::words::{Style, Word};
 use std::alloc::{AllocError, Global};
