@@ -22,10 +22,10 @@ told_none standing refine [] held n = refl
 told_none standing refine (request ∷ requests) held n = refl
 
 -- the number of a step, its picture, and the rest
-pub continues_step : (n : ℕ) (this : ℕ × List Item) (rest : Pictures) (y y1 y2 end : ℕ) (a b c d : List ℕ) → Adds y (step_told n) a b → y1 ≡ down y step_height → Adds y1 this.1 b c → y2 ≡ down y1 this.0
+pub continues_step : (n : ℕ) (this : ℕ × List Item) (rest : Pictures) (y y1 y2 end : ℕ) (a b c d : List ℕ) → Adds y (step_told n ∷ []) a b → y1 ≡ down y step_height → Adds y1 this.1 b c → y2 ≡ down y1 this.0
     → Continues rest y2 end c d → Continues (step_picture n ∷ (this ∷ rest)) y end a d
 continues_step n this rest y y1 y2 end a b c d first below second lower others =
-    continues_both (step_picture n ∷ []) (this ∷ rest) y y1 end a b d (continues_one step_height (step_told n) y y1 a b first below)
+    continues_both (step_picture n ∷ []) (this ∷ rest) y y1 end a b d (continues_one step_height (step_told n ∷ []) y y1 a b first below)
     (continues_both (this ∷ []) rest y1 y2 end b c d (continues_one this.0 this.1 y1 y2 b c second lower) others)
 
 -- no answer is right behind a refusal
@@ -56,7 +56,7 @@ module _ (standing : Standing) (refine : Option ℕ) (requests : List (List ℕ)
   both_right right = subst (λ (xs : List Answer). AreRight standing refine (request ∷ more) held xs) are (subst (λ (rs : List (List ℕ)). AreRight standing refine rs held answers) is right)
 
   -- the first was told, and so were those behind it
-  pub both_told : (n y y1 y2 end : ℕ) (a b c d : List ℕ) → Adds y (step_told n) a b → y1 ≡ down y step_height → AddsTold (step_asked standing refine answer request held) answer y1 y2 b c
+  pub both_told : (n y y1 y2 end : ℕ) (a b c d : List ℕ) → Adds y (step_told n ∷ []) a b → y1 ≡ down y step_height → AddsTold (step_asked standing refine answer request held) answer y1 y2 b c
       → Tells (left_by standing request answer) (Some 1) (still answer more) held (suc n) others y2 end c d → Tells standing refine requests held n answers y end a d
   both_told n y y1 y2 end a b c d first below second rest =
       let all : Tells standing refine (request ∷ more) held n (answer ∷ others) y end a d =
@@ -129,7 +129,7 @@ module _ (standing : Standing) (refine : Option ℕ) (steps : List (Vec ℕ Glob
         none_behind e (still answer requests_behind) held (map planned_view others) some
         (subst (λ (s : Standing). AreRight s (Some 1) (still answer requests_behind) held (map planned_view others)) stands (both right).1)
 
-    pub all_told : (n y y1 y2 end : ℕ) (a b c d : List ℕ) (next : Standing) → left ≡ next → Adds y (step_told n) a b → y1 ≡ down y step_height → AddsTold (step_asked standing refine answer x.items held) answer y1 y2 b c
+    pub all_told : (n y y1 y2 end : ℕ) (a b c d : List ℕ) (next : Standing) → left ≡ next → Adds y (step_told n ∷ []) a b → y1 ≡ down y step_height → AddsTold (step_asked standing refine answer x.items held) answer y1 y2 b c
         → Tells next (Some 1) requests_behind held (n + 1) (map planned_view others) y2 end c d → Tells standing refine (requests_view steps) held n (map planned_view answers) y end a d
     all_told n y y1 y2 end a b c d next stands first below second tells =
         let follows : n + 1 ≡ suc n = add-one n in
@@ -137,7 +137,7 @@ module _ (standing : Standing) (refine : Option ℕ) (steps : List (Vec ℕ Glob
         (behind left next (still answer requests_behind) requests_behind held n (n + 1) (map planned_view others) y2 end c d stands same follows tells)
 
   -- there are none
-  pub last_told : (ended : Bool) → ended ≡ (length others == 0) → ended ≡ true → (n y y1 y2 : ℕ) (a b c : List ℕ) → Adds y (step_told n) a b → y1 ≡ down y step_height → AddsTold (step_asked standing refine answer x.items held) answer y1 y2 b c
+  pub last_told : (ended : Bool) → ended ≡ (length others == 0) → ended ≡ true → (n y y1 y2 : ℕ) (a b c : List ℕ) → Adds y (step_told n ∷ []) a b → y1 ≡ down y step_height → AddsTold (step_asked standing refine answer x.items held) answer y1 y2 b c
       → Tells standing refine (requests_view steps) held n (map planned_view answers) y y2 a c
   last_told ended tests is_ended n y y1 y2 a b c first below second =
       both_told standing refine (requests_view steps) held (map planned_view answers) x.items requests_behind answer (map planned_view others) is are n y y1 y2 y2 a b c c first below second

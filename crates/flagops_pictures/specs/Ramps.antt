@@ -16,7 +16,7 @@ use Rattle.flagops_pictures.specs.Pictured.{IsAnswerTold}
 
 -- the number of a step, as a picture
 abbrev pub step_picture : ℕ → ℕ × List Item
-step_picture n = (step_height, step_told n)
+step_picture n = (step_height, step_told n ∷ [])
 
 -- The pictures of answers in turn, each below the number of its step: the first is to a step on these flags, and each other to one on what the one before leaves.
 abbrev pub AreTold : Standing → Option ℕ → List (List ℕ) → Recorded → ℕ → List Answer → Pictures → Type 0

@@ -5,30 +5,30 @@ ghost use Rattle.std.specs.NonZero.{non_zero_usize_get};
 ghost use Rattle.flag_defs.specs.Flag.{is_broken};
 ghost use Rattle.flag_defs.specs.Flags.{flags_view};
 ghost use Rattle.flagops_streams.specs.Loading.{documents_view};
-ghost use Rattle.flagops_streams.specs.Documents.{Answer, count_of, documents_in};
+ghost use Rattle.flagops_streams.specs.Documents.{Answer, count_of, documents_in, texts_of};
 ghost use Rattle.source_merge.specs.View.{sources_view};
 ghost use Rattle.flagops_service.specs.Ended.{AnswersOfrep, Begins, Reports, Serves, ServesOfrep, TellsOfrep, cors_fault};
 ghost use Rattle.flagops_service.specs.Merging.{AreMerged, ArePublished};
 ghost use Rattle.flagops_service.specs.Starting.{StartsOn, StartsTo, stops_in, stops_on};
 ghost use Rattle.flagops_shell.specs.Console.{IsOpen};
 ghost use Rattle.flagops_service.specs.Unready.{HasKeys};
-ghost use Rattle.flagops_service.specs.Words.{answering_view, applied_to, form_of, operators_of, paths_served, seats_of, share_of, subscribers_of};
+ghost use Rattle.flagops_service.specs.Words.{answering_view, form_of, operators_of, paths_served, seats_of, share_of, subscribers_of};
 ghost use Rattle.ofrep_service.specs.Logs.{path_in, paths_of};
 
 use crate::asked::{Answering, OnBroken};
 use crate::boards::{board_of, show_published};
-use crate::document_texts::{DocumentTexts, show_texts, texts_of};
 use crate::host::Host;
 use crate::keys::WatchedKeys;
 use crate::log_news::tell_lines;
 use crate::merging::merge_all;
-use crate::preparing::{Prepared, Unready, operators_of, prepare, trouble_of_logs};
+use crate::preparing::{Prepared, Unready, prepare, trouble_of_logs};
 use crate::reporting::{
     refuse_and_tell, refuse_document, refuse_start, refuse_unbound, refuse_unloaded, serving_line,
 };
 use crate::stop::Stop;
 use crate::telling::{
-    broken_in, say_broken, say_ended, say_listening, say_operations, say_published,
+    broken_in, say_broken, say_broken_metadata, say_ended, say_listening, say_operations,
+    say_published,
 };
 use crate::watched::Watched;
 use crate::watching::watch;
@@ -37,7 +37,7 @@ use flag_defs::Flags;
 use flag_text::Outlet;
 use flagops_shell::{Console, FileSet, report_usage};
 use flagops_streams::{Documents, Refusal, loaded, write_line};
-use ofrep_service::{AdminPost, Board, Operations, Post, work_beside};
+use ofrep_service::{AdminPost, Board, Post, work_beside};
 use snap_share::{History, Publisher, ReadSeat, ShareName, share};
 use source_merge::Sources;
 use std::alloc::{AllocError, Global};
@@ -230,7 +230,7 @@ fn answer_flags<R: Host, F: FileSet, O: Outlet, E: Outlet>(
     }
 }
 
-/// Shares the flags with the workers and the subscribers, and answers.
+/// Shares the flags with the workers and the subscribers, with the metadata of the documents, and answers.
 fn answer_prepared<J, R, F, O, E>(
     rt: &R,
     answering: &Answering<'_>,
@@ -252,7 +252,7 @@ where
     requires cors { cors_fault (answering_view answering.now).cors ≡ None }
     requires admin { is_some prepared.admin ≡ is_some (answering_view answering.now).admin }
     requires may_stop { IfSome prepared.admin (λ post. post.may_stop ≡ answering.now.allow_stop) }
-    requires streams { vec_len prepared.streams ≡ subscribers_of answering.now.stream (operators_of (answering_view answering.now).admin (answering_view answering.now).log) }
+    requires streams { vec_len prepared.streams ≡ subscribers_of answering.now.stream (operators_of (answering_view answering.now).admin) }
     requires posts { vec_len prepared.posts ≡ answering.now.workers }
     requires clients { HasKeys (F.holding files.old) (answering_view answering.now).keys prepared.clients }
     requires logs { map (λ post. path_in post.journal) prepared.posts.items ≡ paths_of (answering_view answering.now).log answering.now.workers }
@@ -263,11 +263,11 @@ where
 {
     let alloc = rt.alloc();
     let workers = answering.workers as usize;
-    let operators = operators_of(answering);
+    let operators = operation_seats(&prepared.admin);
     let wanted = workers.saturating_add(operators.saturating_add(prepared.streams.len()));
     let (count, broken) = (flags.len(), broken_in(&flags));
-    let texts = match texts_of(&watched, answering, &flags) {
-        Ok(texts) => texts,
+    let flags = match watched.described(flags) {
+        Ok(flags) => flags,
         Err(AllocError) => return refuse_and_tell(alloc, out, err, Refusal::WantOfMemory),
     };
     let (mut publisher, seats) = match share::<J, R>(rt, alloc, history, flags, wanted) {
@@ -279,7 +279,6 @@ where
         answering,
         count,
         broken,
-        texts,
         prepared,
         &mut publisher,
         seats,
@@ -298,7 +297,6 @@ fn answer_shared<J, R, F, O, E>(
     answering: &Answering<'_>,
     count: usize,
     broken: usize,
-    texts: Option<DocumentTexts>,
     prepared: Prepared,
     publisher: &mut Publisher<J>,
     seats: Vec<ReadSeat<J>>,
@@ -313,7 +311,7 @@ where
     F: FileSet,
     O: Outlet,
     E: Outlet,
-    requires published { ArePublished (sources_view watched.sources) publisher.old }
+    requires published { ArePublished (sources_view watched.sources) (texts_of watched.accepted.items) publisher.old }
     requires seats { vec_len prepared.posts ≤ vec_len seats }
     requires cors { cors_fault (answering_view answering.now).cors ≡ None }
     requires may_stop { IfSome prepared.admin (λ post. post.may_stop ≡ answering.now.allow_stop) }
@@ -344,12 +342,11 @@ where
         Err(AllocError) => return refuse_and_tell(alloc, out, err, Refusal::WantOfMemory),
     };
     say_listening(alloc, err, answering, posts.as_slice());
-    say_operations(alloc, err, &admin, answering);
+    say_operations(alloc, err, &admin, answering.allow_stop);
     say_all_broken(&watched, err);
     say_published(alloc, err, 1, count, broken);
     let status = write_line(out, line.as_str(), 0);
     show_published(rt, &board, 1);
-    show_texts(rt, &board, 1, texts);
     let was_stopped = attend(
         rt, answering, keys, &board, seats, posts, others, streams, admin, publisher, watched,
         files, err,
@@ -357,6 +354,16 @@ where
     tell_lines(rt, alloc, &board, err);
     say_ended(err, was_stopped);
     status_of(answering.allow_stop, was_stopped, status)
+}
+
+/// How many seats operations take.
+fn operation_seats(admin: &Option<AdminPost>) -> usize
+    ensures { result ≡ (if is_some admin.now then 1 else 0) }
+{
+    match admin {
+        Some(_) => 1,
+        None => 0,
+    }
 }
 
 /// The status of a service that has ended, where that of its line is given: 1 unless it was stopped as it may be.
@@ -388,7 +395,7 @@ where
     R: Host,
     F: FileSet,
     E: Outlet,
-    requires published { ArePublished (sources_view watched.sources) publisher.old }
+    requires published { ArePublished (sources_view watched.sources) (texts_of watched.accepted.items) publisher.old }
     requires seated { vec_len seats ≡ vec_len posts }
     requires logs { map (λ post. path_in post.journal) posts.items ≡ paths_of (answering_view answering.now).log answering.now.workers }
     requires without { board.now.without_record ≡ answering.now.without_record }
@@ -400,16 +407,15 @@ where
     requires max_body { board.now.limits.body_bytes ≡ answering.now.max_body }
     requires may_stop { IfSome admin (λ post. post.may_stop ≡ answering.now.allow_stop) }
     requires origins { map string_bytes board.now.origins.items ≡ (answering_view answering.now).cors }
-    requires folder { option_map string_bytes board.now.desks.rules.folder ≡ (answering_view answering.now).log }
-    requires applied_to { option_map string_bytes board.now.desks.rules.applied_to ≡ applied_to (answering_view answering.now) }
     requires clients { HasKeys (F.holding files.old) (answering_view answering.now).keys (option_map (λ ring. ring.first) board.now.keys) }
 {
     let alloc = rt.alloc();
     let mut watched = watched;
     let mut clients = WatchedKeys::new(alloc, answering.keys);
     let mut others = others;
-    let Ok(operations) = seated(&mut others, streams.len(), admin) else {
-        return false;
+    let admin = match admin {
+        Some(post) => seated(others.pop(), post),
+        None => None,
     };
     let ended = work_beside(
         rt,
@@ -420,7 +426,7 @@ where
         posts,
         others,
         streams,
-        operations,
+        admin,
         || {
             watch(
                 rt,
@@ -437,25 +443,22 @@ where
     ended.is_some()
 }
 
-/// The post of operations, where there is one, with the seats behind those of so many subscribers: half of them for the workers of its
-/// threads, and half for their desks.
+/// The post of operations with its seat.
 fn seated<J: ShareName>(
-    others: &mut Vec<ReadSeat<J>>,
-    subscribers: usize,
-    post: Option<AdminPost>,
-) -> Result<Option<Operations<J>>, AllocError> {
-    let Some(post) = post else {
-        return Ok(None);
-    };
-    let mut seats = others.split_off(subscribers.min(others.len()))?;
-    let desks = seats.split_off(seats.len() / 2)?;
-    Ok(Some(Operations { post, seats, desks }))
+    seat: Option<ReadSeat<J>>,
+    post: AdminPost,
+) -> Option<(ReadSeat<J>, AdminPost)> {
+    match seat {
+        Some(seat) => Some((seat, post)),
+        None => None,
+    }
 }
 
-/// Tells of each flag that is broken, by its document.
+/// Tells of each flag and of all metadata that is broken, by its document.
 fn say_all_broken<E: Outlet>(watched: &Watched<'_>, err: &mut E) {
     for (path, text) in watched.paths.iter().zip(watched.accepted.iter()) {
         say_broken(watched.alloc, err, path, text.as_slice());
+        say_broken_metadata(watched.alloc, err, path, text.as_slice());
     }
 }
 

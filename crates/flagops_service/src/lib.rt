@@ -23,7 +23,7 @@
 mod asked;
 mod boards;
 mod command;
-mod document_texts;
+mod describing;
 mod host;
 mod keys;
 mod log_news;

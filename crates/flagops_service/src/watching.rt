@@ -1,12 +1,12 @@
 //! Documents that are read again.
 ghost use Rattle.std.specs.Prelude.{◌≡◌, ◌==◌, ◌&&◌, ◌+◌, ◌-◌, ◌%◌, ◌^◌, ◌<◌, List, map, nat_lt};
 ghost use Rattle.source_merge.specs.View.{sources_view};
+ghost use Rattle.flagops_streams.specs.Documents.{texts_of};
 ghost use Rattle.flagops_service.specs.Merging.{Publishes};
 ghost use Rattle.flagops_service.specs.Rereading.{State, Watches, state_of};
 
 use crate::asked::Answering;
 use crate::boards::show_published;
-use crate::document_texts::{show_texts, texts_of};
 use crate::keys::WatchedKeys;
 use crate::log_news::{LogNews, tell_lines, tell_news};
 use crate::sizes::show_sizes;
@@ -59,7 +59,7 @@ pub(crate) fn watch<J: ShareName, R: Clock + LogPaths + Wait, F: FileSet, E: Out
         watched.show(board);
         clients.renew(rt, board, files, err);
         if waits {
-            waits = publish(rt, watched, publisher, board, answering, err);
+            waits = publish(rt, watched, publisher, board, err);
         }
     }
 }
@@ -84,19 +84,18 @@ fn is_turn(second: u64, poll: u64) -> bool
     poll > 0 && (second + 1) % poll == 0
 }
 
-/// Publishes what the documents make now, unless they are too large together or memory runs out. Says whether that was want of
+/// Publishes what the documents make now, with their metadata, unless they are too large together or memory runs out. Says whether that was want of
 /// memory, so that it is to be tried again at the next reading.
 fn publish<J: ShareName, R: Clock + Wait, E: Outlet>(
     rt: &R,
     watched: &Watched<'_>,
     publisher: &mut Publisher<J>,
     board: &Board,
-    answering: &Answering<'_>,
     err: &mut E,
 ) -> bool
-    ensures { Publishes (sources_view watched.now.sources) publisher.old publisher.new }
+    ensures { Publishes (sources_view watched.now.sources) (texts_of watched.now.accepted.items) publisher.old publisher.new }
 {
-    let flags = match watched.sources.merged(watched.alloc) {
+    let flags = match watched.merged() {
         Ok(flags) => flags,
         Err(fault) => {
             let name = fault.name();
@@ -110,13 +109,9 @@ fn publish<J: ShareName, R: Clock + Wait, E: Outlet>(
         }
     };
     let (count, broken) = (flags.len(), broken_in(&flags));
-    let Ok(texts) = texts_of(watched, answering, &flags) else {
-        return true;
-    };
     match publisher.publish(rt, watched.alloc, flags) {
         Ok(number) => {
             show_published(rt, board, number);
-            show_texts(rt, board, number, texts);
             say_published(watched.alloc, err, number, count, broken);
             false
         }

@@ -1,7 +1,6 @@
 pub mod Changes
 pub mod Deficits
 pub mod Edits
-pub mod Legible
 pub mod Spelling
 pub mod Told
 pub mod Words

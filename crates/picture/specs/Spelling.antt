@@ -76,7 +76,7 @@ spelled_line p e = codes "<rect class=\"s\"" ++ (at p ++ sized e)
 
 abbrev pub spelled : Element → List ℕ
 spelled (element.Text s p c) = spelled_text s p c
-spelled (element.Name p size t) = spelled_name p size.units t.now
+spelled (element.Name p size t) = spelled_name p size t.now
 spelled (element.Piece p) = spelled_piece p
 spelled (element.Band b) = spelled_band b
 spelled (element.Line p e) = spelled_line p e

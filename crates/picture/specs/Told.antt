@@ -1,6 +1,6 @@
 -- What a picture tells: its texts and names at their places, the points that each bar and each band stands for, and the look of each variant.
 use Rattle.std.specs.Prelude.{ℕ, ◌+◌, ◌-◌, ◌*◌, ◌/◌, ◌%◌, ◌^◌, min, List, [], ◌∷◌, ◌++◌, map, length, nat_lt, position, unwrap_or, if◌then◌else◌}
-use Rattle.std.specs.List.{flat_map, range_with_len}
+use Rattle.std.specs.List.{flat_map}
 use Rattle.std.specs.Str.{bytes_eq}
 use Rattle.bucket_core.specs.Rule.{Entries, total_weight}
 use Rattle.price_core.specs.Limits.{Limits}
@@ -18,21 +18,20 @@ use Rattle.picture.specs.declared.words.Word.{Word}
 use Rattle.picture.specs.declared.words.Word.TheVariants as word
 
 -- What an element tells: a text or a name at its place; a rectangle in the look of a variant; points that go from one variant to another with
--- their number and that of their users, as a rectangle in the look of the second; a line, as between points.
+-- their number and that of their users, as a rectangle in the look of the second.
 pub data Item : Type 0 where
   text : Style → Place → Content → Item
   name : Place → List ℕ → Item
   piece : List ℕ → Look → Place → Extent → Item
   band : List ℕ → List ℕ → ℕ → ℕ → Look → Place → Extent → Item
-  line : Place → Extent → Item
 
--- The letters on bars and bands and the size of a name's letters are for the eye; `Legible` bounds them.
+-- The letters on bars and bands, the size of a name's letters, and the lines between points are for the eye.
 abbrev pub told_element : Element → List Item
 told_element (element.Text s p c) = text s p c ∷ []
 told_element (element.Name p n t) = name p t.now ∷ []
 told_element (element.Piece p) = piece p.name.now p.look p.place p.extent ∷ []
 told_element (element.Band b) = band b.from.now b.to.now b.points b.users b.look b.place b.extent ∷ []
-told_element (element.Line p e) = line p e ∷ []
+told_element (element.Line p e) = []
 
 abbrev pub told : List Element → List Item
 told es = flat_map told_element es
@@ -120,17 +119,9 @@ abbrev pub pieces_told : Limits → ℕ → ℕ → ℕ → Entries → List Ite
 pieces_told limits y total p [] = []
 pieces_told limits y total p (e ∷ es) = piece e.0 (look_of limits e.0) (place_of y total p) (extent_of total p (p + e.1)) ∷ pieces_told limits y total (p + e.1) es
 
--- a line at the left edge of each of these points
-abbrev pub edges_told : ℕ → ℕ → List ℕ → List Item
-edges_told y total ps = map (λ p. line (place_of y total p) (record { width = 1; height = 80 })) ps
-
--- a line between each two points, where they are a hundred or fewer
-abbrev pub lines_told : ℕ → ℕ → List Item
-lines_told y total = if nat_lt 100 total then [] else edges_told y total (range_with_len 1 (total - 1))
-
 -- that of a rule
 abbrev pub bar_told : Limits → ℕ → Entries → List Item
-bar_told limits y rule = pieces_told limits y (total_weight rule) 0 rule ++ lines_told y (total_weight rule)
+bar_told limits y rule = pieces_told limits y (total_weight rule) 0 rule
 
 -- the point behind a run
 abbrev pub behind : ℕ → ℕ → Run → ℕ
@@ -148,9 +139,8 @@ runs_told limits total p (r ∷ rs) = run_told limits total p r ++ runs_told lim
 
 -- ---- the number of a step
 
--- below a line over the width of the page
-abbrev pub step_told : ℕ → List Item
-step_told n = line (spot 40 30) (record { width = 1120; height = 4 }) ∷ text style.Title (spot 40 96) (content.Counted word.Step n) ∷ []
+abbrev pub step_told : ℕ → Item
+step_told n = text style.Title (spot 40 96) (content.Counted word.Step n)
 
 abbrev pub step_height : ℕ
 step_height = 100

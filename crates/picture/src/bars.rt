@@ -1,10 +1,9 @@
 //! Rules as bars over the points.
-ghost use Rattle.std.specs.Prelude.{◌≡◌, ◌≤◌, ◌++◌, OnOk, position, string_bytes, true};
+ghost use Rattle.std.specs.Prelude.{◌≡◌, ◌≤◌, ◌++◌, OnOk, position, string_bytes};
 ghost use Rattle.std.specs.Str.{bytes_eq};
-ghost use Rattle.bucket_core.specs.Rule.{IsRuleTotal, total_weight};
+ghost use Rattle.bucket_core.specs.Rule.{IsRuleTotal};
 ghost use Rattle.price_core.specs.Limits.{limits_view};
-ghost use Rattle.picture.specs.Legible.{have_room};
-ghost use Rattle.picture.specs.Told.{bar_told, edge, extent_of, lines_told, look_of, pieces_told, place_of, told};
+ghost use Rattle.picture.specs.Told.{bar_told, edge, extent_of, look_of, place_of, told};
 
 use crate::element::{Element, Extent, Look, Piece, Place};
 use bucket_core::Rule;
@@ -74,19 +73,6 @@ pub(crate) fn add_bar<'a>(
 ) -> Result<(), AllocError>
     ensures { OnOk result (told elements.new.items ≡ told elements.old.items ++ bar_told (limits_view limits.entry.now) y rule.now) }
 {
-    add_pieces(elements, rule, limits, y)?;
-    add_lines(elements, u64::from(rule.total()), y)
-}
-
-/// Adds the points of each variant of a rule.
-fn add_pieces<'a>(
-    elements: &mut Vec<Element<'a>>,
-    rule: &'a Rule,
-    limits: &[Limit],
-    y: u64,
-) -> Result<(), AllocError>
-    ensures { OnOk result (told elements.new.items ≡ told elements.old.items ++ pieces_told (limits_view limits.entry.now) y (total_weight rule.now) 0 rule.now) }
-{
     let total = u64::from(rule.total());
     let mut begin = 0u64;
     for (name, weight) in rule.entries() {
@@ -94,7 +80,7 @@ fn add_pieces<'a>(
         elements.push(Element::Piece(piece(name, limits, y, begin, end, total)))?;
         begin = end;
     }
-    Ok(())
+    add_points(elements, total, y)
 }
 
 /// The points of a variant from one to another, of so many, at a height.
@@ -121,9 +107,7 @@ fn piece<'a>(name: &'a str, limits: &[Limit], y: u64, begin: u64, end: u64, tota
 }
 
 /// How many letters find room on a rectangle.
-fn letters(width: u64) -> u32
-    ensures { have_room width result ≡ true }
-{
+fn letters(width: u64) -> u32 {
     let letters = width.saturating_sub(16) / LETTER;
     if letters < 2 {
         0
@@ -133,10 +117,9 @@ fn letters(width: u64) -> u32
 }
 
 /// Adds a line between each two points, where they are few.
-#[tactic(auto, using(crate::proofs::Remaining::range_front, crate::proofs::Remaining::range_ended))]
-fn add_lines(elements: &mut Vec<Element<'_>>, total: u64, y: u64) -> Result<(), AllocError>
+fn add_points(elements: &mut Vec<Element<'_>>, total: u64, y: u64) -> Result<(), AllocError>
     requires { IsRuleTotal total }
-    ensures { OnOk result (told elements.new.items ≡ told elements.old.items ++ lines_told y total) }
+    ensures { OnOk result (told elements.new.items ≡ told elements.old.items) }
 {
     if total > FEW_POINTS {
         return Ok(());

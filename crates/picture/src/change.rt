@@ -1,18 +1,16 @@
 //! The picture of a rule that replaces another.
-ghost use Rattle.std.specs.Prelude.{◌≡◌, ◌≤◌, ◌++◌, min, true, IfOk, OnErr, OnOk, length, string_bytes};
+ghost use Rattle.std.specs.Prelude.{◌≡◌, ◌≤◌, ◌++◌, min, IfOk, OnErr, OnOk, length, string_bytes};
 ghost use Rattle.std.specs.Map.{keys_of};
 ghost use Rattle.bucket_core.specs.Rule.{IsRuleTotal, total_weight};
 ghost use Rattle.price_core.specs.Limits.{limits_view};
 ghost use Rattle.switch_table.specs.Runs.{run_view, runs_view};
 ghost use Rattle.transport_instance.specs.Certificate.{certificate_view};
 ghost use Rattle.picture.specs.Changes.{bars_told, change_height, change_told, head_told};
-ghost use Rattle.picture.specs.Legible.{is_at_edge};
 ghost use Rattle.picture.specs.Spelling.{Adds};
 ghost use Rattle.picture.specs.Told.{behind, down, extent_of, look_of, place_of, runs_told, told};
 
-use crate::adding::add;
 use crate::bars::{BAR, LEFT, add_bar, edge, extent, look_of};
-use crate::element::{Band, Content, Element, Extent, Place};
+use crate::element::{Band, Content, Element, Extent, Place, add};
 use crate::print::place;
 use crate::switches::add_table;
 use crate::variants::add_variants;
@@ -160,18 +158,24 @@ fn next_move(runs: &[Run<'_>], point: u64, total: u64) -> u64
     total
 }
 
-/// Where the number of a band's users stands: on it or beside it, where there is room, and always where it is too narrow to be
-/// seen. The next band begins so far from the left.
-fn label_for(users: u64, place: Place, extent: Extent, next: u64) -> Option<Place>
-    ensures { is_at_edge place extent result ≡ true }
-{
+/// Where a band begins and ends, and where the next one begins.
+#[derive(Clone, Copy)]
+struct Edges {
+    left: u64,
+    right: u64,
+    next: u64,
+}
+
+/// Where the number of a band's users stands: on it or beside it, where there is room.
+fn label_for(users: u64, edges: Edges) -> Option<Place> {
     let room = digits_of(users).saturating_mul(DIGIT).saturating_add(16);
-    if extent.width >= room || extent.width == 0 {
-        return Some(place);
-    }
-    let x = place.x.saturating_add(extent.width);
-    if next.saturating_sub(x) >= room {
-        Some(Place { x, y: place.y })
+    let x = if edges.right.saturating_sub(edges.left) >= room {
+        edges.left
+    } else {
+        edges.right
+    };
+    if x == edges.left || edges.next.saturating_sub(x) >= room {
+        Some(Place { x, y: BANDS })
     } else {
         None
     }
@@ -215,19 +219,22 @@ fn band<'a>(
     ensures place { result.place ≡ place_of 264 total begin }
     ensures extent { result.extent ≡ extent_of total begin end }
 {
-    let place = Place {
-        x: edge(begin, total),
-        y: BANDS,
+    let edges = Edges {
+        left: edge(begin, total),
+        right: edge(end, total),
+        next: edge(next, total),
     };
-    let extent = extent(begin, end, total);
     Band {
         from: run.from,
         to: run.to,
         points: u64::from(run.points),
         users: run.users,
         look: look_of(limits, run.to),
-        place,
-        extent,
-        label: label_for(run.users, place, extent, edge(next, total)),
+        place: Place {
+            x: edges.left,
+            y: BANDS,
+        },
+        extent: extent(begin, end, total),
+        label: label_for(run.users, edges),
     }
 }

@@ -7,9 +7,8 @@ ghost use Rattle.picture.specs.Edits.{all_inputs_end, all_inputs_told, all_point
 ghost use Rattle.picture.specs.Spelling.{Adds};
 ghost use Rattle.picture.specs.Told.{down, foot, rows_told, told};
 
-use crate::adding::add;
 use crate::bars::{LEFT, add_bar};
-use crate::element::{Content, Element, Place};
+use crate::element::{Content, Element, Place, add};
 use crate::none::add_named;
 use crate::print::place;
 use crate::rows::{NAMES, ROW, add_headings, number_at, size_for};

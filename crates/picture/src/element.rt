@@ -1,8 +1,9 @@
 //! The elements of a picture.
-ghost use Rattle.std.specs.Prelude.{◌≡◌, true};
-ghost use Rattle.picture.specs.Legible.{have_room, is_at_edge, is_legible};
+ghost use Rattle.std.specs.Prelude.{◌≡◌, ◌++◌, OnOk};
+ghost use Rattle.picture.specs.Told.{told};
 
 use crate::words::{Style, Word};
+use std::alloc::AllocError;
 
 /// A place of a picture, from its upper left corner.
 #[derive(Clone, Copy, Debug)]
@@ -36,13 +37,6 @@ pub enum Content {
     Price(Option<u64>),
 }
 
-/// The size of the letters of a name.
-#[derive(Clone, Copy, Debug)]
-pub struct Size {
-    pub units: u64,
-    pub ghost legible: { is_legible units ≡ true },
-}
-
 /// A rectangle in the look of a variant, with so many of its name's characters on it.
 #[derive(Clone, Copy, Debug)]
 pub struct Piece<'a> {
@@ -51,7 +45,6 @@ pub struct Piece<'a> {
     pub place: Place,
     pub extent: Extent,
     pub label: u32,
-    pub ghost fits: { have_room extent.width label ≡ true },
 }
 
 /// Points that move from one variant to another, drawn as a rectangle, with the number of their users on it or beside it, where
@@ -66,7 +59,6 @@ pub struct Band<'a> {
     pub place: Place,
     pub extent: Extent,
     pub label: Option<Place>,
-    pub ghost stands: { is_at_edge place extent label ≡ true },
 }
 
 /// An element of a picture.
@@ -74,9 +66,19 @@ pub struct Band<'a> {
 pub enum Element<'a> {
     Text(Style, Place, Content),
     /// A name, at a size of its letters.
-    Name(Place, Size, &'a str),
+    Name(Place, u64, &'a str),
     Piece(Piece<'a>),
     Band(Band<'a>),
     /// A thin line, as between points.
     Line(Place, Extent),
+}
+
+/// Adds elements.
+pub(crate) fn add<'a>(
+    elements: &mut Vec<Element<'a>>,
+    more: &[Element<'a>],
+) -> Result<(), AllocError>
+    ensures { OnOk result (told elements.new.items ≡ told elements.old.items ++ told more.now) }
+{
+    elements.extend_from_slice(more)
 }

@@ -14,7 +14,6 @@
 //! and how things look, is not.
 #![tactic(auto)]
 
-mod adding;
 mod bars;
 mod change;
 mod edit;

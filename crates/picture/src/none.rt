@@ -6,9 +6,8 @@ ghost use Rattle.picture.specs.Deficits.{bar_end, limit_end, limit_told, limits_
 ghost use Rattle.picture.specs.Spelling.{Adds};
 ghost use Rattle.picture.specs.Told.{bar_told, down, foot, named_told, rows_told, told};
 
-use crate::adding::add;
 use crate::bars::{BAR, LEFT, add_bar};
-use crate::element::{Content, Element, Place};
+use crate::element::{Content, Element, Place, add};
 use crate::print::place;
 use crate::rows::{NAMES, ROW, add_headings, number_at, size_for, swatch};
 use crate::words::{Style, Word};

@@ -76,7 +76,7 @@ fn push(out: &mut String, element: &Element<'_>) -> Result<(), AllocError>
 {
     match element {
         Element::Text(style, place, content) => push_text(out, *style, *place, *content),
-        Element::Name(place, size, name) => push_name(out, *place, size.units, name),
+        Element::Name(place, size, name) => push_name(out, *place, *size, name),
         Element::Piece(piece) => push_piece(out, piece),
         Element::Band(band) => push_band(out, band),
         Element::Line(place, extent) => push_line(out, *place, *extent),

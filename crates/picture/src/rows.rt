@@ -1,10 +1,10 @@
 //! What the lists and the tables of a picture share: their headings, and rows with names and numbers.
-ghost use Rattle.std.specs.Prelude.{◌≡◌, ◌++◌, ◌-◌, true, OnOk};
+ghost use Rattle.std.specs.Prelude.{◌≡◌, ◌++◌, ◌-◌, OnOk};
 ghost use Rattle.price_core.specs.Limits.{limits_view};
 ghost use Rattle.picture.specs.Told.{headings_told, look_of, number_element, spot, told};
 
 use crate::bars::{LEFT, look_of};
-use crate::element::{Content, Element, Extent, Piece, Place, Size};
+use crate::element::{Content, Element, Extent, Piece, Place};
 use crate::words::{Style, Word};
 use price_core::Limit;
 use std::alloc::AllocError;
@@ -19,11 +19,9 @@ pub(crate) const NAMES: u64 = 100;
 const SIZE: u64 = 28;
 
 /// The size at which a name finds room in so many units: a letter is as wide as three fifths of its size.
-pub(crate) fn size_for(name: &str, width: u64) -> Size {
+pub(crate) fn size_for(name: &str, width: u64) -> u64 {
     let letters = (name.len() as u64).max(1);
-    Size {
-        units: (width.saturating_mul(5) / letters.saturating_mul(3).max(1)).clamp(1, SIZE),
-    }
+    (width.saturating_mul(5) / letters.saturating_mul(3).max(1)).clamp(1, SIZE)
 }
 
 /// Adds headings at a height: each begins at its place over names, and ends there over numbers.

@@ -6,9 +6,8 @@ ghost use Rattle.price_core.specs.Limits.{limits_view};
 ghost use Rattle.picture.specs.Changes.{names_told, pair_end, price_told, row_end, row_told, switch_end, switch_told, table_end, table_told};
 ghost use Rattle.picture.specs.Told.{foot, next_row, rows_told, told};
 
-use crate::adding::add;
 use crate::change::Change;
-use crate::element::{Content, Element, Place};
+use crate::element::{Content, Element, Place, add};
 use crate::rows::{NAMES, ROW, add_headings, number_at, size_for};
 use crate::words::{Style, Word};
 use price_core::{Limit, Prices};

@@ -8,9 +8,8 @@ ghost use Rattle.transport_instance.specs.Certificate.{beta_view};
 ghost use Rattle.picture.specs.Changes.{dual_told, totals_told, variant_end, variant_told, variants_end, variants_told};
 ghost use Rattle.picture.specs.Told.{foot, rows_told, told};
 
-use crate::adding::add;
 use crate::change::Change;
-use crate::element::{Content, Element, Place};
+use crate::element::{Content, Element, Place, add};
 use crate::rows::{NAMES, ROW, add_headings, number_at, size_for, swatch};
 use crate::words::{Style, Word};
 use price_core::Limit;

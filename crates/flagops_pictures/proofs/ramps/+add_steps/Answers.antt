@@ -34,7 +34,7 @@ returns-then-is_empty g t c =
     let p = c.planned-item.result in
     let before = string_bytes c.draw_step.new.pictures in
     let after = string_bytes c.add_picture.new.pictures in
-    let first = subst (λ (n : ℕ). Adds a.place.y (step_told n) (string_bytes a.pictures.now) before) c.from.ensures c.in_ok-y.ensures.adds in
+    let first = subst (λ (n : ℕ). Adds a.place.y (step_told n ∷ []) (string_bytes a.pictures.now) before) c.from.ensures c.in_ok-y.ensures.adds in
     let second = subst (λ (r : List ℕ). AddsTold (asked_on (refining_checked a.refine (planned_view p)) (flags_view a.flags.now) r (recorded a.evidence.now)) (planned_view p) c.in_ok-y.y c.in_ok-y-2.y before after) c.as_slice-request.ensures.value c.in_ok-y-2.ensures in
     last_told (Ok (flags_view a.flags.now)) a.refine a.steps.now (recorded a.evidence.now) a.answers.now c.request-item.result p c.in-len1-up.len_at_least c.request-item.is c.in-len1-up-answers.len_at_least c.planned-item.is c.is_empty.result c.is_empty.ensures c.if-is_empty.true a.place.number a.place.y c.in_ok-y.y c.in_ok-y-2.y (string_bytes a.pictures.now) before after first c.in_ok-y.ensures.below second
 
@@ -44,7 +44,7 @@ returns g t c =
     let p = c.planned-item.result in
     let before = string_bytes c.draw_step.new.pictures in
     let after = string_bytes c.add_picture.new.pictures in
-    let first = subst (λ (n : ℕ). Adds a.place.y (step_told n) (string_bytes a.pictures.now) before) c.from.ensures c.in_ok-y.ensures.adds in
+    let first = subst (λ (n : ℕ). Adds a.place.y (step_told n ∷ []) (string_bytes a.pictures.now) before) c.from.ensures c.in_ok-y.ensures.adds in
     let second = subst (λ (r : List ℕ). AddsTold (asked_on (refining_checked a.refine (planned_view p)) (flags_view a.flags.now) r (recorded a.evidence.now)) (planned_view p) c.in_ok-y.y c.in_ok-y-2.y before after) c.as_slice-request.ensures.value c.in_ok-y-2.ensures in
     let stands = ap (λ (r : List ℕ). left_by (Ok (flags_view a.flags.now)) r (planned_view p)) (sym c.as_slice-request.ensures.value) ∙ c.in-Ok.ensures in
     if_well c.add_steps.result

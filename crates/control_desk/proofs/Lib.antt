@@ -1,6 +1,0 @@
-pub mod Crossings
-pub mod Items
-mod LogFiles
-mod Outcomes
-mod Routes
-mod Seen
