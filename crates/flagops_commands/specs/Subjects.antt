@@ -85,7 +85,7 @@ notes_of asked = λ lines. Unit {0}
 -- and the numbers that are told: of `plan`, how many points its rule has where it was planned in finer ones, and of `drive`, those of what it printed
 abbrev pub numbers_of : Asked → Holding → Report → List ℕ → Type 0
 numbers_of (plan document request book refine strict explain floats) at report = TellsFinerOf request (unwrap_or refine 1) report.text
-numbers_of (drive document asks workers book add replace strict json floats) at report = TellsPrinted at asks book add json report.text
+numbers_of (drive document asks workers book add replace strict json floats) at report = TellsPrinted floats at document asks book add json report.text
 numbers_of asked at report = λ lines. Unit {0}
 
 -- and of a command on rollouts all that is told, part after part
