@@ -35,6 +35,6 @@ module _ (bytes : List ℕ) (fs : Definitions) where
 
   pub same : (key : List ℕ) (d : Definition) (broken : Bool) (doubts : FlagDoubts) (sites : SiteDoubts) (doubled repeated : Bool) → broken ≡ is_broken d → doubts.unread ≡ (flag_doubts (tree_in bytes) key d).unread
       → doubts.weight ≡ (flag_doubts (tree_in bytes) key d).weight → doubts.variant ≡ (flag_doubts (tree_in bytes) key d).variant → doubts.never ≡ (flag_doubts (tree_in bytes) key d).never
-      → sites ≡ site_doubts d → doubled ≡ is_doubled bytes key → repeated ≡ is_repeated bytes key
+      → sites.total ≡ (site_doubts d).total → sites.constant ≡ (site_doubts d).constant → doubled ≡ is_doubled bytes key → repeated ≡ is_repeated bytes key
       → (let j : Judged = record { key = key; is_broken = broken; doubts = doubts; sites = sites; is_doubled = doubled; is_repeated = repeated } in j) ≡ judged bytes (key, d)
-  same key d broken doubts sites doubled repeated b u w v n s t r = rw (← b, ← u, ← w, ← v, ← n, ← s, ← t, ← r) refl
+  same key d broken doubts sites doubled repeated b u w v n s k t r = rw (← b, ← u, ← w, ← v, ← n, ← s, ← k, ← t, ← r) refl

@@ -12,7 +12,7 @@ use Rattle.flagops_files.specs.Told.{attempt, file}
 use Rattle.file_diagnostics.specs.Broken.{TellsBroken}
 use Rattle.file_diagnostics.specs.Named.{Names}
 use Rattle.flagops_checks.specs.Refusal.{Attempts}
-use Rattle.flagops_checks.specs.Sites as sites
+use Rattle.flagops_checks.specs.Sites as site_doubts
 use Rattle.flagops_checks.specs.declared.sites.SiteDoubt.TheVariants.{Total, Constant}
 use Rattle.flagops_shell.specs.Files.{Holding}
 
@@ -35,7 +35,7 @@ OwnLines path j lines =
 
 -- and for each of its sites
 abbrev pub SiteLines : List ℕ → Judged → List ℕ → Type 0
-SiteLines path j lines = (total constant : List ℕ) × LineIf j.sites.total path j.key (sites.name_of Total) total × LineIf j.sites.constant path j.key (sites.name_of Constant) constant × (lines ≡ total ++ constant)
+SiteLines path j lines = (total constant : List ℕ) × LineIf j.sites.total path j.key (site_doubts.name_of Total) total × LineIf j.sites.constant path j.key (site_doubts.name_of Constant) constant × (lines ≡ total ++ constant)
 
 -- both, one behind the other
 abbrev pub FlagLines : List ℕ → Judged → List ℕ → Type 0

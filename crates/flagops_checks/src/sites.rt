@@ -41,7 +41,8 @@ pub(crate) struct SiteDoubts {
 impl SiteDoubts {
     /// Of the sites of a flag's targeting. It takes no memory.
     pub(crate) fn of(flag: &Flag) -> SiteDoubts
-        ensures { result ≡ site_doubts (flag_view flag.now) }
+        ensures total { result.total ≡ (site_doubts (flag_view flag.now)).total }
+        ensures constant { result.constant ≡ (site_doubts (flag_view flag.now)).constant }
     {
         match flag.targeting() {
             Some(targeting) => SiteDoubts {

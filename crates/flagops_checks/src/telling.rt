@@ -2,7 +2,7 @@
 ghost use Rattle.std.specs.Prelude.{◌≡◌, IfOk, is_some, map, string_bytes};
 ghost use Rattle.flagops_checks.specs.Judged.{checked_view, has, judged_view};
 ghost use Rattle.flag_doubts.specs.Doubts.{name_of};
-ghost use Rattle.flagops_checks.specs.Sites as sites;
+ghost use Rattle.flagops_checks.specs.Sites as site_doubts;
 ghost use Rattle.flagops_checks.specs.Told.{BrokenPart, DoubtLines, FlagLines, IsDocumentLine, IsDoubtLine, LineIf, OwnLines, RepeatedPart, SiteLines, TellsDocument, UnreadPart, head_line};
 
 use crate::checked::Checked;
@@ -174,7 +174,7 @@ fn site_line_if(
     is_doubted: bool,
     doubt: SiteDoubt,
 ) -> Result<String, AllocError>
-    ensures { IfOk result (λ s. LineIf is_doubted path.now key.now (sites.name_of doubt) (string_bytes s)) }
+    ensures { IfOk result (λ s. LineIf is_doubted path.now key.now (site_doubts.name_of doubt) (string_bytes s)) }
 {
     if is_doubted {
         line(alloc, path, key, site_reason(doubt), doubt.name())
