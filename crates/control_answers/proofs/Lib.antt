@@ -1,7 +1,11 @@
 mod Checked
+mod Filled
+mod Joined
 mod Outcomes
+mod Pages
 mod Planned
 mod Recorded
+mod Right
 mod Rows
 mod Tallied
 mod Texts

@@ -32,7 +32,7 @@ module _ (law : TalliesAskAsBooks) (hashes : HashesStandForInputs) (s : Snapshot
 
   module _ (t : PageTally) (problem : TallyProblem) (asks : tally_problem_of (Times 1) s.flags request t ≡ Ok problem) (p : Planned) (plans : IsTallyPlanned (Ok problem) (Ok p)) where
     answers : (inputs : Inputs) → IsTallyOf inputs t → IsAnswerFor problem (planned_view p) inputs
-    answers inputs is = let are = tallied law s.flags request t problem inputs is asks in record { tallied = are; planned = plans inputs are }
+    answers inputs is = let are = tallied law (Times 1) s.flags request t problem inputs is asks in record { tallied = are; planned = plans inputs are }
 
     of_kind : (page : PageName) → IsTallyOfInputs files page t ⊎ IsTallyOfHashes files page t → PlansInputs files page problem (planned_view p) ⊎ PlansHashes files page problem (planned_view p)
     of_kind page (inl of) = inl (of.inputs, of.recorded, answers of.inputs of.tally.tally)
@@ -48,6 +48,7 @@ module _ (law : TalliesAskAsBooks) (hashes : HashesStandForInputs) (s : Snapshot
         target = target;
         target_is = is;
         tally = t;
+        recorded = record_of;
         problem = told.problem;
         problem_is = told.problem_is;
         answer = planned_view p;

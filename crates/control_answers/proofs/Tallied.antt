@@ -8,7 +8,7 @@ use Rattle.book_core.specs.PageOrder.{pages_total}
 use Rattle.flag_defs.specs.Document.{Definitions}
 use Rattle.rollout.specs.Tallied.{TalliesAskAsBooks}
 use Rattle.rollout_checks.specs.Tallied.{AreTallied, TallyProblem, tally_problem_of}
-use Rattle.rollout_checks.specs.declared.refining.Refining.TheVariants.{Times}
+use Rattle.rollout_checks.specs.declared.refining.Refining.{Refining}
 use Rattle.tally_core.specs.Law.{IsTallyOf}
 use Rattle.tally_core.specs.Tally.{PageTally}
 
@@ -23,8 +23,8 @@ unfolding inputs_on
 inputs_there page inputs = ap (λ (same : Bool). unwrap_or (cond same (Some inputs) None) []) (page_itself page)
 
 -- a request asks of a tally how many of its inputs fall on each point
-pub tallied : TalliesAskAsBooks → (flags : Definitions) (request : List ℕ) (t : PageTally) (p : TallyProblem) (inputs : Inputs) → IsTallyOf inputs t → tally_problem_of (Times 1) flags request t ≡ Ok p → AreTallied p inputs
-tallied law flags request t p inputs is asks =
+pub tallied : TalliesAskAsBooks → (refining : Refining) (flags : Definitions) (request : List ℕ) (t : PageTally) (p : TallyProblem) (inputs : Inputs) → IsTallyOf inputs t → tally_problem_of refining flags request t ≡ Ok p → AreTallied p inputs
+tallied law refining flags request t p inputs is asks =
     let there = inputs_there t.page inputs in
     let book = book_of t.page inputs in
-    subst (AreTallied p) there ((law (Times 1) flags request book t p (subst (λ (xs : Inputs). IsTallyOf xs t) (sym there) is) asks).1)
+    subst (AreTallied p) there ((law refining flags request book t p (subst (λ (xs : Inputs). IsTallyOf xs t) (sym there) is) asks).1)

@@ -5,6 +5,7 @@ pub mod Refusal
 pub mod Target
 pub mod Turns
 pub mod Record
+pub mod SiteCounts
 pub mod Check
 pub mod Body
 pub mod Token

@@ -1,5 +1,5 @@
 //! What the definitions amount to.
-ghost use Rattle.control_answers.specs.Law.{AnswersPlanTheRecord};
+ghost use Rattle.control_answers.specs.Law.{AnswersPlanTheRecord, AppliedPlansAreRight, ChecksAreOfTheRecord};
 
 use rollout::tallies_plan_as_books;
 use tally_core::hashes_stand_for_inputs;
@@ -8,6 +8,17 @@ use tally_core::hashes_stand_for_inputs;
 /// hashes which the files hold. A law: it computes nothing.
 pub fn answers_plan_the_record()
     ensures { AnswersPlanTheRecord }
+{
+    tallies_plan_as_books();
+    hashes_stand_for_inputs();
+}
+
+/// A plan that is found right, and one that is applied, costs just the inputs that the files hold, each counted once, the least of
+/// all that fit, or no rule fits; and what is applied is the plan of a token of the snapshot's very document. A law: it computes
+/// nothing.
+pub fn right_plans_are_of_the_record()
+    ensures checks { ChecksAreOfTheRecord }
+    ensures applied { AppliedPlansAreRight }
 {
     tallies_plan_as_books();
     hashes_stand_for_inputs();

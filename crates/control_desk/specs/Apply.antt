@@ -16,6 +16,7 @@ use Rattle.http_server.specs.declared.response.Response.{Response}
 use Rattle.plan_text.specs.Answer.{Answer, emit, none_exists}
 use Rattle.price_core.specs.Request.{Asked, asked_of}
 use Rattle.std.specs.Str.{bytes_eq}
+use Rattle.control_desk.specs.Asked.{IsTextOf}
 use Rattle.control_desk.specs.Files.{Appends, path_in}
 use Rattle.control_desk.specs.Reply.{Replies}
 use Rattle.control_desk.specs.Sent.{type_field}
@@ -37,12 +38,13 @@ abbrev pub cost_of : Answer → ℕ
 cost_of (emit rule c) = c.cost
 cost_of (none_exists kind names) = 0
 
--- the line tells what is applied to these flags, at some time, by somebody
-pub record IsRowOf (flags : Definitions) (a : Applied) (line : List ℕ) : Type 0 where
+-- the line tells what is applied to these flags, at some time, by whom this tells
+pub record IsRowOf (flags : Definitions) (asker : List ℕ) (a : Applied) (line : List ℕ) : Type 0 where
   pub asked : Asked
   pub request_is : asked_of a.request ≡ Ok asked
   pub time : List ℕ
   pub who : List ℕ
+  pub who_is : IsTextOf asker who
   pub line_is : line ≡ row_text (record {
     time = time;
     who = who;
@@ -75,7 +77,7 @@ pub record Writes (before after : Option Holding) (history line path document : 
 unfoldable pub written_text : ℕ → List ℕ
 written_text n = codes "{\"written\":" ++ (decimal n ++ codes "}\n")
 
-module _ (folder path : List ℕ) (s : Snapshot) (a : Applied) (before after : Option Holding) (response : Response) where
+module _ (folder path asker : List ℕ) (s : Snapshot) (a : Applied) (before after : Option Holding) (response : Response) where
   abbrev pub history : List ℕ
   history = path_in folder (codes "applied.log")
 
@@ -83,7 +85,7 @@ module _ (folder path : List ℕ) (s : Snapshot) (a : Applied) (before after : O
   pub record Applies : Type 0 where
     pub same : HoldsText true before path s.document
     pub line : List ℕ
-    pub row : IsRowOf s.flags a line
+    pub row : IsRowOf s.flags asker a line
     pub writes : Writes before after history line path a.document
     pub response_is : IsResponse 200 (type_field Json) (written_text (length a.document)) response
 
@@ -96,10 +98,10 @@ module _ (folder path : List ℕ) (s : Snapshot) (a : Applied) (before after : O
   AppliesOr = Applies ⊎ (IsOther ⊎ ((Replies Unreadable response × (after ≡ before)) ⊎ (Replies Unwritten response × KeepsOthers before after history)))
 
 -- What comes of a token is applied, or the call is refused and nothing is written.
-abbrev pub AppliesIf : List ℕ → List ℕ → Snapshot → Option Holding → Option Holding → Response → Result Applied ControlRefusal → Type 0
-AppliesIf folder path s before after response (Ok a) = AppliesOr folder path s a before after response
-AppliesIf folder path s before after response (Err e) = IsRefusal (codes "apply") e response × (after ≡ before)
+abbrev pub AppliesIf : List ℕ → List ℕ → List ℕ → Snapshot → Option Holding → Option Holding → Response → Result Applied ControlRefusal → Type 0
+AppliesIf folder path asker s before after response (Ok a) = AppliesOr folder path asker s a before after response
+AppliesIf folder path asker s before after response (Err e) = IsRefusal (codes "apply") e response × (after ≡ before)
 
-abbrev pub TellsApply : List ℕ → List ℕ → List ℕ → Snapshot → List (List ℕ) → Option Holding → Option Holding → Response → Type 0
-TellsApply folder path token s files before after response =
-    (r : Result Applied ControlRefusal) × IsApplyAnswer s token files r × AppliesIf folder path s before after response r
+abbrev pub TellsApply : List ℕ → List ℕ → List ℕ → List ℕ → Snapshot → List (List ℕ) → Option Holding → Option Holding → Response → Type 0
+TellsApply folder path asker token s files before after response =
+    (r : Result Applied ControlRefusal) × IsApplyAnswer s token files r × AppliesIf folder path asker s before after response r

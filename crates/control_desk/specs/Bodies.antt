@@ -5,6 +5,7 @@ use Rattle.control_answers.specs.Check.{IsCheckAnswer}
 use Rattle.control_answers.specs.Held.{is_held}
 use Rattle.control_answers.specs.History.{IsHistory}
 use Rattle.control_answers.specs.Plan.{IsPlanAnswer}
+use Rattle.control_answers.specs.SiteCounts.{AreSiteCounts}
 use Rattle.control_answers.specs.Snapshot.{Snapshot}
 use Rattle.control_answers.specs.Record.{IsRecordAnswer}
 use Rattle.control_answers.specs.Refusal.{refusal_text, status_of}
@@ -17,6 +18,7 @@ use Rattle.flag_defs.specs.Flags.{flags_view}
 use Rattle.flag_defs.specs.Floats.{floats_view}
 use Rattle.sync_frames.specs.Snapshots.{Numbered}
 use Rattle.control_flags.specs.Joined.{comma_if, quoted}
+use Rattle.control_flags.specs.Sites.{Recorded}
 use Rattle.control_flags.specs.declared.answer.FlagsAsked.{FlagsAsked}
 use Rattle.entity_tags.specs.Tag.{entity_tag, opaque_tag}
 use Rattle.http_server.specs.Response.{IsResponse}
@@ -53,19 +55,19 @@ abbrev pub TellsObject : List ℕ → List (List ℕ) → Result (List ℕ) Cont
 TellsObject asked passed (Ok body) response = IsResponse 200 (type_field Json) (with_passed_over passed body) response
 TellsObject asked passed (Err e) response = IsRefusal asked e response
 
--- ---- calls on the snapshot alone
+-- ---- calls on the snapshot
 
--- its flags, with the paths of the documents and whether a plan may be applied; of what is recorded nothing is told here
-pub record IsAskedOf (rules : Rules) (s : Numbered) (asked : FlagsAsked) : Type 0 where
+-- its flags, with the paths of the documents, whether a plan may be applied, and how many inputs are recorded on pages
+pub record IsAskedOf (rules : Rules) (s : Numbered) (recorded : Recorded) (asked : FlagsAsked) : Type 0 where
   pub number : asked.number ≡ s.number
   pub flags : flags_view asked.flags.now ≡ s.flags
   pub floats : floats_view asked.flags.now ≡ s.floats
   pub may_apply : asked.may_apply ≡ is_some rules.applied_to
   pub sources : map (λ t. t.now) asked.sources.now ≡ rules.documents
-  pub recorded : asked.recorded.now.entries ≡ []
+  pub recorded_is : asked.recorded.now.entries ≡ recorded
 
-abbrev pub TellsFlags : Rules → Numbered → Response → Type 0
-TellsFlags rules s response = (asked : FlagsAsked) × IsAskedOf rules s asked × IsResponse 200 (type_field Json) (flags_text asked) response
+abbrev pub TellsFlags : Rules → Numbered → Recorded → Response → Type 0
+TellsFlags rules s recorded response = (asked : FlagsAsked) × IsAskedOf rules s recorded asked × IsResponse 200 (type_field Json) (flags_text asked) response
 
 -- its document, or that whoever asks has it (RFC 9110, 15.4.5)
 abbrev pub tag_of : List ℕ → List ℕ
@@ -79,6 +81,10 @@ abbrev pub TellsDocument : Option (List ℕ) → Snapshot → Response → Type 
 TellsDocument held s = TellsDocumentIf (is_held s.document held) s
 
 -- ---- calls on the snapshot and on log files
+
+-- its flags, with how many notes the files hold of the page of each site
+abbrev pub TellsFlagsOn : Rules → Numbered → List (List ℕ) → Response → Type 0
+TellsFlagsOn rules s files response = (counts : Recorded) × AreSiteCounts s.flags files counts × TellsFlags rules s counts response
 
 -- the tally of a site, where the query names one
 abbrev pub TellsRecord : Option RecordAsked → Snapshot → List (List ℕ) → Response → Type 0

@@ -23,7 +23,7 @@ use Rattle.control_desk.specs.Reply.{Replies}
 use Rattle.control_desk.specs.Route.{route_of}
 use Rattle.control_desk.specs.Rules.{Rules}
 use Rattle.control_desk.specs.Sent.{IsPage}
-use Rattle.control_desk.specs.Bodies.{IsRefusal, TellsCheck, TellsDocument, TellsFlags, TellsHistory, TellsPlan, TellsRecord}
+use Rattle.control_desk.specs.Bodies.{IsRefusal, TellsCheck, TellsDocument, TellsFlags, TellsFlagsOn, TellsHistory, TellsPlan, TellsRecord}
 use Rattle.control_desk.specs.declared.page.ConsolePage as program
 use Rattle.control_desk.specs.declared.reply.Reply.TheVariants.{Busy, Leaves, Unreadable, Unserved}
 use Rattle.control_desk.specs.declared.sources.SourceText.{SourceText}
@@ -54,8 +54,9 @@ name_of place.Flags = codes "control"
 name_of place.Snapshot = codes "control"
 name_of place.Elsewhere = codes "control"
 
--- the call is on what is recorded
+-- the call may be on what is recorded
 abbrev pub IsOnRecord : ControlPlace → Type 0
+IsOnRecord place.Flags = Unit {0}
 IsOnRecord place.Record = Unit {0}
 IsOnRecord place.Plan = Unit {0}
 IsOnRecord place.Check = Unit {0}
@@ -70,33 +71,38 @@ HoldsHistory (Some at) path history = history ≡ unwrap_or (at path) []
 -- what the files hold before and after a call, what the desk goes by, its page, its seat before and after, what is asked, and the response
 module _ (naming : Option Naming) (before after : Option Holding) (rules : Rules) (page : Page) (seat seat' : Seat) (asked : CallAsked) (response : Response) where
   -- of the newest snapshot that the seat then knows, with the text that was set for its number
-  abbrev pub OfSnapshot : (Snapshot → Type 0) → Type 0
-  OfSnapshot Next = (s : Numbered) × WasRead seat (Some s) seat' × ((text : SourceText) × (text.number ≡ s.number) × Next (with_document s (string_bytes text.document)))
+  abbrev pub OfSnapshot : (Numbered → List ℕ → Type 0) → Type 0
+  OfSnapshot Next = (s : Numbered) × WasRead seat (Some s) seat' × ((text : SourceText) × (text.number ≡ s.number) × Next s (string_bytes text.document))
 
   -- of such a snapshot, of all logs of the folder, and of the names of those that are compressed
-  abbrev pub OfLogs : List ℕ → (Snapshot → List (List ℕ) → List (List ℕ) → Type 0) → Type 0
-  OfLogs folder Next = (files : List (List ℕ)) × (passed : List (List ℕ)) × AreLogs naming before folder files passed × OfSnapshot (λ s. Next s files passed)
+  abbrev pub OfLogs : List ℕ → (Numbered → List ℕ → List (List ℕ) → List (List ℕ) → Type 0) → Type 0
+  OfLogs folder Next = (files : List (List ℕ)) × (passed : List (List ℕ)) × AreLogs naming before folder files passed × OfSnapshot (λ s document. Next s document files passed)
 
   -- where plans may be applied to a document
   abbrev pub RespondsApplied : Option (List ℕ) → List ℕ → Snapshot → List (List ℕ) → Type 0
-  RespondsApplied (Some path) folder s files = TellsApply folder path asked.body s files before after response
+  RespondsApplied (Some path) folder s files = TellsApply folder path asked.asker asked.body s files before after response
   RespondsApplied None folder s files = Replies Unserved response × (after ≡ before)
 
-  abbrev pub RespondsOn : ControlPlace → List ℕ → Snapshot → List (List ℕ) → List (List ℕ) → Type 0
-  RespondsOn place.Record folder s files passed = TellsRecord (record_of asked.query) s files response × (after ≡ before)
-  RespondsOn place.Plan folder s files passed = TellsPlan asked.body passed s files response × (after ≡ before)
-  RespondsOn place.Check folder s files passed = TellsCheck asked.body passed s files response × (after ≡ before)
-  RespondsOn place.Apply folder s files passed = RespondsApplied rules.applied_to folder s files
-  RespondsOn place.Console folder s files passed = ⊥
-  RespondsOn place.Flags folder s files passed = ⊥
-  RespondsOn place.Snapshot folder s files passed = ⊥
-  RespondsOn place.History folder s files passed = ⊥
-  RespondsOn place.Elsewhere folder s files passed = ⊥
+  abbrev pub RespondsOn : ControlPlace → List ℕ → Numbered → List ℕ → List (List ℕ) → List (List ℕ) → Type 0
+  RespondsOn place.Flags folder s document files passed = TellsFlagsOn rules s files response × (after ≡ before)
+  RespondsOn place.Record folder s document files passed = TellsRecord (record_of asked.query) (with_document s document) files response × (after ≡ before)
+  RespondsOn place.Plan folder s document files passed = TellsPlan asked.body passed (with_document s document) files response × (after ≡ before)
+  RespondsOn place.Check folder s document files passed = TellsCheck asked.body passed (with_document s document) files response × (after ≡ before)
+  RespondsOn place.Apply folder s document files passed = RespondsApplied rules.applied_to folder (with_document s document) files
+  RespondsOn place.Console folder s document files passed = ⊥
+  RespondsOn place.Snapshot folder s document files passed = ⊥
+  RespondsOn place.History folder s document files passed = ⊥
+  RespondsOn place.Elsewhere folder s document files passed = ⊥
 
   -- where logs are kept
   abbrev pub RespondsRecorded : ControlPlace → Option (List ℕ) → Type 0
   RespondsRecorded called None = IsRefusal (name_of called) NoRecord response × (after ≡ before)
   RespondsRecorded called (Some folder) = OfLogs folder (RespondsOn called folder)
+
+  -- the flags, and what is recorded of their sites where logs are kept
+  abbrev pub RespondsFlags : Option (List ℕ) → Type 0
+  RespondsFlags None = ((s : Numbered) × WasRead seat (Some s) seat' × TellsFlags rules s [] response) × (after ≡ before)
+  RespondsFlags (Some folder) = OfLogs folder (RespondsOn place.Flags folder)
 
   abbrev pub RespondsHistory : Option (List ℕ) → Type 0
   RespondsHistory None = IsRefusal (codes "history") NoRecord response
@@ -105,8 +111,8 @@ module _ (naming : Option Naming) (before after : Option Holding) (rules : Rules
   -- what is told at a place
   abbrev pub Responds : ControlPlace → Type 0
   Responds place.Console = IsPage page.text page.policy response × (after ≡ before)
-  Responds place.Flags = ((s : Numbered) × WasRead seat (Some s) seat' × TellsFlags rules s response) × (after ≡ before)
-  Responds place.Snapshot = OfSnapshot (λ s. TellsDocument asked.held s response) × (after ≡ before)
+  Responds place.Flags = RespondsFlags rules.folder
+  Responds place.Snapshot = OfSnapshot (λ s document. TellsDocument asked.held (with_document s document) response) × (after ≡ before)
   Responds place.History = RespondsHistory rules.folder × (after ≡ before)
   Responds place.Record = RespondsRecorded place.Record rules.folder
   Responds place.Plan = RespondsRecorded place.Plan rules.folder
@@ -124,6 +130,10 @@ module _ (naming : Option Naming) (before after : Option Holding) (rules : Rules
   -- So a call is answered; or memory ran out, and the response is empty: it tells nothing, and nothing is written.
   abbrev pub Answers : ControlPlace → Type 0
   Answers called = Answered called ⊎ (IsResponse 500 [] [] response × (after ≡ before))
+
+-- the flags of the newest snapshot that the seat then knows, with nothing of what is recorded; or another one is published meanwhile
+abbrev pub TellsAlone : Rules → Seat → Seat → Response → Type 0
+TellsAlone rules seat seat' response = Replies Busy response ⊎ ((s : Numbered) × WasRead seat (Some s) seat' × TellsFlags rules s [] response)
 
 -- ---- the desk as a service before another
 

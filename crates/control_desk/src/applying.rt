@@ -11,6 +11,7 @@ ghost use Rattle.price_core.specs.Request.{asked_of};
 ghost use Rattle.control_desk.specs.Apply.{AppliesOr, HoldsText, IsRowOf, TellsApply, Writes, cost_of, old_rule, rule_of, written_text};
 ghost use Rattle.control_desk.specs.Held.{held_view};
 
+use crate::asked::text_of;
 use crate::files::DeskFiles;
 use crate::giving::{Media, finish, respond};
 use crate::held::HeldSnapshot;
@@ -42,7 +43,8 @@ pub(crate) struct Applying<'a> {
     pub(crate) path: &'a str,
     /// When, as RFC 3339 has it.
     pub(crate) time: &'a str,
-    pub(crate) who: &'a str,
+    /// What tells by whom.
+    pub(crate) asker: &'a [u8],
 }
 
 /// Applies the plan of a token to the document, once it was found right on what log files hold, while the document's file holds the
@@ -56,7 +58,7 @@ pub(crate) fn apply<F: DeskFiles>(
     response: &mut Response,
 ) -> Result<(), AllocError>
     requires { IsBlank response.old }
-    ensures ok { OnOk result (TellsApply applying.entry.folder.now applying.entry.path.now token.now (held_view held.now) (files_view logs.now) (F.holding files.old) (F.holding files.new) response.new) }
+    ensures ok { OnOk result (TellsApply applying.entry.folder.now applying.entry.path.now applying.entry.asker.now token.now (held_view held.now) (files_view logs.now) (F.holding files.old) (F.holding files.new) response.new) }
     ensures err { OnErr result (F.holding files.new ≡ F.holding files.old) }
 {
     match apply_answer(applying.alloc, &held.snapshot(), token, logs) {
@@ -74,7 +76,7 @@ fn write<F: DeskFiles>(
     response: &mut Response,
 ) -> Result<(), AllocError>
     requires { IsBlank response.old }
-    ensures ok { OnOk result (AppliesOr applying.entry.folder.now applying.entry.path.now (held_view held.now) (applied_view applied.now) (F.holding files.old) (F.holding files.new) response.new) }
+    ensures ok { OnOk result (AppliesOr applying.entry.folder.now applying.entry.path.now applying.entry.asker.now (held_view held.now) (applied_view applied.now) (F.holding files.old) (F.holding files.new) response.new) }
     ensures err { OnErr result (F.holding files.new ≡ F.holding files.old) }
 {
     let alloc = applying.alloc;
@@ -149,14 +151,14 @@ fn row_of(
     applied: &Applied,
 ) -> Result<String, AllocError>
     requires { asked_of (applied_view applied.now).request ≡ Ok asked.now }
-    ensures { IfOk result (λ row. IsRowOf (flags_view flags.now) (applied_view applied.now) (string_bytes row)) }
+    ensures { IfOk result (λ row. IsRowOf (flags_view flags.now) applying.entry.asker.now (applied_view applied.now) (string_bytes row)) }
 {
     let alloc = applying.alloc;
     let old = old_rule(alloc, flags, asked.flag(), asked.site())?;
     let new = new_rule(alloc, &applied.planned)?;
     let row = AppliedRow {
         time: applying.time,
-        who: applying.who,
+        who: text_of(applying.asker),
         flag: asked.flag(),
         site: asked.site(),
         old: old.as_slice(),

@@ -1,10 +1,10 @@
 //! The calls of a desk.
-ghost use Rattle.std.specs.Prelude.{◌≡◌, ◌≢◌, ◌⊎◌, OnErr, OnOk, Some};
+ghost use Rattle.std.specs.Prelude.{◌≡◌, ◌≢◌, ◌⊎◌, OnErr, OnOk, Some, string_bytes};
 ghost use Rattle.http_server.specs.Response.{IsBlank};
 ghost use Rattle.log_tallies.specs.Lines.{files_view};
 ghost use Rattle.control_desk.specs.Asked.{CallAsked, call_asked};
-ghost use Rattle.control_desk.specs.Desk.{Answered, Answers, IsOnRecord, IsPutOff, RespondsApplied, RespondsOn, RespondsRecorded, name_of, page_view};
-ghost use Rattle.control_desk.specs.Held.{held_view};
+ghost use Rattle.control_desk.specs.Desk.{Answered, Answers, IsOnRecord, IsPutOff, RespondsApplied, RespondsOn, RespondsRecorded, TellsAlone, name_of, page_view};
+ghost use Rattle.control_desk.specs.Held.{held_view, numbered_of};
 ghost use Rattle.control_desk.specs.Logs.{bytes_of, passed_by};
 ghost use Rattle.control_desk.specs.Rules.{rules_view};
 
@@ -17,7 +17,9 @@ use crate::held::HeldSnapshot;
 use crate::logs::{Logs, handed, path_in, read_logs};
 use crate::refusing::tell_refusal;
 use crate::reply::Reply;
-use crate::telling::{tell_check, tell_document, tell_flags, tell_history, tell_plan, tell_record};
+use crate::telling::{
+    tell_check, tell_document, tell_flags, tell_flags_on, tell_history, tell_plan, tell_record,
+};
 use bytes::Bytes;
 use control_answers::ControlRefusal;
 use control_calls::ControlPlace;
@@ -27,6 +29,7 @@ use jiff::Timestamp;
 use log_tallies::LogFile;
 use snap_share::{ShareFault, ShareName};
 use std::alloc::{AllocError, Global};
+use std::collections::BTreeMap;
 use std::time::Clock;
 
 impl<J: ShareName, R: Clock, F: DeskFiles, S> ControlDesk<'_, J, R, F, S> {
@@ -68,7 +71,7 @@ impl<J: ShareName, R: Clock, F: DeskFiles, S> ControlDesk<'_, J, R, F, S> {
     {
         match place {
             ControlPlace::Console => Ok(give_page(&self.page, response)?),
-            ControlPlace::Flags => self.tell_flags(response),
+            ControlPlace::Flags => self.tell_flags(request, response),
             ControlPlace::Snapshot => self.tell_document(request, response),
             ControlPlace::History => Ok(self.tell_history(response)?),
             ControlPlace::Record => self.tell_recorded(ControlPlace::Record, request, response),
@@ -79,23 +82,45 @@ impl<J: ShareName, R: Clock, F: DeskFiles, S> ControlDesk<'_, J, R, F, S> {
         }
     }
 
-    /// Tells the flags of the snapshot.
-    fn tell_flags(&mut self, response: &mut Response) -> Result<(), ShareFault>
+    /// Tells the flags of the snapshot, and what is recorded of their sites, where logs are kept.
+    fn tell_flags(
+        &mut self,
+        request: &Request<Bytes>,
+        response: &mut Response,
+    ) -> Result<(), ShareFault>
         requires { IsBlank response.old }
-        ensures ok { OnOk result ((asked : CallAsked) → Answered (F.naming self.old.files) (F.holding self.old.files) (F.holding self.new.files) (rules_view self.old.post.now.rules) (page_view self.old.page) self.old.seat self.new.seat asked response.new ControlPlace.Flags) }
+        ensures ok { OnOk result (Answered (F.naming self.old.files) (F.holding self.old.files) (F.holding self.new.files) (rules_view self.old.post.now.rules) (page_view self.old.page) self.old.seat self.new.seat (call_asked request.now) response.new ControlPlace.Flags) }
+        ensures err { OnErr result (F.holding self.new.files ≡ F.holding self.old.files) }
+        ensures post { self.new.post ≡ self.old.post }
+        ensures page { self.new.page ≡ self.old.page }
+        ensures keys { self.new.keys ≡ self.old.keys }
+        ensures service { self.new.service ≡ self.old.service }
+    {
+        let post = self.post;
+        match &post.rules.folder {
+            Some(folder) => {
+                self.take_turn(ControlPlace::Flags, folder.as_str(), request, response)
+            }
+            None => self.tell_flags_alone(response),
+        }
+    }
+
+    /// Tells the flags of the snapshot, where no logs are kept.
+    fn tell_flags_alone(&mut self, response: &mut Response) -> Result<(), ShareFault>
+        requires { IsBlank response.old }
+        ensures ok { OnOk result (TellsAlone (rules_view self.old.post.now.rules) self.old.seat self.new.seat response.new) }
         ensures files { self.new.files ≡ self.old.files }
         ensures post { self.new.post ≡ self.old.post }
         ensures page { self.new.page ≡ self.old.page }
         ensures keys { self.new.keys ≡ self.old.keys }
         ensures service { self.new.service ≡ self.old.service }
     {
-        match self.hold()? {
-            Some(held) => Ok(tell_flags(self.alloc, &self.post.rules, &held, response)?),
-            None => {
-                respond(Reply::Busy, response);
-                Ok(())
-            }
-        }
+        let Some(held) = self.hold()? else {
+            respond(Reply::Busy, response);
+            return Ok(());
+        };
+        let none = BTreeMap::new(self.alloc);
+        Ok(tell_flags(self.alloc, &self.post.rules, &held, &none, response)?)
     }
 
     /// Tells the document of the snapshot.
@@ -163,11 +188,32 @@ impl<J: ShareName, R: Clock, F: DeskFiles, S> ControlDesk<'_, J, R, F, S> {
             let name = name_of(place);
             return Ok(tell_refusal(self.alloc, name, &none, &[], response)?);
         };
+        self.take_turn(place, folder.as_str(), request, response)
+    }
+
+    /// The same where logs are kept in a folder.
+    fn take_turn(
+        &mut self,
+        place: ControlPlace,
+        folder: &str,
+        request: &Request<Bytes>,
+        response: &mut Response,
+    ) -> Result<(), ShareFault>
+        requires blank { IsBlank response.old }
+        requires place { IsOnRecord place }
+        ensures ok { OnOk result (IsPutOff (F.naming self.old.files) (F.holding self.old.files) (F.holding self.new.files) (rules_view self.old.post.now.rules) (page_view self.old.page) self.old.seat self.new.seat (call_asked request.now) response.new ⊎ RespondsRecorded (F.naming self.old.files) (F.holding self.old.files) (F.holding self.new.files) (rules_view self.old.post.now.rules) (page_view self.old.page) self.old.seat self.new.seat (call_asked request.now) response.new place (Some folder.now)) }
+        ensures err { OnErr result (F.holding self.new.files ≡ F.holding self.old.files) }
+        ensures post { self.new.post ≡ self.old.post }
+        ensures page { self.new.page ≡ self.old.page }
+        ensures keys { self.new.keys ≡ self.old.keys }
+        ensures service { self.new.service ≡ self.old.service }
+    {
+        let post = self.post;
         let Some(_turn) = post.turn.take(self.rt) else {
             respond(Reply::Busy, response);
             return Ok(());
         };
-        self.tell_in_turn(place, folder.as_str(), request, response)
+        self.tell_in_turn(place, folder, request, response)
     }
 
     /// The same in the desk's turn.
@@ -210,7 +256,7 @@ impl<J: ShareName, R: Clock, F: DeskFiles, S> ControlDesk<'_, J, R, F, S> {
     ) -> Result<(), AllocError>
         requires blank { IsBlank response.old }
         requires place { IsOnRecord place }
-        ensures ok { OnOk result (RespondsOn (F.naming self.old.files) (F.holding self.old.files) (F.holding self.new.files) (rules_view self.old.post.now.rules) (page_view self.old.page) self.old.seat self.new.seat (call_asked request.now) response.new place folder.now (held_view held.now) (bytes_of logs.now) (passed_by logs.now)) }
+        ensures ok { OnOk result (RespondsOn (F.naming self.old.files) (F.holding self.old.files) (F.holding self.new.files) (rules_view self.old.post.now.rules) (page_view self.old.page) self.old.seat self.new.seat (call_asked request.now) response.new place folder.now (numbered_of held.now) (string_bytes held.now.text.document) (bytes_of logs.now) (passed_by logs.now)) }
         ensures err { OnErr result (F.holding self.new.files ≡ F.holding self.old.files) }
         ensures post { self.new.post ≡ self.old.post }
         ensures page { self.new.page ≡ self.old.page }
@@ -223,6 +269,9 @@ impl<J: ShareName, R: Clock, F: DeskFiles, S> ControlDesk<'_, J, R, F, S> {
         let passed_over = logs.passed_over.as_slice();
         let body = request.body().as_slice();
         match place {
+            ControlPlace::Flags => {
+                tell_flags_on(self.alloc, &self.post.rules, held, files, response)
+            }
             ControlPlace::Record => {
                 tell_record(self.alloc, query_of(request), held, files, response)
             }
@@ -234,7 +283,6 @@ impl<J: ShareName, R: Clock, F: DeskFiles, S> ControlDesk<'_, J, R, F, S> {
             }
             ControlPlace::Apply => self.tell_applied(folder, request, held, files, response),
             ControlPlace::Console
-            | ControlPlace::Flags
             | ControlPlace::Snapshot
             | ControlPlace::History
             | ControlPlace::Elsewhere => unreachable!(),
@@ -270,7 +318,7 @@ impl<J: ShareName, R: Clock, F: DeskFiles, S> ControlDesk<'_, J, R, F, S> {
             folder,
             path: path.as_str(),
             time: time.as_str(),
-            who: asker_of(request),
+            asker: asker_of(request),
         };
         let token = request.body().as_slice();
         apply(&mut self.files, applying, token, held, logs, response)

@@ -6,15 +6,17 @@ ghost use Rattle.control_answers.specs.Token.{HasNoMember, IsMember};
 ghost use Rattle.control_calls.specs.Calls.{asked_view, record_of};
 ghost use Rattle.control_desk.specs.Held.{held_view, numbered_of};
 ghost use Rattle.control_desk.specs.Rules.{rules_view};
-ghost use Rattle.control_desk.specs.Bodies.{IsNoPair, IsPair, TellsCheck, TellsDocument, TellsFlags, TellsHistory, TellsObject, TellsPlan, TellsRecord, names_text, with_passed_over};
+ghost use Rattle.control_desk.specs.Bodies.{IsNoPair, IsPair, TellsCheck, TellsDocument, TellsFlags, TellsFlagsOn, TellsHistory, TellsObject, TellsPlan, TellsRecord, names_text, with_passed_over};
 
 use crate::giving::{Media, add_number, add_tag, finish, respond};
 use crate::held::HeldSnapshot;
 use crate::refusing::tell_refusal;
 use crate::reply::Reply;
 use crate::rules::DeskRules;
+use book_core::Page;
 use control_answers::{
     ControlRefusal, check_answer, document_tag, history_answer, plan_answer, record_answer,
+    site_counts,
 };
 use control_calls::{RecordAsked, record_asked};
 use control_flags::{FlagsAsked, flags_answer};
@@ -27,25 +29,40 @@ use std::alloc::{AllocError, Global};
 use std::collections::BTreeMap;
 use text_spans::{Step, find};
 
-/// Fills a response with the flags of a snapshot.
+/// Fills a response with the flags of a snapshot, and with how many notes log files hold of each of their sites.
+pub(crate) fn tell_flags_on(
+    alloc: Global,
+    rules: &DeskRules,
+    held: &HeldSnapshot,
+    files: &[LogFile<'_>],
+    response: &mut Response,
+) -> Result<(), AllocError>
+    requires { IsBlank response.old }
+    ensures { OnOk result (TellsFlagsOn (rules_view rules.now) (numbered_of held.now) (files_view files.now) response.new) }
+{
+    let recorded = site_counts(alloc, held.shared.flags(), files)?;
+    tell_flags(alloc, rules, held, &recorded, response)
+}
+
+/// Fills a response with the flags of a snapshot, and with how many inputs are recorded on pages.
 #[tactic(auto, using(crate::proofs::Seen::seen_alike))]
 pub(crate) fn tell_flags(
     alloc: Global,
     rules: &DeskRules,
     held: &HeldSnapshot,
+    recorded: &BTreeMap<Page, u64>,
     response: &mut Response,
 ) -> Result<(), AllocError>
     requires { IsBlank response.old }
-    ensures { OnOk result (TellsFlags (rules_view rules.now) (numbered_of held.now) response.new) }
+    ensures { OnOk result (TellsFlags (rules_view rules.now) (numbered_of held.now) recorded.now.entries response.new) }
 {
     let sources = borrowed(alloc, rules.documents.as_slice())?;
-    let recorded = BTreeMap::new(alloc);
     let asked = FlagsAsked {
         number: held.shared.number(),
         flags: held.shared.flags(),
         remarks: held.text.remarks.as_str(),
         sources: sources.as_slice(),
-        recorded: &recorded,
+        recorded,
         may_apply: rules.applied_to.is_some(),
     };
     let body = flags_answer(alloc, &asked)?;

@@ -18,9 +18,10 @@ use dated_answers::Dated;
 use http::HeaderValue;
 use http_server::{Config, Service};
 use limits::FILE_BYTES;
-use log_file::LogPaths;
+use log_file::{LogPaths, SystemLog};
 use ofrep_connections::{Patience, Served, answer_connections_with};
-use ofrep_guards::{AdminGuard, AdminRules, CountsStatus, HeldKeys, KeyRing, OwnHosts};
+use ofrep_guards::{AdminGuard, AdminRules, HeldKeys, KeyRing, OwnHosts};
+use ofrep_worker::OfrepWorker;
 use recorded_answers::Recording;
 use snap_share::{ReadSeat, ShareName};
 use std::alloc::{AllocError, Global};
@@ -45,6 +46,7 @@ pub struct AdminPost {
     address: SocketAddr,
     hosts: OwnHosts,
     pub(crate) may_stop: bool,
+    ghost own: { (hosts_view hosts).named ≡ named_at address },
 }
 
 impl AdminPost {
@@ -58,7 +60,7 @@ impl AdminPost {
     /// The same, for another thread.
     fn again(&self, alloc: Global) -> io::Result<AdminPost>
         ensures may_stop { IfOk result (λ post. post.may_stop ≡ self.now.may_stop) }
-        ensures hosts { IfOk result (λ post. (hosts_view post.hosts).named ≡ named_at post.address) }
+        ensures address { IfOk result (λ post. post.address ≡ self.now.address) }
     {
         let listener = self.listener.try_clone()?;
         let hosts = OwnHosts::of(alloc, self.address)?;
@@ -86,8 +88,7 @@ pub fn bind_admin<R: Net<Listener = TcpListener, Stream = TcpStream>>(
     address: SocketAddr,
     may_stop: bool,
 ) -> io::Result<AdminPost>
-    ensures may_stop { IfOk result (λ post. post.may_stop ≡ may_stop) }
-    ensures hosts { IfOk result (λ post. (hosts_view post.hosts).named ≡ named_at post.address) }
+    ensures { IfOk result (λ post. post.may_stop ≡ may_stop) }
 {
     let listener = TcpListener::bind(rt, address)?;
     listener.set_nonblocking(true)?;
@@ -175,19 +176,13 @@ fn answer_operations<J: ShareName, R: Net + LogPaths + DeskPaths + Clock>(
     desk: ReadSeat<J>,
     post: AdminPost,
 ) -> io::Result<()> {
-    let AdminPost {
-        listener,
-        address: _,
-        hosts,
-        may_stop,
-    } = post;
     let worker = worker_of(rt, alloc, keys, board, seat, None)?;
     let desk = desk_of(rt, alloc, board, desk, worker)?;
-    let rules = AdminRules::new(&hosts, may_stop);
+    let rules = AdminRules::new(&post.hosts, post.may_stop);
     let guard = AdminGuard::new(rules, &board.is_stopping, desk);
     let logged = LoggedService::new(rt, alloc, board.lines.as_ref(), guard);
     let mut dated = Dated::new(rt, alloc, board.counts.traffic(), logged)?;
-    serve_operations(rt, alloc, keys, board, listener, &mut dated).into_outcome()
+    serve_operations(rt, alloc, keys, board, &post, &mut dated)?.into_outcome()
 }
 
 /// A desk before a worker, which goes by the rules and the keys of a board and answers from the snapshots of a seat.
@@ -244,25 +239,34 @@ fn page(alloc: Global) -> io::Result<ConsolePage<'static>>
     }
 }
 
-/// Has a service behind a guard, which was not asked to stop yet, answer the connections of a listener until all threads are to end or
-/// the system fails.
-fn serve_operations<'a, S: Recording + CountsStatus, R: Net + Clock>(
+/// The desk of a thread for operations, before a worker that keeps no log.
+type OperatingDesk<'a, J, R> =
+    ControlDesk<'a, J, R, SystemDeskFiles<'a, R>, OfrepWorker<'a, J, R, SystemLog>>;
+
+/// Has a desk of the board, which begins with its keys, answer the connections of a post until all threads are to end or the system
+/// fails. Its guard goes by the hosts of the post, and was not asked to stop yet.
+fn serve_operations<'a, J: ShareName, R: Net + LogPaths + DeskPaths + Clock>(
     rt: &R,
     alloc: Global,
     keys: RandomState,
     board: &Board,
-    listener: TcpListener,
-    dated: &mut Dated<'a, R, LoggedService<'a, R, AdminGuard<'a, S>>>,
-) -> Served
-    requires { dated.old.service.service.is_stopping ≡ false }
-    ensures turns { (turns : List (List Call)) × Works ⟦<Dated<'a, R, LoggedService<'a, R, AdminGuard<'a, S>>> as Service>⟧.answers ⟦<Dated<'a, R, LoggedService<'a, R, AdminGuard<'a, S>>> as Recording>⟧.looked dated.old turns dated.new }
-    ensures limits { HasUsualLimits result }
+    post: &AdminPost,
+    dated: &mut Dated<'a, R, LoggedService<'a, R, AdminGuard<'a, OperatingDesk<'a, J, R>>>>,
+) -> io::Result<Served>
+    requires hosts { hosts_view dated.old.service.service.rules.hosts.now ≡ hosts_view post.now.hosts }
+    requires may_stop { dated.old.service.service.rules.may_stop ≡ post.now.may_stop }
+    requires begins { dated.old.service.service.is_stopping ≡ false }
+    requires desks { dated.old.service.service.service.post.now ≡ board.now.desks }
+    requires keys { keys_in dated.old.service.service.service.keys ≡ first_keys board.now.keys }
+    ensures turns { IfOk result (λ _. (turns : List (List Call)) × Works ⟦<Dated<'a, R, LoggedService<'a, R, AdminGuard<'a, OperatingDesk<'a, J, R>>>> as Service>⟧.answers ⟦<Dated<'a, R, LoggedService<'a, R, AdminGuard<'a, OperatingDesk<'a, J, R>>>> as Recording>⟧.looked dated.old turns dated.new) }
+    ensures limits { IfOk result HasUsualLimits }
 {
+    let listener = post.listener.try_clone()?;
     let config = Config {
         max_body_len: MOST_BODY,
         ..Config::default()
     };
-    answer_connections_with(
+    Ok(answer_connections_with(
         rt,
         alloc,
         keys,
@@ -273,5 +277,5 @@ fn serve_operations<'a, S: Recording + CountsStatus, R: Net + Clock>(
         &board.operations,
         &board.is_over,
         dated,
-    )
+    ))
 }

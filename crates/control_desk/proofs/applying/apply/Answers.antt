@@ -15,10 +15,11 @@ pub returns-in-Ok-clause-ok : goal.returns-in-Ok-clause-ok
 returns-in-Ok-clause-ok g c =
     let folder = c.args.applying.folder.now in
     let path = c.args.applying.path.now in
+    let asker = c.args.applying.asker.now in
     let held = held_view c.args.held.now in
     let files = files_view c.args.logs.now in
     let before = g.F.DeskFiles.holding c.args.files.now in
     let after = g.F.DeskFiles.holding c.write.new.files in
     let response = c.write.new.response in
-    subst (λ (s : Snapshot). OnOk c.write.result ((r : Result Applied ControlRefusal) × IsApplyAnswer s c.args.token.now files r × AppliesIf folder path held before after response r)) c.snapshot.ensures
-    (given applied_view (IsApplyAnswer (snapshot_view c.snapshot.result) c.args.token.now files) (λ (r : Result Applied ControlRefusal). AppliesIf folder path held before after response r) c.write.result c.in-Ok.applied c.in-Ok.ensures.exact c.write.ensures.ok)
+    subst (λ (s : Snapshot). OnOk c.write.result ((r : Result Applied ControlRefusal) × IsApplyAnswer s c.args.token.now files r × AppliesIf folder path asker held before after response r)) c.snapshot.ensures
+    (given applied_view (IsApplyAnswer (snapshot_view c.snapshot.result) c.args.token.now files) (λ (r : Result Applied ControlRefusal). AppliesIf folder path asker held before after response r) c.write.result c.in-Ok.applied c.in-Ok.ensures.exact c.write.ensures.ok)
