@@ -426,6 +426,12 @@ class Remarks(ProgramTest):
         self.assertIn("the document or the book may have changed since they were planned\n", ran.err)
         self.assertIn("plan the steps again with this document, file of steps and book\n", ran.err)
 
+    def test_of_a_file_that_is_none_of_plans(self):
+        files = {"d": SHARED, "b": '{"book":1}\n', "f": '{"plan":1,"flag":"a","steps":[{"on":20,"off":80}]}', "r": "{}\n"}
+        ran = run(["verify-ramp", "d", "f", "b", "r"], files)
+        self.assertEqual((ran.status, ran.out), (1, "refused read_ramp 1 Line 1\n"))
+        self.assert_told(ran, 'error: "r": line 1 is not the plan of a step, as ramp prints it')
+
     def test_of_keys_that_no_flag_has(self):
         for key, told in KEYS:
             with self.subTest(key=key):
