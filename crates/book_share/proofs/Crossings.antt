@@ -23,6 +23,9 @@ use Rattle.logic_ast.specs.contracts.operator.Operator as Operator
 use Rattle.logic_ast.specs.contracts.expr.Expr as Expr
 use Rattle.flag_defs.specs.contracts.flag.Flag as Flag
 use Rattle.flag_defs.specs.contracts.flags.Flags as Flags
+use Rattle.flag_metadata.specs.contracts.document.DocumentMetadata as DocumentMetadata
+use Rattle.flag_metadata.specs.contracts.member.Member as Member
+use Rattle.flag_metadata.specs.contracts.merged.Metadata as Metadata
 use Rattle.flag_defs.specs.contracts.kind.Kind as Kind
 use Rattle.book_core.specs.contracts.book.Book as Book
 use Rattle.book_core.specs.contracts.page.Page as Page
@@ -68,8 +71,17 @@ Expr-sync = declared_sync Expr.the_type (Node-sync, (search (sendable, crosses) 
 pub Flag-sync : IsSync Flag.the_row
 Flag-sync = search (sendable, crosses, Tree-sync, Expr-sync) depth 40
 
+Member-sync : IsSync Member.the_row
+Member-sync = search (sendable, crosses) depth 40
+
+DocumentMetadata-sync : IsSync DocumentMetadata.the_row
+DocumentMetadata-sync = search (sendable, crosses, maps, Member-sync) depth 60
+
+Metadata-sync : IsSync Metadata.the_row
+Metadata-sync = search (sendable, crosses, DocumentMetadata-sync) depth 40
+
 pub Flags-sync : IsSync Flags.the_row
-Flags-sync = search (sendable, crosses, Flag-sync) depth 40
+Flags-sync = search (sendable, crosses, Flag-sync, Metadata-sync) depth 40
 
 Kind-sync : IsSync Kind.the_row
 Kind-sync = search (sendable, crosses) depth 40

@@ -3,6 +3,7 @@ use denote.RattleType.{RattleType}
 use denote.Param.Send.{IsSend, IsSync, sendable}
 use denote.Param.SendFields.{declared_send, declared_sync, variants_send}
 use Rattle.std.proofs.Crossing.{crosses}
+use Rattle.std.proofs.MapsCrossing.{crosses as maps}
 use Rattle.std.specs.contracts.alloc.Global as Global
 use Rattle.std.specs.contracts.boxed.Box as Box
 use Rattle.std.specs.contracts.impls.GlobalAllocator.TheImpl as memory
@@ -18,6 +19,9 @@ use Rattle.logic_ast.specs.contracts.operator.Operator as Operator
 use Rattle.logic_ast.specs.contracts.expr.Expr as Expr
 use Rattle.flag_defs.specs.contracts.flag.Flag as Flag
 use Rattle.flag_defs.specs.contracts.flags.Flags as Flags
+use Rattle.flag_metadata.specs.contracts.document.DocumentMetadata as DocumentMetadata
+use Rattle.flag_metadata.specs.contracts.member.Member as Member
+use Rattle.flag_metadata.specs.contracts.merged.Metadata as Metadata
 use Rattle.sync_frames.specs.contracts.feed.Feed as Feed
 use Rattle.sync_frames.specs.contracts.stage.Stage as Stage
 use Rattle.library_seat.specs.contracts.asked.ReadContext as ReadContext
@@ -57,8 +61,17 @@ Expr-sync = declared_sync Expr.the_type (Node-sync, (search (sendable, crosses) 
 Flag-sync : IsSync Flag.the_row
 Flag-sync = search (sendable, crosses, Tree-sync, Expr-sync) depth 40
 
+Member-sync : IsSync Member.the_row
+Member-sync = search (sendable, crosses) depth 40
+
+DocumentMetadata-sync : IsSync DocumentMetadata.the_row
+DocumentMetadata-sync = search (sendable, crosses, maps, Member-sync) depth 60
+
+Metadata-sync : IsSync Metadata.the_row
+Metadata-sync = search (sendable, crosses, DocumentMetadata-sync) depth 40
+
 pub Flags-sync : IsSync Flags.the_row
-Flags-sync = search (sendable, crosses, Flag-sync) depth 40
+Flags-sync = search (sendable, crosses, Flag-sync, Metadata-sync) depth 40
 
 -- ---- and may go from one to another
 
@@ -92,8 +105,17 @@ Expr-send = declared_send Expr.the_type (Node-send, (search (sendable, crosses) 
 Flag-send : IsSend Flag.the_row
 Flag-send = search (sendable, crosses, Tree-send, Expr-send) depth 40
 
+Member-send : IsSend Member.the_row
+Member-send = search (sendable, crosses) depth 40
+
+DocumentMetadata-send : IsSend DocumentMetadata.the_row
+DocumentMetadata-send = search (sendable, crosses, maps, Member-send) depth 60
+
+Metadata-send : IsSend Metadata.the_row
+Metadata-send = search (sendable, crosses, DocumentMetadata-send) depth 40
+
 pub Flags-send : IsSend Flags.the_row
-Flags-send = search (sendable, crosses, Flag-send) depth 40
+Flags-send = search (sendable, crosses, Flag-send, Metadata-send) depth 40
 
 -- ---- so may a seat, which shares its flags with others
 

@@ -4,6 +4,7 @@ use denote.Ref.{NamedLft}
 use denote.Param.Send.{IsSync, sendable}
 use denote.Param.SendFields.{declared_sync}
 use Rattle.std.proofs.Crossing.{crosses}
+use Rattle.std.proofs.MapsCrossing.{crosses as maps}
 use Rattle.std.specs.contracts.alloc.Global as Global
 use Rattle.std.specs.contracts.boxed.Box as Box
 use Rattle.std.specs.contracts.impls.GlobalAllocator.TheImpl as memory
@@ -18,6 +19,9 @@ use Rattle.logic_ast.specs.contracts.operator.Operator as Operator
 use Rattle.logic_ast.specs.contracts.expr.Expr as Expr
 use Rattle.flag_defs.specs.contracts.flag.Flag as Flag
 use Rattle.flag_defs.specs.contracts.flags.Flags as Flags
+use Rattle.flag_metadata.specs.contracts.document.DocumentMetadata as DocumentMetadata
+use Rattle.flag_metadata.specs.contracts.member.Member as Member
+use Rattle.flag_metadata.specs.contracts.merged.Metadata as Metadata
 use Rattle.book_core.specs.contracts.page.Page as Page
 use Rattle.record_lines.specs.contracts.scene.Recorder as Recorder
 
@@ -54,8 +58,17 @@ Expr-sync = declared_sync Expr.the_type (Node-sync, (search (sendable, crosses) 
 Flag-sync : IsSync Flag.the_row
 Flag-sync = search (sendable, crosses, Tree-sync, Expr-sync) depth 40
 
+Member-sync : IsSync Member.the_row
+Member-sync = search (sendable, crosses) depth 40
+
+DocumentMetadata-sync : IsSync DocumentMetadata.the_row
+DocumentMetadata-sync = search (sendable, crosses, maps, Member-sync) depth 60
+
+Metadata-sync : IsSync Metadata.the_row
+Metadata-sync = search (sendable, crosses, DocumentMetadata-sync) depth 40
+
 Flags-sync : IsSync Flags.the_row
-Flags-sync = search (sendable, crosses, Flag-sync) depth 40
+Flags-sync = search (sendable, crosses, Flag-sync, Metadata-sync) depth 40
 
 Page-sync : IsSync Page.the_row
 Page-sync = search (sendable, crosses) depth 40
