@@ -1,4 +1,5 @@
 """What a person is told of a file that is refused, or of a flag that is broken: the place in it, and what stands there."""
+import json
 import tempfile
 import unittest
 
@@ -242,6 +243,49 @@ INPUTS = [
     ),
 ]
 
+# A document with the flags of a shop.
+SHOP = (
+    '{"flags":{"banner":{"state":"ENABLED","variants":{"off":false,"on":true},"defaultVariant":"off"},'
+    '"checkout-button":{"state":"ENABLED","variants":{"off":"grey","on":"green"},"defaultVariant":"off"},'
+    '"checkout-color":{"state":"ENABLED","variants":{"red":"r"},"defaultVariant":"red"},'
+    '"limit":{"state":"ENABLED","variants":{"low":5},"defaultVariant":"low"}}}'
+)
+KNOWN = 'known flags: "banner", "checkout-button", "checkout-color", "limit"'
+
+# A key that no flag of the shop has, and the keys that are told for it.
+KEYS = [
+    ("checkout-buton", 'similar keys: "checkout-button"'),
+    ("checkoutButton", 'similar keys: "checkout-button"'),
+    ("checkout-buttno", 'similar keys: "checkout-button"'),
+    ("Banner", 'similar keys: "banner"'),
+    ("LIMIT", 'similar keys: "limit"'),
+    ("limits", 'similar keys: "limit"'),
+    ("checkout", 'similar keys: "checkout-button", "checkout-color"'),
+    ("bnaner2", KNOWN),
+    ("b", KNOWN),
+    ("", KNOWN),
+]
+
+# The key of a flag of the shop, the type that is asked for, a default, and the types that are told.
+KINDS = [
+    ("banner", "text", '"x"', "of the kind bool, not text"),
+    ("banner", "string", '"x"', "of the kind bool, not text"),
+    ("checkout-button", "boolean", "false", "of the kind text, not bool"),
+    ("limit", "object", "{}", "of the kind whole, not object"),
+]
+
+# The targeting of a flag that hardly does what is meant, and what is doubted of it; and of some that do.
+DOUBTS = [
+    ('{"fractional":[["on",10],["off",89]]}', "Total"),
+    ('{"fractional":[["on",10],["off",91]]}', "Total"),
+    ('{"fractional":[["on",10],["off",90]]}', None),
+    ('{"fractional":[["on",10],["off",989]]}', None),
+    ('{"fractional":["targetingKey",["on",10],["off",90]]}', "Constant"),
+    ('{"fractional":[{"cat":[{"var":"$flagd.flagKey"},"salt"]},["on",10],["off",90]]}', "Constant"),
+    ('{"fractional":[{"cat":[{"var":"$flagd.flagKey"},{"var":"email"}]},["on",10],["off",90]]}', None),
+    ('{"if":[{"==":[{"var":"tier"},"pro"]},{"fractional":[["on",50],["off",49]]}]}', "Total"),
+]
+
 # Evaluators, and what is told of a flag that refers to `e`.
 BROKEN = [
     (
@@ -353,6 +397,94 @@ class Remarks(ProgramTest):
         ran = run(["plan", "--refine", "10", "d", "f", "t"], {**files, "t": made.out})
         self.assertEqual((made.status, ran.status, ran.out), (0, 1, "refused plan 11 OtherTally\n"))
         self.assertIn("the tally was made without --refine: ", ran.err)
+
+    def test_of_steps_of_another_factor(self):
+        """As `plan` tells them."""
+        for steps, told in TOTALS:
+            with self.subTest(steps=steps):
+                files = {"d": SHARED, "b": '{"book":1}\n', "f": f'{{"plan":1,"flag":"a","steps":[{steps}]}}'}
+                ran = run(["ramp", "d", "f", "b"], files)
+                self.assertEqual((ran.status, ran.out), (1, "refused ramp 6 TotalsSum\n"))
+                lines = ran.err.splitlines()
+                self.assertEqual(lines[0], 'error: "f", step 1: the totals cannot sum to the rule\'s')
+                self.assertEqual(lines[2].strip(), told)
+
+    def test_of_steps_that_are_doubted(self):
+        """As `plan` tells them: a member that is not read, and a book without an input."""
+        files = {"d": SHARED, "b": '{"book":1}\n', "f": '{"plan":1,"flag":"a","steps":[{"on":20,"off":80}],"forbidden":[]}'}
+        ran = run(["ramp", "d", "f", "b"], files)
+        self.assertEqual(ran.status, 0)
+        self.assertIn('"forbidden"; perhaps "forbid" is meant\n', ran.err)
+        self.assertIn('note: "b" has no input on the page of the request', ran.err)
+
+    def test_of_steps_that_were_planned_on_another_book(self):
+        files = {"d": SHARED, "b": '{"book":1}\n', "f": '{"plan":1,"flag":"a","steps":[{"on":20,"off":80}]}'}
+        made = run(["ramp", "d", "f", "b"], files)
+        newer = '{"book":1}\n{"by":null,"flag":"a","site":0}\n"aann"\n"abob"\n'
+        ran = run(["verify-ramp", "d", "f", "b", "r"], {**files, "b": newer, "r": made.out})
+        self.assertEqual((made.status, ran.status, ran.out.split()[:2]), (0, 1, ["refused", "verify-ramp"]))
+        self.assertIn("the document or the book may have changed since they were planned\n", ran.err)
+        self.assertIn("plan the steps again with this document, file of steps and book\n", ran.err)
+
+    def test_of_a_file_that_is_none_of_plans(self):
+        files = {"d": SHARED, "b": '{"book":1}\n', "f": '{"plan":1,"flag":"a","steps":[{"on":20,"off":80}]}', "r": "{}\n"}
+        ran = run(["verify-ramp", "d", "f", "b", "r"], files)
+        self.assertEqual((ran.status, ran.out), (1, "refused read_ramp 1 Line 1\n"))
+        self.assert_told(ran, 'error: "r": line 1 is not the plan of a step, as ramp prints it')
+
+    def test_of_keys_that_no_flag_has(self):
+        for key, told in KEYS:
+            with self.subTest(key=key):
+                ran = run(["resolve", "d", key, "bool", "false", "c", "0"], {"d": SHOP, "c": "{}"})
+                out = '{"code":"FLAG_NOT_FOUND","reached":[],"reason":"ERROR","value":false,"variant":null}\n'
+                self.assertEqual((ran.status, ran.out), (0, out))
+                self.assertEqual(ran.err, f'note: "d" has no flag "{key}", so the value is DEFAULT\n  {told}\n')
+                ran = run(["record", "d", key], {"d": SHOP}, input="{}\n")
+                self.assertEqual((ran.status, ran.out), (1, "refused plan 2 UnknownFlag\n"))
+                self.assertEqual(ran.err, f'error: "d": the flag "{key}": no such flag\n  {told}\n')
+
+    def test_of_keys_among_many(self):
+        """Long keys that share their beginnings: each is looked at once."""
+        flag = '{"state":"ENABLED","variants":{"on":true},"defaultVariant":"on"}'
+        flags = ",".join(f'"{"shared-" * 40}{place:05}":{flag}' for place in range(FLAGS))
+        key = "shared-" * 40 + "10000"
+        ran = run(["resolve", "d", key, "bool", "false", "c", "0"], {"d": f'{{"flags":{{{flags}}}}}', "c": "{}"}, preexec_fn=cheap)
+        self.assertEqual(ran.status, 0)
+        self.assertTrue(ran.err.splitlines()[1].startswith("  similar keys: "), ran.err[:300])
+
+    def test_of_kinds_that_do_not_match(self):
+        for key, kind, default, told in KINDS:
+            with self.subTest(key=key, kind=kind):
+                ran = run(["resolve", "d", key, kind, default, "c", "0"], {"d": SHOP, "c": "{}"})
+                self.assertEqual(ran.status, 0)
+                self.assertEqual(ran.err, f'note: "d": the flag "{key}" is {told}, so the value is DEFAULT\n')
+
+    def test_of_kinds_of_asks(self):
+        """They are spelled as `resolve` takes them."""
+        ask = '{"key":"checkout-button","want":"string","default":"x","context":{"targetingKey":"ann"},"moment":0}'
+        ran = run(["drive", "d", "a", "1", "b"], {"d": SHOP, "a": f"[{ask}]"})
+        self.assertEqual(ran.status, 0, ran.err)
+        self.assertEqual(json.loads(ran.out.splitlines()[0])["variant"], "off")
+
+    def test_of_many_asks_for_each_input(self):
+        asks = [{"key": "a", "want": "whole", "default": 0, "context": {"targetingKey": "ann"}, "moment": 0}] * 20
+        ran = run(["drive", "d", "a", "1", "b"], {"d": SHARED, "a": json.dumps(asks)})
+        told = "  that is 20 asks for each input: the same users were asked again, or every context lacks what the bucketing expression reads\n"
+        self.assertTrue(ran.err.endswith(told), ran.err)
+
+    def test_of_sites_that_are_doubted(self):
+        for targeting, doubt in DOUBTS:
+            with self.subTest(targeting=targeting):
+                flag = f'{{"state":"ENABLED","variants":{{"off":0,"on":1}},"defaultVariant":"off","targeting":{targeting}}}'
+                ran = run(["check", "f"], {"f": f'{{"flags":{{"a":{flag}}}}}'})
+                strict = run(["check", "--strict", "f"], {"f": f'{{"flags":{{"a":{flag}}}}}'})
+                self.assertEqual((ran.status, ran.out, strict.out), (0, '"a" good\n', '"a" good\n'))
+                self.assertEqual(strict.status, 1 if doubt else 0)
+                if doubt is None:
+                    self.assertEqual(ran.err, "")
+                else:
+                    self.assertTrue(ran.err.startswith('note: "f": flag "a" has a fractional whose '), ran.err)
+                    self.assertTrue(ran.err.endswith(f" ({doubt})\n"), ran.err)
 
     def test_of_flags_that_are_broken(self):
         for evaluators, told in BROKEN:

@@ -162,6 +162,15 @@ class Answers(ServiceTest):
         status, told = self.flag("broken")
         self.assertEqual((status, told["errorCode"]), (400, "PARSE_ERROR"))
 
+    def test_a_key_that_is_near(self):
+        for key, near in (("colour", "color"), ("Color", "color"), ("colro", "color"), ("size1", "size")):
+            with self.subTest(key):
+                told = {"errorCode": "FLAG_NOT_FOUND", "errorDetails": f'no flag has this key; perhaps "{near}" is meant', "key": key}
+                self.assertEqual(self.flag(key), (404, told))
+        for key in ("nobody", "colour" + "r" * 70):
+            with self.subTest(key):
+                self.assertEqual(self.flag(key)[1]["errorDetails"], "no flag has this key")
+
     def test_contexts(self):
         bodies = [
             (b"{", "PARSE_ERROR"),

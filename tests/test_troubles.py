@@ -177,7 +177,7 @@ class Drives(ProgramTest):
         for count, is_told in [(19, False), (20, True), (41, True)]:
             ran = run(["drive", "d", "a", "1", "b"], {"d": document(), "a": asks(["color"] * count)})
             self.assertEqual(ran.status, 0)
-            self.assertEqual(f"  there are {count} asks for each input: " in ran.err, is_told, ran.err)
+            self.assertEqual(f"  that is {count} asks for each input: " in ran.err, is_told, ran.err)
 
     def test_what_a_book_had_is_not_new(self):
         ran = run(["drive", "--add", "d", "a", "1", "b"], {"d": document(), "a": asks(["color"]), "b": BOOK})

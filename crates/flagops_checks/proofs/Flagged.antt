@@ -8,6 +8,8 @@ use Rattle.flag_doubts.specs.Doubled.{is_doubled}
 use Rattle.flag_doubts.specs.Repeated.{is_repeated}
 use Rattle.flag_doubts.specs.declared.doubt.FlagDoubts.{FlagDoubts}
 use Rattle.flagops_checks.specs.Judged.{Judged, flag_doubts, judged, tree_in}
+use Rattle.flagops_checks.specs.Sites.{site_doubts}
+use Rattle.flagops_checks.specs.declared.sites.SiteDoubts.{SiteDoubts}
 
 drop_suc : {X : Type 0} (xs : List X) (i : ℕ) (x : X) → slice_get xs i ≡ Some x → drop i xs ≡ x ∷ drop (suc i) xs
 drop_suc [] i x h = cc
@@ -31,8 +33,8 @@ module _ (bytes : List ℕ) (fs : Definitions) where
       let whole : before ++ (judged bytes (key, d) ∷ rest) ≡ map (judged bytes) fs = ap (λ (l : List Judged). before ++ l) (sym next) ∙ goes in
       rw (more, is, append_assoc before (judged bytes (key, d) ∷ []) rest) whole
 
-  pub same : (key : List ℕ) (d : Definition) (broken : Bool) (doubts : FlagDoubts) (doubled repeated : Bool) → broken ≡ is_broken d → doubts.unread ≡ (flag_doubts (tree_in bytes) key d).unread
+  pub same : (key : List ℕ) (d : Definition) (broken : Bool) (doubts : FlagDoubts) (sites : SiteDoubts) (doubled repeated : Bool) → broken ≡ is_broken d → doubts.unread ≡ (flag_doubts (tree_in bytes) key d).unread
       → doubts.weight ≡ (flag_doubts (tree_in bytes) key d).weight → doubts.variant ≡ (flag_doubts (tree_in bytes) key d).variant → doubts.never ≡ (flag_doubts (tree_in bytes) key d).never
-      → doubled ≡ is_doubled bytes key → repeated ≡ is_repeated bytes key
-      → (let j : Judged = record { key = key; is_broken = broken; doubts = doubts; is_doubled = doubled; is_repeated = repeated } in j) ≡ judged bytes (key, d)
-  same key d broken doubts doubled repeated b u w v n t r = rw (← b, ← u, ← w, ← v, ← n, ← t, ← r) refl
+      → sites.total ≡ (site_doubts d).total → sites.constant ≡ (site_doubts d).constant → doubled ≡ is_doubled bytes key → repeated ≡ is_repeated bytes key
+      → (let j : Judged = record { key = key; is_broken = broken; doubts = doubts; sites = sites; is_doubled = doubled; is_repeated = repeated } in j) ≡ judged bytes (key, d)
+  same key d broken doubts sites doubled repeated b u w v n s k t r = rw (← b, ← u, ← w, ← v, ← n, ← s, ← k, ← t, ← r) refl

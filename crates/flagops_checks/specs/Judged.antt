@@ -16,20 +16,23 @@ use Rattle.flag_text.specs.Shape.{Shape, null}
 use Rattle.flag_text.specs.declared.fault.TextFault.{TextFault}
 use Rattle.flagops_checks.specs.declared.checked.Checked as code_checked
 use Rattle.flagops_checks.specs.declared.judging.Judged as code
+use Rattle.flagops_checks.specs.Sites.{site_doubts}
+use Rattle.flagops_checks.specs.declared.sites.SiteDoubts.{SiteDoubts}
 use Rattle.unread_members.specs.Unread.{unread_of}
 use Rattle.unread_members.specs.declared.reader.Reader.TheVariants as reader
 
--- a flag: its key, whether it is broken, what is doubted of it by itself, and whether its key stands twice, or a member of its
+-- a flag: its key, whether it is broken, what is doubted of it by itself and of its sites, and whether its key stands twice, or a member of its
 -- definition
 pub record Judged : Type 0 where
   pub key : List ℕ
   pub is_broken : Bool
   pub doubts : FlagDoubts
+  pub sites : SiteDoubts
   pub is_doubled : Bool
   pub is_repeated : Bool
 
 abbrev pub judged_view : code.Judged → Judged
-judged_view j = record { key = j.key.now; is_broken = j.is_broken; doubts = j.doubts; is_doubled = j.is_doubled; is_repeated = is_some j.repeated }
+judged_view j = record { key = j.key.now; is_broken = j.is_broken; doubts = j.doubts; sites = j.sites; is_doubled = j.is_doubled; is_repeated = is_some j.repeated }
 
 -- this is doubted of it
 abbrev pub has : Doubt → Judged → Bool
@@ -42,7 +45,7 @@ has Never j = j.doubts.never
 
 -- something is
 abbrev pub is_doubted : Judged → Bool
-is_doubted j = has Doubled j || (has Repeated j || (has Unread j || (has Weight j || (has Variant j || has Never j))))
+is_doubted j = has Doubled j || (has Repeated j || (has Unread j || (has Weight j || (has Variant j || (has Never j || (j.sites.total || j.sites.constant))))))
 
 -- the tree of the bytes of a document
 abbrev pub or_null : Result Shape TextFault → Shape
@@ -74,6 +77,7 @@ judged bytes f = record {
   key = f.0;
   is_broken = documents.is_broken f.1;
   doubts = flag_doubts (tree_in bytes) f.0 f.1;
+  sites = site_doubts f.1;
   is_doubled = doubled.is_doubled bytes f.0;
   is_repeated = repeated.is_repeated bytes f.0;
 }

@@ -7,6 +7,7 @@ pub mod Names
 pub mod Printed
 pub mod Refusal
 pub mod Report
+pub mod Sites
 pub mod Step
 pub mod Told
 pub mod Words

@@ -12,24 +12,34 @@ use Rattle.flagops_files.specs.Told.{attempt, file}
 use Rattle.file_diagnostics.specs.Broken.{TellsBroken}
 use Rattle.file_diagnostics.specs.Named.{Names}
 use Rattle.flagops_checks.specs.Refusal.{Attempts}
+use Rattle.flagops_checks.specs.Sites as site_doubts
+use Rattle.flagops_checks.specs.declared.sites.SiteDoubt.TheVariants.{Total, Constant}
 use Rattle.flagops_shell.specs.Files.{Holding}
 
 -- the line of a doubt: the path of the document and the key of the flag as JSON texts, why, and the doubt by its name
-abbrev pub IsDoubtLine : List ℕ → List ℕ → Doubt → List ℕ → Type 0
-IsDoubtLine path key d line =
-    (why : List ℕ) × (line ≡ codes "note: " ++ (text_of (text path) ++ (codes ": flag " ++ (text_of (text key) ++ (codes " " ++ (why ++ (codes " (" ++ (name_of d ++ codes ")\n"))))))))
+abbrev pub IsDoubtLine : List ℕ → List ℕ → List ℕ → List ℕ → Type 0
+IsDoubtLine path key name line =
+    (why : List ℕ) × (line ≡ codes "note: " ++ (text_of (text path) ++ (codes ": flag " ++ (text_of (text key) ++ (codes " " ++ (why ++ (codes " (" ++ (name ++ codes ")\n"))))))))
 
 -- such a line where it is doubted, and nothing else
-abbrev pub LineIf : Bool → List ℕ → List ℕ → Doubt → List ℕ → Type 0
-LineIf true path key d lines = IsDoubtLine path key d lines
-LineIf false path key d lines = lines ≡ []
+abbrev pub LineIf : Bool → List ℕ → List ℕ → List ℕ → List ℕ → Type 0
+LineIf true path key name lines = IsDoubtLine path key name lines
+LineIf false path key name lines = lines ≡ []
 
--- such a line for each doubt that a flag has, in this order, and nothing else
+-- such a line for each doubt that a flag has by itself, in this order, and nothing else
+abbrev pub OwnLines : List ℕ → Judged → List ℕ → Type 0
+OwnLines path j lines =
+    (doubled repeated unread weight variant never : List ℕ) × LineIf j.is_doubled path j.key (name_of Doubled) doubled × LineIf j.is_repeated path j.key (name_of Repeated) repeated
+    × LineIf j.doubts.unread path j.key (name_of Unread) unread × LineIf j.doubts.weight path j.key (name_of Weight) weight × LineIf j.doubts.variant path j.key (name_of Variant) variant
+    × LineIf j.doubts.never path j.key (name_of Never) never × (lines ≡ doubled ++ (repeated ++ (unread ++ (weight ++ (variant ++ never)))))
+
+-- and for each of its sites
+abbrev pub SiteLines : List ℕ → Judged → List ℕ → Type 0
+SiteLines path j lines = (total constant : List ℕ) × LineIf j.sites.total path j.key (site_doubts.name_of Total) total × LineIf j.sites.constant path j.key (site_doubts.name_of Constant) constant × (lines ≡ total ++ constant)
+
+-- both, one behind the other
 abbrev pub FlagLines : List ℕ → Judged → List ℕ → Type 0
-FlagLines path j lines =
-    (doubled repeated unread weight variant never : List ℕ) × LineIf j.is_doubled path j.key Doubled doubled × LineIf j.is_repeated path j.key Repeated repeated
-    × LineIf j.doubts.unread path j.key Unread unread × LineIf j.doubts.weight path j.key Weight weight × LineIf j.doubts.variant path j.key Variant variant × LineIf j.doubts.never path j.key Never never
-    × (lines ≡ doubled ++ (repeated ++ (unread ++ (weight ++ (variant ++ never)))))
+FlagLines path j lines = (own others : List ℕ) × OwnLines path j own × SiteLines path j others × (lines ≡ own ++ others)
 
 -- such lines for each flag, in the order of the keys, and nothing else
 unfoldable pub DoubtLines : List ℕ → List Judged → List ℕ → Type 0

@@ -16,6 +16,7 @@ ghost use Rattle.flagops_checks.specs.Judged.{definition_of, flag_doubts, has, i
 ghost use Rattle.flagops_checks.specs.Names.{AreKnown};
 
 use crate::names::Names;
+use crate::sites::SiteDoubts;
 use flag_defs::{Flag, Flags};
 use flag_doubts::{Doubt, FlagDoubts, doubts_of};
 use flag_text::{Tree, member_by_halving};
@@ -31,6 +32,8 @@ pub(crate) struct Judged<'a> {
     pub(crate) is_broken: bool,
     /// What is doubted of the flag by itself.
     pub(crate) doubts: FlagDoubts,
+    /// What is doubted of the sites of its targeting.
+    pub(crate) sites: SiteDoubts,
     /// Whether the key stands more than once in the document.
     pub(crate) is_doubled: bool,
     /// The place of a member that stands more than once in the definition.
@@ -56,7 +59,11 @@ impl Judged<'_> {
     pub(crate) fn is_doubted(&self) -> bool
         ensures { result ≡ is_doubted (judged_view self.now) }
     {
-        self.is_doubled || self.repeated.is_some() || self.doubts.is_any()
+        self.is_doubled
+            || self.repeated.is_some()
+            || self.doubts.is_any()
+            || self.sites.total
+            || self.sites.constant
     }
 }
 
@@ -80,6 +87,7 @@ pub(crate) fn judge<'a>(
             definition,
             is_broken: flag.is_broken(),
             doubts: doubts_in(definition, flag),
+            sites: SiteDoubts::of(flag),
             is_doubled: is_among(names.repeated.keys.as_slice(), key),
             repeated: names.place_in(key),
         })?;

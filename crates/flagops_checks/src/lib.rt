@@ -15,7 +15,7 @@
 //!
 //! Proved, over the definitions in `specs/`, of [`Checking`]: over files whose bytes are known it comes to the report of all
 //! documents (`Report`, `Printed`), unless memory ran out; what is judged of a flag is what its definition means and what
-//! `flag_doubts` doubts of it (`Judged`); with `--strict` the status is 1 exactly where a flag of any document is broken or doubted,
+//! `flag_doubts` doubts of it (`Judged`), and of its sites (`Sites`); with `--strict` the status is 1 exactly where a flag of any document is broken or doubted,
 //! or a member of a document is not read or stands more than once; a person is told a line for each flag that is broken, and one for
 //! each doubt of each flag with the document's path, the flag's key and the doubt's name (`Told`). The first document that is
 //! refused refuses all, and is named. Files are only read.
@@ -35,6 +35,7 @@ mod printing;
 mod reasons;
 mod refusal;
 mod remark_lines;
+mod sites;
 mod telling;
 mod usage;
 mod words;

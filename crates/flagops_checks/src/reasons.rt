@@ -4,6 +4,7 @@ ghost use Rattle.flag_defs.specs.Flag.{flag_view, is_broken};
 
 use crate::judging::Judged;
 use crate::places::{foreign_in, ill_in};
+use crate::sites::SiteDoubt;
 use flag_defs::Flag;
 use flag_doubts::Doubt;
 use flag_text::Tree;
@@ -28,6 +29,18 @@ pub(crate) fn reason(
         Doubt::Weight => weight(alloc, judged.flag),
         Doubt::Variant => variant(alloc, judged.flag),
         Doubt::Never => String::from_str(alloc, "has a targeting that never gives a variant"),
+    }
+}
+
+/// Why this is doubted of a site of a flag, behind its key.
+pub(crate) fn site_reason(doubt: SiteDoubt) -> &'static str {
+    match doubt {
+        SiteDoubt::Total => {
+            "has a fractional whose weights sum to 99 or 101: if they are percentages, they sum to 100"
+        }
+        SiteDoubt::Constant => {
+            "has a fractional whose bucketing expression is the same for everybody, so all get one variant: read a member of the context, as {\"var\":\"targetingKey\"}"
+        }
     }
 }
 

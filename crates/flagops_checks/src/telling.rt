@@ -1,12 +1,15 @@
 //! What a person is told of a document.
 ghost use Rattle.std.specs.Prelude.{◌≡◌, IfOk, is_some, map, string_bytes};
 ghost use Rattle.flagops_checks.specs.Judged.{checked_view, has, judged_view};
-ghost use Rattle.flagops_checks.specs.Told.{BrokenPart, DoubtLines, FlagLines, IsDocumentLine, IsDoubtLine, LineIf, RepeatedPart, TellsDocument, UnreadPart, head_line};
+ghost use Rattle.flag_doubts.specs.Doubts.{name_of};
+ghost use Rattle.flagops_checks.specs.Sites as site_doubts;
+ghost use Rattle.flagops_checks.specs.Told.{BrokenPart, DoubtLines, FlagLines, IsDocumentLine, IsDoubtLine, LineIf, OwnLines, RepeatedPart, SiteLines, TellsDocument, UnreadPart, head_line};
 
 use crate::checked::Checked;
 use crate::form::Form;
 use crate::judging::Judged;
-use crate::reasons::{reason, repeated};
+use crate::reasons::{reason, repeated, site_reason};
+use crate::sites::SiteDoubt;
 use file_diagnostics::{of_definition_errors, of_unread};
 use flag_doubts::Doubt;
 use flag_text::Tree;
@@ -119,9 +122,18 @@ fn doubt_lines(alloc: Global, path: &str, flags: &[Judged<'_>]) -> Result<String
     Ok(text)
 }
 
-/// The lines of the doubts of a flag.
+/// The lines of the doubts of a flag, by itself and of its sites.
 fn flag_lines(alloc: Global, path: &str, flag: &Judged<'_>) -> Result<String, AllocError>
     ensures { IfOk result (λ s. FlagLines path.now (judged_view flag.now) (string_bytes s)) }
+{
+    let own = own_lines(alloc, path, flag)?;
+    let others = site_lines(alloc, path, flag)?;
+    format!(in alloc; "{own}{others}")
+}
+
+/// The lines of the doubts of a flag by itself.
+fn own_lines(alloc: Global, path: &str, flag: &Judged<'_>) -> Result<String, AllocError>
+    ensures { IfOk result (λ s. OwnLines path.now (judged_view flag.now) (string_bytes s)) }
 {
     let doubled = line_if(alloc, path, flag, Doubt::Doubled)?;
     let repeated = line_if(alloc, path, flag, Doubt::Repeated)?;
@@ -132,23 +144,50 @@ fn flag_lines(alloc: Global, path: &str, flag: &Judged<'_>) -> Result<String, Al
     format!(in alloc; "{doubled}{repeated}{unread}{weight}{variant}{never}")
 }
 
+/// The lines of the doubts of its sites.
+fn site_lines(alloc: Global, path: &str, flag: &Judged<'_>) -> Result<String, AllocError>
+    ensures { IfOk result (λ s. SiteLines path.now (judged_view flag.now) (string_bytes s)) }
+{
+    let sites = flag.sites;
+    let total = site_line_if(alloc, path, flag.key, sites.total, SiteDoubt::Total)?;
+    let constant = site_line_if(alloc, path, flag.key, sites.constant, SiteDoubt::Constant)?;
+    format!(in alloc; "{total}{constant}")
+}
+
 /// The line of a doubt, where a flag has it.
 fn line_if(alloc: Global, path: &str, flag: &Judged<'_>, doubt: Doubt) -> Result<String, AllocError>
-    ensures { IfOk result (λ s. LineIf (has doubt (judged_view flag.now)) path.now flag.now.key.now doubt (string_bytes s)) }
+    ensures { IfOk result (λ s. LineIf (has doubt (judged_view flag.now)) path.now flag.now.key.now (name_of doubt) (string_bytes s)) }
 {
     if flag.has(doubt) {
-        line(alloc, path, flag, doubt)
+        let why = reason(alloc, flag, doubt)?;
+        line(alloc, path, flag.key, why.as_str(), doubt.name())
     } else {
         Ok(String::new(alloc))
     }
 }
 
-fn line(alloc: Global, path: &str, flag: &Judged<'_>, doubt: Doubt) -> Result<String, AllocError>
-    ensures { IfOk result (λ s. IsDoubtLine path.now flag.now.key.now doubt (string_bytes s)) }
+/// The line of a doubt of a site, where there is one.
+fn site_line_if(
+    alloc: Global,
+    path: &str,
+    key: &str,
+    is_doubted: bool,
+    doubt: SiteDoubt,
+) -> Result<String, AllocError>
+    ensures { IfOk result (λ s. LineIf is_doubted path.now key.now (site_doubts.name_of doubt) (string_bytes s)) }
+{
+    if is_doubted {
+        line(alloc, path, key, site_reason(doubt), doubt.name())
+    } else {
+        Ok(String::new(alloc))
+    }
+}
+
+/// The line of a doubt of this name.
+fn line(alloc: Global, path: &str, key: &str, why: &str, name: &str) -> Result<String, AllocError>
+    ensures { IfOk result (λ s. IsDoubtLine path.now key.now name.now (string_bytes s)) }
 {
     let path = quoted(alloc, path)?;
-    let key = quoted(alloc, flag.key)?;
-    let why = reason(alloc, flag, doubt)?;
-    let name = doubt.name();
+    let key = quoted(alloc, key)?;
     format!(in alloc; "note: {path}: flag {key} {why} ({name})\n")
 }

@@ -296,7 +296,7 @@ fn of_ramp(
 ) -> Result<String, AllocError>
     ensures { IfOk result (λ s. NamesFile path.now (string_bytes s)) }
 {
-    let reason = format!(in alloc; "{fault}")?;
+    let reason = reason_of(alloc, fault)?;
     match ends {
         Ends::Marked => whole_line(
             alloc,
@@ -304,5 +304,15 @@ fn of_ramp(
             "begins with a byte order mark, so it is not a file of plans\n  save it as UTF-8 without the mark",
         ),
         _ => file_line(alloc, path, reason.as_str()),
+    }
+}
+
+/// Why a file is none of answers.
+fn reason_of(alloc: Global, fault: RampFileFault) -> Result<String, AllocError> {
+    match fault {
+        RampFileFault::Line(number) => {
+            format!(in alloc; "line {number} is not the plan of a step, as ramp prints it")
+        }
+        _ => format!(in alloc; "{fault}"),
     }
 }
