@@ -81,7 +81,7 @@ Metadata-sync : IsSync Metadata.the_row
 Metadata-sync = search (sendable, crosses, DocumentMetadata-sync) depth 40
 
 pub Flags-sync : IsSync Flags.the_row
-Flags-sync = search (sendable, crosses, Flag-sync, Metadata-sync) depth 40
+Flags-sync = declared_sync Flags.the_type (search (sendable, crosses, Flag-sync) depth 40, (Metadata-sync, tt))
 
 Kind-sync : IsSync Kind.the_row
 Kind-sync = search (sendable, crosses) depth 40

@@ -71,7 +71,7 @@ Metadata-sync : IsSync Metadata.the_row
 Metadata-sync = search (sendable, crosses, DocumentMetadata-sync) depth 40
 
 pub Flags-sync : IsSync Flags.the_row
-Flags-sync = search (sendable, crosses, Flag-sync, Metadata-sync) depth 40
+Flags-sync = declared_sync Flags.the_type (search (sendable, crosses, Flag-sync) depth 40, (Metadata-sync, tt))
 
 -- ---- and may go from one to another
 
@@ -115,7 +115,7 @@ Metadata-send : IsSend Metadata.the_row
 Metadata-send = search (sendable, crosses, DocumentMetadata-send) depth 40
 
 pub Flags-send : IsSend Flags.the_row
-Flags-send = search (sendable, crosses, Flag-send, Metadata-send) depth 40
+Flags-send = declared_send Flags.the_type (search (sendable, crosses, Flag-send) depth 40, (Metadata-send, tt))
 
 -- ---- so may a seat, which shares its flags with others
 

@@ -1,5 +1,4 @@
 mod Among
-mod Counted
 mod Crowded
 pub mod Cut
 mod Held

@@ -6,4 +6,3 @@ pub mod Stray
 pub mod Recorded
 pub mod Tallies
 pub mod Sorted
-pub mod Counts

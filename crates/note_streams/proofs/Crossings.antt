@@ -68,7 +68,7 @@ Metadata-sync : IsSync Metadata.the_row
 Metadata-sync = search (sendable, crosses, DocumentMetadata-sync) depth 40
 
 Flags-sync : IsSync Flags.the_row
-Flags-sync = search (sendable, crosses, Flag-sync, Metadata-sync) depth 40
+Flags-sync = declared_sync Flags.the_type (search (sendable, crosses, Flag-sync) depth 40, (Metadata-sync, tt))
 
 Page-sync : IsSync Page.the_row
 Page-sync = search (sendable, crosses) depth 40
