@@ -8,5 +8,6 @@ pub mod PlainFile
 pub mod PlainMembers
 pub mod Refused
 pub mod Spelled
+pub mod Tallied
 pub mod Unmarked
 pub mod Wanted

@@ -5,7 +5,6 @@ pub mod Gives
 pub mod Learned
 pub mod Lines
 pub mod Matched
-pub mod Reasons
 pub mod Sending
 pub mod Served
 pub mod Told

@@ -7,5 +7,4 @@ pub mod Refusal
 pub mod Report
 pub mod Sent
 pub mod Told
-pub mod Why
 pub mod Words
