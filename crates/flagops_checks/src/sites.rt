@@ -67,7 +67,10 @@ fn has_site(doubt: SiteDoubt, node: &Node) -> bool
         Node::List(items) => some_have(doubt, items),
         Node::Operation(_, arguments) => some_have(doubt, arguments),
         Node::Fractional { by, buckets, .. } => {
-            is_doubted_site(doubt, by, buckets) || by_has(doubt, by) || buckets_have(doubt, buckets)
+            if is_doubted_site(doubt, by, buckets) {
+                return true;
+            }
+            by_has(doubt, by) || buckets_have(doubt, buckets)
         }
     }
 }
