@@ -6,5 +6,5 @@ mod Matched
 mod Null
 mod Plainly
 mod Printed
-mod Sites
 mod Spoken
+mod Within

@@ -2,7 +2,7 @@ use Rattle.std.proofs.Common.{◌||◌, ap, sym, ◌∙◌}
 use Rattle.logic_ast.specs.View.{node_view, buckets_view}
 use Rattle.logic_ast.proofs.Views.{node_view-fractional}
 use Rattle.flagops_checks.specs.Sites.{buckets_have}
-use Rattle.flagops_checks.proofs.Sites.{here, inside}
+use Rattle.flagops_checks.proofs.Within.{here, inside}
 use Rattle.flagops_checks.proofs.sites.+sites.Goals as goal
 
 pub has_site-returns-then-is_doubted_site : goal.has_site-returns-then-is_doubted_site
