@@ -417,7 +417,8 @@ class Documents(ProgramTest):
         for kind, moment, status in WORDS:
             with self.subTest(kind=kind, moment=moment):
                 ran = run(["resolve", "d", "nope", kind, "0", "c", moment], {"d": DOCUMENT, "c": "{}"})
-                self.assertEqual((ran.status, ran.out == "", ran.err == ""), (status, status == 2, status == 0))
+                self.assertEqual((ran.status, ran.out == ""), (status, status == 2))
+                self.assertEqual(ran.err.startswith('note: "d" has no flag "nope"'), status == 0)
 
 
 if __name__ == "__main__":

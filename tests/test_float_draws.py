@@ -286,7 +286,9 @@ class Drawn(ProgramTest):
                 key, kind = draw.choice([*flags, "nobody"]), draw.choice(list(DEFAULTS))
                 ran = run(["resolve", "--floats", "d", key, draw.choice([kind, FLAGD.get(kind, kind)]), DEFAULTS[kind], "c", "0"], {"d": text, "c": context})
                 wanted = line(for_kind(flags, key, read_context(context), kind), DEFAULTS[kind])
-                self.assertEqual((ran.out, ran.err, ran.status), (wanted, "", 0), (text, key, kind, context))
+                self.assertEqual((ran.out, ran.status), (wanted, 0), (text, key, kind, context))
+                noted = '"code":"FLAG_NOT_FOUND"' in wanted and key == "nobody" or '"code":"TYPE_MISMATCH"' in wanted
+                self.assertEqual(ran.err.startswith('note: "d"'), noted, (text, key, kind, context))
 
     def test_drive(self):
         """Each key and each kind at once, by any number of workers."""

@@ -98,7 +98,8 @@ class Commands(ProgramTest):
         for key, kind, default, context_, printed in RESOLUTIONS:
             with self.subTest(key=key, kind=kind):
                 ran = run(["resolve", "--floats", "d", key, kind, default, "c", "0"], {"d": FLOATS, "c": context_})
-                self.assertEqual((ran.status, ran.out, ran.err), (0, printed, ""))
+                self.assertEqual((ran.status, ran.out), (0, printed))
+                self.assertEqual(ran.err.startswith('note: "d"'), '"FLAG_NOT_FOUND"' in printed or '"TYPE_MISMATCH"' in printed)
 
     def test_each_number_is_printed_as_it_is_spelled(self):
         for number in SPELLED:

@@ -26,8 +26,9 @@ from rows import ROWS, changed, read, restored, texts, write
 WANT = re.compile(rb"(refused [\w:-]+ 0 WantOfMemory)\n$")
 FILTERS = ("record", "tally", "join")
 
-# Kilobytes of address space in which the loader can't map the C library.
-SPACE = 3400
+# Kilobytes of address space in which the program has room, and the loader can't map the C library beside it. (In fewer than the program
+# needs itself, the system ends it by a signal before its start.)
+SPACE = os.path.getsize(PROGRAM) // 1024 + 400
 SECONDS, KILOBYTES = 2, 500_000
 
 
