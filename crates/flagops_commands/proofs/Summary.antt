@@ -4,8 +4,10 @@ use Rattle.std.specs.Prelude.{IfOk, IfSome, Result, Ok, Err}
 use Rattle.book_core.specs.Book.{Contents}
 use Rattle.file_diagnostics.specs.Named.{Names, quoted}
 use Rattle.file_diagnostics.specs.declared.lines.Opening.TheVariants.{Note}
+use Rattle.flag_resolve.specs.Floats.{Marked}
 use Rattle.flag_text.specs.Shape.{Shape}
-use Rattle.flagops_drive.specs.Tally.{IsTallyOf}
+use Rattle.flagops_drive.specs.Asks.{asks_of}
+use Rattle.flagops_drive.specs.Tally.{TalliesAsks}
 use Rattle.flagops_drive.specs.Unread.{has_unread_ask}
 use Rattle.flagops_drive.specs.declared.tally.Tally.{Tally}
 use Rattle.flagops_files.specs.Loading.{max_text}
@@ -15,7 +17,7 @@ use Rattle.flagops_shell.specs.declared.outcome.Outcome.{Outcome}
 use Rattle.flagops_shell.specs.declared.refused.Remark.{Remark}
 use Rattle.flagops_shell.specs.declared.refused.Remark.TheVariants.{Short, Lines}
 use Rattle.flagops_commands.specs.Drive.{before_at}
-use Rattle.flagops_commands.specs.Loaded.{tree_at}
+use Rattle.flagops_commands.specs.Loaded.{AreFlagsAt, tree_at}
 use Rattle.flagops_commands.specs.Refusal.{Refused}
 use Rattle.flagops_commands.specs.DriveSummary.{TellsDriven, TellsPrinted, TellsUnread, summary_text}
 
@@ -38,17 +40,17 @@ if_same (Ok d) x P is h = subst P (sym is) h
 if_same (Err e) x P is h = tt
 
 -- what is told of a tally of a text is told of what is printed
-module _ (asks book : List ℕ) (add json : Bool) (t : Shape) (before : Option Contents) (text : List ℕ) (tally : Tally) (remark : Remark) where
-  says_so : (at : Holding) → tree_at at asks max_text ≡ Ok t → before_at at book add ≡ Ok before → IsTallyOf before json text tally → (m : Remark) → Says (TellsDriven asks t tally) m
-      → Says (TellsPrinted at asks book add json text) m
-  says_so at tree had tallied Short says = tt
-  says_so at tree had tallied (Lines lines) says = (t, tree, before, had, tally, tallied, says)
+module _ (floats : Bool) (document asks book : List ℕ) (add json : Bool) (flags : Marked) (t : Shape) (before : Option Contents) (text : List ℕ) (tally : Tally) (remark : Remark) where
+  says_so : (at : Holding) → AreFlagsAt floats at document (Ok flags) → tree_at at asks max_text ≡ Ok t → before_at at book add ≡ Ok before → TalliesAsks flags (asks_of t) before json text tally → (m : Remark)
+      → Says (TellsDriven asks t tally) m → Says (TellsPrinted floats at document asks book add json text) m
+  says_so at are tree had tallied Short says = tt
+  says_so at are tree had tallied (Lines lines) says = (flags, are, t, tree, before, had, tally, tallied, says)
 
-  pub told_numbers : (old : Option Holding) (r : Result Outcome Refused) → IfSome old (λ at. tree_at at asks max_text ≡ Ok t) → IfSome old (λ at. before_at at book add ≡ Ok before)
-      → IsTallyOf before json text tally → Says (TellsDriven asks t tally) remark → IfOk r (λ o. (o.remark ≡ Some remark) × (o.text.items ≡ text))
-      → IfOk r (λ o. IfSome old (λ at. IfSome o.remark (Says (TellsPrinted at asks book add json o.text.items))))
-  told_numbers old (Err e) tree had tallied says written = tt
-  told_numbers None (Ok o) tree had tallied says written = tt
-  told_numbers (Some at) (Ok o) tree had tallied says written =
-      subst (λ (m : Option Remark). IfSome m (Says (TellsPrinted at asks book add json o.text.items))) (sym written.0)
-      (subst (λ (bs : List ℕ). Says (TellsPrinted at asks book add json bs) remark) (sym written.1) (says_so at tree had tallied remark says))
+  pub told_numbers : (old : Option Holding) (r : Result Outcome Refused) → IfSome old (λ at. AreFlagsAt floats at document (Ok flags)) → IfSome old (λ at. tree_at at asks max_text ≡ Ok t)
+      → IfSome old (λ at. before_at at book add ≡ Ok before) → TalliesAsks flags (asks_of t) before json text tally → Says (TellsDriven asks t tally) remark
+      → IfOk r (λ o. (o.remark ≡ Some remark) × (o.text.items ≡ text)) → IfOk r (λ o. IfSome old (λ at. IfSome o.remark (Says (TellsPrinted floats at document asks book add json o.text.items))))
+  told_numbers old (Err e) are tree had tallied says written = tt
+  told_numbers None (Ok o) are tree had tallied says written = tt
+  told_numbers (Some at) (Ok o) are tree had tallied says written =
+      subst (λ (m : Option Remark). IfSome m (Says (TellsPrinted floats at document asks book add json o.text.items))) (sym written.0)
+      (subst (λ (bs : List ℕ). Says (TellsPrinted floats at document asks book add json bs) remark) (sym written.1) (says_so at are tree had tallied remark says))

@@ -2,15 +2,17 @@
 use Rattle.std.specs.Prelude.{◌≡◌, ◌++◌, ℕ, ◌-◌, ◌/◌, ◌==◌, nat_le, Bool, true, false, List, [], ◌∷◌, codes, decimal, if◌then◌else◌, Option, Ok}
 use Rattle.book_core.specs.Book.{Contents}
 use Rattle.file_diagnostics.specs.Named.{Names, quoted}
+use Rattle.flag_resolve.specs.Floats.{Marked}
 use Rattle.flag_text.specs.Shape.{Shape}
-use Rattle.flagops_drive.specs.Tally.{IsTallyOf}
+use Rattle.flagops_drive.specs.Asks.{asks_of}
+use Rattle.flagops_drive.specs.Tally.{TalliesAsks}
 use Rattle.flagops_drive.specs.Unread.{has_unread_ask}
 use Rattle.flagops_drive.specs.declared.tally.Endings.{Endings}
 use Rattle.flagops_drive.specs.declared.tally.Tally.{Tally}
 use Rattle.flagops_files.specs.Loading.{max_text}
 use Rattle.flagops_shell.specs.Files.{Holding}
 use Rattle.flagops_commands.specs.Drive.{before_at}
-use Rattle.flagops_commands.specs.Loaded.{tree_at}
+use Rattle.flagops_commands.specs.Loaded.{AreFlagsAt, tree_at}
 
 -- what makes a name that of one thing, or of another number of them
 abbrev pub plural : ℕ → List ℕ
@@ -42,7 +44,7 @@ nothing_text = codes "  nothing was recorded: no ask reached a \"fractional\" wi
 unfoldable pub sharing_text : ℕ → ℕ → List ℕ
 sharing_text matched reached =
     if nat_le reached (matched / 20)
-    then codes "  there are " ++ (decimal (matched / reached) ++ codes " asks for each input: the same users asked again, or every context lacks what the bucketing expression reads\n")
+    then codes "  that is " ++ (decimal (matched / reached) ++ codes " asks for each input: the same users were asked again, or every context lacks what the bucketing expression reads\n")
     else []
 
 -- how many inputs the asks reached, how many of these were new to the book, and how many it has
@@ -69,7 +71,8 @@ TellsUnread false path lines = lines ≡ []
 abbrev pub TellsDriven : List ℕ → Shape → Tally → List ℕ → Type 0
 TellsDriven path asks t lines = (unread : List ℕ) × TellsUnread (has_unread_ask asks) path unread × (lines ≡ unread ++ summary_text path t)
 
--- The same of the asks of the file at a path, by a tally of what is printed and of the book that was there before.
-abbrev pub TellsPrinted : Holding → List ℕ → List ℕ → Bool → Bool → List ℕ → List ℕ → Type 0
-TellsPrinted at asks book add json text lines =
-    (t : Shape) × (tree_at at asks max_text ≡ Ok t) × (before : Option Contents) × (before_at at book add ≡ Ok before) × (tally : Tally) × IsTallyOf before json text tally × TellsDriven asks t tally lines
+-- The same of the asks of the file at a path, by a tally of what the flags of the document resolve them to, as it is printed, and of the book that was there before.
+abbrev pub TellsPrinted : Bool → Holding → List ℕ → List ℕ → List ℕ → Bool → Bool → List ℕ → List ℕ → Type 0
+TellsPrinted floats at document asks book add json text lines =
+    (flags : Marked) × AreFlagsAt floats at document (Ok flags) × (t : Shape) × (tree_at at asks max_text ≡ Ok t) × (before : Option Contents) × (before_at at book add ≡ Ok before)
+    × (tally : Tally) × TalliesAsks flags (asks_of t) before json text tally × TellsDriven asks t tally lines

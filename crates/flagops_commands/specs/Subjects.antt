@@ -16,7 +16,7 @@ use Rattle.flagops_rollouts.specs.Doubts.{NamesDoubted}
 use Rattle.flagops_rollouts.specs.Finer.{TellsFinerOf}
 use Rattle.flagops_rollouts.specs.Remarks.{TellsAppliedAt, TellsDoubtsAt, TellsKeptAt, TellsPlanAt}
 use Rattle.file_diagnostics.specs.Named.{Names, NamesWord}
-use Rattle.flagops_words.specs.Asked.{Asked, price, verify, apply, keep, plan, drive}
+use Rattle.flagops_words.specs.Asked.{Asked, price, resolve, verify, apply, keep, plan, drive}
 
 -- a key file is refused as a file, for what it holds, or for a key
 abbrev pub is_of_keys : ListedRefusal → Bool
@@ -71,9 +71,10 @@ abbrev pub driven_subjects : List ℕ → List ℕ → Subjects
 driven_subjects asks book = (file asks, is_of_asks) ∷ (word the_workers, is_of_driving) ∷ (file book, is_of_adding) ∷ []
 
 -- what a person is told beside the report of a command that was not refused: what is doubted of a
--- request or of an answer to it, what is left out of a document, and what the asks ended in
+-- request or of an answer to it, a key or a kind that the document does not have, what is left out of a document, and what the asks ended in
 abbrev pub notes_of : Asked → List ℕ → Type 0
 notes_of (price old new request keys json) = Names request
+notes_of (resolve document key kind default context moment floats) = Names document
 notes_of (verify document request book answer refine strict json floats) = NamesDoubted request book
 notes_of (plan document request book refine strict explain floats) = NamesDoubted request book
 notes_of (apply document answer key site strict floats) = Names document
@@ -84,7 +85,7 @@ notes_of asked = λ lines. Unit {0}
 -- and the numbers that are told: of `plan`, how many points its rule has where it was planned in finer ones, and of `drive`, those of what it printed
 abbrev pub numbers_of : Asked → Holding → Report → List ℕ → Type 0
 numbers_of (plan document request book refine strict explain floats) at report = TellsFinerOf request (unwrap_or refine 1) report.text
-numbers_of (drive document asks workers book add replace strict json floats) at report = TellsPrinted at asks book add json report.text
+numbers_of (drive document asks workers book add replace strict json floats) at report = TellsPrinted floats at document asks book add json report.text
 numbers_of asked at report = λ lines. Unit {0}
 
 -- and of a command on rollouts all that is told, part after part

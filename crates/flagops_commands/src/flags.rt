@@ -1,3 +1,4 @@
 //! The commands on flag documents.
 
 pub mod resolve;
+mod unresolved;

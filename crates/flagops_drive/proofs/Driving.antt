@@ -16,7 +16,8 @@ use Rattle.book_share.specs.declared.drive_fault.DriveFault.TheVariants.{WantOfM
 use Rattle.flagops_drive.specs.Asks.{Ask, ask_view, if_asks}
 use Rattle.flagops_drive.specs.Driven.{Drives, DriveOutput, IsDriveOf, IsOutput, IsReached, IsRefused, IsUnadded, Reached, drive_output_view}
 use Rattle.flagops_drive.specs.Fault.{of_union, want}
-use Rattle.flagops_drive.specs.Floats.{asked_as, spelled_of}
+use Rattle.flagops_drive.specs.Floats.{answered, answered_spelled, asked_as, spelled_of}
+use Rattle.flagops_drive.specs.Tally.{IsTallied, IsTallyOf, TalliesAsks}
 use Rattle.flagops_drive.specs.declared.command.DriveOutput as program_output
 use Rattle.flagops_drive.specs.declared.fault.DriveRefusal.{DriveRefusal}
 use Rattle.flagops_drive.specs.declared.fault.DriveRefusal.TheVariants.{Drive, BadAsks, PageFull}
@@ -68,6 +69,15 @@ pub output_is : (flags : Marked) (o : Option (List Ask)) (asks : List Ask) (work
     → Drives flags o workers before json result
 output_is flags o asks workers before json r (Ok d) read workers_fit reached output unadded = drove_of flags o asks workers before json r (drive_output_view d) read workers_fit reached output
 output_is flags o asks workers before json r (Err e) read workers_fit reached output unadded = λ wanted. unadded_of flags o asks workers before json r e read workers_fit reached unadded wanted
+
+-- the tally of what was driven, as that of the asks
+pub tally_is : (flags : Marked) (o : Option (List Ask)) (asks : List Ask) (before : Option Contents) (json : Bool) (r : Reached) (result : Result program_output.DriveOutput DriveRefusal) → if_asks o ≡ Ok asks → IsReached flags asks r
+    → IfOk result (λ d. IsTallyOf r.answers r.spelled before json d.text.items d.tally) → IfOk result (IsTallied flags o before json)
+tally_is flags o asks before json r (Err e) read reached tally = tt
+tally_is flags o asks before json r (Ok d) read reached tally =
+    subst (λ (p : Option (List Ask)). TalliesAsks flags p before json d.text.items d.tally) (sym (there o asks read))
+    (subst (λ (bs : List Bool). IsTallyOf (map (answered flags) asks) bs before json d.text.items d.tally) reached.spelled
+    (subst (λ (rs : List Resolved). IsTallyOf rs r.spelled before json d.text.items d.tally) reached.answers tally))
 
 -- the refusals of asks that were read
 refused_so : (flags : Marked) (asks : List Ask) (workers : ℕ) (before : Option Contents) (e : DriveFault) → (is_of_workers e ≡ true → workers_fault workers ≡ Some e) → e ≢ Stalled → Drive e ≢ want

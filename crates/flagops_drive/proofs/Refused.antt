@@ -1,12 +1,13 @@
 -- The refusals of a drive that take no memory.
 use Rattle.std.proofs.Common.{◌≡◌, ◌∙◌, ℕ, Bool, List, Option, Some, None, true, false, is_some, refl, sym, ap, subst}
-use Rattle.std.specs.Prelude.{Result, Err, option_map}
+use Rattle.std.specs.Prelude.{IfOk, Result, Err, option_map}
 use Rattle.flag_resolve.specs.Floats.{Marked}
 use Rattle.book_core.specs.Book.{Contents}
 use Rattle.book_share.specs.DriveFault.{workers_fault}
 use Rattle.book_share.specs.declared.drive_fault.DriveFault.{DriveFault}
 use Rattle.flagops_drive.specs.Asks.{Ask}
 use Rattle.flagops_drive.specs.Driven.{Drives, IsDriveOf, refusal_of}
+use Rattle.flagops_drive.specs.Tally.{IsTallied}
 use Rattle.flagops_drive.specs.declared.command.DriveOutput as program_output
 use Rattle.flagops_drive.specs.declared.fault.DriveRefusal.{DriveRefusal}
 use Rattle.flagops_drive.specs.declared.fault.DriveRefusal.TheVariants.{Drive, BadAsks}
@@ -39,3 +40,6 @@ none_first (Some asks) workers e h is first = let same : None ≡ Some e = ap (o
 
 pub same_asks : (flags : Marked) (items o : Option (List Ask)) (workers : ℕ) (before : Option Contents) (json : Bool) (r : Result program_output.DriveOutput DriveRefusal) → items ≡ o → Drives flags items workers before json r → Drives flags o workers before json r
 same_asks flags items o workers before json r is h = subst (λ (asks : Option (List Ask)). Drives flags asks workers before json r) is h
+
+pub same_tally : (flags : Marked) (items o : Option (List Ask)) (before : Option Contents) (json : Bool) (r : Result program_output.DriveOutput DriveRefusal) → items ≡ o → IfOk r (IsTallied flags items before json) → IfOk r (IsTallied flags o before json)
+same_tally flags items o before json r is h = subst (λ (asks : Option (List Ask)). IfOk r (IsTallied flags asks before json)) is h

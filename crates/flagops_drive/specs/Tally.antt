@@ -1,9 +1,12 @@
 -- How many of the asks ended in what, and how many inputs they reached.
-use Rattle.std.specs.Prelude.{◌≡◌, ℕ, Bool, List, codes, count_by, length, Option, Some, None, option_map, unwrap_or}
+use Rattle.std.specs.Prelude.{◌≡◌, ℕ, Bool, List, codes, count_by, length, map, Option, Some, None, option_map, unwrap_or}
 use Rattle.std.specs.Str.{bytes_eq}
 use Rattle.book_core.specs.Book.{Contents, input_count}
+use Rattle.flag_resolve.specs.Floats.{Marked}
 use Rattle.flag_resolve.specs.Resolved.{Resolved}
 use Rattle.flag_resolve.specs.Words.{code_word, reason_word}
+use Rattle.flagops_drive.specs.Asks.{Ask}
+use Rattle.flagops_drive.specs.Floats.{answered, answered_spelled}
 use Rattle.flagops_drive.specs.Lines.{drive_text}
 use Rattle.flagops_drive.specs.declared.command.DriveOutput.{DriveOutput}
 use Rattle.flagops_drive.specs.declared.tally.Endings.{Endings}
@@ -35,12 +38,16 @@ abbrev pub inputs_before : Option Contents → ℕ
 inputs_before None = 0
 inputs_before (Some book) = input_count book
 
--- The tally is of the resolutions that are printed, and has the counts that are printed below them: the inputs of the book that is written, and those that the asks reached. It has the inputs of the book that was there before.
-unfoldable pub IsTallyOf : Option Contents → Bool → List ℕ → Tally → Type 0
-IsTallyOf before json text tally =
-    (answers : List Resolved) × (spelled : List Bool) × (calls full long : ℕ) × (text ≡ drive_text json spelled answers tally.inputs calls tally.reached full long) × (tally.asks ≡ length answers) × IsEndings answers tally.endings
-    × (tally.had ≡ inputs_before before)
+-- The tally is of these resolutions, which are printed, their values by their spelling or not. It has the counts that are printed below them: the inputs of the book that is written, and those that the asks reached; and the inputs of the book that was there before.
+unfoldable pub IsTallyOf : List Resolved → List Bool → Option Contents → Bool → List ℕ → Tally → Type 0
+IsTallyOf answers spelled before json text tally =
+    (calls full long : ℕ) × (text ≡ drive_text json spelled answers tally.inputs calls tally.reached full long) × (tally.asks ≡ length answers) × IsEndings answers tally.endings × (tally.had ≡ inputs_before before)
 
--- the same of what is printed and told together
-abbrev pub IsTallied : Option Contents → Bool → DriveOutput → Type 0
-IsTallied before json d = IsTallyOf before json d.text.items d.tally
+-- the same of what the flags resolve these asks to
+abbrev pub TalliesAsks : Marked → Option (List Ask) → Option Contents → Bool → List ℕ → Tally → Type 0
+TalliesAsks flags None before json text tally = ⊥
+TalliesAsks flags (Some asks) before json text tally = IsTallyOf (map (answered flags) asks) (map (answered_spelled flags) asks) before json text tally
+
+-- and of what is printed and told together
+abbrev pub IsTallied : Marked → Option (List Ask) → Option Contents → Bool → DriveOutput → Type 0
+IsTallied flags asks before json d = TalliesAsks flags asks before json d.text.items d.tally

@@ -1,13 +1,15 @@
 //! The command over what it read.
-ghost use Rattle.std.specs.Prelude.{◌≡◌, ◌<◌, ◌^◌, true, IfErr, IfOk, IsErrOf, Ok, Some};
+ghost use Rattle.std.specs.Prelude.{◌≡◌, ◌<◌, ◌^◌, true, map, IfErr, IfOk, IsErrOf, Ok, Some};
 ghost use Rattle.book_core.specs.Reading.{book_of};
 ghost use Rattle.book_share.specs.DriveFault.{workers_fault};
 ghost use Rattle.flag_defs.specs.Floats.{marked_view};
+ghost use Rattle.flag_resolve.specs.Views.{resolution_view};
 ghost use Rattle.flag_text.specs.Shape.{is_whole, items_are_whole};
 ghost use Rattle.flagops_drive.specs.Asks.{asks_in, asks_of as asks_of_shape};
 ghost use Rattle.flagops_drive.specs.Driven.{Adds, Drives, IsOutput, IsUnadded, drive_output_view, reached_view, refusal_of};
 ghost use Rattle.flagops_drive.specs.File.{count_of, file_view, items_of};
-ghost use Rattle.flagops_drive.specs.Tally.{IsTallied};
+ghost use Rattle.flagops_drive.specs.Floats.{spelled_of};
+ghost use Rattle.flagops_drive.specs.Tally.{IsTallied, IsTallyOf};
 ghost use Rattle.flagops_drive.specs.declared.fault.DriveRefusal.{DriveRefusal as Refusal};
 
 use crate::asks::{AskItems, ask_items, asks_in};
@@ -72,7 +74,7 @@ pub fn refusal_of(asks: &AsksFile<'_>, workers: usize) -> Option<DriveRefusal>
 ///
 /// Where flags may have floats (`Flags::floats_at`) each ask is answered as by `flag_resolve::resolve_with_floats`, and the value of a
 /// flag that has some is printed by its spelling.
-#[tactic(auto, using(crate::proofs::Refused::bad_asks, crate::proofs::Refused::bad_asks_first, crate::proofs::Refused::bad_workers, crate::proofs::Refused::bad_workers_first, crate::proofs::Refused::none_first, crate::proofs::Refused::same_asks))]
+#[tactic(auto, using(crate::proofs::Refused::bad_asks, crate::proofs::Refused::bad_asks_first, crate::proofs::Refused::bad_workers, crate::proofs::Refused::bad_workers_first, crate::proofs::Refused::none_first, crate::proofs::Refused::same_asks, crate::proofs::Refused::same_tally))]
 pub fn drive_asks<R: Threads + Wait + Sync>(
     rt: &R,
     alloc: Global,
@@ -85,7 +87,7 @@ pub fn drive_asks<R: Threads + Wait + Sync>(
 ) -> Result<DriveOutput, DriveRefusal>
     requires { is_whole (file_view asks.now) ≡ true }
     ensures driven { Drives (marked_view flags.now) (asks_of_shape (file_view asks.now)) workers before json result }
-    ensures tally { IfOk result (IsTallied before json) }
+    ensures tally { IfOk result (IsTallied (marked_view flags.now) (asks_of_shape (file_view asks.now)) before json) }
     ensures file { IfOk result (λ d. book_of d.book.items ≡ Ok d.rest.book) }
     ensures refused { (e : Refusal) → refusal_of (asks_of_shape (file_view asks.now)) workers ≡ Some e → IsErrOf result e }
 {
@@ -112,7 +114,7 @@ fn drive_items<R: Threads + Wait + Sync>(
     requires whole { items_are_whole (items_of items) ≡ true }
     requires few { count_of items < 2 ^ 32 }
     ensures driven { Drives (marked_view flags.now) (asks_in (items_of items.entry)) workers before json result }
-    ensures tally { IfOk result (IsTallied before json) }
+    ensures tally { IfOk result (IsTallied (marked_view flags.now) (asks_in (items_of items.entry)) before json) }
     ensures file { IfOk result (λ d. book_of d.book.items ≡ Ok d.rest.book) }
 {
     let mut asks = asks_in(alloc, items)?;
@@ -149,7 +151,7 @@ fn output_of(
     json: bool,
 ) -> Result<DriveOutput, DriveRefusal>
     ensures output { IfOk result (λ d. IsOutput before json (reached_view (marked_view flags.now) asks.now driven) (drive_output_view d)) }
-    ensures tally { IfOk result (IsTallied before json) }
+    ensures tally { IfOk result (λ d. IsTallyOf (map resolution_view driven.answers.items) (spelled_of (marked_view flags.now) asks.now (map resolution_view driven.answers.items)) before json d.text.items d.tally) }
     ensures file { IfOk result (λ d. book_of d.book.items ≡ Ok d.rest.book) }
     ensures refused { IfErr result (IsUnadded before driven.book) }
 {

@@ -28,6 +28,7 @@ use flag_defs::Flags;
 use flag_text::Outlet;
 use flagops_files::load_flags_as;
 use flagops_shell::{Console, FileSet, Refused, Remark, refuse, report_usage, tell};
+use key_diagnostics::known_keys;
 use line_batches::Inlet;
 use note_streams::{Counted, RecordStop, record_stream};
 use record_lines::{RecordFault, Recorder};
@@ -116,7 +117,12 @@ fn over<R: Threads + Sync, I: Inlet + Opening, O: Outlet, E: Outlet>(
     let start = Start::of(flags, asked.key, asked.moment, now);
     match Recorder::new(alloc, flags, asked.key, start.moment(asked.moment)) {
         Ok(recorder) => stream(rt, alloc, &recorder, asked.workers, start, input, console),
-        Err(fault) => refuse(alloc, unrecorded(alloc, asked, fault), RECORD, console),
+        Err(fault) => refuse(
+            alloc,
+            unrecorded(alloc, asked, flags, fault),
+            RECORD,
+            console,
+        ),
     }
 }
 
@@ -189,25 +195,48 @@ fn is_broken_off(stop: &RecordStop) -> bool
 
 /// A flag that is not recorded, which is refused as `plan` refuses it.
 #[tactic(auto, using(flagops_files::proofs::Told::says))]
-fn unrecorded(alloc: Global, asked: &Recording<'_>, fault: RecordFault) -> Refused<FilterRefusal>
+fn unrecorded(
+    alloc: Global,
+    asked: &Recording<'_>,
+    flags: &Flags,
+    fault: RecordFault,
+) -> Refused<FilterRefusal>
     ensures refusal { result.refusal ≡ Flag (of_record fault) }
     ensures names { Says (NamesPath asked.now.document.now) result.remark }
 {
-    let reason = match fault {
-        RecordFault::WantOfMemory => "out of memory",
-        RecordFault::UnknownFlag => "no such flag",
-        RecordFault::Broken => "it is broken",
-    };
     Refused {
         refusal: FilterRefusal::Flag(fault_of(fault)),
-        remark: Remark::of(unrecorded_line(alloc, asked, reason)),
+        remark: Remark::of(unrecorded_line(alloc, asked, flags, fault)),
     }
 }
 
-fn unrecorded_line(alloc: Global, asked: &Recording<'_>, reason: &str) -> Result<String, AllocError>
+fn unrecorded_line(
+    alloc: Global,
+    asked: &Recording<'_>,
+    flags: &Flags,
+    fault: RecordFault,
+) -> Result<String, AllocError>
     ensures { IfOk result (λ s. NamesPath asked.now.document.now (string_bytes s)) }
 {
-    flag_line(alloc, asked.document, asked.key, reason)
+    match fault {
+        RecordFault::WantOfMemory => flag_line(alloc, asked.document, asked.key, "out of memory"),
+        RecordFault::UnknownFlag => unknown_lines(alloc, asked, flags),
+        RecordFault::Broken => flag_line(
+            alloc,
+            asked.document,
+            asked.key,
+            "it is broken\n  \"flagops check\" says why",
+        ),
+    }
+}
+
+/// The lines on a key that no flag has, and the keys that may be meant.
+fn unknown_lines(alloc: Global, asked: &Recording<'_>, flags: &Flags) -> Result<String, AllocError>
+    ensures { IfOk result (λ s. NamesPath asked.now.document.now (string_bytes s)) }
+{
+    let known = known_keys(alloc, flags, asked.key)?;
+    let reason = format!(in alloc; "no such flag\n  {known}")?;
+    flag_line(alloc, asked.document, asked.key, reason.as_str())
 }
 
 fn fault_of(fault: RecordFault) -> RolloutFault

@@ -112,7 +112,7 @@ pub(crate) fn steps_refused(
     let fault = of_steps(fault);
     Refused {
         refusal: RampRefusal::Verify(VerifyFault::Request(fault.fault)),
-        remark: Remark::of(of_steps_in(alloc, path, question, fault)),
+        remark: Remark::of(of_steps_in(alloc, path, question, 1, fault)),
     }
 }
 
@@ -283,7 +283,7 @@ fn advice_of(fault: &VerifyFault) -> &'static str {
     match fault {
         VerifyFault::Request(fault) => advice_on(*fault),
         VerifyFault::Check(_) =>
-            "\n  plan the steps again with this document, file of steps and book",
+            "\n  the document or the book may have changed since they were planned\n  plan the steps again with this document, file of steps and book",
     }
 }
 

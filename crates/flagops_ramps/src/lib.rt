@@ -36,6 +36,7 @@ mod misplaced;
 mod ramping;
 mod refusal;
 mod remarks;
+mod sums;
 mod usage;
 mod verifying;
 mod words;

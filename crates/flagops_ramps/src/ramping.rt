@@ -123,7 +123,7 @@ fn answer<R: Threads + Sync>(
 {
     let steps = match read_steps(alloc, question.request.bytes()) {
         Ok(steps) => steps,
-        Err(fault) => return Err(refused(alloc, asked.steps, &question, of_steps(fault))),
+        Err(fault) => return Err(refused(alloc, asked, &question, of_steps(fault))),
     };
     let mut question = question;
     let requests = steps.as_slice();
@@ -134,7 +134,7 @@ fn answer<R: Threads + Sync>(
     let (flags, evidence) = (&question.flags, &question.evidence);
     match planned_on(rt, alloc, flags, requests, evidence, factor) {
         Ok(answers) => told(rt, alloc, asked, &question, requests, answers.as_slice()),
-        Err(fault) => Err(refused(alloc, asked.steps, &question, fault)),
+        Err(fault) => Err(refused(alloc, asked, &question, fault)),
     }
 }
 
@@ -208,13 +208,24 @@ fn noted(
 
 /// A step that is refused, which a person is told of.
 #[tactic(auto, using(flagops_files::proofs::Told::says))]
-fn refused(alloc: Global, path: &str, question: &Question, fault: StepFault) -> Refused<RampRefusal>
+fn refused(
+    alloc: Global,
+    asked: &Ramping<'_>,
+    question: &Question,
+    fault: StepFault,
+) -> Refused<RampRefusal>
     ensures refusal { result.refusal ≡ RampRefusal.Ramp fault.fault }
-    ensures names { Says (NamesPath path.now) result.remark }
+    ensures names { Says (NamesPath asked.now.steps.now) result.remark }
 {
     Refused {
         refusal: RampRefusal::Ramp(fault.fault),
-        remark: Remark::of(of_steps_in(alloc, path, question, fault)),
+        remark: Remark::of(of_steps_in(
+            alloc,
+            asked.steps,
+            question,
+            factor_of(asked.refine),
+            fault,
+        )),
     }
 }
 

@@ -2,6 +2,7 @@
 ghost use Rattle.std.specs.Prelude.{IfOk, string_bytes};
 ghost use Rattle.flagops_ramps.specs.Diagnostics.{NamesPath, NamesStep};
 
+use crate::sums::of_sums;
 use file_diagnostics::of_text;
 use flagops_files::{Question, TEXT_LIMIT, file_line, quoted};
 use ramp::StepFault;
@@ -12,13 +13,14 @@ use std::alloc::{AllocError, Global};
 const LOOK: &str =
     "it is not a request with \"steps\", a list of 1 to 100 totals, in the place of \"totals\"; docs/FORMATS.md has all of it";
 
-/// Of the steps of a file, by its text: what is wrong with one that is no tree, what steps look like where there are none, and
-/// else the step that is refused.
+/// Of the steps of a file, by its text, which are for a rule with each weight multiplied by a factor: what is wrong with one that is no
+/// tree, what steps look like where there are none, and else the step that is refused.
 #[tactic(auto, using(crate::proofs::Diagnosed::name_path, crate::proofs::Diagnosed::file_path, crate::proofs::Diagnosed::step_path))]
 pub(crate) fn of_steps_in(
     alloc: Global,
     path: &str,
     question: &Question,
+    factor: u32,
     fault: StepFault,
 ) -> Result<String, AllocError>
     ensures { IfOk result (λ s. NamesPath path.now (string_bytes s)) }
@@ -26,19 +28,39 @@ pub(crate) fn of_steps_in(
     let file = &question.request;
     match file.tree() {
         Ok(_) if fault.step == 0 => file_line(alloc, path, LOOK),
-        Ok(_) => of_step(alloc, path, fault),
+        Ok(_) => of_step(alloc, path, question, factor, fault),
         Err(fault) => of_text(alloc, path, file.bytes(), TEXT_LIMIT as usize, fault),
     }
 }
 
 /// Of a step that is refused.
-fn of_step(alloc: Global, path: &str, fault: StepFault) -> Result<String, AllocError>
+fn of_step(
+    alloc: Global,
+    path: &str,
+    question: &Question,
+    factor: u32,
+    fault: StepFault,
+) -> Result<String, AllocError>
     ensures { IfOk result (λ s. NamesStep path.now fault.step (string_bytes s)) }
 {
+    let advice = advice_for(alloc, question, factor, fault)?;
     let what = fault.fault;
-    let advice = advice_on(what);
     let reason = format!(in alloc; "{what}{advice}")?;
     step_line(alloc, path, fault.step, reason.as_str())
+}
+
+/// What to do about it, as lines below it.
+fn advice_for(
+    alloc: Global,
+    question: &Question,
+    factor: u32,
+    fault: StepFault,
+) -> Result<String, AllocError> {
+    if fault.fault == RolloutFault::TotalsSum {
+        of_sums(alloc, question, fault.step, factor)
+    } else {
+        String::from_str(alloc, advice_on(fault.fault))
+    }
 }
 
 /// What to do about a step that is refused, as a line below it.

@@ -1,4 +1,5 @@
 mod Bare
+mod FirstNear
 pub mod Loops
 pub mod Matching
 pub mod Places

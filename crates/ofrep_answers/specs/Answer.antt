@@ -12,6 +12,7 @@ use Rattle.flag_text.specs.Shape.{Shape}
 use Rattle.logic_eval.specs.Run.{Reach}
 use Rattle.logic_eval.specs.Views.{reach_view}
 use Rattle.ofrep_answers.specs.Evaluation.{bodies, evaluation, is_spelled, reached_at, reached_in}
+use Rattle.ofrep_answers.specs.Near.{near_details, near_if}
 use Rattle.ofrep_answers.specs.Request.{Asked}
 use Rattle.ofrep_answers.specs.declared.answer.Answer as program
 use Rattle.ofrep_answers.specs.declared.answer.Content.{Content}
@@ -98,8 +99,17 @@ without_context key body fault = failed key (fault_code fault) (details_in body 
 abbrev pub one_told : Bool → List ℕ → List ℕ → Resolved → Answered
 one_told spelled metadata key r = record { status = status_of r; allow = None; tag = None; body = json (body_text spelled metadata key r); reached = reached_at key r.reached }
 
+-- the same, where no flag's key is near one that none has
+abbrev pub one_unless_near : Option (List ℕ) → Bool → List ℕ → List ℕ → Resolved → Answered
+one_unless_near None spelled metadata key r = one_told spelled metadata key r
+one_unless_near (Some near) spelled metadata key r = failed (Some key) (Some FlagNotFound) (near_details near)
+
+-- what a resolution is answered with: where no flag has the key, it is said which key is near
+abbrev pub one_resolved : AnswerMetadata → Marked → List ℕ → Resolved → Answered
+one_resolved metadata flags key r = one_unless_near (near_if r.code flags.0 key) (is_spelled key flags) (metadata.of_flag key) key r
+
 abbrev pub one_in : AnswerMetadata → Marked → ℕ → List ℕ → List ℕ → Result Shape ContextFault → Answered
-one_in metadata flags moment key body (Ok context) = one_told (is_spelled key flags) (metadata.of_flag key) key (evaluation flags.0 key context moment)
+one_in metadata flags moment key body (Ok context) = one_resolved metadata flags key (evaluation flags.0 key context moment)
 one_in metadata flags moment key body (Err fault) = without_context (Some key) body fault
 
 -- what stands in a path in the place of the key, as it was sent

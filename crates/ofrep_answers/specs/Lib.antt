@@ -3,4 +3,5 @@ pub mod Evaluation
 pub mod Kind
 pub mod Law
 pub mod Metadata
+pub mod Near
 pub mod Request

@@ -16,6 +16,7 @@ mod evaluation;
 mod every;
 mod kind;
 mod laws;
+mod near;
 mod one;
 mod reasons;
 mod request;

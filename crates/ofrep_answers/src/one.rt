@@ -1,25 +1,29 @@
 //! The answer to a request for one flag.
-ghost use Rattle.std.specs.Prelude.{◌≡◌, ◌<◌, ◌≢◌, ◌^◌, true, Some, IfOk, IsOk, option_copied, option_map, unwrap_or};
+ghost use Rattle.std.specs.Prelude.{◌≡◌, ◌<◌, ◌≢◌, ◌^◌, true, Some, IfOk, IsOk, option_copied, option_map, string_bytes, unwrap_or};
 ghost use Rattle.flag_defs.specs.Flags.{flags_view};
 ghost use Rattle.flag_defs.specs.Floats.{floats_view};
 ghost use Rattle.flag_metadata.specs.Merged.{flag_metadata};
 ghost use Rattle.flag_metadata.specs.View.{metadata_view};
 ghost use Rattle.flag_text.specs.Shape.{is_tidy};
 ghost use Rattle.flag_text.specs.View.{view};
-ghost use Rattle.ofrep_answers.specs.Answer.{answer_view, failed, fault_code, one_told, segment_of};
+ghost use Rattle.ofrep_answers.specs.Answer.{answer_view, failed, fault_code, one_resolved, one_told, segment_of};
 ghost use Rattle.ofrep_answers.specs.Answer as spec;
-ghost use Rattle.ofrep_answers.specs.Evaluation.{evaluation, is_spelled};
+ghost use Rattle.flag_resolve.specs.Views.{resolution_view};
+ghost use Rattle.flag_resolve.specs.declared.code.Code.TheVariants.{FlagNotFound};
+ghost use Rattle.ofrep_answers.specs.Evaluation.{evaluation};
 ghost use Rattle.ofrep_answers.specs.Metadata.{metadata_of};
+ghost use Rattle.ofrep_answers.specs.Near.{near_details};
 ghost use Rattle.ofrep_contexts.specs.Context.{context_of};
 ghost use Rattle.ofrep_requests.specs.Request as request;
 ghost use Rattle.ofrep_requests.specs.Request.{text_if};
 
 use crate::answer::{Answer, Content, push_reached};
 use crate::evaluation::{evaluate, is_spelled};
+use crate::near::near_if;
 use crate::reasons::Reasons;
 use flag_defs::Flags;
 use flag_metadata::Metadata;
-use flag_resolve::Code;
+use flag_resolve::{Code, Reason, Resolution};
 use flag_text::{Tree, print_tree};
 use json::Scratch;
 use ofrep_bodies::{code_status, evaluation_text, failure_body, status_of};
@@ -88,14 +92,14 @@ fn one_in(
     ensures { IfOk result (λ a. answer_view a ≡ spec.one_in (metadata_of (metadata_view metadata.now)) (flags_view flags.now, floats_view flags.now) moment key.now body.now (context_of body.now)) }
 {
     match read_context_with(alloc, body, scratch) {
-        Ok(context) => one_told(alloc, flags, metadata, moment, key, &context),
+        Ok(context) => one_in_context(alloc, flags, metadata, moment, key, &context),
         Err(ContextFault::WantOfMemory) => Err(AllocError),
         Err(fault) => without_context(alloc, Some(key), body, fault),
     }
 }
 
-/// The answer that the flag of this key has in this context.
-fn one_told(
+/// The answer that the flag of this key has in this context. Where no flag has the key, it says which key is near.
+fn one_in_context(
     alloc: Global,
     flags: &Flags,
     metadata: &Metadata,
@@ -105,12 +109,40 @@ fn one_told(
 ) -> Result<Answer, AllocError>
     requires moment { moment < 2 ^ 53 }
     requires context { is_tidy (view context.now) ≡ true }
-    ensures { IfOk result (λ a. answer_view a ≡ one_told (is_spelled key.now (flags_view flags.now, floats_view flags.now)) (flag_metadata (metadata_view metadata.now) key.now) key.now (evaluation (flags_view flags.now) key.now (view context.now) moment)) }
+    ensures { IfOk result (λ a. answer_view a ≡ one_resolved (metadata_of (metadata_view metadata.now)) (flags_view flags.now, floats_view flags.now) key.now (evaluation (flags_view flags.now) key.now (view context.now) moment)) }
 {
     let resolution = evaluate(alloc, flags, key, context, moment)?;
+    one_resolved(alloc, flags, metadata, key, resolution)
+}
+
+/// The answer with a resolution of the flag of this key.
+fn one_resolved(
+    alloc: Global,
+    flags: &Flags,
+    metadata: &Metadata,
+    key: &str,
+    resolution: Resolution,
+) -> Result<Answer, AllocError>
+    ensures { IfOk result (λ a. answer_view a ≡ one_resolved (metadata_of (metadata_view metadata.now)) (flags_view flags.now, floats_view flags.now) key.now (resolution_view resolution)) }
+{
+    match near_if(resolution.code, flags, key) {
+        Some(near) => not_found(alloc, key, near, resolution.reason),
+        None => one_told(alloc, metadata, key, resolution, is_spelled(flags, key)),
+    }
+}
+
+/// The answer with a resolution, whose value may stand as its spelling.
+fn one_told(
+    alloc: Global,
+    metadata: &Metadata,
+    key: &str,
+    resolution: Resolution,
+    spelled: bool,
+) -> Result<Answer, AllocError>
+    ensures { IfOk result (λ a. answer_view a ≡ one_told spelled (flag_metadata (metadata_view metadata.now) key.now) key.now (resolution_view resolution)) }
+{
     let status = status_of(&resolution);
     let reasons = Reasons::of(resolution.reason);
-    let spelled = is_spelled(flags, key);
     let text = evaluation_text(alloc, metadata, key, &resolution, spelled)?.into_bytes();
     let mut reached = Vec::new(alloc);
     push_reached(alloc, &mut reached, key, resolution.reached)?;
@@ -122,6 +154,24 @@ fn one_told(
         reached,
         reasons,
     })
+}
+
+/// The answer to a key that no flag has, where one has a key that is near.
+fn not_found(alloc: Global, key: &str, near: &str, reason: Reason) -> Result<Answer, AllocError>
+    ensures { IfOk result (λ a. answer_view a ≡ failed (Some key.now) (Some FlagNotFound) (near_details near.now)) }
+{
+    let details = near_details(alloc, near)?;
+    let mut answer = failed(alloc, Some(key), Code::FlagNotFound, details.as_str())?;
+    answer.reasons = Reasons::of(reason);
+    Ok(answer)
+}
+
+/// What is said of such a key.
+#[tactic(auto, unfolding(crate::specs::Near::near_details))]
+fn near_details(alloc: Global, near: &str) -> Result<String, AllocError>
+    ensures { IfOk result (λ s. string_bytes s ≡ near_details near.now) }
+{
+    format!(in alloc; "no flag has this key; perhaps \"{near}\" is meant")
 }
 
 /// The answer to this body without a context: that of its fault, for one flag or for every flag.

@@ -28,11 +28,11 @@ default_details Default = codes "the flag leaves it to the caller's default"
 default_details TargetingMatch = codes "the flag leaves it to the caller's default"
 
 abbrev pub code_details : Code → List ℕ
-code_details ProviderNotReady = codes "there are no flags yet"
-code_details InvalidContext = codes "the context is no object"
-code_details FlagNotFound = codes "there is no flag with this key"
+code_details ProviderNotReady = codes "no flags are loaded yet"
+code_details InvalidContext = codes "the context is not an object"
+code_details FlagNotFound = codes "no flag has this key"
 code_details ParseError = codes "the flag's definition breaks a rule, or its targeting can't be evaluated"
-code_details General = codes "the flag's targeting gives no name of a variant"
+code_details General = codes "the flag's targeting does not result in the name of a variant"
 code_details TypeMismatch = codes "the variant's value is of another type"
 
 -- what failed, for people

@@ -60,13 +60,13 @@ fn code_details(code: Code) -> &'static str
     ensures { result.now ≡ spec.code_details code }
 {
     match code {
-        Code::ProviderNotReady => "there are no flags yet",
-        Code::InvalidContext => "the context is no object",
-        Code::FlagNotFound => "there is no flag with this key",
+        Code::ProviderNotReady => "no flags are loaded yet",
+        Code::InvalidContext => "the context is not an object",
+        Code::FlagNotFound => "no flag has this key",
         Code::ParseError => {
             "the flag's definition breaks a rule, or its targeting can't be evaluated"
         }
-        Code::General => "the flag's targeting gives no name of a variant",
+        Code::General => "the flag's targeting does not result in the name of a variant",
         Code::TypeMismatch => "the variant's value is of another type",
     }
 }

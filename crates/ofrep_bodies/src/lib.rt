@@ -9,9 +9,9 @@
 //! use flag_text::print_tree;
 //! use ofrep_bodies::failure_body;
 //!
-//! let body = failure_body(alloc, None, Code::ParseError, "the body is no JSON text")?;
+//! let body = failure_body(alloc, None, Code::ParseError, "the body is not valid JSON")?;
 //! assert!(rt; print_tree(alloc, &body)?.as_str()
-//!     == r#"{"errorCode":"PARSE_ERROR","errorDetails":"the body is no JSON text"}"#);
+//!     == r#"{"errorCode":"PARSE_ERROR","errorDetails":"the body is not valid JSON"}"#);
 //! ```
 //!
 //! Proved, over the definitions of `specs/`: each body is the tree or text that its definition gives (`Bodies`, `Evaluation`), unless

@@ -10,9 +10,9 @@ abbrev pub details_of : ContextFault → List ℕ
 details_of WantOfMemory = codes "out of memory"
 details_of TooLarge = codes "the body is too large"
 details_of BodyTooDeep = codes "the body nests deeper than 127 levels"
-details_of NotJson = codes "the body is no JSON text"
-details_of BodyNotObject = codes "the body is no object"
-details_of NotObject = codes "`context` is no object"
+details_of NotJson = codes "the body is not valid JSON"
+details_of BodyNotObject = codes "the body is not an object"
+details_of NotObject = codes "`context` is not an object"
 details_of TooDeep = codes "`context` has more than 120 levels"
 
 -- the same fault, of a text; none is refused for a number of it that is not whole

@@ -20,13 +20,13 @@ pub enum ContextFault {
     #[error("the body nests deeper than 127 levels")]
     BodyTooDeep,
     /// The body is no JSON text in UTF-8.
-    #[error("the body is no JSON text")]
+    #[error("the body is not valid JSON")]
     NotJson,
     /// The body is no object.
-    #[error("the body is no object")]
+    #[error("the body is not an object")]
     BodyNotObject,
     /// Its member `context` is neither an object nor null.
-    #[error("`context` is no object")]
+    #[error("`context` is not an object")]
     NotObject,
     /// The context has more than 120 levels.
     #[error("`context` has more than 120 levels")]
@@ -44,9 +44,9 @@ impl ContextFault {
             ContextFault::WantOfMemory => "out of memory",
             ContextFault::TooLarge => "the body is too large",
             ContextFault::BodyTooDeep => "the body nests deeper than 127 levels",
-            ContextFault::NotJson => "the body is no JSON text",
-            ContextFault::BodyNotObject => "the body is no object",
-            ContextFault::NotObject => "`context` is no object",
+            ContextFault::NotJson => "the body is not valid JSON",
+            ContextFault::BodyNotObject => "the body is not an object",
+            ContextFault::NotObject => "`context` is not an object",
             ContextFault::TooDeep => "`context` has more than 120 levels",
         }
     }

@@ -212,7 +212,7 @@ fn sharing_text(alloc: Global, matched: u128, reached: u128) -> Result<String, A
     }
     let asks = matched / reached;
     format!(in alloc;
-        "  there are {asks} asks for each input: the same users asked again, or every context lacks what the bucketing expression reads\n"
+        "  that is {asks} asks for each input: the same users were asked again, or every context lacks what the bucketing expression reads\n"
     )
 }
 

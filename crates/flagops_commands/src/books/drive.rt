@@ -62,7 +62,7 @@ pub fn drive<R: Threads + Wait + Sync, F: FileSet>(
     ensures unread { IfSome (F.holding files.old) (λ at. strict ≡ true → HasUnreadAsk at asks.now → IsRefusedByName result) }
     ensures names { IfSome (F.holding files.old) (λ at. TellsOfFirst (drive_attempts floats at document.now asks.now book.now add) result) }
     ensures notes { IfOk result (λ o. IfSome o.remark (Says (Names asks.now))) }
-    ensures numbers { IfOk result (λ o. IfSome (F.holding files.old) (λ at. IfSome o.remark (Says (TellsPrinted at asks.now book.now add json o.text.items)))) }
+    ensures numbers { IfOk result (λ o. IfSome (F.holding files.old) (λ at. IfSome o.remark (Says (TellsPrinted floats at document.now asks.now book.now add json o.text.items)))) }
 {
     let flags = load_marked(alloc, files, document, floats)?;
     let mut bytes = Vec::new(alloc);

@@ -56,7 +56,7 @@ pub fn drive_output<R: Threads + Wait + Sync>(
     ensures read { is_file_fault result ≡ false }
     ensures refused { (e : Reason) → admitted strict (refusal_of (asks_of (file_view asks.now)) workers) (file_view asks.now) ≡ Err e → IsErrAnd result (λ r. r.refusal ≡ e) }
     ensures names { TellsOfOne (driven_subjects path.now book.now) result }
-    ensures tally { IfOk result (IsTallied before json) }
+    ensures tally { IfOk result (IsTallied (marked_view flags.now) (asks_of (file_view asks.now)) before json) }
     ensures file { IfOk result (λ d. book_of d.book.items ≡ Ok d.rest.book) }
 {
     let workers = usize::from(workers);

@@ -166,8 +166,8 @@ returns-clause-failed g c = failed_last _ _ _ _ _ _ c.in_ok-flags.ensures.failed
 
 pub returns-clause-numbers : goal.returns-clause-numbers
 returns-clause-numbers g c =
-    told_numbers c.args.asks.now c.args.book.now c.args.add c.args.json (file_view c.in_ok-loaded.loaded) c.in_ok-before.before c.in_ok-drive_output.drive_output.text.items c.in_ok-drive_output.drive_output.tally c.remark_on-remark.result _ _
-    (at_first _ _ _ c.load_marked.ensures.kept c.in_ok-loaded.ensures.exact) (at_first _ _ _ (c.load_asks.ensures.kept ∙ c.load_marked.ensures.kept) c.in_ok-before.ensures.exact) c.in_ok-drive_output.ensures.tally c.remark_on-remark.ensures.numbers c.written.ensures.remark
+    told_numbers c.args.floats c.args.document.now c.args.asks.now c.args.book.now c.args.add c.args.json (marked_view c.in_ok-flags.flags) (file_view c.in_ok-loaded.loaded) c.in_ok-before.before c.in_ok-drive_output.drive_output.text.items c.in_ok-drive_output.drive_output.tally c.remark_on-remark.result _ _
+    c.in_ok-flags.ensures.exact (at_first _ _ _ c.load_marked.ensures.kept c.in_ok-loaded.ensures.exact) (at_first _ _ _ (c.load_asks.ensures.kept ∙ c.load_marked.ensures.kept) c.in_ok-before.ensures.exact) c.in_ok-drive_output.ensures.tally c.remark_on-remark.ensures.numbers c.written.ensures.remark
 
 pub returns-clause-calls : goal.returns-clause-calls
 returns-clause-calls g c = driven_by c.written.result c.written.ensures.calls

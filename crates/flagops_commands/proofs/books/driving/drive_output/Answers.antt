@@ -43,7 +43,7 @@ returns-in-Ok-clause-refused g c = λ e is.
     (ap (λ (n : ℕ). admitted c.args.strict (refusal_of (asks_of asks) n) asks) c.from-workers.ensures ∙ is)
 
 pub returns-in-Ok-clause-tally : goal.returns-in-Ok-clause-tally
-returns-in-Ok-clause-tally g c = if_same c.recorded.result c.in-Ok.drive_output (IsTallied c.args.before c.args.json) c.recorded.ensures.same c.in-Ok.ensures.tally
+returns-in-Ok-clause-tally g c = if_same c.recorded.result c.in-Ok.drive_output (IsTallied (marked_view c.args.flags.now) (asks_of (file_view c.args.asks.now)) c.args.before c.args.json) c.recorded.ensures.same c.in-Ok.ensures.tally
 
 pub returns-in-Ok-clause-file : goal.returns-in-Ok-clause-file
 returns-in-Ok-clause-file g c = if_same c.recorded.result c.in-Ok.drive_output (λ d. book_of d.book.items ≡ Ok d.rest.book) c.recorded.ensures.same c.in-Ok.ensures.file
