@@ -149,6 +149,17 @@ class Plans(ControlTest):
         self.assertEqual(status, 400)
         self.assertIn(json.loads(body)["name"], {"Mixed", "Line"})
 
+    @unittest.skipUnless(serves_console(), "the program has no such calls yet")
+    def test_the_flags_tell_how_many_inputs_are_recorded(self):
+        document, lines = drawn_document(random.Random(7))
+        self.begin(document, [*lines, *lines])
+        noted = [tuple(json.loads(line)[:2]) for line in set(lines)]
+        status, _, body = self.ask("GET", "/flags")
+        self.assertEqual(status, 200)
+        for site in json.loads(body)["sites"]:
+            with self.subTest(flag=site["flag"], site=site["site"]):
+                self.assertEqual(site["inputs"], noted.count((site["flag"], site["site"])))
+
     def test_a_snapshot_by_its_tag(self):
         document, lines = drawn_document(random.Random(3))
         self.begin(document, lines)
@@ -206,7 +217,7 @@ class Applied(ControlTest):
         self.assertEqual(self.ask("POST", "/apply", compact(token).encode(), From="ann")[0], 200)
         self.assertEqual(self.text("flags.json"), wanted)
         rows = json.loads(self.ask("GET", "/history")[2])
-        self.assertEqual([(row["flag"], row["site"], row["inputs"], row["old"]) for row in rows], [("checkout", 0, 300, [["on", 5], ["off", 95]])])
+        self.assertEqual([(row["flag"], row["site"], row["inputs"], row["old"], row["who"]) for row in rows], [("checkout", 0, 300, [["on", 5], ["off", 95]], "ann")])
 
     def test_a_document_that_changed(self):
         self.shop(allow_apply=True)

@@ -240,8 +240,13 @@ fn page(alloc: Global) -> io::Result<ConsolePage<'static>>
 }
 
 /// The desk of a thread for operations, before a worker that keeps no log.
-type OperatingDesk<'a, J, R> =
-    ControlDesk<'a, J, R, SystemDeskFiles<'a, R>, OfrepWorker<'a, J, R, SystemLog>>;
+type OperatingDesk<'a, J, R> = ControlDesk<
+    'a,
+    J,
+    R,
+    SystemDeskFiles<'a, R>,
+    OfrepWorker<'a, J, R, SystemLog>,
+>;
 
 /// Has a desk of the board, which begins with its keys, answer the connections of a post until all threads are to end or the system
 /// fails. Its guard goes by the hosts of the post, and was not asked to stop yet.
