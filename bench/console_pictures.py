@@ -38,7 +38,7 @@ def main():
         for path, text in [(document, shop()), (os.path.join(logs, "worker-1.log"), "".join(shop_lines()))]:
             with open(path, "w", encoding="utf-8") as file:
                 file.write(text)
-        server = ControlServer(document, logs, allow_apply=True, counts=True)
+        server = ControlServer(document, logs, allow_apply=True)
         try:
             browser.begin()
             for name, width, is_dark in PICTURES:

@@ -104,6 +104,9 @@ DOUBTED = re.compile(r'^note: .*?: flag ("(?:[^"\\]|\\.)*") .*\((Weight|Variant|
 # Logs with such an end are not read.
 COMPRESSED = (".gz", ".xz", ".zst", ".bz2")
 
+# The words for a plan, among others on the request and the tally.
+EXPLAINED = re.compile(r'^note: "request": .*\n(?:  .*\n)*', re.MULTILINE)
+
 # What is said of a broken flag begins with its place in the document.
 BROKEN = re.compile(r'broken: flags(?:\.([\w-]+)|\[("(?:[^"\\]|\\.)*")\])')
 
@@ -124,8 +127,8 @@ class Refused(Exception):
 class Control:
     """What is answered of a document at a path and of the logs in a folder."""
 
-    def __init__(self, document, logs, allow_apply=False, counts=False):
-        self.document, self.logs, self.allow_apply, self.counts = document, logs, allow_apply, counts
+    def __init__(self, document, logs, allow_apply=False):
+        self.document, self.logs, self.allow_apply = document, logs, allow_apply
         self.number, self.seen, self.read = 0, None, {}
 
     def text(self):
@@ -188,8 +191,8 @@ class Control:
         return {**head, "sources": [self.document], "sites": sites, "doubts": doubts, "kinds": kinds, "merged": {"flags": merged}}
 
     def counted(self, key, site, by):
-        """How many inputs are noted of a page; nothing where that is not counted."""
-        if not self.counts or self.logs is None:
+        """How many inputs are noted of a page; nothing where no log is kept."""
+        if self.logs is None:
             return None
         page = compact([key, site, by])[:-1].encode() + b","
         return sum(line.startswith(page) for line in self.lines())
@@ -219,10 +222,21 @@ class Control:
         by_hand = sum(row["inputs"] for row in switches_of(old, obvious(old, new), counts)) if new else None
         answer = {
             "by_hand": by_hand, "inputs": head["inputs"], "snapshot": self.number, "switch": sum(row["inputs"] for row in switches), "switches": switches,
-            "document": document, "explained": words.replace(path("request"), "request"), "picture": picture, "plan": plan, "token": {"document": tag_of(text), "plan": plan, "request": request},
+            "document": document, "explained": EXPLAINED.search(words.replace(path("request"), "request"))[0], "picture": picture, "plan": plan, "token": {"document": tag_of(text), "plan": plan, "request": request},
         }
         passed_over = [name for name in self.names() if name.endswith(COMPRESSED)]
         return {**answer, "passed_over": passed_over} if passed_over else answer
+
+    def check(self, body):
+        """That a plan is right on what is recorded, with its cost; or why it is not."""
+        asked = json.loads(body)
+        request, plan = asked["request"], asked["plan"]
+        with tempfile.TemporaryDirectory() as folder:
+            path = lambda name: os.path.join(folder, name)
+            for name, text in [("request", compact(request)), ("plan", compact(plan)), ("tally", self.tally(request["flag"], request.get("site", 0)))]:
+                with open(path(name), "w", encoding="utf-8") as file:
+                    file.write(text)
+            return json.loads(self.run(["verify", "--json", "--floats", self.document, path("request"), path("tally"), path("plan")])[0])
 
     def apply(self, body, who):
         if not self.allow_apply:
@@ -326,8 +340,10 @@ class Answers(http.server.BaseHTTPRequestHandler):
         with control.lock:
             if self.path == "/plan":
                 self.answered(lambda: control.plan(body))
+            elif self.path == "/check":
+                self.answered(lambda: control.check(body))
             elif self.path == "/apply":
-                self.answered(lambda: control.apply(body, self.headers.get("From", "")))
+                self.answered(lambda: control.apply(body, self.headers.get("From", "").encode("latin-1").decode()))
             else:
                 self.send(404, b"{}")
 

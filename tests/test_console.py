@@ -4,14 +4,14 @@ import functools
 import http.client
 import json
 import os
-import socket
 import subprocess
 import tempfile
 import unittest
 
 from browser import Chromium, Firefox, Pages
 from control_server import ControlServer
-from program import PROGRAM, ROOT, SECONDS, found, free_port, wait_until
+from control_service import service_of
+from program import PROGRAM, ROOT, SECONDS, found
 
 DEMO = os.path.join(ROOT, "demo")
 PICTURES = os.environ.get("CONSOLE_PICTURES")
@@ -46,34 +46,6 @@ while (walk.nextNode()) {
 return found;
 """
 
-
-def serves_console():
-    """Whether the program itself has the calls."""
-    return "--allow-apply" in subprocess.run([PROGRAM, "ofrep", "--help"], capture_output=True, text=True, check=False).stdout
-
-
-class Service:
-    """The service over a document and a folder of logs."""
-
-    def __init__(self, test, document, logs, allow_apply=False):
-        self.port, admin = free_port(test), free_port(test)
-        words = ["ofrep", "--listen", f"127.0.0.1:{self.port}", "--admin", f"127.0.0.1:{admin}", "--log", logs, *(["--allow-apply"] if allow_apply else []), document]
-        self.child = subprocess.Popen([PROGRAM, *words], stdout=subprocess.DEVNULL, stderr=subprocess.DEVNULL)
-        self.origin = f"http://127.0.0.1:{admin}"
-        wait_until(lambda: is_open(admin), "the service listens")
-
-    def close(self):
-        self.child.kill()
-        self.child.wait()
-
-
-def is_open(port):
-    with socket.socket() as probe:
-        return probe.connect_ex(("127.0.0.1", port)) == 0
-
-
-# The server here tells how many inputs are recorded of each site.
-COUNTED = {} if serves_console() else {"counts": True}
 
 BROWSERS = {}
 
@@ -130,7 +102,7 @@ class ConsoleTest(unittest.TestCase):
         self.put("log/worker-1.log", "".join(lines[: half + 10]))
         self.put("log/worker-2.log", "".join(lines[half:]))
         paths = self.path("flags.json"), self.path("log")
-        self.server = Service(self, *paths, **how) if serves_console() else ControlServer(*paths, **how)
+        self.server = service_of(self, *paths, **how)
         self.after.callback(self.server.close)
         self.after.callback(self.browser.open, "about:blank")
         self.browser.open(self.server.origin + "/")
@@ -142,6 +114,10 @@ class ConsoleTest(unittest.TestCase):
         found = self.browser.run(body, 1000 * seconds)
         self.assertNotIsInstance(found, dict, script)
         return found
+
+    def until_served(self, number):
+        """Waits until the service has read the document again: the snapshot of this number."""
+        self.until(f"(await fetch('snapshot')).headers.get('X-Snapshot') === '{number}'")
 
     def asked(self):
         """The request that the page makes of its fields."""
@@ -181,7 +157,7 @@ class Rollouts(ConsoleTest):
 
     @in_each_browser
     def test_from_the_first_click_to_the_changed_file(self):
-        self.begin(shop(), shop_lines(), allow_apply=True, **COUNTED)
+        self.begin(shop(), shop_lines(), allow_apply=True)
         before = self.text("flags.json")
         self.look("flags")
         self.browser.click("a[href='#flag/checkout']")
@@ -207,11 +183,15 @@ class Rollouts(ConsoleTest):
         self.browser.click("#apply-no")
         self.assertEqual(self.text("flags.json"), before)
         self.browser.click("#apply")
+        self.browser.fill("#who", "Änne <b>")
         self.browser.click("#apply-yes")
         self.until("document.querySelectorAll('#history-rows tr').length === 1 && !document.getElementById('history').hidden")
+        cells = self.browser.run("return [...document.querySelector('#history-rows tr').cells].map(cell => cell.textContent);")
+        self.assertEqual((cells[1], cells[4]), ("checkouton 5 \u2192 10, off 95 \u2192 90", "Änne <b>"))
         rule = json.loads(self.text("flags.json"))["flags"]["checkout"]["targeting"]["if"][2]["fractional"]
         self.assertEqual(sum(weight for name, weight in rule if name == "on"), 10)
-        self.until("/served as snapshot 2/.test(document.getElementById('message').textContent)")
+        self.until("/^The document is written/.test(document.getElementById('message').textContent)")
+        self.until_served("2")
         self.browser.click("#history-rows button")
         self.until("/would switch/.test(document.getElementById('history-rows').textContent)")
         self.look("history")
@@ -284,7 +264,15 @@ class Rollouts(ConsoleTest):
             for count in (100, 160):
                 self.server.server.metrics = f'ofrep_evaluations_total{{reason="SPLIT"}} {count}\n'
                 self.browser.run("await rates();")
-            self.assertRegex(self.browser.run("return document.getElementById('rates').textContent;"), "^A minute: SPLIT [1-9]")
+        else:
+            self.browser.run("await rates();")
+            client = http.client.HTTPConnection("127.0.0.1", self.server.port)
+            self.after.callback(client.close)
+            for number in range(50):
+                client.request("POST", "/ofrep/v1/evaluate/flags/checkout", json.dumps({"context": {"targetingKey": f"late-{number}"}}))
+                client.getresponse().read()
+            self.browser.run("await rates();")
+        self.assertRegex(self.browser.run("return document.getElementById('rates').textContent;"), "^A minute: [A-Z_]+ [1-9]")
 
     @in_each_browser
     def test_no_rule_can(self):
@@ -312,6 +300,7 @@ class Rollouts(ConsoleTest):
         self.browser.click("#apply-yes")
         self.until("document.getElementById('message').className === 'bad'")
         self.assertEqual(self.text("flags.json"), changed)
+        self.until_served("2")
         self.browser.fill("#total-1", "11")
         self.until("!!document.querySelector('#message button')")
         self.browser.click("#message button")
@@ -348,6 +337,7 @@ class Names(ConsoleTest):
         self.look("broken")
         self.browser.click("#flag-rows a")
         self.until("/This flag is broken/.test(document.getElementById('flag-notes').textContent)")
+        self.assertIs(self.browser.run("return document.getElementById('flag-parts').hidden;"), True)
         self.look("broken-flag")
 
     @in_each_browser

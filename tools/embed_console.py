@@ -58,7 +58,7 @@ def spec_of(page):
 -- Made of `console/console.html` by `tools/embed_console.py`.
 use Rattle.std.specs.Prelude.{{ℕ, List, codes}}
 
-abbrev pub page_text : List ℕ
+unfoldable pub page_text : List ℕ
 page_text = codes {literal(page)}
 
 abbrev pub policy_text : List ℕ

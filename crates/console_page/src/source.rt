@@ -41,7 +41,7 @@ input[type=range]{display:block;height:24px}input[type=checkbox]{width:20px;heig
 .two{display:grid;grid-template-columns:minmax(0,5fr) minmax(0,7fr);grid-template-rows:auto 1fr;gap:0 16px;align-items:start}
 .right{grid-column:2;grid-row:1/3}
 .row{display:flex;flex-wrap:wrap;gap:8px 12px;align-items:center;margin:12px 0}.row:last-child{margin-bottom:0}
-.scroll{overflow-x:auto}
+.scroll{overflow-x:auto}.scroll,pre{scrollbar-width:thin;scrollbar-color:var(--soft) transparent}
 table{border-collapse:collapse;width:100%}
 th{font-weight:600;font-size:.875rem;color:var(--soft)}tbody th{color:var(--ink);font-size:1rem;min-width:6em}
 th,td{text-align:left;padding:9px 12px 9px 0;border-bottom:1px solid var(--line);vertical-align:middle;overflow-wrap:anywhere}
@@ -77,7 +77,7 @@ dialog{border:1px solid var(--line);border-radius:12px;background:var(--card);co
 #message button{margin-left:8px}
 [hidden]{display:none!important}
 @media(max-width:900px){.two{grid-template-columns:minmax(0,1fr)}.right{grid-column:1;grid-row:auto}}
-@media(max-width:600px){header>div,main{padding-left:14px;padding-right:14px}label.aside{margin-left:0;width:100%}label.aside input{flex:1}.wide{display:none}.picture{min-width:620px}.card{padding:14px}#total-rows tr{display:grid;grid-template-columns:1fr auto auto;gap:0 12px;align-items:center;border-bottom:1px solid var(--line);padding:8px 0}#total-rows tr>*{border:0;padding:3px 0}#total-rows .slide{grid-column:1/-1}.totals thead{display:none}.figures{display:grid;grid-template-columns:1fr 1fr;gap:8px 20px}.figures b{font-size:2rem}.ends span:nth-child(2){order:3;width:100%}}
+@media(max-width:600px){header>div,main{padding-left:14px;padding-right:14px}label.aside{margin-left:0;width:100%}label.aside input{flex:1}.wide{display:none}.picture{min-width:620px}.card{padding:14px}#total-rows tr{display:grid;grid-template-columns:1fr auto auto;gap:0 12px;align-items:center;border-bottom:1px solid var(--line);padding:8px 0}#total-rows tr>*{border:0;padding:3px 0}#total-rows .slide{grid-column:1/-1}.totals thead,#history-table thead{display:none}.totals,#total-rows,#history-table,#history-rows{display:block}#history-rows tr{display:grid;grid-template-columns:1fr auto;gap:0 12px;border-bottom:1px solid var(--line);padding:8px 0}#history-rows tr:last-child{border:0}#history-rows td{border:0;padding:3px 0}#history-rows td:nth-child(2){grid-area:1/1}#history-rows td:nth-child(3){grid-area:1/2;padding-right:0}#history-rows td:first-child{grid-area:2/1/3/3;font-size:.875rem;color:var(--soft)}#history-rows td:last-child{grid-area:3/1/4/3}.figures{display:grid;grid-template-columns:1fr 1fr;gap:8px 20px}.figures b{font-size:2rem}.ends span:nth-child(2){order:3;width:100%}}
 @media(min-width:601px){.narrow{display:none}}
 </style>
 </head>
@@ -104,7 +104,7 @@ dialog{border:1px solid var(--line);border-radius:12px;background:var(--card);co
     <div id="flag-chips" class="chips"></div>
     <div id="flag-notes"></div>
     <div id="sites"></div>
-    <div class="two">
+    <div id="flag-parts" class="two">
       <div class="card"><h3>Variants</h3><div class="scroll"><table><thead><tr><th scope="col">Name</th><th scope="col">Value</th></tr></thead><tbody id="variant-rows"></tbody></table></div></div>
       <div class="card"><h3>Targeting</h3><pre id="targeting" tabindex="0" aria-label="Targeting"></pre></div>
     </div>
@@ -159,7 +159,7 @@ dialog{border:1px solid var(--line);border-radius:12px;background:var(--card);co
     <p id="history-none" class="empty" hidden>Nothing was applied yet.</p></div>
   </section>
 </main>
-<dialog id="sure" aria-labelledby="sure-title"><h3 id="sure-title">Apply this plan?</h3><p id="sure-text"></p><div class="row"><button id="apply-yes" type="button" class="main">Apply</button><button id="apply-no" type="button" autofocus>Not now</button></div></dialog>
+<dialog id="sure" aria-labelledby="sure-title"><h3 id="sure-title">Apply this plan?</h3><p id="sure-text"></p><label class="row">Your name, for the history <input id="who" autocomplete="name" maxlength="80" size="24"></label><div class="row"><button id="apply-yes" type="button" class="main">Apply</button><button id="apply-no" type="button" autofocus>Not now</button></div></dialog>
 <script>
 "use strict";
 const $ = (id) => document.getElementById(id);
@@ -185,8 +185,7 @@ const plural = (n, word) => `${spelled(n)} ${word}${n === 1 ? "" : "s"}`;
 const chip = (text, kind) => make("span", { class: `chip ${kind || ""}` }, text);
 const say = (text, bad) => { $("message").textContent = text; $("message").className = bad ? "bad" : ""; };
 
-async function call(method, path, body) {
-  const headers = {};
+async function call(method, path, body, headers = {}) {
   if (body !== undefined) headers["Content-Type"] = "application/json";
   if ($("key").value) headers.Authorization = `Bearer ${$("key").value}`;
   let response, text;
@@ -337,6 +336,7 @@ function openFlag(flag) {
   $("flag-notes").replaceChildren(...(notes.length ? [make("div", { class: `card ${flag.broken ? "bad" : "warn"}` }, make("h3", {}, flag.broken ? "This flag is broken" : "Doubtful"), ...notes.map((text) => make("p", { class: "small" }, text)))] : []));
   $("variant-rows").replaceChildren(...Object.entries(flag.variants).map(([name, value]) => make("tr", {}, make("th", { scope: "row" }, make("span", { class: `swatch ${shade(namesOf(flag), name)}` }), name), make("td", { class: "mono" }, printed(value, "", 40)))));
   $("targeting").textContent = flag.targeting == null ? "none" : printed(flag.targeting);
+  $("flag-parts").hidden = Boolean(flag.broken);
   $("sites").replaceChildren(...flag.sites.map((one) => siteOf(flag, one)));
   show("flag", "flag-title");
 }
@@ -594,7 +594,9 @@ function askApply() {
 async function apply() {
   $("sure").close();
   try {
-    await call("POST", "apply", JSON.stringify(answer.token));
+    // A field's value is bytes: those of the name in UTF-8. A login in front of the service puts its own in place of it.
+    const who = String.fromCharCode(...new TextEncoder().encode($("who").value.trim()));
+    await call("POST", "apply", JSON.stringify(answer.token), who ? { From: who } : {});
     history.pushState(null, "", "#history");
     route();
     say("The document is written. The service serves it once it has read it.");
@@ -613,11 +615,17 @@ async function openHistory() {
   try {
     const rows = JSON.parse((await call("GET", "history")).text);
     $("history-rows").replaceChildren(...rows.map((row) => make("tr", {}, cell(make("time", { datetime: row.time }, ...row.time.replace(/(\.\d+)?Z$/, " UTC").split(/T(?=\d)/).flatMap((part, i) => [i ? " " : null, make("span", { class: "whole" }, part)]))),
-      cell(make("a", { href: link("flag", row.flag) }, row.flag), row.site ? ` (rollout ${row.site + 1})` : ""), number(row.cost), number(row.inputs, "wide"), wide(row.who || ""),
+      cell(make("a", { href: link("flag", row.flag) }, row.flag), row.site ? ` (rollout ${row.site + 1})` : "", make("div", { class: "soft small" }, changeOf(row))),
+      make("td", { class: "n" }, make("span", { class: "narrow soft small" }, "cost "), spelled(row.cost)), number(row.inputs, "wide"), wide(row.who || "not said"),
       cell(make("button", { type: "button", onclick: (event) => goingBack(row, event.target) }, "What would it do?")))));
     $("history-table").hidden = rows.length === 0;
     $("history-none").hidden = rows.length > 0;
   } catch (error) { say(error.message, true); }
+}
+// How many points each variant had, and has.
+function changeOf({ old, new: rule }) {
+  const before = shareOf(old), after = shareOf(rule);
+  return [...new Map([...before, ...after]).keys()].map((name) => `${name} ${spelled(before.get(name) || 0)} \u2192 ${spelled(after.get(name) || 0)}`).join(", ");
 }
 // What a plan towards the old totals would switch now.
 async function goingBack(row, button) {
@@ -674,5 +682,5 @@ rates();
 pub fn page_policy() -> &'static str
     ensures { result.now ≡ policy_text }
 {
-    "default-src 'none'; style-src 'sha256-wvxU2zJqknZE8Nv7J1sCHI2OkCsXPBiIKPsQMk57oZI='; script-src 'sha256-IREENalyeG3j/mNUZ0goIzzyQSEJHJ1AoAvp4xLZoYE='; connect-src 'self'; img-src blob: data:; base-uri 'none'; form-action 'none'; frame-ancestors 'none'"
+    "default-src 'none'; style-src 'sha256-pBtBDeyadhDEHXHpdXfy6HvBWgfv7/AoLWm4ezZhJjQ='; script-src 'sha256-WIUIGlJ0q7vfuR2IOeb6udMb+hqTDem4MZPfMIFNpHs='; connect-src 'self'; img-src blob: data:; base-uri 'none'; form-action 'none'; frame-ancestors 'none'"
 }

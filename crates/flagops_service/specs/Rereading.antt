@@ -7,6 +7,7 @@ use Rattle.flag_defs.specs.declared.fault.DefFault.{DefFault}
 use Rattle.flag_defs.specs.declared.flags.Flags.{Flags}
 use Rattle.flag_regressions.specs.Regression.{names_in, regression_of}
 use Rattle.flagops_shell.specs.Files.{Holding, load_of}
+use Rattle.flagops_streams.specs.Documents.{texts_of}
 use Rattle.limits.specs.Limits.{text_bytes}
 use Rattle.source_merge.specs.Sources.{SetsWithFloats, SourceList}
 use Rattle.source_merge.specs.View.{sources_view}
@@ -110,10 +111,10 @@ pub record State : Type 0 where
 abbrev pub state_of : Watched → List Flags → State
 state_of w published = record { kept = kept_of w; published = published }
 
--- all documents are read again, or not, and their merge is published behind all others, or nothing is
+-- all documents are read again, or not, and their merge is published behind all others, with the metadata of what was accepted last of each, or nothing is
 abbrev pub Turns : Option Holding → OnBroken → List (List ℕ) → State → State → Type 0
 Turns holding mode paths old new =
-    (ReadsFrom holding mode paths 0 old.kept new.kept ⊎ (new.kept ≡ old.kept)) × Publishes new.kept.sources old.published new.published
+    (ReadsFrom holding mode paths 0 old.kept new.kept ⊎ (new.kept ≡ old.kept)) × Publishes new.kept.sources (texts_of new.kept.accepted) old.published new.published
 
 -- one turn after the other leads through these states
 abbrev pub Watches : Option Holding → OnBroken → List (List ℕ) → List State → State → State → Type 0

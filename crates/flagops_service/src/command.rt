@@ -5,7 +5,7 @@ ghost use Rattle.std.specs.NonZero.{non_zero_usize_get};
 ghost use Rattle.flag_defs.specs.Flag.{is_broken};
 ghost use Rattle.flag_defs.specs.Flags.{flags_view};
 ghost use Rattle.flagops_streams.specs.Loading.{documents_view};
-ghost use Rattle.flagops_streams.specs.Documents.{Answer, count_of, documents_in};
+ghost use Rattle.flagops_streams.specs.Documents.{Answer, count_of, documents_in, texts_of};
 ghost use Rattle.source_merge.specs.View.{sources_view};
 ghost use Rattle.flagops_service.specs.Ended.{AnswersOfrep, Begins, Reports, Serves, ServesOfrep, TellsOfrep, cors_fault};
 ghost use Rattle.flagops_service.specs.Merging.{AreMerged, ArePublished};
@@ -28,7 +28,8 @@ use crate::reporting::{
 };
 use crate::stop::Stop;
 use crate::telling::{
-    broken_in, say_broken, say_ended, say_listening, say_operations, say_published,
+    broken_in, say_broken, say_broken_metadata, say_ended, say_listening, say_operations,
+    say_published,
 };
 use crate::watched::Watched;
 use crate::watching::watch;
@@ -230,7 +231,7 @@ fn answer_flags<R: Host, F: FileSet, O: Outlet, E: Outlet>(
     }
 }
 
-/// Shares the flags with the workers and the subscribers, and answers.
+/// Shares the flags with the workers and the subscribers, with the metadata of the documents, and answers.
 fn answer_prepared<J, R, F, O, E>(
     rt: &R,
     answering: &Answering<'_>,
@@ -266,6 +267,10 @@ where
     let operators = operators_of(answering);
     let wanted = workers.saturating_add(operators.saturating_add(prepared.streams.len()));
     let (count, broken) = (flags.len(), broken_in(&flags));
+    let flags = match watched.described(flags) {
+        Ok(flags) => flags,
+        Err(AllocError) => return refuse_and_tell(alloc, out, err, Refusal::WantOfMemory),
+    };
     let texts = match texts_of(&watched, answering, &flags) {
         Ok(texts) => texts,
         Err(AllocError) => return refuse_and_tell(alloc, out, err, Refusal::WantOfMemory),
@@ -313,7 +318,7 @@ where
     F: FileSet,
     O: Outlet,
     E: Outlet,
-    requires published { ArePublished (sources_view watched.sources) publisher.old }
+    requires published { ArePublished (sources_view watched.sources) (texts_of watched.accepted.items) publisher.old }
     requires seats { vec_len prepared.posts ≤ vec_len seats }
     requires cors { cors_fault (answering_view answering.now).cors ≡ None }
     requires may_stop { IfSome prepared.admin (λ post. post.may_stop ≡ answering.now.allow_stop) }
@@ -388,7 +393,7 @@ where
     R: Host,
     F: FileSet,
     E: Outlet,
-    requires published { ArePublished (sources_view watched.sources) publisher.old }
+    requires published { ArePublished (sources_view watched.sources) (texts_of watched.accepted.items) publisher.old }
     requires seated { vec_len seats ≡ vec_len posts }
     requires logs { map (λ post. path_in post.journal) posts.items ≡ paths_of (answering_view answering.now).log answering.now.workers }
     requires without { board.now.without_record ≡ answering.now.without_record }
@@ -452,10 +457,11 @@ fn seated<J: ShareName>(
     Ok(Some(Operations { post, seats, desks }))
 }
 
-/// Tells of each flag that is broken, by its document.
+/// Tells of each flag and of all metadata that is broken, by its document.
 fn say_all_broken<E: Outlet>(watched: &Watched<'_>, err: &mut E) {
     for (path, text) in watched.paths.iter().zip(watched.accepted.iter()) {
         say_broken(watched.alloc, err, path, text.as_slice());
+        say_broken_metadata(watched.alloc, err, path, text.as_slice());
     }
 }
 

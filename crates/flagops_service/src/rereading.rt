@@ -99,7 +99,7 @@ impl Watched<'_> {
         }
         match self.set(place, text.as_slice()) {
             Ok(()) => {
-                say_accepted(self.alloc, err, path);
+                say_accepted(self.alloc, err, path, text.as_slice());
                 self.accepted[place] = text;
                 self.refused[place] = None;
                 Taken::Accepted

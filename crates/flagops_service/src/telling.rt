@@ -4,6 +4,7 @@ use crate::preparing::{LISTEN, most_subscribers};
 use crate::taking::Unfit;
 use file_diagnostics::{of_definition_errors, of_document, quoted_name};
 use flag_defs::Flags;
+use flag_metadata::{Broken, Metadata};
 use flag_regressions::Regression;
 use flag_text::Outlet;
 use flagops_streams::say;
@@ -173,9 +174,36 @@ pub(crate) fn say_broken<E: Outlet>(alloc: Global, err: &mut E, path: &str, text
     say(err, lines.as_str());
 }
 
-/// Another text of a document was accepted.
-pub(crate) fn say_accepted<E: Outlet>(alloc: Global, err: &mut E, path: &str) {
+/// The metadata of a document that is broken, and that of each of its flags, a line for each.
+pub(crate) fn say_broken_metadata<E: Outlet>(alloc: Global, err: &mut E, path: &str, text: &[u8]) {
+    let Ok(Broken { document, flags }) = Metadata::none(alloc).add(alloc, text) else {
+        return;
+    };
+    if document {
+        say_made(
+            err,
+            format!(in alloc;
+                "ofrep: the metadata of \"{path}\" is broken and left out of answers: it is not an object, or has a value that is not a boolean, a number or a text\n"
+            ),
+        );
+    }
+    for key in &flags {
+        say_made(err, of_broken_metadata(alloc, path, key.as_str()));
+    }
+}
+
+/// The metadata of a flag that is broken.
+fn of_broken_metadata(alloc: Global, path: &str, key: &str) -> Result<String, AllocError> {
+    let key = quoted_name(alloc, key)?;
+    format!(in alloc;
+        "ofrep: the metadata of the flag {key} of \"{path}\" is broken and left out of answers: it is not an object, or has a value that is not a boolean, a number or a text\n"
+    )
+}
+
+/// Another text of a document was accepted, and what of its metadata is broken.
+pub(crate) fn say_accepted<E: Outlet>(alloc: Global, err: &mut E, path: &str, text: &[u8]) {
     say_made(err, format!(in alloc; "ofrep: \"{path}\" has changed\n"));
+    say_broken_metadata(alloc, err, path, text);
 }
 
 /// Why a document is not taken.

@@ -1,6 +1,7 @@
 //! Documents that are read again.
 ghost use Rattle.std.specs.Prelude.{◌≡◌, ◌==◌, ◌&&◌, ◌+◌, ◌-◌, ◌%◌, ◌^◌, ◌<◌, List, map, nat_lt};
 ghost use Rattle.source_merge.specs.View.{sources_view};
+ghost use Rattle.flagops_streams.specs.Documents.{texts_of};
 ghost use Rattle.flagops_service.specs.Merging.{Publishes};
 ghost use Rattle.flagops_service.specs.Rereading.{State, Watches, state_of};
 
@@ -84,7 +85,7 @@ fn is_turn(second: u64, poll: u64) -> bool
     poll > 0 && (second + 1) % poll == 0
 }
 
-/// Publishes what the documents make now, unless they are too large together or memory runs out. Says whether that was want of
+/// Publishes what the documents make now, with their metadata, unless they are too large together or memory runs out. Says whether that was want of
 /// memory, so that it is to be tried again at the next reading.
 fn publish<J: ShareName, R: Clock + Wait, E: Outlet>(
     rt: &R,
@@ -94,9 +95,9 @@ fn publish<J: ShareName, R: Clock + Wait, E: Outlet>(
     answering: &Answering<'_>,
     err: &mut E,
 ) -> bool
-    ensures { Publishes (sources_view watched.now.sources) publisher.old publisher.new }
+    ensures { Publishes (sources_view watched.now.sources) (texts_of watched.now.accepted.items) publisher.old publisher.new }
 {
-    let flags = match watched.sources.merged(watched.alloc) {
+    let flags = match watched.merged() {
         Ok(flags) => flags,
         Err(fault) => {
             let name = fault.name();

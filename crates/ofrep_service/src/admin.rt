@@ -250,7 +250,7 @@ type OperatingDesk<'a, J, R> = ControlDesk<
 
 /// Has a desk of the board, which begins with its keys, answer the connections of a post until all threads are to end or the system
 /// fails. Its guard goes by the hosts of the post, and was not asked to stop yet.
-fn serve_operations<'a, J: ShareName, R: Net + DeskPaths + Clock>(
+fn serve_operations<'a, J: ShareName, R: Net + LogPaths + DeskPaths + Clock>(
     rt: &R,
     alloc: Global,
     keys: RandomState,

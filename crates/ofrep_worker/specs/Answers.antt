@@ -1,7 +1,9 @@
 -- Recorded first: what a worker answers, and what its log then holds.
 use Rattle.std.specs.Prelude.{◌≡◌, ◌<◌, ◌^◌, ◌⊎◌, ◌||◌, ◌++◌, ℕ, Bool, true, false, List, [], Option, Some, None, option_map, is_some, IfSome, Contains}
+use Rattle.flag_defs.specs.Described.{described_by}
+use Rattle.flag_defs.specs.Flags.{flags_view}
+use Rattle.flag_defs.specs.Floats.{floats_view}
 use Rattle.flag_defs.specs.declared.flags.Flags.{Flags}
-use Rattle.flag_resolve.specs.Floats.{Marked}
 use Rattle.http.specs.declared.request.Request.{Request}
 use Rattle.http_server.specs.Response.{IsResponse}
 use Rattle.http_server.specs.declared.response.Response.{Response}
@@ -14,14 +16,15 @@ use Rattle.note_log.specs.Line.{HasLine}
 use Rattle.note_log.specs.Log.{Logged, Records, Wants, files_of, logged, logged_after, trouble_of}
 use Rattle.note_log.specs.declared.log.NoteLog.{NoteLog}
 use Rattle.note_log.specs.declared.trouble.Trouble.{Trouble}
-use Rattle.ofrep_answers.specs.Answer.{answer_of}
+use Rattle.ofrep_answers.specs.Answer.{Answered, answer_with}
+use Rattle.ofrep_answers.specs.Metadata.{metadata_of}
+use Rattle.ofrep_answers.specs.Request.{Asked}
 use Rattle.ofrep_worker.specs.Asked.{asked_of}
 use Rattle.ofrep_worker.specs.Notes.{notes_of}
 use Rattle.ofrep_worker.specs.Sent.{Fails, GivesIn, Sends, TellsUnready, unready}
 use Rattle.ofrep_worker.specs.declared.unrecorded.WithoutRecord.{WithoutRecord}
 use Rattle.ofrep_worker.specs.declared.unrecorded.WithoutRecord.TheVariants.{Answer, Refuse}
-use Rattle.sync_frames.specs.Snapshots.{Numbered, marked_flags}
-use Rattle.snap_share.specs.Known.{IsReadOnce, Seat, WasRead, snapshots_of}
+use Rattle.snap_share.specs.Known.{IsReadOnce, Seat, last_of}
 
 -- what a log was given, what its file shows, whether that stood at its path when it was last looked for, whether it is lost, and how many writes have failed
 pub record Kept : Type 0 where
@@ -74,17 +77,21 @@ abbrev pub is_answered : WithoutRecord → Bool
 is_answered Answer = true
 is_answered Refuse = false
 
+-- the answer to a request, of flags with the metadata that they were given
+abbrev pub answer_for : Flags → ℕ → Asked → Answered
+answer_for flags moment asked = answer_with (metadata_of (described_by flags)) (flags_view flags, floats_view flags) moment asked
+
 -- At some moment the response is the answer to the request, of these flags, and its notes were recorded. Or they were not, and the response tells that, unless what can't be recorded is answered. While a log can't be written, its own or another's, who asks whether the service is ready is told that it is not.
-abbrev pub Answers : WithoutRecord → Marked → Request (List ℕ) → Response → Option Kept → Option Kept → Type 0
+abbrev pub Answers : WithoutRecord → Flags → Request (List ℕ) → Response → Option Kept → Option Kept → Type 0
 Answers without flags request response old new =
     (moment : ℕ) × (moment < 2 ^ 53) × (all : Bool) × (trouble : Option Trouble)
     × (is_some (trouble_in old) ≡ true → is_some trouble ≡ true)
-    × GivesIn (unready trouble (asked_of request) (answer_of flags moment (asked_of request))) (all || is_answered without) (answer_of flags moment (asked_of request)) response
-    × RecordedIn all (notes_of flags.0 (answer_of flags moment (asked_of request))) old new
+    × GivesIn (unready trouble (asked_of request) (answer_for flags moment (asked_of request))) (all || is_answered without) (answer_for flags moment (asked_of request)) response
+    × RecordedIn all (notes_of (flags_view flags) (answer_for flags moment (asked_of request))) old new
 
--- The seat is read once, and the answer is of the snapshot that it then answers: the last of the published flags that it knows.
+-- The seat is read once, and the answer is of the last of the published flags that it then knows.
 abbrev pub RespondsFrom : WithoutRecord → Seat → Seat → Request (List ℕ) → Response → Option Kept → Option Kept → Type 0
-RespondsFrom without seat seat' request response old new = (s : Numbered) × WasRead seat (Some s) seat' × Answers without (marked_flags s) request response old new
+RespondsFrom without seat seat' request response old new = (flags : Flags) × IsReadOnce seat seat' × (last_of seat'.known ≡ Some flags) × Answers without flags request response old new
 
 -- So it answers; or memory ran out, and the response is empty: it tells nothing, and nothing is recorded.
 abbrev pub Responds : WithoutRecord → Seat → Seat → Request (List ℕ) → Response → Option Kept → Option Kept → Type 0
@@ -136,18 +143,18 @@ HasLines form notes bytes = (note : Noted) → Wants notes note → HasLine (lin
 abbrev pub HaveLines : List Noted → Handed → Type 0
 HaveLines notes handed = (file : List ℕ) × Contains handed.files file × HasLines handed.form notes file
 
--- The response is the answer to the request, of a snapshot among these.
+-- The response is the answer to the request, of some of these flags.
 pub record IsAnswer (known : List Flags) (request : Request (List ℕ)) (response : Response) : Type 0 where
-  pub s : Numbered
-  pub is_known : Contains (snapshots_of known) s
+  pub flags : Flags
+  pub is_known : Contains known flags
   pub moment : ℕ
   pub is_moment : moment < 2 ^ 53
-  pub sends : Sends (answer_of (marked_flags s) moment (asked_of request)) response
+  pub sends : Sends (answer_for flags moment (asked_of request)) response
 
 -- It is such an answer, and where a log is kept, whose files were handed these bytes, the line of each of its notes, in the form of the log, stands in one of them.
 pub record RestsOn (known : List Flags) (handed : Option Handed) (request : Request (List ℕ)) (response : Response) : Type 0 where
   pub answer : IsAnswer known request response
-  pub lines : IfSome handed (HaveLines (notes_of answer.s.flags (answer_of (marked_flags answer.s) answer.moment (asked_of request))))
+  pub lines : IfSome handed (HaveLines (notes_of (flags_view answer.flags) (answer_for answer.flags answer.moment (asked_of request))))
 
 -- the response tells a failure, or that the service is not ready, and nothing of flags
 abbrev pub TellsNoFlag : Response → Type 0

@@ -1,8 +1,9 @@
 -- What answers rest on stands, and stays: the laws of a worker.
 use Rattle.std.proofs.Common.{◌≡◌, ◌++◌, ◌∷◌, ◌<◌, ◌^◌, ◌||◌, ℕ, Bool, true, false, List, [], Option, Some, None, IfSome, Contains, ap, ◌∙◌, append-nil, append_assoc, sym, subst, refl, inl, inr}
 use Rattle.std.proofs.Math.Logic.{∥∥₁_map, ∥∥₁_map₂}
-use Rattle.std.proofs.lemmas.List.Elements.{Contains-append_left, Contains-push, Contains-push_cases}
+use Rattle.std.proofs.lemmas.List.Elements.{Contains-append_left, Contains-append_right, Contains-push, Contains-push_cases}
 use mathlib.Core.List.{IsPrefix}
+use Rattle.flag_defs.specs.Flags.{flags_view}
 use Rattle.flag_defs.specs.declared.flags.Flags.{Flags}
 use Rattle.http.specs.declared.request.Request.{Request}
 use Rattle.http_server.specs.declared.response.Response.{Response}
@@ -14,17 +15,29 @@ use Rattle.log_file.specs.declared.journal.Look.{Look}
 use Rattle.log_file.specs.declared.journal.Look.TheVariants.{Stands as Still, Reopened, Lost}
 use Rattle.note_log.specs.Log.{Logged, Records, files_of, logged_after}
 use Rattle.note_log.proofs.Lines.{has_more, not_in}
-use Rattle.ofrep_answers.specs.Answer.{Answered, answer_of}
-use Rattle.sync_frames.specs.Snapshots.{Numbered, marked_flags}
-use Rattle.snap_share.specs.Known.{IsLastOf, Seat, snapshots_of}
-use Rattle.snap_share.proofs.Numbers.{is_known, starts}
+use Rattle.ofrep_answers.specs.Answer.{Answered}
+use Rattle.snap_share.specs.Known.{Seat, last_of}
 use Rattle.note_log.specs.declared.trouble.Trouble.{Trouble}
-use Rattle.ofrep_worker.specs.Answers.{AllRecorded, Handed, HandsOver, HasLines, HaveLines, IsAnswer, Kept, LooksIn, RecordedFirst, RecordedIn, Responds, RestsOn, Stands, files, is_answered}
+use Rattle.ofrep_worker.specs.Answers.{AllRecorded, Handed, HandsOver, HasLines, HaveLines, IsAnswer, Kept, LooksIn, RecordedFirst, RecordedIn, Responds, RestsOn, Stands, answer_for, files, is_answered}
 use Rattle.ofrep_worker.specs.Asked.{asked_of}
 use Rattle.ofrep_worker.specs.Notes.{notes_of}
 use Rattle.ofrep_worker.specs.Sent.{Gives, GivesIn, Sends, unready}
 use Rattle.ofrep_worker.specs.declared.unrecorded.WithoutRecord.{WithoutRecord}
 use Rattle.ofrep_worker.specs.declared.unrecorded.WithoutRecord.TheVariants.{Answer, Refuse}
+
+-- what is among some of the published flags is among them all
+among_more : (o : Option Flags) (x : Flags) (xs : List Flags) → IfSome o (Contains xs) → IfSome o (Contains (x ∷ xs))
+among_more None x xs h = tt
+among_more (Some flags) x xs h = Contains-append_right (x ∷ []) xs flags h
+
+-- the last of them is one of them
+last_among : (known : List Flags) → IfSome (last_of known) (Contains known)
+last_among [] = tt
+last_among (x ∷ []) = Contains-push [] x
+last_among (x ∷ y ∷ ys) = among_more (last_of (y ∷ ys)) x (y ∷ ys) (last_among (y ∷ ys))
+
+is_among : (known : List Flags) (flags : Flags) → last_of known ≡ Some flags → Contains known flags
+is_among known flags last = subst (λ (o : Option Flags). IfSome o (Contains known)) last (last_among known)
 
 all_stand : (notes : List Noted) (old new : Kept) → AllRecorded notes old new → ∥ HasLines new.logged.form notes new.logged.handed ∥₁
 all_stand notes old new (inl none) = ∣ (λ note w. absurd (not_in note (subst (λ (l : List Noted). Contains l note) none.0 w.0))) ∣₁
@@ -37,19 +50,19 @@ all_stand_in notes (Some old) None r = absurd r
 all_stand_in notes None (Some new) r = absurd r
 all_stand_in notes None None r = ∣ tt ∣₁
 
-module _ (known : List Flags) (request : Request (List ℕ)) (response : Response) (old new : Option Kept) (s : Numbered) (last : IsLastOf known s) (moment : ℕ) (small : moment < 2 ^ 53) where
+module _ (known : List Flags) (request : Request (List ℕ)) (response : Response) (old new : Option Kept) (flags : Flags) (last : last_of known ≡ Some flags) (moment : ℕ) (small : moment < 2 ^ 53) where
   abbrev a : Answered
-  a = answer_of (marked_flags s) moment (asked_of request)
+  a = answer_for flags moment (asked_of request)
 
   abbrev given : Sends a response → IsAnswer known request response
-  given sends = record { s = s; is_known = is_known known s last; moment = moment; is_moment = small; sends = sends }
+  given sends = record { flags = flags; is_known = is_among known flags last; moment = moment; is_moment = small; sends = sends }
 
-  answered : (without : WithoutRecord) (all : Bool) → Gives (all || is_answered without) a response → RecordedIn all (notes_of s.flags a) old new → Stands without known (files new) request response
-  answered without true gives records = inr (inl (∥∥₁_map (all_stand_in (notes_of s.flags a) old new records) (λ lines. record { answer = given gives; lines = lines })))
+  answered : (without : WithoutRecord) (all : Bool) → Gives (all || is_answered without) a response → RecordedIn all (notes_of (flags_view flags) a) old new → Stands without known (files new) request response
+  answered without true gives records = inr (inl (∥∥₁_map (all_stand_in (notes_of (flags_view flags) a) old new records) (λ lines. record { answer = given gives; lines = lines })))
   answered Answer false gives records = inr (inr (refl, ∣ given gives ∣₁))
   answered Refuse false gives records = inl (inl gives)
 
-  answered_in : (without : WithoutRecord) (all : Bool) (why : Option Trouble) → GivesIn why (all || is_answered without) a response → RecordedIn all (notes_of s.flags a) old new
+  answered_in : (without : WithoutRecord) (all : Bool) (why : Option Trouble) → GivesIn why (all || is_answered without) a response → RecordedIn all (notes_of (flags_view flags) a) old new
       → Stands without known (files new) request response
   answered_in without all None gives records = answered without all gives records
   answered_in without all (Some trouble) gives records = inl (inr (trouble, gives))
@@ -57,8 +70,8 @@ module _ (known : List Flags) (request : Request (List ℕ)) (response : Respons
 responded_so : (without : WithoutRecord) (seat seat' : Seat) (request : Request (List ℕ)) (response : Response) (old new : Option Kept)
     → Responds without seat seat' request response old new → Stands without seat'.known (files new) request response
 responded_so without seat seat' request response old new (inl r) =
-    let b = r.2 in
-    answered_in seat'.known request response old new r.0 r.1.1 b.0 b.1 without b.2 (unready b.3 (asked_of request) (answer_of (marked_flags r.0) b.0 (asked_of request))) b.5 b.6
+    let b = r.3 in
+    answered_in seat'.known request response old new r.0 r.2 b.0 b.1 without b.2 (unready b.3 (asked_of request) (answer_for r.0 b.0 (asked_of request))) b.5 b.6
 responded_so without seat seat' request response old new (inr r) = inl (inl (inr r.1))
 
 pub responded : (without without' : WithoutRecord) (seat seat' : Seat) (request : Request (List ℕ)) (response : Response) (old new : Option Kept)
@@ -113,8 +126,8 @@ grown_in notes None None all r = ∣ tt ∣₁
 further : (without : WithoutRecord) (seat seat' : Seat) (request : Request (List ℕ)) (response : Response) (old new : Option Kept)
     → Responds without seat seat' request response old new → IsPrefix seat.known seat'.known × (∥ GrowsIn (files old) (files new) ∥₁)
 further without seat seat' request response old new (inl r) =
-    let a = r.2 in
-    (r.1.0.forward, grown_in (notes_of r.0.flags (answer_of (marked_flags r.0) a.0 (asked_of request))) old new a.2 a.6)
+    let a = r.3 in
+    (r.1.forward, grown_in (notes_of (flags_view r.0) (answer_for r.0 a.0 (asked_of request))) old new a.2 a.6)
 further without seat seat' request response old new (inr r) = (r.0.forward, ∣ (subst (λ (k : Option Kept). GrowsIn (files old) (files k)) (sym r.2) (same_in (files old))) ∣₁)
 
 more_lines : (notes : List Noted) (old new : Option Handed) → GrowsIn old new → IfSome old (HaveLines notes) → IfSome new (HaveLines notes)
@@ -128,21 +141,20 @@ more_lines notes None None g h = tt
 
 -- where more is known, it is an answer still
 abbrev answer_still : (known known' : List Flags) (request : Request (List ℕ)) (response : Response) → IsPrefix known known' → IsAnswer known request response → IsAnswer known' request response
-answer_still known known' request response k r =
-    let more = starts known known' k in record {
-      s = r.s;
-      is_known = subst (λ (l : List Numbered). Contains l r.s) (sym more.1) (Contains-append_left (snapshots_of known) more.0 r.s r.is_known);
-      moment = r.moment;
-      is_moment = r.is_moment;
-      sends = r.sends;
-    }
+answer_still known known' request response k r = record {
+  flags = r.flags;
+  is_known = subst (λ (l : List Flags). Contains l r.flags) k.1 (Contains-append_left known k.0 r.flags r.is_known);
+  moment = r.moment;
+  is_moment = r.is_moment;
+  sends = r.sends;
+}
 
 -- and where more stands in the log, it rests on no less
 rests_still : (known known' : List Flags) (handed handed' : Option Handed) (request : Request (List ℕ)) (response : Response)
     → IsPrefix known known' → GrowsIn handed handed' → RestsOn known handed request response → RestsOn known' handed' request response
 rests_still known known' handed handed' request response k b r = record {
   answer = answer_still known known' request response k r.answer;
-  lines = more_lines (notes_of r.answer.s.flags (answer_of (marked_flags r.answer.s) r.answer.moment (asked_of request))) handed handed' b r.lines;
+  lines = more_lines (notes_of (flags_view r.answer.flags) (answer_for r.answer.flags r.answer.moment (asked_of request))) handed handed' b r.lines;
 }
 
 stands_still : (without without' : WithoutRecord) (known known' : List Flags) (handed handed' : Option Handed) (request : Request (List ℕ)) (response : Response)

@@ -1,11 +1,9 @@
 //! One answer, from one snapshot.
 ghost use Rattle.std.specs.Prelude.{◌≡◌, ◌<◌, ◌^◌, true, is_some, IfOk, OnErr, OnOk};
 ghost use Rattle.std.specs.Arc.{arc_value};
-ghost use Rattle.flag_defs.specs.Flags.{flags_view};
-ghost use Rattle.flag_defs.specs.Floats.{floats_view};
 ghost use Rattle.http_server.specs.Response.{IsBlank, fields_of};
-ghost use Rattle.ofrep_answers.specs.Answer.{answer_of, answer_view};
-ghost use Rattle.ofrep_worker.specs.Answers.{Answers, kept_in, trouble_in};
+ghost use Rattle.ofrep_answers.specs.Answer.{answer_view};
+ghost use Rattle.ofrep_worker.specs.Answers.{Answers, answer_for, kept_in, trouble_in};
 ghost use Rattle.ofrep_worker.specs.Asked.{asked_of};
 ghost use Rattle.ofrep_worker.specs.Counted.{EndsWithSizes};
 ghost use Rattle.ofrep_worker.specs.Sent.{GivesIn, Sends, unready};
@@ -24,7 +22,7 @@ use http_server::Response;
 use json::Scratch;
 use log_file::LogFile;
 use note_log::{NoteLog, Trouble};
-use ofrep_answers::{Answer, Content, answer_to_with};
+use ofrep_answers::{Answer, Content, answer_with_metadata};
 use std::alloc::{AllocError, Global};
 use std::time::Clock;
 use sync_frames::SharedSnapshot;
@@ -51,7 +49,7 @@ pub(crate) fn answer_from<R: Clock, F: LogFile>(
     response: &mut Response,
 ) -> Result<(), AllocError>
     requires { IsBlank response.old }
-    ensures ok { OnOk result (Answers with.now.without_record (flags_view (arc_value with.now.snapshot.now).flags, floats_view (arc_value with.now.snapshot.now).flags) request.now response.new (kept_in log.old) (kept_in log.new)) }
+    ensures ok { OnOk result (Answers with.now.without_record (arc_value with.now.snapshot.now).flags request.now response.new (kept_in log.old) (kept_in log.new)) }
     ensures err { OnErr result (log.new ≡ log.old) }
 {
     let moment = moment_of(with.rt);
@@ -76,7 +74,7 @@ impl<R> Answering<'_, R> {
         scratch: &mut Scratch,
     ) -> Result<Answer, AllocError>
         requires { moment < 2 ^ 53 }
-        ensures { IfOk result (λ answer. answer_view answer ≡ answer_of (flags_view (arc_value self.now.snapshot.now).flags, floats_view (arc_value self.now.snapshot.now).flags) moment (asked_of request.now)) }
+        ensures { IfOk result (λ answer. answer_view answer ≡ answer_for (arc_value self.now.snapshot.now).flags moment (asked_of request.now)) }
     {
         let tags = tags_named(self.alloc, request)?;
         let asked = ofrep_answers::Request {
@@ -85,7 +83,8 @@ impl<R> Answering<'_, R> {
             if_none_match: tags.as_slice(),
             body: request.body().as_slice(),
         };
-        answer_to_with(self.alloc, self.snapshot.flags(), moment, &asked, scratch)
+        let flags = self.snapshot.flags();
+        answer_with_metadata(self.alloc, flags, flags.metadata(), moment, &asked, scratch)
     }
 
     /// Why a log can't be written, where one can't: the worker's own, or else another's.

@@ -1,4 +1,4 @@
-use Rattle.std.proofs.Common.{◌≡◌, ◌≤◌, [], arith, inr}
+use Rattle.std.proofs.Common.{◌≡◌, ◌≤◌, ◌∙◌, [], Ok, ap, arith, inr, sym}
 use Rattle.flagops_streams.specs.declared.refusal.Refusal.TheVariants.{Share}
 use Rattle.flagops_streams.proofs.Gives.{not_shared}
 use Rattle.flagops_service.specs.Words.{answering_view, seats_of}
@@ -15,9 +15,9 @@ returns-in-Err-share g c =
     let none : made ≡ 0 → wanted ≡ 0 = λ z. omega (arith, z, c.operators_of-operators.ensures.value, c.saturating_add.ensures, c.saturating_add-wanted.ensures, c.requires.streams, c.len.ensures) in
     inr (Share fault, fewer_fail made wanted fault few none fails, c.refuse_and_tell-in-Err-share.ensures)
 
--- the flags were shared, and are the merge of all documents
+-- the flags were shared with the metadata of all documents, and are their merge
 pub answer_shared-status-requires-clause-published : goal.answer_shared-status-requires-clause-published
-answer_shared-status-requires-clause-published g c κs within = ([], c.args.flags, c.in-Ok-share.ensures.published, c.requires.merged)
+answer_shared-status-requires-clause-published g c κs within = ([], c.in-Ok.flags, c.in-Ok-share.ensures.published, c.requires.merged ∙ ap Ok (sym c.in-Ok.ensures.value), c.in-Ok.ensures.described)
 
 -- there is a seat for each post
 pub answer_shared-status-requires-clause-seats : goal.answer_shared-status-requires-clause-seats

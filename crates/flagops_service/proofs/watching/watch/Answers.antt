@@ -1,6 +1,7 @@
 use Rattle.std.proofs.Common.{◌∙◌, ℕ, Bor, List, [], ◌∷◌, ◌++◌, ap, inl, map, subst, sym}
 use Rattle.flag_defs.specs.declared.flags.Flags.{Flags}
 use Rattle.source_merge.specs.View.{sources_view}
+use Rattle.flagops_streams.specs.Documents.{texts_of}
 use Rattle.flagops_service.specs.Merging.{Publishes}
 use Rattle.flagops_service.specs.Rereading.{kept_of, state_of}
 use Rattle.flagops_service.proofs.Reread.{one_turn, reads_as}
@@ -17,9 +18,9 @@ loop-turn-preserved g c =
     let read = c.read_again-waits in
     let now = read.new.self in
     let last = c.if-waits.publisher in
-    let published : Publishes (sources_view now.sources) l.publisher last =
+    let published : Publishes (sources_view now.sources) (texts_of now.accepted.items) l.publisher last =
     elim c.if-waits.branch [
-      | then-waits w ↦ subst (λ (all : List Flags). Publishes (sources_view now.sources) l.publisher all) (sym w.publisher-is) w.publish-waits.ensures
+      | then-waits w ↦ subst (λ (all : List Flags). Publishes (sources_view now.sources) (texts_of now.accepted.items) l.publisher all) (sym w.publisher-is) w.publish-waits.ensures
       | else-waits w ↦ inl w.publisher-is
     ] in
     let held = c.show_sizes.ensures ∙ l.invariant.1 in
