@@ -1,4 +1,5 @@
 pub mod Crossings
+mod Fields
 pub mod Items
 mod LogFiles
 mod Outcomes

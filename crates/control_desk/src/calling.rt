@@ -131,7 +131,7 @@ impl<J: ShareName, R: Clock, F: DeskFiles, S> ControlDesk<'_, J, R, F, S> {
     ) -> Result<(), ShareFault>
         requires { IsBlank response.old }
         ensures ok { OnOk result (Answered (F.naming self.old.files) (F.holding self.old.files) (F.holding self.new.files) (rules_view self.old.post.now.rules) (page_view self.old.page) self.old.seat self.new.seat (call_asked request.now) response.new ControlPlace.Snapshot) }
-        ensures files { self.new.files ≡ self.old.files }
+        ensures err { OnErr result (F.holding self.new.files ≡ F.holding self.old.files) }
         ensures post { self.new.post ≡ self.old.post }
         ensures page { self.new.page ≡ self.old.page }
         ensures keys { self.new.keys ≡ self.old.keys }

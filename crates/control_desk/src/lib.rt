@@ -6,7 +6,7 @@
 //! flags is set by who publishes these ([`PublishedSources`]).
 //!
 //! ```rust
-//! let post = DeskPost::new(alloc, rules);
+//! let post = DeskPost::new(rules);
 //! let page = ConsolePage { text: PAGE, policy };
 //! let mut desk = ControlDesk::new(rt, alloc, &post, page, &is_stopping, keys, seat, SystemDeskFiles::new(rt), worker);
 //! desk.call(&request, &mut response)?;
