@@ -35,22 +35,25 @@ file_told path old new is_mute (text, inr is, said) = (text, inr (inl is), said)
 some_bytes : (x : ℕ) (xs : List ℕ) → 0 < length (x ∷ xs)
 some_bytes x xs = omega arith
 
+some_at : (zs : List ℕ) (x : ℕ) (xs : List ℕ) → zs ≡ x ∷ xs → 0 < length zs
+some_at zs x xs is = subst (λ (bs : List ℕ). 0 < length bs) (sym is) (some_bytes x xs)
+
 why_some : (refusal : Refusal) → 0 < length (why_lines refusal)
-why_some (Add e) = some_bytes _ _
-why_some Unreadable = some_bytes _ _
-why_some Unloaded = some_bytes _ _
-why_some (Set e place) = some_bytes _ _
-why_some (Merged e) = some_bytes _ _
-why_some (Share e) = some_bytes _ _
-why_some (Publish e) = some_bytes _ _
-why_some Unbound = some_bytes _ _
-why_some NoConnection = some_bytes _ _
-why_some NoThread = some_bytes _ _
-why_some Unreachable = some_bytes _ _
-why_some (Unserved missed) = some_bytes _ _
-why_some WantOfMemory = some_bytes _ _
+why_some (Add e) = some_at (why_lines (Add e)) _ _ refl
+why_some Unreadable = some_at (why_lines Unreadable) _ _ refl
+why_some Unloaded = some_at (why_lines Unloaded) _ _ refl
+why_some (Set e place) = some_at (why_lines (Set e place)) _ _ refl
+why_some (Merged e) = some_at (why_lines (Merged e)) _ _ refl
+why_some (Share e) = some_at (why_lines (Share e)) _ _ refl
+why_some (Publish e) = some_at (why_lines (Publish e)) _ _ refl
+why_some Unbound = some_at (why_lines Unbound) _ _ refl
+why_some NoConnection = some_at (why_lines NoConnection) _ _ refl
+why_some NoThread = some_at (why_lines NoThread) _ _ refl
+why_some Unreachable = some_at (why_lines Unreachable) _ _ refl
+why_some (Unserved missed) = some_at (why_lines (Unserved missed)) _ _ refl
+why_some WantOfMemory = some_at (why_lines WantOfMemory) _ _ refl
 
 pub refused_told : {E : Type 0} (lines : Result (String Global) E) (refusal : Refusal) (old new : Option (List ℕ)) (is_mute : Bool)
     → IfOk lines (λ s. string_bytes s ≡ why_lines refusal) → IfOk lines (λ s. Says old new is_mute (string_bytes s)) → IfErr lines (λ _. Says old new is_mute memory_line) → TellsText old new is_mute
 refused_told (Ok s) refusal old new is_mute is said sentence = (string_bytes s, subst (λ (bs : List ℕ). 0 < length bs) (sym is) (why_some refusal), said)
-refused_told (Err e) refusal old new is_mute is said sentence = (memory_line, some_bytes _ _, sentence)
+refused_told (Err e) refusal old new is_mute is said sentence = (memory_line, some_at memory_line _ _ refl, sentence)

@@ -37,9 +37,13 @@ abbrev pub source_word : SourceFault → List ℕ
 source_word (Refused e) = documents.name_of e
 source_word e = sources.name_of e
 
+-- the line of a document that is refused, by its place and why
+unfoldable pub document_line : ℕ → List ℕ → List ℕ
+document_line place why = codes "error: the document at place " ++ (decimal place ++ (codes " of those to be published is refused: " ++ (why ++ codes "\n")))
+
 -- the lines of a refusal: which document is refused and why, how many subscribers were not served, or its sentence
 abbrev pub why_lines : Refusal → List ℕ
-why_lines (Set e place) = codes "error: the document at place " ++ (decimal place ++ (codes " of those to be published is refused: " ++ (source_word e ++ (codes "\n" ++ left_line))))
+why_lines (Set e place) = document_line place (source_word e) ++ left_line
 why_lines (Unserved missed) = codes "error: subscribers that were not sent the last snapshot: " ++ (decimal missed ++ codes "\n")
 why_lines refusal = codes "error: " ++ (sentence_of refusal ++ codes "\n")
 

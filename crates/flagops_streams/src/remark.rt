@@ -1,8 +1,8 @@
 //! What a person is told on the error outlet. It changes no answer. A line of a subscriber that can't be made is left out; why
 //! there was a refusal is told in any case, by a fixed sentence where there is no memory to say more.
-ghost use Rattle.std.specs.Prelude.{◌≡◌, false, IfErr, IfOk, string_bytes};
+ghost use Rattle.std.specs.Prelude.{◌≡◌, ◌++◌, false, IfErr, IfOk, string_bytes};
 ghost use Rattle.flagops_streams.specs.Told.{IsForewarning, MayTellLate, Says, TellsLines, TellsNobody, TellsReason, TellsText, came_line, forewarning, gone_line, late_line, listening_line, nobody_line, reason_of};
-ghost use Rattle.flagops_streams.specs.Why.{IsWhy, memory_line, sentence_of, source_word, why_lines};
+ghost use Rattle.flagops_streams.specs.Why.{IsWhy, document_line, left_line, memory_line, sentence_of, source_word, why_lines};
 
 use crate::disconnected::Disconnected;
 use crate::refusal::Refusal;
@@ -208,12 +208,7 @@ fn lines_of(alloc: Global, refusal: Refusal) -> Result<String, AllocError>
     ensures { IfOk result (λ s. string_bytes s ≡ why_lines refusal) }
 {
     match refusal {
-        Refusal::Set(fault, place) => {
-            let why = source_word(fault);
-            format!(in alloc;
-                "error: the document at place {place} of those to be published is refused: {why}\n{PUBLISHED_BEFORE}"
-            )
-        }
+        Refusal::Set(fault, place) => document_lines(alloc, fault, place),
         Refusal::Unserved(missed) => format!(in alloc;
             "error: subscribers that were not sent the last snapshot: {missed}\n"
         ),
@@ -222,6 +217,24 @@ fn lines_of(alloc: Global, refusal: Refusal) -> Result<String, AllocError>
             format!(in alloc; "error: {sentence}\n")
         }
     }
+}
+
+/// What a person is told of a document that its source refuses, of which nothing else is known.
+fn document_lines(alloc: Global, fault: SourceFault, place: u64) -> Result<String, AllocError>
+    ensures { IfOk result (λ s. string_bytes s ≡ document_line place (source_word fault) ++ left_line) }
+{
+    let mut lines = document_line(alloc, place, source_word(fault))?;
+    lines.push_str(PUBLISHED_BEFORE)?;
+    Ok(lines)
+}
+
+#[tactic(auto, unfolding(crate::specs::Why::document_line))]
+fn document_line(alloc: Global, place: u64, why: &str) -> Result<String, AllocError>
+    ensures { IfOk result (λ s. string_bytes s ≡ document_line place why.now) }
+{
+    format!(in alloc;
+        "error: the document at place {place} of those to be published is refused: {why}\n"
+    )
 }
 
 /// Why a source refuses a document: the name of the fault.

@@ -17,4 +17,4 @@ pub returns-in-Some-clause-lines : goal.returns-in-Some-clause-lines
 returns-in-Some-clause-lines g c =
     let gone = c.in-Some.gone in
     let number = c.saturating_add.result in
-    lines_as (λ line. line ≡ gone_line number gone.frames gone.end) (IsGone (nat_eq c.missed_by.result 0)) (λ line is. (gone, λ all. closed_is gone.end (c.missed_by.ensures.closed all), number, is)) _ _ _ c.say_gone.ensures.lines
+    lines_as (λ line. line ≡ gone_line number gone.frames gone.end) (IsGone (nat_eq c.missed_by.result 0)) (λ line is. (gone, λ all. closed_is gone.end (c.missed_by.ensures.closed all), (number, is))) _ _ _ c.say_gone.ensures.lines
