@@ -59,7 +59,7 @@ impl LaterKeys {
 
 /// What a guard holds of a ring.
 #[derive(Drop)]
-pub struct HeldKeys<'a> {
+pub(crate) struct HeldKeys<'a> {
     alloc: Global,
     ring: &'a KeyRing,
     version: u64,
@@ -68,7 +68,7 @@ pub struct HeldKeys<'a> {
 
 impl<'a> HeldKeys<'a> {
     /// The keys that all guards begin with.
-    pub fn new(alloc: Global, ring: &'a KeyRing) -> Result<HeldKeys<'a>, AllocError>
+    pub(crate) fn new(alloc: Global, ring: &'a KeyRing) -> Result<HeldKeys<'a>, AllocError>
         ensures { IfOk result (λ held. keys_view held.keys ≡ keys_view ring.now.first) }
     {
         let keys = ring.first.copied(alloc)?;
@@ -82,7 +82,7 @@ impl<'a> HeldKeys<'a> {
 
     /// Takes over the keys of the ring where others were set. Where memory runs out, or they are being set or taken over just now,
     /// they are taken over the next time.
-    pub fn renew(&mut self) {
+    pub(crate) fn renew(&mut self) {
         let ring = self.ring;
         let version = ring.version.load(Ordering::SeqCst);
         if version == self.version {

@@ -32,7 +32,7 @@ mod rules;
 pub use admin::AdminGuard;
 pub use admin_rules::AdminRules;
 pub use guard::{CountsStatus, Guard};
-pub use held::{HeldKeys, KeyRing, LaterKeys};
+pub use held::{KeyRing, LaterKeys};
 pub use hosts::OwnHosts;
 pub use key::{KeyFault, MOST_KEY_BYTES};
 pub use keys::Keys;

@@ -1,5 +1,5 @@
 //! What a guard goes by.
-ghost use Rattle.std.specs.Prelude.{◌≡◌, ◌||◌, IfOk, Some, codes, is_some, map, option_copied, option_map, string_bytes};
+ghost use Rattle.std.specs.Prelude.{◌≡◌, ◌||◌, IfOk, codes, is_some, map, option_copied, option_map, string_bytes};
 ghost use Rattle.std.specs.List.{list_any};
 ghost use Rattle.http.specs.Request.{head_of};
 ghost use Rattle.http_header.specs.HeaderMap.{get};
@@ -128,15 +128,6 @@ impl Paths {
             Paths::All => true,
             Paths::Evaluations => evaluates(place),
         }
-    }
-}
-
-impl HeldKeys<'_> {
-    /// Whether a request shows one of the keys, as `Authorization: Bearer KEY` or `X-API-Key: KEY`.
-    pub fn are_shown(&self, request: &Request<Bytes>) -> bool
-        ensures { result ≡ is_admitted (Some (keys_view self.now.keys)) (asked_of request.now) }
-    {
-        shows(&self.keys, request)
     }
 }
 
