@@ -438,7 +438,7 @@ class Remarks(ProgramTest):
                 ran = run(["resolve", "d", key, "bool", "false", "c", "0"], {"d": SHOP, "c": "{}"})
                 out = '{"code":"FLAG_NOT_FOUND","reached":[],"reason":"ERROR","value":false,"variant":null}\n'
                 self.assertEqual((ran.status, ran.out), (0, out))
-                self.assertEqual(ran.err, f'note: "d" has no flag "{key}", so the value is DEFAULT\n  {told}\n')
+                self.assertEqual(ran.err, f'note: "d" has no flag "{key}", so it resolves to the default\n  {told}\n')
                 ran = run(["record", "d", key], {"d": SHOP}, input="{}\n")
                 self.assertEqual((ran.status, ran.out), (1, "refused plan 2 UnknownFlag\n"))
                 self.assertEqual(ran.err, f'error: "d": the flag "{key}": no such flag\n  {told}\n')
@@ -457,7 +457,7 @@ class Remarks(ProgramTest):
             with self.subTest(key=key, kind=kind):
                 ran = run(["resolve", "d", key, kind, default, "c", "0"], {"d": SHOP, "c": "{}"})
                 self.assertEqual(ran.status, 0)
-                self.assertEqual(ran.err, f'note: "d": the flag "{key}" is {told}, so the value is DEFAULT\n')
+                self.assertEqual(ran.err, f'note: "d": the flag "{key}" is {told}, so it resolves to the default\n')
 
     def test_of_kinds_of_asks(self):
         """They are spelled as `resolve` takes them."""
