@@ -221,7 +221,6 @@ class Plans(ControlTest):
         self.assertEqual((status, body.decode()), (200, document))
         self.assertEqual(self.ask("GET", "/snapshot", **{"If-None-Match": headers["ETag"]})[0], 304)
 
-
     def test_flags_as_the_commands_tell_them(self):
         on = {"state": "ENABLED", "variants": {"on": True, "off": False}, "defaultVariant": "off"}
         flags = {
@@ -395,7 +394,7 @@ class Applied(ControlTest):
         self.assertEqual(self.ask("POST", "/apply", compact(token).encode(), From="ann")[0], 200)
         self.assertEqual(self.text("flags.json"), wanted)
         rows = json.loads(self.ask("GET", "/history")[2])
-        self.assertEqual([(row["flag"], row["site"], row["inputs"], row["old"]) for row in rows], [("checkout", 0, 300, [["on", 5], ["off", 95]])])
+        self.assertEqual([(row["flag"], row["site"], row["inputs"], row["old"], row["who"]) for row in rows], [("checkout", 0, 300, [["on", 5], ["off", 95]], "ann")])
 
     def test_a_document_that_changed(self):
         self.shop(allow_apply=True)

@@ -172,13 +172,13 @@ counted files lines counts are all page =
 pub record Counted (lines rest : List (List ℕ)) (counts : List (PageName × ℕ)) : Type 0 where
   pub before : List (List ℕ)
   pub split : lines ≡ before ++ rest
-  pub counts : CountsLines before counts
+  pub numbers : CountsLines before counts
 
 pub counted_none : (lines : List (List ℕ)) (counts : List (PageName × ℕ)) → counts ≡ [] → Counted lines lines counts
 counted_none lines counts none = record {
   before = [];
   split = refl;
-  counts = record { saids = []; say = refl; each = λ page. ap (λ (es : List (PageName × ℕ)). counted_on es page) none };
+  numbers = record { saids = []; say = refl; each = λ page. ap (λ (es : List (PageName × ℕ)). counted_on es page) none };
 }
 
 one_more : (p : Said → Bool) (ss : List Said) (s : Said) → count_by p (ss ++ s ∷ []) ≡ count_by p ss + cond (p s) 1 0
@@ -192,34 +192,34 @@ module _ (lines rest others : List (List ℕ)) (line : List ℕ) (is : rest ≡ 
   counted_next (inl none) = record {
     before = so_far.before ++ line ∷ [];
     split = split_next;
-    counts = record {
-      saids = so_far.counts.saids;
-      say = say_no_more so_far.before so_far.counts.saids line none.0 so_far.counts.say;
-      each = λ page. ap (λ (es : List (PageName × ℕ)). counted_on es page) none.1 ∙ so_far.counts.each page;
+    numbers = record {
+      saids = so_far.numbers.saids;
+      say = say_no_more so_far.before so_far.numbers.saids line none.0 so_far.numbers.say;
+      each = λ page. ap (λ (es : List (PageName × ℕ)). counted_on es page) none.1 ∙ so_far.numbers.each page;
     };
   }
   counted_next (inr some) = record {
     before = so_far.before ++ line ∷ [];
     split = split_next;
-    counts = record {
-      saids = so_far.counts.saids ++ some.0 ∷ [];
-      say = say_more so_far.before so_far.counts.saids line some.0 some.1 some.2 so_far.counts.say;
+    numbers = record {
+      saids = so_far.numbers.saids ++ some.0 ∷ [];
+      say = say_more so_far.before so_far.numbers.saids line some.0 some.1 some.2 so_far.numbers.say;
       each = λ page.
           some.3 page
-          ∙ ap (λ (n : ℕ). n + cond (page_eq (said_page some.0) page) 1 0) (so_far.counts.each page)
-          ∙ sym (one_more (is_of page) so_far.counts.saids some.0);
+          ∙ ap (λ (n : ℕ). n + cond (page_eq (said_page some.0) page) 1 0) (so_far.numbers.each page)
+          ∙ sym (one_more (is_of page) so_far.numbers.saids some.0);
     };
   }
 
-  -- no number is above that of the lines
-  pub has_room : length lines < 2 ^ 64 → HasRoom old
-  has_room fits page =
-      let all : length lines ≡ length so_far.before + length (line ∷ others) = ap length (so_far.split ∙ ap (λ (ls : List (List ℕ)). so_far.before ++ ls) is) ∙ length-append so_far.before (line ∷ others) in
-      let few = no_more_said so_far.before so_far.counts.saids so_far.counts.say in
-      let counted = count_by-le-length (is_of page) so_far.counts.saids in
-      let number = so_far.counts.each page in
-      omega (arith, all, few, counted, number, fits)
+-- where a line is left, no number is that of the lines
+pub has_room : (lines rest : List (List ℕ)) (counts : List (PageName × ℕ)) → Counted lines rest counts → 0 < length rest → length lines < 2 ^ 64 → HasRoom counts
+has_room lines rest counts so_far some fits page =
+    let all : length lines ≡ length so_far.before + length rest = ap length so_far.split ∙ length-append so_far.before rest in
+    let few = no_more_said so_far.before so_far.numbers.saids so_far.numbers.say in
+    let counted = count_by-le-length (is_of page) so_far.numbers.saids in
+    let number = so_far.numbers.each page in
+    omega (arith, all, few, counted, number, fits, some)
 
 pub counted_all : (lines rest : List (List ℕ)) (counts : List (PageName × ℕ)) → rest ≡ [] → Counted lines rest counts → CountsLines lines counts
 counted_all lines rest counts none all =
-    subst (λ (ls : List (List ℕ)). CountsLines ls counts) (sym (all.split ∙ ap (λ (ls : List (List ℕ)). all.before ++ ls) none ∙ append-nil all.before)) all.counts
+    subst (λ (ls : List (List ℕ)). CountsLines ls counts) (sym (all.split ∙ ap (λ (ls : List (List ℕ)). all.before ++ ls) none ∙ append-nil all.before)) all.numbers

@@ -18,18 +18,18 @@ returns-in_err-bytes c =
     let is : r ≡ Err WantOfMemory = p.1 ∙ ap Err p.2 in
     wanted applied_view (IsAppliedOf (snapshot_view c.args.snapshot.now) c.args.request.now (files_view c.args.files.now) (planned_view c.args.planned)) r is
 
-pub returns-in_err-question_of : goal.returns-in_err-question_of
-returns-in_err-question_of c =
+pub returns-in_err-request : goal.returns-in_err-request
+returns-in_err-request c =
     let s = snapshot_view c.args.snapshot.now in
     let files = files_view c.args.files.now in
     let answer = planned_view c.args.planned in
     let bytes = c.in_ok-bytes.bytes.items in
     let same : bytes ≡ c.args.request.now = search rules in
-    let e = c.in_err-question_of.field-0.0 in
-    let r = c.from_residual-in_err-question_of.result in
-    let p = err_from_is_err_and r c.from_residual-in_err-question_of.ensures.1 in
+    let e = c.in_err-request.field-0.0 in
+    let r = c.from_residual-in_err-request.result in
+    let p = err_from_is_err_and r c.from_residual-in_err-request.ensures.1 in
     let is : r ≡ Err e = p.1 ∙ ap Err p.2 in
-    subst (λ (x : List ℕ). Gives applied_view (IsAppliedOf s x files answer) r) same (not_asked applied_view (flags_view c.args.snapshot.now.flags.now) bytes (λ target. OfFiles files target (IsAppliedOn s bytes answer)) e r is c.in_err-question_of.ensures.exact)
+    subst (λ (x : List ℕ). Gives applied_view (IsAppliedOf s x files answer) r) same (not_asked applied_view (flags_view c.args.snapshot.now.flags.now) bytes (λ target. OfFiles files target (IsAppliedOn s bytes answer)) e r is c.in_err-request.ensures.exact)
 
 pub returns : goal.returns
 returns c =
@@ -38,9 +38,9 @@ returns c =
     let answer = planned_view c.args.planned in
     let bytes = c.in_ok-bytes.bytes.items in
     let same : bytes ≡ c.args.request.now = search rules in
-    let target = target_view c.in_ok-question_of.field-0.target in
+    let target = target_view c.in_ok-request.field-0.target in
     let r = c.apply_recorded.result in
-    let is = c.in_ok-question_of.ensures.exact in
+    let is = c.in_ok-request.ensures.exact in
     let made = subst (λ (x : List ℕ). Gives applied_view (OfFiles files target (IsAppliedOn s x answer)) r) is.0 c.apply_recorded.ensures in
     subst (λ (x : List ℕ). Gives applied_view (IsAppliedOf s x files answer) r) same
     (with_target applied_view (target_of (flags_view c.args.snapshot.now.flags.now) bytes) (λ target. OfFiles files target (IsAppliedOn s bytes answer)) target r is.1 made)

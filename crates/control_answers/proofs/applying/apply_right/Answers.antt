@@ -23,17 +23,17 @@ returns-in_err-document c =
     let is : r ≡ Err e = p.1 ∙ ap Err p.2 in
     unkept applied_view (snapshot_view c.args.snapshot.now) c.args.request (planned_view c.args.planned) c.args.tally.now e r is c.in_err-document.ensures
 
-pub returns-in_err-doubt_of : goal.returns-in_err-doubt_of
-returns-in_err-doubt_of c =
-    let r = c.from_residual-in_err-doubt_of.result in
-    let p = err_from_is_err_and r c.from_residual-in_err-doubt_of.ensures.1 in
+pub returns-in_err-doubt : goal.returns-in_err-doubt
+returns-in_err-doubt c =
+    let r = c.from_residual-in_err-doubt.result in
+    let p = err_from_is_err_and r c.from_residual-in_err-doubt.ensures.1 in
     let is : r ≡ Err WantOfMemory = p.1 ∙ ap Err p.2 in
     wanted applied_view (IsApplied (snapshot_view c.args.snapshot.now) c.args.request (planned_view c.args.planned) c.args.tally.now) r is
 
 pub returns-in-Some : goal.returns-in-Some
 returns-in-Some c =
-    λ other. doubted (snapshot_view c.args.snapshot.now) c.args.request (planned_view c.args.planned) c.args.tally.now (string_bytes c.in_ok-document.document) c.in_ok-document.ensures c.in-Some.doubt (sym c.in_ok-doubt_of.ensures ∙ c.in-Some.is)
+    λ other. doubted (snapshot_view c.args.snapshot.now) c.args.request (planned_view c.args.planned) c.args.tally.now (string_bytes c.in_ok-document.document) c.in_ok-document.ensures c.in-Some.doubt (sym c.in_ok-doubt.ensures ∙ c.in-Some.is)
 
 pub returns-in-None : goal.returns-in-None
 returns-in-None c =
-    undoubted (snapshot_view c.args.snapshot.now) c.args.request (planned_view c.args.planned) c.args.tally.now (string_bytes c.in_ok-document.document) c.in_ok-document.ensures (sym c.in_ok-doubt_of.ensures ∙ c.in-None.is)
+    undoubted (snapshot_view c.args.snapshot.now) c.args.request (planned_view c.args.planned) c.args.tally.now (string_bytes c.in_ok-document.document) c.in_ok-document.ensures (sym c.in_ok-doubt.ensures ∙ c.in-None.is)
