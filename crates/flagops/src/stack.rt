@@ -5,18 +5,15 @@ use crate::dispatch::flagops;
 use crate::watching::Watcher;
 use flag_text::Outlet;
 use flagops_filters::Opening;
+use flagops_service::Host;
 use flagops_shell::{Console, FileSet};
 use limits::STACK_BYTES;
 use line_batches::Inlet;
-use log_file::LogPaths;
 use std::convert::AsStr;
 use std::io;
-use std::net::{Net, TcpListener, TcpStream};
 use std::process::ExitCode;
-use std::random::RandomSource;
 use std::sync::Wait;
 use std::thread::{self, Builder, Threads};
-use std::time::Clock;
 
 /// Does what the words ask for on a stack of its own, where there is memory for one.
 pub fn on_stack<R, S, I, F, O, E, W>(
@@ -29,14 +26,7 @@ pub fn on_stack<R, S, I, F, O, E, W>(
     watcher: &W,
 ) -> Option<ExitCode>
 where
-    R: AllocGlobal
-        + LogPaths
-        + Net<Listener = TcpListener, Stream = TcpStream>
-        + Clock
-        + RandomSource
-        + Threads
-        + Wait
-        + Sync,
+    R: Host,
     S: AsStr + Send + Drop,
     I: Inlet + Opening + Send + Drop,
     F: FileSet + Send + Drop,

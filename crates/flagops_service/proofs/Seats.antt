@@ -1,9 +1,7 @@
 -- Seats that were not made.
-use Rattle.std.proofs.Common.{◌≡◌, ◌≤◌, ℕ, List, Option, Some, None, if◌then◌else◌, arith, refl}
-use Rattle.std.specs.Prelude.{is_some}
+use Rattle.std.proofs.Common.{◌≡◌, ◌≤◌, ℕ, arith}
 use Rattle.flagops_streams.specs.Documents.{MayFail}
 use Rattle.flagops_streams.specs.declared.refusal.Refusal.TheVariants.{Share}
-use Rattle.flagops_service.specs.Words.{operators_of}
 use Rattle.snap_share.specs.declared.fault.ShareFault.{ShareFault}
 use Rattle.snap_share.specs.declared.fault.ShareFault.TheVariants as share
 
@@ -15,10 +13,3 @@ fewer_fail made wanted share.TooManySeats few none may = omega (arith, may, few)
 fewer_fail made wanted share.NoReader few none may = tt
 fewer_fail made wanted share.LastNumber few none may = absurd may
 fewer_fail made wanted share.Closed few none may = absurd may
-
--- operations have a seat where they have an address
-pub as_many : {X : Type 0} (post : Option X) (address : Option (List ℕ)) → is_some post ≡ is_some address → (if is_some post then 1 else 0) ≡ operators_of address
-as_many None None same = refl
-as_many (Some p) (Some a) same = refl
-as_many None (Some a) same = absurd (cc same)
-as_many (Some p) None same = absurd (cc same)

@@ -1,5 +1,5 @@
 -- What the words of `ofrep` ask for, by what `clap` reads of them.
-use Rattle.std.specs.Prelude.{ℕ, zero, suc, ◌+◌, ◌-◌, ◌/◌, Bool, true, false, max, List, [], codes, map, Option, Some, None, option_copied, option_map, unwrap_or, if◌then◌else◌}
+use Rattle.std.specs.Prelude.{ℕ, zero, suc, ◌+◌, ◌-◌, ◌/◌, Bool, true, false, max, List, [], ◌∷◌, codes, map, Option, Some, None, option_copied, option_map, unwrap_or, if◌then◌else◌}
 use Rattle.std.specs.Str.{bytes_eq}
 use Rattle.clap.specs.Kinds.{Kinds}
 use Rattle.clap.specs.Simple.{App, new_app, new_rule, with_rule}
@@ -18,13 +18,14 @@ use Rattle.ofrep_guards.specs.declared.rules.Paths.TheVariants.{All, Evaluations
 use Rattle.ofrep_worker.specs.declared.unrecorded.WithoutRecord.{WithoutRecord}
 use Rattle.ofrep_worker.specs.declared.unrecorded.WithoutRecord.TheVariants as unrecorded
 
--- Documents, by their paths, answered at an address, also to the web pages of these origins, to whoever shows a key of a file where one is named, operations at another address where one is given, which may be asked to stop it, with a line told of each request or none, by so many workers that keep notes in a folder, with the inputs or with their hashes alone, and remember so many of them together, and streamed on a port; read again after so many seconds, 0 for never; idle connections are kept for so many seconds, and bodies taken of so many bytes at most. And what becomes of answers that can't be recorded, and of flags that are broken.
+-- Documents, by their paths, answered at an address, also to the web pages of these origins, to whoever shows a key of a file where one is named, operations at another address where one is given, which may be asked to stop it, and to apply plans to its document, with a line told of each request or none, by so many workers that keep notes in a folder, with the inputs or with their hashes alone, and remember so many of them together, and streamed on a port; read again after so many seconds, 0 for never; idle connections are kept for so many seconds, and bodies taken of so many bytes at most. And what becomes of answers that can't be recorded, and of flags that are broken.
 pub record Answering : Type 0 where
   pub listen : Option Text
   pub cors : List Text
   pub keys : Option Text
   pub admin : Option Text
   pub allow_stop : Bool
+  pub allow_apply : Bool
   pub access_log : Bool
   pub log : Option Text
   pub log_points : Bool
@@ -45,6 +46,7 @@ answering_view a = record {
   keys = option_copied a.keys;
   admin = option_copied a.admin;
   allow_stop = a.allow_stop;
+  allow_apply = a.allow_apply;
   access_log = a.access_log;
   log = option_copied a.log;
   log_points = a.log_points;
@@ -63,24 +65,33 @@ answering_view a = record {
 abbrev pub max_subscribers : ℕ
 max_subscribers = 32
 
--- the seat of operations, where they have an address of their own
-abbrev pub operators_of : Option Text → ℕ
-operators_of None = 0
-operators_of (Some address) = 1
+-- the seats of operations, where they have an address of their own: two for each thread, of which there are three where logs are kept
+abbrev pub operators_of : Option Text → Option Text → ℕ
+operators_of None log = 0
+operators_of (Some address) None = 2
+operators_of (Some address) (Some folder) = 6
 
--- the seats of subscribers, where there is a stream: one fewer where operations have one
+-- the seats of subscribers, where there is a stream: fewer where operations have some
 abbrev pub subscribers_of : Option ℕ → ℕ → ℕ
 subscribers_of None operators = 0
 subscribers_of (Some port) operators = max_subscribers - operators
 
 -- the seats of the workers, of operations and of the subscribers
 abbrev pub seats_of : Answering → ℕ
-seats_of a = a.workers + (operators_of a.admin + subscribers_of a.stream (operators_of a.admin))
+seats_of a = a.workers + (operators_of a.admin a.log + subscribers_of a.stream (operators_of a.admin a.log))
 
 -- what the workers serve: the evaluations alone, where operations have an address of their own
 abbrev pub paths_served : Option Text → Paths
 paths_served None = All
 paths_served (Some address) = Evaluations
+
+-- the document to which plans may be applied: the only one, where that is allowed, which is no stream
+abbrev pub only_of : List Text → Option Text
+only_of (path ∷ []) = if bytes_eq path (codes "-") then None else Some path
+only_of paths = None
+
+abbrev pub applied_to : Answering → Option Text
+applied_to a = if a.allow_apply then only_of a.documents else None
 
 -- what the lines of the logs have of the inputs
 abbrev pub form_of : Bool → NoteForm
@@ -138,9 +149,10 @@ ofrep_logged = with_rule ofrep_begun (flag (codes "log-points"))
 unfoldable pub ofrep_guarded : App
 ofrep_guarded = with_rule (with_rule ofrep_logged (option_texts (codes "ORIGIN") (codes "cors"))) (option_text (codes "FILE") (codes "keys"))
 
--- the same with `--admin ADDRESS:PORT`, `--allow-stop` and `--access-log`
+-- the same with `--admin ADDRESS:PORT`, `--allow-stop`, `--allow-apply` and `--access-log`
 unfoldable pub ofrep_operated : App
-ofrep_operated = with_rule (with_rule (with_rule ofrep_guarded (option_text (codes "HOST:PORT") (codes "admin"))) (flag (codes "allow-stop"))) (flag (codes "access-log"))
+ofrep_operated =
+    with_rule (with_rule (with_rule (with_rule ofrep_guarded (option_text (codes "HOST:PORT") (codes "admin"))) (flag (codes "allow-stop"))) (flag (codes "allow-apply"))) (flag (codes "access-log"))
 
 -- the same with `--idle SECONDS` and `--max-body BYTES`
 unfoldable pub ofrep_limited : App
@@ -212,6 +224,7 @@ answering_in rows = do
     keys = first_of (codes "FILE") rows;
     admin = first_of (codes "HOST:PORT") rows;
     allow_stop = flag_in (codes "allow-stop") rows;
+    allow_apply = flag_in (codes "allow-apply") rows;
     access_log = flag_in (codes "access-log") rows;
     log = first_of (codes "FOLDER") rows;
     log_points = flag_in (codes "log-points") rows;

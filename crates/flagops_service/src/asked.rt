@@ -15,7 +15,7 @@ pub enum OnBroken {
 }
 
 /// What `ofrep` is asked for: to answer from documents, by their paths, at an address, also the web pages of these origins, whoever
-/// shows a key of a file where one is named, operations at another address where one is given, which may be asked to stop it, with a line
+/// shows a key of a file where one is named, operations at another address where one is given, which may be asked to stop it, and to apply plans to its document, with a line
 /// told of each request or none, by so many workers that keep their notes in a folder, with the inputs or with their hashes alone,
 /// and remember so many of them together, to serve the stream on a port, and to read the documents again after so many seconds, 0 for
 /// never, with idle connections kept for so many seconds and bodies of so many bytes at most; and what becomes of answers that can't
@@ -27,6 +27,7 @@ pub struct Answering<'a> {
     pub keys: Option<&'a str>,
     pub admin: Option<&'a str>,
     pub allow_stop: bool,
+    pub allow_apply: bool,
     pub access_log: bool,
     pub log: Option<&'a str>,
     pub log_points: bool,

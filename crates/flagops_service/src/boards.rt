@@ -1,11 +1,12 @@
 //! The board of a service, for what is asked for.
 ghost use Rattle.std.specs.Prelude.{◌≡◌, IfOk, is_some, map, option_copied, option_map, string_bytes};
 ghost use Rattle.std.specs.NonZero.{non_zero_usize_get};
-ghost use Rattle.flagops_service.specs.Words.{answering_view, form_of, paths_served, share_of};
+ghost use Rattle.flagops_service.specs.Words.{answering_view, applied_to, form_of, paths_served, share_of};
 
 use crate::asked::Answering;
 use crate::remembering::share_of;
 use access_lines::AccessLines;
+use control_desk::DeskRules;
 use note_lines::NoteForm;
 use ofrep_guards::{Keys, Paths};
 use ofrep_service::{Board, ConnectionLimits};
@@ -29,6 +30,8 @@ pub(crate) fn board_of(
     ensures lines { IfOk result (λ board. is_some board.lines ≡ answering.now.access_log) }
     ensures idle { IfOk result (λ board. board.limits.idle_seconds ≡ answering.now.idle) }
     ensures max_body { IfOk result (λ board. board.limits.body_bytes ≡ answering.now.max_body) }
+    ensures folder { IfOk result (λ board. option_map string_bytes board.desks.rules.folder ≡ (answering_view answering.now).log) }
+    ensures applied_to { IfOk result (λ board. option_map string_bytes board.desks.rules.applied_to ≡ applied_to (answering_view answering.now)) }
 {
     let origins = copied(alloc, answering.cors.as_slice())?;
     let share = share_of(answering.remember, answering.workers);
@@ -46,9 +49,43 @@ pub(crate) fn board_of(
             idle_seconds: answering.idle,
             body_bytes: answering.max_body as usize,
         },
+        rules_of(alloc, answering)?,
     );
     board.watch_documents(answering.documents.len());
     Ok(board)
+}
+
+/// What the desks of operations go by: plans may be applied where that is allowed, to the one document that is answered from.
+fn rules_of(alloc: Global, answering: &Answering<'_>) -> Result<DeskRules, AllocError>
+    ensures folder { IfOk result (λ rules. option_map string_bytes rules.folder ≡ (answering_view answering.now).log) }
+    ensures documents { IfOk result (λ rules. map string_bytes rules.documents.items ≡ (answering_view answering.now).documents) }
+    ensures applied_to { IfOk result (λ rules. option_map string_bytes rules.applied_to ≡ applied_to (answering_view answering.now)) }
+{
+    Ok(DeskRules {
+        folder: copied_if(alloc, answering.log)?,
+        documents: copied(alloc, answering.documents.as_slice())?,
+        applied_to: copied_if(alloc, applied_to(answering))?,
+    })
+}
+
+/// The path of the document to which plans may be applied, where they may be: it is a file, and the only one.
+fn applied_to<'a>(answering: &Answering<'a>) -> Option<&'a str>
+    ensures { option_copied result ≡ applied_to (answering_view answering.now) }
+{
+    match answering.documents.as_slice() {
+        [path] if answering.allow_apply && *path != "-" => Some(path),
+        _ => None,
+    }
+}
+
+/// A copy of a text, where there is one.
+fn copied_if(alloc: Global, text: Option<&str>) -> Result<Option<String>, AllocError>
+    ensures { IfOk result (λ copy. option_map string_bytes copy ≡ option_copied text.entry) }
+{
+    match text {
+        Some(text) => Ok(Some(String::from_str(alloc, text)?)),
+        None => Ok(None),
+    }
 }
 
 /// Shows that the snapshot of this number was published, from documents that are accepted now.

@@ -12,16 +12,17 @@ ghost use Rattle.flagops_service.specs.Merging.{AreMerged, ArePublished};
 ghost use Rattle.flagops_service.specs.Starting.{StartsOn, StartsTo, stops_in, stops_on};
 ghost use Rattle.flagops_shell.specs.Console.{IsOpen};
 ghost use Rattle.flagops_service.specs.Unready.{HasKeys};
-ghost use Rattle.flagops_service.specs.Words.{answering_view, form_of, operators_of, paths_served, seats_of, share_of, subscribers_of};
+ghost use Rattle.flagops_service.specs.Words.{answering_view, applied_to, form_of, operators_of, paths_served, seats_of, share_of, subscribers_of};
 ghost use Rattle.ofrep_service.specs.Logs.{path_in, paths_of};
 
 use crate::asked::{Answering, OnBroken};
 use crate::boards::{board_of, show_published};
+use crate::document_texts::{DocumentTexts, show_texts, texts_of};
 use crate::host::Host;
 use crate::keys::WatchedKeys;
 use crate::log_news::tell_lines;
 use crate::merging::merge_all;
-use crate::preparing::{Prepared, Unready, prepare, trouble_of_logs};
+use crate::preparing::{Prepared, Unready, operators_of, prepare, trouble_of_logs};
 use crate::reporting::{
     refuse_and_tell, refuse_document, refuse_start, refuse_unbound, refuse_unloaded, serving_line,
 };
@@ -37,7 +38,7 @@ use flag_defs::Flags;
 use flag_text::Outlet;
 use flagops_shell::{Console, FileSet, report_usage};
 use flagops_streams::{Documents, Refusal, loaded, write_line};
-use ofrep_service::{AdminPost, Board, Post, work_beside};
+use ofrep_service::{AdminPost, Board, Operations, Post, work_beside};
 use snap_share::{History, Publisher, ReadSeat, ShareName, share};
 use source_merge::Sources;
 use std::alloc::{AllocError, Global};
@@ -252,7 +253,7 @@ where
     requires cors { cors_fault (answering_view answering.now).cors ≡ None }
     requires admin { is_some prepared.admin ≡ is_some (answering_view answering.now).admin }
     requires may_stop { IfSome prepared.admin (λ post. post.may_stop ≡ answering.now.allow_stop) }
-    requires streams { vec_len prepared.streams ≡ subscribers_of answering.now.stream (operators_of (answering_view answering.now).admin) }
+    requires streams { vec_len prepared.streams ≡ subscribers_of answering.now.stream (operators_of (answering_view answering.now).admin (answering_view answering.now).log) }
     requires posts { vec_len prepared.posts ≡ answering.now.workers }
     requires clients { HasKeys (F.holding files.old) (answering_view answering.now).keys prepared.clients }
     requires logs { map (λ post. path_in post.journal) prepared.posts.items ≡ paths_of (answering_view answering.now).log answering.now.workers }
@@ -263,11 +264,15 @@ where
 {
     let alloc = rt.alloc();
     let workers = answering.workers as usize;
-    let operators = operation_seats(&prepared.admin);
+    let operators = operators_of(answering);
     let wanted = workers.saturating_add(operators.saturating_add(prepared.streams.len()));
     let (count, broken) = (flags.len(), broken_in(&flags));
     let flags = match watched.described(flags) {
         Ok(flags) => flags,
+        Err(AllocError) => return refuse_and_tell(alloc, out, err, Refusal::WantOfMemory),
+    };
+    let texts = match texts_of(&watched, answering, &flags) {
+        Ok(texts) => texts,
         Err(AllocError) => return refuse_and_tell(alloc, out, err, Refusal::WantOfMemory),
     };
     let (mut publisher, seats) = match share::<J, R>(rt, alloc, history, flags, wanted) {
@@ -279,6 +284,7 @@ where
         answering,
         count,
         broken,
+        texts,
         prepared,
         &mut publisher,
         seats,
@@ -297,6 +303,7 @@ fn answer_shared<J, R, F, O, E>(
     answering: &Answering<'_>,
     count: usize,
     broken: usize,
+    texts: Option<DocumentTexts>,
     prepared: Prepared,
     publisher: &mut Publisher<J>,
     seats: Vec<ReadSeat<J>>,
@@ -342,11 +349,12 @@ where
         Err(AllocError) => return refuse_and_tell(alloc, out, err, Refusal::WantOfMemory),
     };
     say_listening(alloc, err, answering, posts.as_slice());
-    say_operations(alloc, err, &admin, answering.allow_stop);
+    say_operations(alloc, err, &admin, answering);
     say_all_broken(&watched, err);
     say_published(alloc, err, 1, count, broken);
     let status = write_line(out, line.as_str(), 0);
     show_published(rt, &board, 1);
+    show_texts(rt, &board, 1, texts);
     let was_stopped = attend(
         rt, answering, keys, &board, seats, posts, others, streams, admin, publisher, watched,
         files, err,
@@ -354,16 +362,6 @@ where
     tell_lines(rt, alloc, &board, err);
     say_ended(err, was_stopped);
     status_of(answering.allow_stop, was_stopped, status)
-}
-
-/// How many seats operations take.
-fn operation_seats(admin: &Option<AdminPost>) -> usize
-    ensures { result ≡ (if is_some admin.now then 1 else 0) }
-{
-    match admin {
-        Some(_) => 1,
-        None => 0,
-    }
 }
 
 /// The status of a service that has ended, where that of its line is given: 1 unless it was stopped as it may be.
@@ -407,15 +405,16 @@ where
     requires max_body { board.now.limits.body_bytes ≡ answering.now.max_body }
     requires may_stop { IfSome admin (λ post. post.may_stop ≡ answering.now.allow_stop) }
     requires origins { map string_bytes board.now.origins.items ≡ (answering_view answering.now).cors }
+    requires folder { option_map string_bytes board.now.desks.rules.folder ≡ (answering_view answering.now).log }
+    requires applied_to { option_map string_bytes board.now.desks.rules.applied_to ≡ applied_to (answering_view answering.now) }
     requires clients { HasKeys (F.holding files.old) (answering_view answering.now).keys (option_map (λ ring. ring.first) board.now.keys) }
 {
     let alloc = rt.alloc();
     let mut watched = watched;
     let mut clients = WatchedKeys::new(alloc, answering.keys);
     let mut others = others;
-    let admin = match admin {
-        Some(post) => seated(others.pop(), post),
-        None => None,
+    let Ok(operations) = seated(&mut others, streams.len(), admin) else {
+        return false;
     };
     let ended = work_beside(
         rt,
@@ -426,7 +425,7 @@ where
         posts,
         others,
         streams,
-        admin,
+        operations,
         || {
             watch(
                 rt,
@@ -443,15 +442,19 @@ where
     ended.is_some()
 }
 
-/// The post of operations with its seat.
+/// The post of operations, where there is one, with the seats behind those of so many subscribers: half of them for the workers of its
+/// threads, and half for their desks.
 fn seated<J: ShareName>(
-    seat: Option<ReadSeat<J>>,
-    post: AdminPost,
-) -> Option<(ReadSeat<J>, AdminPost)> {
-    match seat {
-        Some(seat) => Some((seat, post)),
-        None => None,
-    }
+    others: &mut Vec<ReadSeat<J>>,
+    subscribers: usize,
+    post: Option<AdminPost>,
+) -> Result<Option<Operations<J>>, AllocError> {
+    let Some(post) = post else {
+        return Ok(None);
+    };
+    let mut seats = others.split_off(subscribers.min(others.len()))?;
+    let desks = seats.split_off(seats.len() / 2)?;
+    Ok(Some(Operations { post, seats, desks }))
 }
 
 /// Tells of each flag and of all metadata that is broken, by its document.

@@ -1,4 +1,5 @@
 //! What the service takes of the system.
+use control_desk::DeskPaths;
 use log_file::LogPaths;
 use std::net::{Net, TcpListener, TcpStream};
 use std::random::RandomSource;
@@ -9,6 +10,7 @@ use std::time::Clock;
 /// Memory, the files of logs, sockets, the time, random numbers, and threads that may wait: all that the service takes of the system.
 pub trait Host: AllocGlobal
     + LogPaths
+    + DeskPaths
     + Net<Listener = TcpListener, Stream = TcpStream>
     + Clock
     + RandomSource
@@ -20,6 +22,7 @@ impl<R> Host for R
 where
     R: AllocGlobal
         + LogPaths
+        + DeskPaths
         + Net<Listener = TcpListener, Stream = TcpStream>
         + Clock
         + RandomSource

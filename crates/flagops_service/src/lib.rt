@@ -24,6 +24,7 @@ mod asked;
 mod boards;
 mod command;
 mod describing;
+mod document_texts;
 mod host;
 mod keys;
 mod log_news;

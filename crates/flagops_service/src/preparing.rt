@@ -1,5 +1,5 @@
 //! What is opened before anybody is answered.
-ghost use Rattle.std.specs.Prelude.{◌≡◌, ◌-◌, IfErr, IfOk, IfSome, None, OnOk, is_some, map, vec_len};
+ghost use Rattle.std.specs.Prelude.{◌≡◌, ◌≤◌, ◌-◌, IfErr, IfOk, IfSome, None, OnOk, is_some, map, vec_len};
 ghost use Rattle.ofrep_service.specs.Logs.{path_in, paths_of};
 ghost use Rattle.flagops_service.specs.Ended.{cors_fault};
 ghost use Rattle.flagops_service.specs.Unready.{HasKeys, MayBeUnready};
@@ -23,8 +23,7 @@ use std::random::RandomSource;
 /// Where HTTP is served where no address is given.
 pub(crate) const LISTEN: &str = "127.0.0.1:8016";
 
-/// The most subscribers of the stream at once. As many seats are left where there are 32 workers; one fewer where operations have
-/// one.
+/// The most subscribers of the stream at once. As many seats are left where there are 32 workers; fewer where operations have some.
 const MOST_SUBSCRIBERS: usize = 32;
 
 /// Where the workers stand, where the subscribers of the stream come, where operations are asked for, if at an address of their own,
@@ -63,7 +62,7 @@ where
     ensures cors { IfOk result (λ p. cors_fault (answering_view answering.now).cors ≡ None) }
     ensures admin { IfOk result (λ p. is_some p.admin ≡ is_some (answering_view answering.now).admin) }
     ensures may_stop { IfOk result (λ p. IfSome p.admin (λ post. post.may_stop ≡ answering.now.allow_stop)) }
-    ensures streams { IfOk result (λ p. vec_len p.streams ≡ subscribers_of answering.now.stream (operators_of (answering_view answering.now).admin)) }
+    ensures streams { IfOk result (λ p. vec_len p.streams ≡ subscribers_of answering.now.stream (operators_of (answering_view answering.now).admin (answering_view answering.now).log)) }
     ensures posts { IfOk result (λ p. vec_len p.posts ≡ answering.now.workers) }
     ensures logs { IfOk result (λ p. map (λ post. path_in post.journal) p.posts.items ≡ paths_of (answering_view answering.now).log answering.now.workers) }
     ensures unready { IfErr result (MayBeUnready (answering_view answering.now)) }
@@ -146,11 +145,21 @@ fn admin_post<R: Net<Listener = TcpListener, Stream = TcpStream>>(
 
 /// The most subscribers of the stream at once.
 pub(crate) fn most_subscribers(answering: &Answering<'_>) -> usize
-    ensures { result ≡ max_subscribers - operators_of (answering_view answering.now).admin }
+    ensures { result ≡ max_subscribers - operators_of (answering_view answering.now).admin (answering_view answering.now).log }
 {
-    match answering.admin {
-        Some(_) => MOST_SUBSCRIBERS - 1,
-        None => MOST_SUBSCRIBERS,
+    MOST_SUBSCRIBERS - operators_of(answering)
+}
+
+/// How many seats operations take: two for each thread, one of its worker and one of its desk. There are three threads where logs are
+/// kept, so that health is answered while a plan is made, and else one.
+pub(crate) fn operators_of(answering: &Answering<'_>) -> usize
+    ensures value { result ≡ operators_of (answering_view answering.now).admin (answering_view answering.now).log }
+    ensures few { result ≤ 6 }
+{
+    match (answering.admin, answering.log) {
+        (None, _) => 0,
+        (Some(_), None) => 2,
+        (Some(_), Some(_)) => 6,
     }
 }
 
@@ -160,7 +169,7 @@ fn streams<R: Net<Listener = TcpListener, Stream = TcpStream>>(
     alloc: Global,
     answering: &Answering<'_>,
 ) -> io::Result<Vec<TcpListener>>
-    ensures { IfOk result (λ streams. vec_len streams ≡ subscribers_of answering.now.stream (operators_of (answering_view answering.now).admin)) }
+    ensures { IfOk result (λ streams. vec_len streams ≡ subscribers_of answering.now.stream (operators_of (answering_view answering.now).admin (answering_view answering.now).log)) }
 {
     match answering.stream {
         Some(port) => bind_stream(rt, alloc, port, most_subscribers(answering)),

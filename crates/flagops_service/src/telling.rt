@@ -68,20 +68,27 @@ pub(crate) fn say_operations<E: Outlet>(
     alloc: Global,
     err: &mut E,
     admin: &Option<AdminPost>,
-    allow_stop: bool,
+    answering: &Answering<'_>,
 ) {
     let Some(post) = admin else {
         return;
     };
     let address = post.address();
-    let ends = if allow_stop {
+    let ends = if answering.allow_stop {
         "; POST /stop there ends it"
+    } else {
+        ""
+    };
+    let writes = if answering.allow_apply {
+        "; POST /apply there writes the document"
     } else {
         ""
     };
     say_made(
         err,
-        format!(in alloc; "ofrep: serves /healthz, /readyz and /metrics on {address}{ends}\n"),
+        format!(in alloc;
+            "ofrep: serves /healthz, /readyz and /metrics on {address}, and the console{ends}{writes}\n"
+        ),
     );
 }
 

@@ -119,19 +119,28 @@ fn operated<'a>(alloc: Global) -> Result<Command<'a>, AllocError>
         alloc,
         "HOST:PORT",
         "admin",
-        "The address for /healthz, /readyz and /metrics, which are then not served at --listen",
+        "The address for the console, and for /healthz, /readyz and /metrics, which are then not served at --listen",
     );
     let stop = flag(
         alloc,
         "allow-stop",
         "Let POST /stop at the address of --admin end the service, once each answer under way is sent",
     );
+    let apply = flag(
+        alloc,
+        "allow-apply",
+        "Let POST /apply at the address of --admin write DOC with the rule of a plan that is right on the record",
+    );
     let lines = flag(
         alloc,
         "access-log",
         "Write a line of JSON for each request to standard error",
     );
-    guarded(alloc)?.arg(admin)?.arg(stop)?.arg(lines)
+    guarded(alloc)?
+        .arg(admin)?
+        .arg(stop)?
+        .arg(apply)?
+        .arg(lines)
 }
 
 /// The command `ofrep` with the words that are texts, and those that say who may ask.

@@ -7,6 +7,7 @@ ghost use Rattle.flagops_service.specs.Rereading.{State, Watches, state_of};
 
 use crate::asked::Answering;
 use crate::boards::show_published;
+use crate::document_texts::{show_texts, texts_of};
 use crate::keys::WatchedKeys;
 use crate::log_news::{LogNews, tell_lines, tell_news};
 use crate::sizes::show_sizes;
@@ -59,7 +60,7 @@ pub(crate) fn watch<J: ShareName, R: Clock + LogPaths + Wait, F: FileSet, E: Out
         watched.show(board);
         clients.renew(rt, board, files, err);
         if waits {
-            waits = publish(rt, watched, publisher, board, err);
+            waits = publish(rt, watched, publisher, board, answering, err);
         }
     }
 }
@@ -91,6 +92,7 @@ fn publish<J: ShareName, R: Clock + Wait, E: Outlet>(
     watched: &Watched<'_>,
     publisher: &mut Publisher<J>,
     board: &Board,
+    answering: &Answering<'_>,
     err: &mut E,
 ) -> bool
     ensures { Publishes (sources_view watched.now.sources) (texts_of watched.now.accepted.items) publisher.old publisher.new }
@@ -109,9 +111,13 @@ fn publish<J: ShareName, R: Clock + Wait, E: Outlet>(
         }
     };
     let (count, broken) = (flags.len(), broken_in(&flags));
+    let Ok(texts) = texts_of(watched, answering, &flags) else {
+        return true;
+    };
     match publisher.publish(rt, watched.alloc, flags) {
         Ok(number) => {
             show_published(rt, board, number);
+            show_texts(rt, board, number, texts);
             say_published(watched.alloc, err, number, count, broken);
             false
         }

@@ -87,6 +87,7 @@ fn answering_in<'a>(
         keys: text_at(matches, "FILE"),
         admin: text_at(matches, "HOST:PORT"),
         allow_stop: flag_in(matches, "allow-stop"),
+        allow_apply: flag_in(matches, "allow-apply"),
         access_log: flag_in(matches, "access-log"),
         log: text_at(matches, "FOLDER"),
         log_points: flag_in(matches, "log-points"),

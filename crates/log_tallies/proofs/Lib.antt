@@ -1,4 +1,5 @@
 mod Among
+mod Counted
 mod Crowded
 pub mod Cut
 mod Held

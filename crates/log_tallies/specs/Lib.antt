@@ -6,3 +6,4 @@ pub mod Stray
 pub mod Recorded
 pub mod Tallies
 pub mod Sorted
+pub mod Counts

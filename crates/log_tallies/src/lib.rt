@@ -2,7 +2,8 @@
 //!
 //! A service writes the note lines of what it answers into the logs of its workers, so an input stands in several files and
 //! more than once, in no order. [`tally_files`] sorts the lines of all files, takes each once, and counts the inputs of one page at
-//! their points. It keeps an address and a length for each line, and nothing of the lines themselves.
+//! their points. It keeps an address and a length for each line, and nothing of the lines themselves. [`count_notes`] counts the notes
+//! of all pages in the same way.
 //!
 //! ```rust
 //! use log_tallies::{LogFile, tally_files};
@@ -18,6 +19,7 @@
 //! notes of both kinds, or that there are too many, in this order (`Tallies`).
 #![tactic(auto)]
 
+mod counting;
 mod distinct;
 mod fault;
 mod file;
@@ -25,6 +27,7 @@ mod refusal;
 mod stray;
 mod tallying;
 
+pub use counting::count_notes;
 pub use fault::LogTallyFault;
 pub use file::LogFile;
 pub use tallying::tally_files;

@@ -13,6 +13,6 @@ pub record AreKeptFor (idle_seconds body_bytes : ℕ) (served : Served) : Type 0
 abbrev pub HasLimits : ConnectionLimits → Served → Type 0
 HasLimits limits served = AreKeptFor limits.idle_seconds limits.body_bytes served × (served.config.max_pending ≡ 16777216)
 
--- the connections for operations had the usual ones: 75 seconds, and 64 KiB
+-- the connections for operations had the usual ones: 75 seconds, and 64 MiB
 abbrev pub HasUsualLimits : Served → Type 0
-HasUsualLimits served = AreKeptFor 75 65536 served
+HasUsualLimits served = AreKeptFor 75 67108864 served

@@ -1,32 +1,42 @@
-//! The thread of the listener for operations.
+//! The threads of the listener for operations.
 ghost use denote.Param.Send.{IsSend, IsSync};
 ghost use Rattle.std.specs.Prelude.{◌≡◌, List, IfOk, false};
 ghost use Rattle.http_server.specs.Exchange.{Call};
 ghost use Rattle.ofrep_guards.specs.Hosts.{hosts_view, named_at};
 ghost use Rattle.recorded_answers.specs.Stand.{Works};
+ghost use Rattle.ofrep_guards.specs.Asked.{first_keys};
+ghost use Rattle.console_page.specs.Page.{page_text, policy_text};
+ghost use Rattle.control_desk.specs.Desk.{keys_in};
 ghost use Rattle.ofrep_service.specs.Limits.{HasUsualLimits};
 
 use crate::board::Board;
 use crate::workers::worker_of;
 use access_lines::LoggedService;
+use console_page::{page_html, page_policy};
+use control_desk::{ConsolePage, ControlDesk, DeskPaths, SystemDeskFiles};
 use dated_answers::Dated;
+use http::HeaderValue;
 use http_server::{Config, Service};
-use limits::STACK_BYTES;
-use log_file::LogPaths;
-use ofrep_connections::{Load, Patience, Served, answer_connections_with};
-use ofrep_guards::{AdminGuard, AdminRules, CountsStatus, OwnHosts};
+use limits::FILE_BYTES;
+use log_file::{LogPaths, SystemLog};
+use ofrep_connections::{Patience, Served, answer_connections_with};
+use ofrep_guards::{AdminGuard, AdminRules, HeldKeys, KeyRing, OwnHosts};
+use ofrep_worker::OfrepWorker;
 use recorded_answers::Recording;
 use snap_share::{ReadSeat, ShareName};
-use std::alloc::Global;
+use std::alloc::{AllocError, Global};
 use std::hash::RandomState;
-use std::io;
+use std::io::{self, Error, ErrorKind};
 use std::net::{Net, SocketAddr, TcpListener, TcpStream};
 use std::sync::Wait;
 use std::thread::{self, Builder, Threads};
 use std::time::Clock;
 
-/// The most bytes of a body there. No path takes one yet.
-const MOST_BODY: usize = 65_536;
+/// The most bytes of a body there: a token has a plan in it.
+const MOST_BODY: usize = FILE_BYTES;
+
+/// The bytes of the stack of a thread there, which reads documents and plans.
+const STACK_BYTES: usize = 16_777_216;
 
 /// Where operations are asked for: a listener of their own, its address, the hosts by which it is named, and whether it may be asked
 /// to stop the service.
@@ -36,6 +46,7 @@ pub struct AdminPost {
     address: SocketAddr,
     hosts: OwnHosts,
     pub(crate) may_stop: bool,
+    ghost own: { (hosts_view hosts).named ≡ named_at address },
 }
 
 impl AdminPost {
@@ -45,6 +56,29 @@ impl AdminPost {
     {
         self.address
     }
+
+    /// The same, for another thread.
+    fn again(&self, alloc: Global) -> io::Result<AdminPost>
+        ensures may_stop { IfOk result (λ post. post.may_stop ≡ self.now.may_stop) }
+        ensures address { IfOk result (λ post. post.address ≡ self.now.address) }
+    {
+        let listener = self.listener.try_clone()?;
+        let hosts = OwnHosts::of(alloc, self.address)?;
+        Ok(AdminPost {
+            listener,
+            address: self.address,
+            hosts,
+            may_stop: self.may_stop,
+        })
+    }
+}
+
+/// Where operations are asked for, with a seat for the worker of each thread, and one for the desk before it.
+#[derive(Drop)]
+pub struct Operations<J: ShareName> {
+    pub post: AdminPost,
+    pub seats: Vec<ReadSeat<J>>,
+    pub desks: Vec<ReadSeat<J>>,
 }
 
 /// Listens on an address for those who ask for operations.
@@ -54,8 +88,7 @@ pub fn bind_admin<R: Net<Listener = TcpListener, Stream = TcpStream>>(
     address: SocketAddr,
     may_stop: bool,
 ) -> io::Result<AdminPost>
-    ensures may_stop { IfOk result (λ post. post.may_stop ≡ may_stop) }
-    ensures hosts { IfOk result (λ post. (hosts_view post.hosts).named ≡ named_at post.address) }
+    ensures { IfOk result (λ post. post.may_stop ≡ may_stop) }
 {
     let listener = TcpListener::bind(rt, address)?;
     listener.set_nonblocking(true)?;
@@ -69,19 +102,25 @@ pub fn bind_admin<R: Net<Listener = TcpListener, Stream = TcpStream>>(
     })
 }
 
-/// Answers who asks for operations, where there is a post for that, on a thread of its own, and does `beside` meanwhile. The thread
-/// ends once that has ended. Where it can't be made it answers None, and `beside` is not done.
+/// Answers who asks for operations, where there is a post for that, on a thread for each pair of seats, and does `beside` meanwhile.
+/// The threads end once that has ended. Where one can't be made it answers None, and `beside` is not done.
 pub(crate) fn operate_beside<J, R, B, T>(
     rt: &R,
     alloc: Global,
     keys: RandomState,
     board: &Board,
-    admin: Option<(ReadSeat<J>, AdminPost)>,
+    admin: Option<Operations<J>>,
     beside: B,
 ) -> Option<T>
 where
     J: ShareName + Send + Sync,
-    R: Net<Listener = TcpListener, Stream = TcpStream> + LogPaths + Clock + Threads + Wait + Sync,
+    R: Net<Listener = TcpListener, Stream = TcpStream>
+        + LogPaths
+        + DeskPaths
+        + Clock
+        + Threads
+        + Wait
+        + Sync,
     B: FnOnce() -> Option<T> + Drop,
     requires { B.pre beside }
 {
@@ -91,13 +130,21 @@ where
         move |scope| -> Option<T>
             requires { IsSend J.row × IsSync J.row × IsSync R.row × B.pre beside }
         {
-            if let Some((seat, post)) = admin {
-                let spawned = Builder::new()
-                    .stack_size(STACK_BYTES)
-                    .spawn_scoped(scope, move || operate(rt, alloc, keys, board, seat, post));
-                if spawned.is_err() {
-                    board.end();
-                    return None;
+            if let Some(Operations { post, seats, desks }) = admin {
+                for (seat, desk) in seats.into_iter().zip(desks) {
+                    let Ok(own) = post.again(alloc) else {
+                        board.end();
+                        return None;
+                    };
+                    let spawned = Builder::new()
+                        .stack_size(STACK_BYTES)
+                        .spawn_scoped(scope, move || {
+                            operate(rt, alloc, keys, board, seat, desk, own)
+                        });
+                    if spawned.is_err() {
+                        board.end();
+                        return None;
+                    }
                 }
             }
             let done = beside();
@@ -108,59 +155,123 @@ where
 }
 
 /// Answers the connections of a post until all threads are to end or the system fails.
-fn operate<J: ShareName, R: Net + LogPaths + Clock>(
+fn operate<J: ShareName, R: Net + LogPaths + DeskPaths + Clock>(
     rt: &R,
     alloc: Global,
     keys: RandomState,
     board: &Board,
     seat: ReadSeat<J>,
+    desk: ReadSeat<J>,
     post: AdminPost,
 ) {
-    let _ended = answer_operations(rt, alloc, keys, board, seat, post);
+    let _ended = answer_operations(rt, alloc, keys, board, seat, desk, post);
 }
 
-fn answer_operations<J: ShareName, R: Net + LogPaths + Clock>(
+fn answer_operations<J: ShareName, R: Net + LogPaths + DeskPaths + Clock>(
     rt: &R,
     alloc: Global,
     keys: RandomState,
     board: &Board,
     seat: ReadSeat<J>,
+    desk: ReadSeat<J>,
     post: AdminPost,
 ) -> io::Result<()> {
-    let AdminPost {
-        listener,
-        address: _,
-        hosts,
-        may_stop,
-    } = post;
     let worker = worker_of(rt, alloc, keys, board, seat, None)?;
-    let rules = AdminRules::new(&hosts, may_stop);
-    let guard = AdminGuard::new(rules, &board.is_stopping, worker);
+    let desk = desk_of(rt, alloc, board, desk, worker)?;
+    let rules = AdminRules::new(&post.hosts, post.may_stop);
+    let guard = AdminGuard::new(rules, &board.is_stopping, desk);
     let logged = LoggedService::new(rt, alloc, board.lines.as_ref(), guard);
     let mut dated = Dated::new(rt, alloc, board.counts.traffic(), logged)?;
-    serve_operations(rt, alloc, keys, board, listener, &mut dated).into_outcome()
+    serve_operations(rt, alloc, keys, board, &post, &mut dated)?.into_outcome()
 }
 
-/// Has a worker behind a guard, which was not asked to stop yet, answer the connections of a listener until all threads are to end or
-/// the system fails.
-fn serve_operations<'a, S: Recording + CountsStatus, R: Net + Clock>(
+/// A desk before a worker, which goes by the rules and the keys of a board and answers from the snapshots of a seat.
+fn desk_of<'a, J: ShareName, R: DeskPaths, S>(
+    rt: &'a R,
+    alloc: Global,
+    board: &'a Board,
+    seat: ReadSeat<J>,
+    worker: S,
+) -> io::Result<ControlDesk<'a, J, R, SystemDeskFiles<'a, R>, S>>
+    ensures post { IfOk result (λ desk. desk.post.now ≡ board.now.desks) }
+    ensures keys { IfOk result (λ desk. keys_in desk.keys ≡ first_keys board.now.keys) }
+    ensures seat { IfOk result (λ desk. desk.seat ≡ seat) }
+    ensures worker { IfOk result (λ desk. desk.service ≡ worker) }
+{
+    let keys = held_keys(alloc, &board.keys)?;
+    Ok(ControlDesk::new(
+        rt,
+        alloc,
+        &board.desks,
+        page(alloc)?,
+        &board.is_stopping,
+        keys,
+        seat,
+        SystemDeskFiles::new(rt),
+        worker,
+    ))
+}
+
+/// The keys that calls on rollouts begin with, where one is wanted.
+fn held_keys<'a>(
+    alloc: Global,
+    ring: &'a Option<KeyRing>,
+) -> Result<Option<HeldKeys<'a>>, AllocError>
+    ensures { IfOk result (λ held. keys_in held ≡ first_keys ring.now) }
+{
+    match ring {
+        Some(ring) => Ok(Some(HeldKeys::new(alloc, ring)?)),
+        None => Ok(None),
+    }
+}
+
+/// The console, with its policy.
+fn page(alloc: Global) -> io::Result<ConsolePage<'static>>
+    ensures text { IfOk result (λ page. page.text.now ≡ page_text) }
+    ensures policy { IfOk result (λ page. page.policy.bytes ≡ policy_text) }
+{
+    match HeaderValue::from_str(alloc, page_policy()) {
+        Ok(policy) => Ok(ConsolePage {
+            text: page_html(),
+            policy,
+        }),
+        Err(_) => Err(Error::from(ErrorKind::InvalidData)),
+    }
+}
+
+/// The desk of a thread for operations, before a worker that keeps no log.
+type OperatingDesk<'a, J, R> = ControlDesk<
+    'a,
+    J,
+    R,
+    SystemDeskFiles<'a, R>,
+    OfrepWorker<'a, J, R, SystemLog>,
+>;
+
+/// Has a desk of the board, which begins with its keys, answer the connections of a post until all threads are to end or the system
+/// fails. Its guard goes by the hosts of the post, and was not asked to stop yet.
+fn serve_operations<'a, J: ShareName, R: Net + LogPaths + DeskPaths + Clock>(
     rt: &R,
     alloc: Global,
     keys: RandomState,
     board: &Board,
-    listener: TcpListener,
-    dated: &mut Dated<'a, R, LoggedService<'a, R, AdminGuard<'a, S>>>,
-) -> Served
-    requires { dated.old.service.service.is_stopping ≡ false }
-    ensures turns { (turns : List (List Call)) × Works ⟦<Dated<'a, R, LoggedService<'a, R, AdminGuard<'a, S>>> as Service>⟧.answers ⟦<Dated<'a, R, LoggedService<'a, R, AdminGuard<'a, S>>> as Recording>⟧.looked dated.old turns dated.new }
-    ensures limits { HasUsualLimits result }
+    post: &AdminPost,
+    dated: &mut Dated<'a, R, LoggedService<'a, R, AdminGuard<'a, OperatingDesk<'a, J, R>>>>,
+) -> io::Result<Served>
+    requires hosts { hosts_view dated.old.service.service.rules.hosts.now ≡ hosts_view post.now.hosts }
+    requires may_stop { dated.old.service.service.rules.may_stop ≡ post.now.may_stop }
+    requires begins { dated.old.service.service.is_stopping ≡ false }
+    requires desks { dated.old.service.service.service.post.now ≡ board.now.desks }
+    requires keys { keys_in dated.old.service.service.service.keys ≡ first_keys board.now.keys }
+    ensures turns { IfOk result (λ _. (turns : List (List Call)) × Works ⟦<Dated<'a, R, LoggedService<'a, R, AdminGuard<'a, OperatingDesk<'a, J, R>>>> as Service>⟧.answers ⟦<Dated<'a, R, LoggedService<'a, R, AdminGuard<'a, OperatingDesk<'a, J, R>>>> as Recording>⟧.looked dated.old turns dated.new) }
+    ensures limits { IfOk result HasUsualLimits }
 {
+    let listener = post.listener.try_clone()?;
     let config = Config {
         max_body_len: MOST_BODY,
         ..Config::default()
     };
-    let load = Load::new();
-    answer_connections_with(
+    Ok(answer_connections_with(
         rt,
         alloc,
         keys,
@@ -168,8 +279,8 @@ fn serve_operations<'a, S: Recording + CountsStatus, R: Net + Clock>(
         Patience::default(),
         board.counts.traffic(),
         listener,
-        &load,
+        &board.operations,
         &board.is_over,
         dated,
-    )
+    ))
 }

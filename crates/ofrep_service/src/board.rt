@@ -3,6 +3,7 @@ ghost use Rattle.std.specs.Prelude.{◌≡◌, IfSome, Some, is_some, option_map
 ghost use Rattle.std.specs.Sync.Mutex.{mutex_guard_value};
 
 use access_lines::{AccessLines, WaitingLines};
+use control_desk::{DeskPost, DeskRules, SourceText};
 use log_file::Loss;
 use note_lines::NoteForm;
 use note_log::Trouble;
@@ -23,7 +24,7 @@ pub struct ConnectionLimits {
 /// What the threads of a service tell each other: what the workers count, how many connections they hold, which snapshot was
 /// published last, whether they are to end; and what becomes of answers that can't be recorded, how many notes each worker
 /// remembers, what their lines have of the inputs, the pages of which origins may ask, the keys of which a request shows one, where one
-/// is wanted, what the workers serve, and the limits of their connections.
+/// is wanted, what the workers serve, and the limits of their connections; and what the desks of operations share.
 #[derive(Drop)]
 pub struct Board {
     pub(crate) counts: Counts,
@@ -42,13 +43,16 @@ pub struct Board {
     /// The lines of requests, where they are wanted.
     pub(crate) lines: Option<AccessLines>,
     pub(crate) limits: ConnectionLimits,
+    pub(crate) desks: DeskPost,
+    /// How many connections those of operations hold.
+    pub(crate) operations: Load,
 }
 
 impl Board {
     /// A board where nothing was counted or published yet. This becomes of answers that can't be recorded, each worker remembers so
     /// many notes, or none, and their lines have this form, the pages of these origins may ask, or with `*` any, a request shows one of
-    /// the keys, where there are some, the workers serve these paths, the lines of requests go there, where they are wanted, and
-    /// connections have these limits.
+    /// the keys, where there are some, the workers serve these paths, the lines of requests go there, where they are wanted,
+    /// connections have these limits, and the desks of operations go by these rules.
     pub fn new(
         without_record: WithoutRecord,
         remember: Option<NonZeroUsize>,
@@ -58,6 +62,7 @@ impl Board {
         paths: Paths,
         lines: Option<AccessLines>,
         limits: ConnectionLimits,
+        rules: DeskRules,
     ) -> Board
         ensures without { result.without_record ≡ without_record }
         ensures remember { result.remember ≡ remember }
@@ -67,6 +72,7 @@ impl Board {
         ensures paths { result.paths ≡ paths }
         ensures lines { result.lines ≡ lines }
         ensures limits { result.limits ≡ limits }
+        ensures desks { result.desks.rules ≡ rules }
     {
         let keys = match keys {
             Some(keys) => Some(KeyRing::new(keys)),
@@ -86,6 +92,8 @@ impl Board {
             paths,
             lines,
             limits,
+            desks: DeskPost::new(rules),
+            operations: Load::new(),
         }
     }
 
@@ -143,6 +151,17 @@ impl Board {
             Some(lines) => Some(lines.waiting(rt)),
             None => None,
         }
+    }
+
+    /// Sets what is known of the documents of the snapshot that was published last, and returns what holds it then.
+    pub fn set_sources<R: Wait>(
+        &self,
+        rt: &R,
+        text: SourceText,
+    ) -> MutexGuard<'_, Option<SourceText>>
+        ensures { mutex_guard_value result ≡ Some text }
+    {
+        self.desks.sources().set(rt, text)
     }
 
     /// The logs have so many bytes together.

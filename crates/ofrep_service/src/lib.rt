@@ -5,7 +5,7 @@
 //! this host for the subscribers of the stream. [`work_beside`] runs a worker of `ofrep_worker` on a thread for each [`Post`],
 //! over `ofrep_connections`, and serves the stream by `sync_server` on a thread for each of its seats, while its caller goes on
 //! with what it has to do beside them; it tells the threads of each snapshot on their [`Board`]. [`bind_admin`] listens for those who
-//! ask for operations, whom a worker without a log answers on a thread of its own, behind an `AdminGuard`.
+//! ask for operations, whom workers without a log answer on threads of their own, each behind an `AdminGuard` and a `ControlDesk`.
 //!
 //! What answers rest on is proved there: no byte of an answer is written to a socket before its notes stand in the log of the
 //! worker, where it keeps one, and a subscriber is sent whole frames whose numbers rise. Here: where a folder is named each worker
@@ -21,7 +21,7 @@ mod streams;
 mod subscriber;
 mod workers;
 
-pub use admin::{AdminPost, bind_admin};
+pub use admin::{AdminPost, Operations, bind_admin};
 pub use board::{Board, ConnectionLimits};
 pub use logs::{Journal, log_bytes, log_trouble, open_logs};
 pub use posts::{Post, bind};

@@ -9,12 +9,13 @@ ghost use Rattle.note_log.specs.Log.{logged};
 ghost use Rattle.recorded_answers.specs.Stand.{AllStand, Works};
 ghost use Rattle.ofrep_service.specs.Limits.{HasLimits};
 
-use crate::admin::{AdminPost, operate_beside};
+use crate::admin::{Operations, operate_beside};
 use crate::board::Board;
 use crate::logs::Journal;
 use crate::posts::Post;
 use crate::streams::stream_beside;
 use access_lines::LoggedService;
+use control_desk::DeskPaths;
 use dated_answers::Dated;
 use http_server::{Config, Service};
 use limits::STACK_BYTES;
@@ -37,7 +38,7 @@ use std::time::Clock;
 const MOST_PENDING: usize = 16_777_216;
 
 /// Runs a worker on a thread for each post, and serves the stream on a thread for each listener, each with the seat of the same
-/// place, and operations on a thread of their own, where there is a post for them, and does `beside` meanwhile on its own. There is a
+/// place, and operations on threads of their own, where there is a post for them, and does `beside` meanwhile on its own. There is a
 /// seat for each post. It ends when that and all workers have ended, and they end where they are asked to or the system fails them.
 /// Where a thread can't be made it answers None, and `beside` is not done.
 pub fn work_beside<J, R, B, T>(
@@ -49,12 +50,18 @@ pub fn work_beside<J, R, B, T>(
     posts: Vec<Post>,
     stream_seats: Vec<ReadSeat<J>>,
     listeners: Vec<TcpListener>,
-    admin: Option<(ReadSeat<J>, AdminPost)>,
+    admin: Option<Operations<J>>,
     beside: B,
 ) -> Option<T>
 where
     J: ShareName + Send + Sync,
-    R: Net<Listener = TcpListener, Stream = TcpStream> + LogPaths + Clock + Threads + Wait + Sync,
+    R: Net<Listener = TcpListener, Stream = TcpStream>
+        + LogPaths
+        + DeskPaths
+        + Clock
+        + Threads
+        + Wait
+        + Sync,
     B: FnOnce() -> T + Drop,
     requires called { B.pre beside }
     requires seated { vec_len seats ≡ vec_len posts }

@@ -2,7 +2,7 @@ use Rattle.std.proofs.Common.{◌≡◌, ◌≤◌, ◌∙◌, [], Ok, ap, arith
 use Rattle.flagops_streams.specs.declared.refusal.Refusal.TheVariants.{Share}
 use Rattle.flagops_streams.proofs.Gives.{not_shared}
 use Rattle.flagops_service.specs.Words.{answering_view, seats_of}
-use Rattle.flagops_service.proofs.Seats.{as_many, fewer_fail}
+use Rattle.flagops_service.proofs.Seats.{fewer_fail}
 use Rattle.flagops_service.proofs.command.answer_prepared.Goals as goal
 
 pub returns-in-Err-share : goal.returns-in-Err-share
@@ -11,10 +11,8 @@ returns-in-Err-share g c =
     let made = c.saturating_add-wanted.result in
     let wanted = seats_of (answering_view c.args.answering.now) in
     let fails = not_shared made fault c.share.result c.in-Err-share.is c.share.ensures.none c.share.ensures.many c.in-Err-share.ensures.faults in
-    let a = answering_view c.args.answering.now in
-    let one = as_many c.args.prepared.admin a.admin c.requires.admin in
-    let few : made ≤ wanted = omega (arith, one, c.operation_seats-operators.ensures, c.saturating_add.ensures, c.saturating_add-wanted.ensures, c.requires.streams, c.len.ensures) in
-    let none : made ≡ 0 → wanted ≡ 0 = λ z. omega (arith, z, one, c.operation_seats-operators.ensures, c.saturating_add.ensures, c.saturating_add-wanted.ensures, c.requires.streams, c.len.ensures) in
+    let few : made ≤ wanted = omega (arith, c.operators_of-operators.ensures.value, c.saturating_add.ensures, c.saturating_add-wanted.ensures, c.requires.streams, c.len.ensures) in
+    let none : made ≡ 0 → wanted ≡ 0 = λ z. omega (arith, z, c.operators_of-operators.ensures.value, c.saturating_add.ensures, c.saturating_add-wanted.ensures, c.requires.streams, c.len.ensures) in
     inr (Share fault, fewer_fail made wanted fault few none fails, c.refuse_and_tell-in-Err-share.ensures)
 
 -- the flags were shared with the metadata of all documents, and are their merge

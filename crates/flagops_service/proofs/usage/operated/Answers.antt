@@ -12,7 +12,9 @@ unfolding ofrep_operated
 returns c =
     let one = with_rule ofrep_guarded (option_text (codes "HOST:PORT") (codes "admin")) in
     let two = with_rule one (flag (codes "allow-stop")) in
+    let three = with_rule two (flag (codes "allow-apply")) in
     let first : app_of c.in_ok-arg.field-0 ≡ one = c.in_ok-arg.ensures.shape c.text-admin.ensures.local ∙ ap₂ with_rule c.in_ok-guarded.ensures c.text-admin.ensures.rule in
     let second : app_of c.in_ok-arg-2.field-0 ≡ two = c.in_ok-arg-2.ensures.shape c.flag-stop.ensures.local ∙ ap₂ with_rule first c.flag-stop.ensures.rule in
-    IfOk-weaker c.arg-3.result (AddsArg c.in_ok-arg-2.field-0 c.flag-lines.result) (λ r. app_of r ≡ ofrep_operated)
-    (λ r adds. adds.shape c.flag-lines.ensures.local ∙ ap₂ with_rule second c.flag-lines.ensures.rule) c.arg-3.ensures
+    let third : app_of c.in_ok-arg-3.field-0 ≡ three = c.in_ok-arg-3.ensures.shape c.flag-apply.ensures.local ∙ ap₂ with_rule second c.flag-apply.ensures.rule in
+    IfOk-weaker c.arg-4.result (AddsArg c.in_ok-arg-3.field-0 c.flag-lines.result) (λ r. app_of r ≡ ofrep_operated)
+    (λ r adds. adds.shape c.flag-lines.ensures.local ∙ ap₂ with_rule third c.flag-lines.ensures.rule) c.arg-4.ensures

@@ -1,0 +1,14 @@
+mod Checked
+mod Filled
+mod Joined
+mod Outcomes
+mod Pages
+mod Planned
+mod Recorded
+mod Right
+mod Rows
+mod Tallied
+mod Texts
+mod Tokens
+mod Turns
+mod WithRule

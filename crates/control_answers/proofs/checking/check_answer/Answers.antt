@@ -1,0 +1,16 @@
+use Rattle.std.proofs.Common.{Err, ap}
+use Rattle.std.specs.Prelude.{string_bytes}
+use Rattle.flag_defs.specs.Flags.{flags_view}
+use Rattle.log_tallies.specs.Lines.{files_view}
+use Rattle.plan_text.specs.Answer.{planned_view}
+use Rattle.control_answers.specs.Check.{IsVerdictOf}
+use Rattle.control_answers.proofs.Checked.{no_answer, with_answer}
+use Rattle.control_answers.proofs.checking.check_answer.Goals as goal
+
+pub returns-in-Err-clause-exact : goal.returns-in-Err-clause-exact
+returns-in-Err-clause-exact c =
+    no_answer string_bytes c.args.plan.now (IsVerdictOf (flags_view c.args.flags.now) c.args.request.now (files_view c.args.files.now)) c.in-Err.fault (Err c.of_read.result) (ap Err c.of_read.ensures) c.in-Err.ensures.exact
+
+pub returns-clause-exact : goal.returns-clause-exact
+returns-clause-exact c =
+    with_answer string_bytes c.args.plan.now (IsVerdictOf (flags_view c.args.flags.now) c.args.request.now (files_view c.args.files.now)) (planned_view c.in-Ok.planned) c.check_planned.result c.in-Ok.ensures.exact c.check_planned.ensures

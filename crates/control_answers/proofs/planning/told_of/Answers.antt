@@ -1,0 +1,23 @@
+use Rattle.std.proofs.Common.{refl, rules}
+use Rattle.flag_defs.specs.Flags.{flags_view}
+use Rattle.rollout_checks.specs.Tallied.{tally_view}
+use Rattle.control_answers.proofs.Planned.{is_asked}
+use Rattle.control_answers.proofs.planning.told_of.Goals as goal
+
+-- what was planned was asked
+pub changed_if_any-requires : goal.changed_if_any-requires
+changed_if_any-requires c = is_asked (flags_view c.args.snapshot.now.flags.now) c.args.request.now c.args.tally.now c.args.planned.now c.requires
+
+pub returns-clause-told : goal.returns-clause-told
+returns-clause-told c = record {
+  problem = tally_view c.in_ok-problem.problem;
+  problem_is = c.in_ok-problem.ensures.asked;
+  snapshot = refl;
+  inputs = search rules;
+  plan_is = refl;
+  effect = c.in_ok-effect.ensures.effect;
+  picture = c.in_ok-picture.ensures;
+  explained = search rules;
+  document = c.in_ok-document.ensures;
+  token = search rules;
+}

@@ -1,0 +1,7 @@
+pub mod Crossings
+mod Fields
+pub mod Items
+mod LogFiles
+mod Outcomes
+mod Routes
+mod Seen

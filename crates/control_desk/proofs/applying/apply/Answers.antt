@@ -1,0 +1,25 @@
+use Rattle.std.proofs.Common.{◌≡◌, ℕ, List, Result, subst}
+use Rattle.std.proofs.lemmas.Result.{on_ok_weaker}
+use Rattle.log_tallies.specs.Lines.{files_view}
+use Rattle.control_answers.specs.Apply.{Applied, IsApplyAnswer, applied_view}
+use Rattle.control_answers.specs.Snapshot.{Snapshot, snapshot_view}
+use Rattle.control_answers.specs.declared.refusal.ControlRefusal.{ControlRefusal}
+use Rattle.std.specs.Prelude.{OnOk}
+use Rattle.control_desk.specs.Apply.{AppliesIf}
+use Rattle.control_desk.specs.Held.{held_view}
+use Rattle.control_desk.proofs.Outcomes.{given}
+use Rattle.control_desk.proofs.applying.apply.Goals as goal
+
+-- it is written
+pub returns-in-Ok-clause-ok : goal.returns-in-Ok-clause-ok
+returns-in-Ok-clause-ok g c =
+    let folder = c.args.applying.folder.now in
+    let path = c.args.applying.path.now in
+    let asker = c.args.applying.asker.now in
+    let held = held_view c.args.held.now in
+    let files = files_view c.args.logs.now in
+    let before = g.F.DeskFiles.holding c.args.files.now in
+    let after = g.F.DeskFiles.holding c.write.new.files in
+    let response = c.write.new.response in
+    subst (λ (s : Snapshot). OnOk c.write.result ((r : Result Applied ControlRefusal) × IsApplyAnswer s c.args.token.now files r × AppliesIf folder path asker held before after response r)) c.snapshot.ensures
+    (given applied_view (IsApplyAnswer (snapshot_view c.snapshot.result) c.args.token.now files) (λ (r : Result Applied ControlRefusal). AppliesIf folder path asker held before after response r) c.write.result c.in-Ok.applied c.in-Ok.ensures.exact c.write.ensures.ok)

@@ -1,0 +1,16 @@
+pub use Rattle.flagops_shell.specs.Files
+pub use Rattle.control_answers.specs.Snapshot
+pub use Rattle.control_calls.specs.Calls
+pub mod Names
+pub mod Files
+pub mod Logs
+pub mod Asked
+pub mod Sent
+pub mod Reply
+pub mod Route
+pub mod Rules
+pub mod Held
+pub mod Bodies
+pub mod Apply
+pub mod Desk
+pub mod Laws

@@ -1,0 +1,47 @@
+"""The service with the calls of rollouts, over a document and a folder of logs: that of the program, where it has them, and else a server
+that answers by the commands (`control_server`)."""
+import os
+import socket
+import subprocess
+
+from control_server import ControlServer
+from program import PROGRAM, SECONDS, free_port, wait_until
+
+# The service looks for documents that have changed this often, in seconds.
+POLL = "1"
+
+
+def serves_console():
+    """Whether the program itself has the calls."""
+    return "--allow-apply" in subprocess.run([PROGRAM, "ofrep", "--help"], capture_output=True, text=True, check=False).stdout
+
+
+def is_open(port):
+    with socket.socket() as probe:
+        return probe.connect_ex(("127.0.0.1", port)) == 0
+
+
+class Service:
+    """The program's. What it tells a person goes to the file `told` beside the document."""
+
+    def __init__(self, test, document, logs, allow_apply=False, words=()):
+        self.port, admin = free_port(test), free_port(test)
+        words = [*(["--log", logs] if logs else []), *(["--allow-apply"] if allow_apply else []), *words, document]
+        words = ["ofrep", "--listen", f"127.0.0.1:{self.port}", "--admin", f"127.0.0.1:{admin}", "--poll", POLL, *words]
+        self.told = os.path.join(os.path.dirname(document), "told")
+        with open(self.told, "ab") as told:
+            self.child = subprocess.Popen([PROGRAM, *words], stdout=subprocess.DEVNULL, stderr=told)
+        self.origin = f"http://127.0.0.1:{admin}"
+        wait_until(lambda: is_open(admin) or self.child.poll() is not None, "the service listens")
+        if self.child.poll() is not None:
+            with open(self.told, encoding="utf-8") as told:
+                raise AssertionError(f"the service ended with {self.child.returncode}: {told.read()}")
+
+    def close(self):
+        self.child.kill()
+        self.child.wait()
+
+
+def service_of(test, document, logs, **how):
+    """The service over this document and this folder of logs, if any."""
+    return (Service(test, document, logs, **how) if serves_console() else ControlServer(document, logs, **how))
