@@ -1,5 +1,6 @@
 """What a person is told of a file that is refused, or of a flag that is broken: the place in it, and what stands there."""
 import json
+import subprocess
 import tempfile
 import unittest
 
@@ -274,6 +275,18 @@ KINDS = [
     ("limit", "object", "{}", "of the kind whole, not object"),
 ]
 
+# The words of a command with a mistake in a number, and what a number looks like.
+DIGITS = "A number is written in decimal digits alone, a time in seconds since 1970, as 'date +%s' prints it.\n"
+LEAST = "The numbers of options begin at 0, and times at 0, which is the year 1970.\n"
+NUMERALS = [
+    (["resolve", "d", "banner", "bool", "false", "c", "now"], DIGITS),
+    (["resolve", "d", "banner", "bool", "false", "c", "2026-12-01"], DIGITS),
+    (["resolve", "d", "banner", "bool", "false", "c", "-5"], LEAST),
+    (["record", "d", "banner", "--moment", "now"], DIGITS),
+    (["ofrep", "d", "--poll", "-1"], LEAST),
+    (["ofrep", "d", "--poll", "2s"], DIGITS),
+]
+
 # The targeting of a flag that hardly does what is meant, and what is doubted of it; and of some that do.
 DOUBTS = [
     ('{"fractional":[["on",10],["off",89]]}', "Total"),
@@ -438,7 +451,7 @@ class Remarks(ProgramTest):
                 ran = run(["resolve", "d", key, "bool", "false", "c", "0"], {"d": SHOP, "c": "{}"})
                 out = '{"code":"FLAG_NOT_FOUND","reached":[],"reason":"ERROR","value":false,"variant":null}\n'
                 self.assertEqual((ran.status, ran.out), (0, out))
-                self.assertEqual(ran.err, f'note: "d" has no flag "{key}", so the value is DEFAULT\n  {told}\n')
+                self.assertEqual(ran.err, f'note: "d" has no flag "{key}", so it resolves to the default\n  {told}\n')
                 ran = run(["record", "d", key], {"d": SHOP}, input="{}\n")
                 self.assertEqual((ran.status, ran.out), (1, "refused plan 2 UnknownFlag\n"))
                 self.assertEqual(ran.err, f'error: "d": the flag "{key}": no such flag\n  {told}\n')
@@ -457,7 +470,7 @@ class Remarks(ProgramTest):
             with self.subTest(key=key, kind=kind):
                 ran = run(["resolve", "d", key, kind, default, "c", "0"], {"d": SHOP, "c": "{}"})
                 self.assertEqual(ran.status, 0)
-                self.assertEqual(ran.err, f'note: "d": the flag "{key}" is {told}, so the value is DEFAULT\n')
+                self.assertEqual(ran.err, f'note: "d": the flag "{key}" is {told}, so it resolves to the default\n')
 
     def test_of_kinds_of_asks(self):
         """They are spelled as `resolve` takes them."""
@@ -471,6 +484,13 @@ class Remarks(ProgramTest):
         ran = run(["drive", "d", "a", "1", "b"], {"d": SHARED, "a": json.dumps(asks)})
         told = "  that is 20 asks for each input: the same users were asked again, or every context lacks what the bucketing expression reads\n"
         self.assertTrue(ran.err.endswith(told), ran.err)
+
+    def test_of_numbers_in_words(self):
+        for words, told in NUMERALS:
+            with self.subTest(words=words):
+                ran = run(words, {"d": SHOP, "c": "{}"}, stdin=subprocess.DEVNULL)
+                self.assertEqual((ran.status, ran.out), (2, ""))
+                self.assertTrue(ran.err.endswith("\n" + told), ran.err)
 
     def test_of_sites_that_are_doubted(self):
         for targeting, doubt in DOUBTS:

@@ -46,7 +46,7 @@ module _ (old new : Shown) (held holds : Option Holding) (had_failed has_failed 
   ComesOfServe words =
       AnswersServe old new status held words
       × ServesAsked old new status words
-      × RefusesUnread old new status had_failed has_failed
+      × RefusesUnread old new status held words had_failed has_failed
       × TellsServe old new status words
       × (holds ≡ held)
 

@@ -15,6 +15,12 @@ use std::alloc::{AllocError, Global};
 /// The name of the program, as the line of a refusal has it where no command is known yet.
 const PROGRAM: &str = "flagops";
 
+/// What `clap` ends with where a number has something else than digits.
+const NO_DIGITS: &str = ": invalid digit found in string\n\nFor more information, try '--help'.\n";
+
+/// What `clap` begins with where a word with a hyphen is no option.
+const NO_ARGUMENT: &str = "error: unexpected argument '-";
+
 /// Writes the text of `clap` where it belongs: help and the version to the output with status 0, a mistake beside it with
 /// status 2.
 pub fn report_usage<O: Outlet, E: Outlet>(
@@ -28,7 +34,7 @@ pub fn report_usage<O: Outlet, E: Outlet>(
     if error.kind() == ErrorKind::OutOfMemory {
         return want(console, PROGRAM);
     }
-    match error.to_string(alloc) {
+    match text_of(alloc, error) {
         Ok(text) => {
             if error.use_stderr() {
                 complain(&mut console.err, text.as_str())
@@ -37,6 +43,30 @@ pub fn report_usage<O: Outlet, E: Outlet>(
             }
         }
         Err(AllocError) => want(console, PROGRAM),
+    }
+}
+
+/// What `clap` says, and behind a mistake in a number what a number looks like.
+fn text_of(alloc: Global, error: &clap::Error) -> Result<String, AllocError> {
+    let text = error.to_string(alloc)?;
+    match hint_on(text.as_str()) {
+        Some(hint) => format!(in alloc; "{text}\n{hint}"),
+        None => Ok(text),
+    }
+}
+
+/// What to write in place of a number that `clap` does not take, by what it says of it.
+fn hint_on(text: &str) -> Option<&'static str> {
+    if text.ends_with(NO_DIGITS) {
+        return Some(
+            "A number is written in decimal digits alone, a time in seconds since 1970, as 'date +%s' prints it.\n",
+        );
+    }
+    let rest = text.strip_prefix(NO_ARGUMENT)?;
+    if rest.as_bytes().first()?.is_ascii_digit() {
+        Some("The numbers of options begin at 0, and times at 0, which is the year 1970.\n")
+    } else {
+        None
     }
 }
 

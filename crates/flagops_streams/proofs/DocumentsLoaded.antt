@@ -1,12 +1,14 @@
 -- Documents that are loaded, one after the other, and served.
-use Rattle.std.proofs.Common.{◌≡◌, ◌+◌, ◌<◌, ◌∙◌, ℕ, false, List, [], ◌∷◌, Option, Some, None, Result, Ok, Err, IfSome, refl, add-one, ap, drop, get_or, length, map, subst, sym}
+use Rattle.std.proofs.Common.{◌≡◌, ◌+◌, ◌<◌, ◌∙◌, ◌||◌, ℕ, Bool, true, false, List, [], ◌∷◌, Option, Some, None, Result, Ok, Err, IfSome, refl, add-one, ap, drop, get_or, length, map, subst, sym}
 use Rattle.std.proofs.Math.Seq.{drop-cons}
 use Rattle.flagops_shell.specs.Files.{Holding}
 use Rattle.flagops_shell.specs.Outcomes.{◌>>=◌}
 use Rattle.flagops_streams.specs.Documents.{Answer, ServesTo}
-use Rattle.flagops_streams.specs.Refusal.{is_want}
+use Rattle.flagops_streams.specs.Refusal.{is_unreadable, is_want}
 use Rattle.flagops_streams.specs.declared.refusal.Refusal.{Refusal}
-use Rattle.flagops_streams.specs.Loading.{AnswersTo, Loaded, ServesLoaded, loaded_at, loaded_from, loaded_next}
+use Rattle.flagops_streams.specs.declared.refusal.Refusal.TheVariants.{Add, Unreadable, Unloaded, Set, Merged, Share, Publish, Unbound, NoConnection, NoThread, Unreachable, Unserved, WantOfMemory}
+use Rattle.flagops_streams.specs.Loading.{AnswersTo, IsFirstRefused, Loaded, ServesLoaded, TellsUnloaded, loaded_at, loaded_from, loaded_next, refused_from, refused_here}
+use Rattle.flagops_streams.specs.Told.{TellsOfFile}
 use Rattle.flagops_streams.specs.Words.{Serving}
 
 -- what follows for files whose bytes are known
@@ -33,6 +35,33 @@ pub refused_next : (at : Holding) (d : Loaded) (path : List ℕ) (paths rest : L
     → loaded_from at d paths ≡ all → loaded_next at d path ≡ Err refusal → paths ≡ path ∷ rest → all ≡ Err refusal
 refused_next at d path paths rest all refusal so_far next first =
     sym so_far ∙ ap (loaded_from at d) first ∙ ap (λ (r : Result Loaded Refusal). r >>= λ more. loaded_from at more rest) next
+
+-- and it is the first that is refused
+pub refused_first : (at : Holding) (d : Loaded) (path : List ℕ) (paths rest : List (List ℕ)) (all : Option (List ℕ)) (refusal : Refusal)
+    → refused_from at d paths ≡ all → loaded_next at d path ≡ Err refusal → paths ≡ path ∷ rest → all ≡ Some path
+refused_first at d path paths rest all refusal so_far next first =
+    sym so_far ∙ ap (refused_from at d) first ∙ ap (refused_here path (λ more. refused_from at more rest)) next
+
+-- ---- a read that failed
+
+pub unreadable_is : (r : Refusal) → is_unreadable r ≡ true → r ≡ Unreadable
+unreadable_is (Add e) is = cc
+unreadable_is Unreadable is = refl
+unreadable_is Unloaded is = cc
+unreadable_is (Set e place) is = cc
+unreadable_is (Merged e) is = cc
+unreadable_is (Share e) is = cc
+unreadable_is (Publish e) is = cc
+unreadable_is Unbound is = cc
+unreadable_is NoConnection is = cc
+unreadable_is NoThread is = cc
+unreadable_is Unreachable is = cc
+unreadable_is (Unserved missed) is = cc
+unreadable_is WantOfMemory is = cc
+
+-- it failed now, where it had not before
+pub failed_now : (old new now : Bool) → new ≡ (old || now) → old ≡ false → new ≡ true → now ≡ true
+failed_now old new now is fine failed = sym (sym failed ∙ is ∙ ap (λ (b : Bool). b || now) fine)
 
 -- what serving the documents that were loaded gives is what the words and the files give
 pub loaded_served : (at : Holding) (s : Serving) (d : Loaded) (answer : Answer) → loaded_at at s.documents ≡ Ok d → ServesTo s.floats s.subscribers d.sources d.texts [] answer → AnswersTo at s answer
@@ -63,3 +92,7 @@ module _ {X : Type 0} (now : X → List ℕ) (slice items : List X) (same : slic
   none_served refusal loaded =
       where_known holding (λ at. is_want refusal ≡ false → loaded_at at (map now slice) ≡ Err refusal) (λ at. AnswersTo at s (Err refusal))
       (λ at e. not_loaded at s refusal (λ other. ap (loaded_at at) (sym named) ∙ e other)) loaded
+
+  -- the path of the first that was refused is one of these
+  pub told_of : (path : List ℕ) (old new : Option (List ℕ)) (is_mute : Bool) → IsFirstRefused holding (map now slice) path → TellsOfFile path old new is_mute → TellsUnloaded holding s.documents old new is_mute
+  told_of path old new is_mute first told = (path, subst (λ (ps : List (List ℕ)). IsFirstRefused holding ps path) named first, told)

@@ -5,6 +5,7 @@ pub mod Gives
 pub mod Learned
 pub mod Lines
 pub mod Matched
+pub mod Reasons
 pub mod Sending
 pub mod Served
 pub mod Told

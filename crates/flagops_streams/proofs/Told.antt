@@ -1,5 +1,5 @@
 -- What is told, one text after the other.
-use Rattle.std.proofs.Common.{◌≡◌, ◌+◌, ℕ, List, [], ◌∷◌, ◌++◌, Bool, true, false, not, ◌||◌, is_ok, nat_eq, Option, Result, Ok, Err, IfOk, IfErr, inl, inr, refl, sym, subst, length, arith}
+use Rattle.std.proofs.Common.{◌≡◌, ◌∙◌, ◌+◌, ℕ, List, [], ◌∷◌, ◌++◌, Bool, true, false, not, ◌||◌, is_ok, nat_eq, Option, Result, Ok, Err, IfOk, IfErr, inl, inr, refl, sym, subst, length, arith}
 use Rattle.std.proofs.lemmas.Bool.{true≢false}
 use Rattle.std.proofs.lemmas.Bool.Decides.{nat_tests}
 use Rattle.std.proofs.lemmas.List.{take_all}
@@ -7,7 +7,10 @@ use Rattle.std.specs.Bool.{OnTrue}
 use Rattle.std.specs.Io.KnownBytes.{Appends}
 use Rattle.flag_text.specs.Outlet.{AppendsPart}
 use Rattle.flagops_streams.specs.Report.{RefusesBeside, Reports}
-use Rattle.flagops_streams.specs.Told.{IsGone, IsServeLine, Says, SaysEach, TellsLines}
+use Rattle.flagops_streams.specs.Told.{IsGone, IsServeLine, MayTellLate, Says, SaysEach, TellsLate, TellsLines, late_line}
+use Rattle.sync_server.specs.End.{is_closed_end}
+use Rattle.sync_server.specs.declared.end.StreamEnd.{StreamEnd}
+use Rattle.sync_server.specs.declared.end.StreamEnd.TheVariants as ends
 use Rattle.flagops_streams.specs.declared.refusal.Refusal.{Refusal}
 use Rattle.flagops_streams.specs.declared.refusal.Refusal.TheVariants.{WantOfMemory}
 
@@ -64,6 +67,17 @@ module _ (Is : List ℕ → Type 0) where
   made_told bytes (Ok s) text old new is_mute is exact said none = one_told old new is_mute (bytes s) (subst Is (sym exact) is) said
   made_told bytes (Err e) text old new is_mute is exact said none = nothing_told old new is_mute none
 
+-- a line that could be made was told once, else nothing was
+pub made_once : {X E : Type 0} (bytes : X → List ℕ) (line : Result X E) (wait : ℕ) (text : List ℕ) (old new : Option (List ℕ)) (is_mute : Bool)
+    → text ≡ late_line wait → IfOk line (λ s. bytes s ≡ text) → IfOk line (λ s. Says old new is_mute (bytes s)) → IfErr line (λ _. new ≡ old) → MayTellLate wait old new is_mute
+made_once bytes (Ok s) wait text old new is_mute is exact said none = inr (subst (Says old new is_mute) (exact ∙ is) said)
+made_once bytes (Err e) wait text old new is_mute is exact said none = inl none
+
+-- what may be told beside a status 1
+pub told_late : (wait status : ℕ) (old new : Option (List ℕ)) (is_mute : Bool) → status ≡ 1 → MayTellLate wait old new is_mute → TellsLate wait status old new is_mute
+told_late wait status old new is_mute one (inl same) = inl same
+told_late wait status old new is_mute one (inr said) = inr (one, said)
+
 -- such lines are lines of another kind
 pub lines_as : (Is As : List ℕ → Type 0) → ((line : List ℕ) → Is line → As line) → (old new : Option (List ℕ)) (is_mute : Bool) → TellsLines Is old new is_mute → TellsLines As old new is_mute
 lines_as Is As more old new is_mute (lines, each) = (lines, go old lines each)
@@ -76,7 +90,15 @@ lines_as Is As more old new is_mute (lines, each) = (lines, go old lines each)
 
 -- what is told where all were served may be told where some were not
 pub gone_as : (b c : Bool) → (c ≡ true → b ≡ true) → (line : List ℕ) → IsGone b line → IsGone c line
-gone_as b c more line (number, snapshots, end, sent, is) = (number, snapshots, end, λ all. sent (more all), is)
+gone_as b c more line (gone, sent, is) = (gone, λ all. sent (more all), is)
+
+-- the end of a stream that was sent the last one
+pub closed_is : (end : StreamEnd) → is_closed_end end ≡ true → end ≡ ends.Closed
+closed_is ends.Closed is = refl
+closed_is ends.Limit is = absurd (cc (is))
+closed_is ends.WriteFault is = absurd (cc (is))
+closed_is ends.ReadSeatFault is = absurd (cc (is))
+closed_is ends.WantOfMemory is = absurd (cc (is))
 
 pub serve_line_as : (port subscribers : ℕ) (b c : Bool) → (c ≡ true → b ≡ true) → (line : List ℕ) → IsServeLine port subscribers b line → IsServeLine port subscribers c line
 serve_line_as port subscribers b c more line (inl warned) = inl warned

@@ -4,12 +4,12 @@ use Rattle.clap.specs.Walk.{Text}
 use Rattle.flagops_shell.specs.Console.{Shown}
 use Rattle.flagops_shell.specs.Files.{Holding}
 use Rattle.flagops_shell.specs.Usage.{ShowsOneUsage, ShowsWordsWant}
-use Rattle.flagops_streams.specs.Loading.{AnswersTo}
+use Rattle.flagops_streams.specs.Loading.{AnswersTo, TellsUnloaded}
 use Rattle.flagops_streams.specs.Words.{follow_by, follow_faults, serve_by, serve_faults}
 use Rattle.flagops_streams.specs.Documents.{Answer, count_of}
 use Rattle.flagops_streams.specs.Printed.{Follows}
 use Rattle.flagops_streams.specs.Report.{FindsNobody, RefusesBy, Reports, Serves}
-use Rattle.flagops_streams.specs.Told.{IsServeLine, TellsLate, TellsText}
+use Rattle.flagops_streams.specs.Told.{IsServeLine, TellsLate}
 use Rattle.flagops_streams.specs.declared.refusal.Refusal.TheVariants.{Unreadable}
 
 module _ (old new : Shown) (status : ℕ) where
@@ -26,11 +26,11 @@ module _ (old new : Shown) (status : ℕ) where
       Serves (IsServeLine s.port s.subscribers) (length s.documents) old.printed new.printed new.is_broken old.reported new.reported new.is_mute status
       ⊎ ShowsWordsWant old new status)
 
-  -- the lines of a stream, beside which nothing is told but that nothing came; or no connection, which is told
+  -- the lines of a stream, beside which nothing is told but that nothing came; or nobody listens on the port, which is told
   abbrev pub FollowsAsked : List Text → Type 0
   FollowsAsked words = IfSome (follow_by words) (λ f.
       (Follows old.printed new.printed new.is_broken status × TellsLate f.wait status old.reported new.reported new.is_mute)
-      ⊎ FindsNobody old.printed new.printed new.is_broken old.reported new.reported new.is_mute status
+      ⊎ FindsNobody f.port old.printed new.printed new.is_broken old.reported new.reported new.is_mute status
       ⊎ ShowsWordsWant old new status)
 
   -- words with a mistake are told by one of their mistakes
@@ -40,7 +40,7 @@ module _ (old new : Shown) (status : ℕ) where
   abbrev pub TellsFollow : List Text → Type 0
   TellsFollow words = follow_by words ≡ None → ShowsOneUsage old new status (follow_faults words)
 
-  -- whatever the files hold, a read that failed is what is reported, and it is told
-  abbrev pub RefusesUnread : Bool → Bool → Type 0
-  RefusesUnread had_failed has_failed = had_failed ≡ false → has_failed ≡ true
-      → RefusesBy Unreadable old.printed new.printed new.is_broken status × TellsText old.reported new.reported new.is_mute
+  -- whatever the files hold, a read that failed is what is reported, and the first document that is refused is told by the path of its file
+  abbrev pub RefusesUnread : Option Holding → List Text → Bool → Bool → Type 0
+  RefusesUnread files words had_failed has_failed = had_failed ≡ false → has_failed ≡ true
+      → RefusesBy Unreadable old.printed new.printed new.is_broken status × IfSome (serve_by words) (λ s. TellsUnloaded files s.documents old.reported new.reported new.is_mute)

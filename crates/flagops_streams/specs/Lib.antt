@@ -7,4 +7,5 @@ pub mod Refusal
 pub mod Report
 pub mod Sent
 pub mod Told
+pub mod Why
 pub mod Words

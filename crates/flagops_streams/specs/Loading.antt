@@ -1,5 +1,5 @@
 -- Documents that are loaded.
-use Rattle.std.specs.Prelude.{◌≡◌, ℕ, ◌+◌, Bool, false, List, [], ◌∷◌, ◌++◌, length, Result, Ok, Err}
+use Rattle.std.specs.Prelude.{◌≡◌, ℕ, ◌+◌, Bool, false, List, [], ◌∷◌, ◌++◌, length, Option, Some, None, IfSome, Result, Ok, Err}
 use Rattle.source_merge.specs.Sources.{SourceList}
 use Rattle.source_merge.specs.View.{sources_view}
 use Rattle.flagops_shell.specs.Files.{Holding, load_of}
@@ -12,6 +12,7 @@ use Rattle.flagops_streams.specs.Refusal.{is_unreadable, is_want}
 use Rattle.flagops_streams.specs.declared.documents.Documents.{Documents}
 use Rattle.flagops_streams.specs.declared.refusal.Refusal.{Refusal}
 use Rattle.flagops_streams.specs.declared.refusal.Refusal.TheVariants.{Unloaded, Unreadable}
+use Rattle.flagops_streams.specs.Told.{TellsOfFile}
 use Rattle.flagops_streams.specs.Words.{Serving}
 use Rattle.flagops_streams.specs.declared.loading.Unloaded as code
 
@@ -46,6 +47,28 @@ loaded_from at d (path ∷ paths) = do
 -- the documents of the files at these paths
 abbrev pub loaded_at : Holding → List (List ℕ) → Result Loaded Refusal
 loaded_at at paths = loaded_from at (record { sources = []; texts = [] }) paths
+
+-- the first of paths, where this is refused, or else the one that is left to those behind it
+abbrev pub refused_here : List ℕ → (Loaded → Option (List ℕ)) → Result Loaded Refusal → Option (List ℕ)
+refused_here path behind (Ok next) = behind next
+refused_here path behind (Err refusal) = Some path
+
+-- the path of the first document that is refused, behind those that were loaded
+abbrev pub refused_from : Holding → Loaded → List (List ℕ) → Option (List ℕ)
+refused_from at d [] = None
+refused_from at d (path ∷ paths) = refused_here path (λ next. refused_from at next paths) (loaded_next at d path)
+
+-- of the documents of the files at these paths
+abbrev pub refused_at : Holding → List (List ℕ) → Option (List ℕ)
+refused_at at paths = refused_from at (record { sources = []; texts = [] }) paths
+
+-- the path is that of the first document that is refused, where the files are known
+abbrev pub IsFirstRefused : Option Holding → List (List ℕ) → List ℕ → Type 0
+IsFirstRefused files paths path = IfSome files (λ at. refused_at at paths ≡ Some path)
+
+-- the first document that is refused was told by the path of its file
+abbrev pub TellsUnloaded : Option Holding → List (List ℕ) → Option (List ℕ) → Option (List ℕ) → Bool → Type 0
+TellsUnloaded files paths old new is_mute = (path : List ℕ) × IsFirstRefused files paths path × TellsOfFile path old new is_mute
 
 -- what was loaded is what the definition gives, unless memory ran out
 abbrev pub LoadsTo : Result Documents code.Unloaded → Result Loaded Refusal → Type 0

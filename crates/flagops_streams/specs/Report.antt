@@ -4,7 +4,7 @@ use Rattle.std.specs.Io.KnownBytes.{Appends}
 use Rattle.flag_text.specs.Outlet.{AppendsPart}
 use Rattle.flagops_streams.specs.Refusal.{call_of, line_of, want_line}
 use Rattle.flagops_streams.specs.declared.refusal.Refusal.{Refusal}
-use Rattle.flagops_streams.specs.Told.{TellsLines, TellsText, TellsWhy}
+use Rattle.flagops_streams.specs.Told.{TellsLines, TellsNobody, TellsWhy}
 use Rattle.flagops_streams.specs.declared.refusal.Refusal.TheVariants.{Unreachable, WantOfMemory}
 
 -- The text was written and this status given; or the outlet broke, and a front of it is there with status 1.
@@ -18,7 +18,7 @@ RefusesBy refusal old new broken status = Writes old new broken status (line_of 
 
 -- The same, and why is told beside it, behind lines of which each is one of these.
 abbrev pub RefusesBeside : (List ℕ → Type 0) → Refusal → Option (List ℕ) → Option (List ℕ) → Bool → Option (List ℕ) → Option (List ℕ) → Bool → ℕ → Type 0
-RefusesBeside Is refusal old new broken err err_after is_mute status = RefusesBy refusal old new broken status × TellsWhy Is err err_after is_mute
+RefusesBeside Is refusal old new broken err err_after is_mute status = RefusesBy refusal old new broken status × TellsWhy Is refusal err err_after is_mute
 
 -- that of some refusal
 abbrev pub Refuses : (List ℕ → Type 0) → Option (List ℕ) → Option (List ℕ) → Bool → Option (List ℕ) → Option (List ℕ) → Bool → ℕ → Type 0
@@ -44,6 +44,6 @@ Reports Is (Ok n) old new broken err err_after is_mute status =
     Publishes (Is true) n old new broken err err_after is_mute status ⊎ RefusesBeside (Is false) WantOfMemory old new broken err err_after is_mute status
 Reports Is (Err refusal) old new broken err err_after is_mute status = RefusesBeside (Is false) refusal old new broken err err_after is_mute status
 
--- nobody listens, which is told alone
-abbrev pub FindsNobody : Option (List ℕ) → Option (List ℕ) → Bool → Option (List ℕ) → Option (List ℕ) → Bool → ℕ → Type 0
-FindsNobody old new broken err err_after is_mute status = RefusesBy Unreachable old new broken status × TellsText err err_after is_mute
+-- nobody listens on a port, which is told alone
+abbrev pub FindsNobody : ℕ → Option (List ℕ) → Option (List ℕ) → Bool → Option (List ℕ) → Option (List ℕ) → Bool → ℕ → Type 0
+FindsNobody port old new broken err err_after is_mute status = RefusesBy Unreachable old new broken status × TellsNobody port err err_after is_mute

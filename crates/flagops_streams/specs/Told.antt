@@ -1,9 +1,13 @@
 -- What a person is told beside the output, on an outlet of its own.
-use Rattle.std.specs.Prelude.{◌≡◌, ◌⊎◌, ◌<◌, ℕ, Bool, true, false, List, [], ◌∷◌, ◌++◌, codes, decimal, length, Option}
+use Rattle.std.specs.Prelude.{◌≡◌, ◌⊎◌, ◌<◌, ◌≤◌, ℕ, Bool, true, false, List, [], ◌∷◌, ◌++◌, codes, decimal, length, Option, Some, None}
 use Rattle.std.specs.Io.KnownBytes.{Appends}
+use Rattle.file_diagnostics.specs.Named.{Names}
 use Rattle.flag_text.specs.Outlet.{AppendsPart}
 use Rattle.sync_server.specs.declared.end.StreamEnd.{StreamEnd}
 use Rattle.sync_server.specs.declared.end.StreamEnd.TheVariants.{Closed, Limit, WriteFault, ReadSeatFault, WantOfMemory}
+use Rattle.flagops_streams.specs.Why.{IsWhy, memory_line}
+use Rattle.flagops_streams.specs.declared.disconnected.Disconnected.{Disconnected}
+use Rattle.flagops_streams.specs.declared.refusal.Refusal.{Refusal}
 
 -- the text was told, or a front of it where the outlet has failed
 abbrev pub Says : Option (List ℕ) → Option (List ℕ) → Bool → List ℕ → Type 0
@@ -23,9 +27,17 @@ TellsLines Is old new is_mute = (lines : List (List ℕ)) × SaysEach Is old new
 abbrev pub TellsText : Option (List ℕ) → Option (List ℕ) → Bool → Type 0
 TellsText old new is_mute = (text : List ℕ) × (0 < length text) × Says old new is_mute text
 
+-- why there was a refusal was told
+abbrev pub TellsReason : Refusal → Option (List ℕ) → Option (List ℕ) → Bool → Type 0
+TellsReason refusal old new is_mute = (text : List ℕ) × IsWhy refusal text × Says old new is_mute text
+
 -- such lines, and behind them why there was a refusal
-abbrev pub TellsWhy : (List ℕ → Type 0) → Option (List ℕ) → Option (List ℕ) → Bool → Type 0
-TellsWhy Is old new is_mute = (between : Option (List ℕ)) × TellsLines Is old between is_mute × TellsText between new is_mute
+abbrev pub TellsWhy : (List ℕ → Type 0) → Refusal → Option (List ℕ) → Option (List ℕ) → Bool → Type 0
+TellsWhy Is refusal old new is_mute = (between : Option (List ℕ)) × TellsLines Is old between is_mute × TellsReason refusal between new is_mute
+
+-- lines about a file were told, by its path
+abbrev pub TellsOfFile : List ℕ → Option (List ℕ) → Option (List ℕ) → Bool → Type 0
+TellsOfFile path old new is_mute = (text : List ℕ) × (Names path text ⊎ (text ≡ memory_line)) × Says old new is_mute text
 
 -- ---- the line of `follow`
 
@@ -33,12 +45,21 @@ TellsWhy Is old new is_mute = (between : Option (List ℕ)) × TellsLines Is old
 unfoldable pub late_line : ℕ → List ℕ
 late_line wait = codes "error: nothing came for " ++ (decimal wait ++ codes " seconds; --wait gives more, and 0 waits for ever\n")
 
-abbrev pub IsLate : ℕ → List ℕ → Type 0
-IsLate wait line = line ≡ late_line wait
+-- it is told once, or there is no memory for it
+abbrev pub MayTellLate : ℕ → Option (List ℕ) → Option (List ℕ) → Bool → Type 0
+MayTellLate wait old new is_mute = (new ≡ old) ⊎ Says old new is_mute (late_line wait)
 
 -- nothing is told beside a stream; or, with status 1, that nothing came
 abbrev pub TellsLate : ℕ → ℕ → Option (List ℕ) → Option (List ℕ) → Bool → Type 0
-TellsLate wait status old new is_mute = (new ≡ old) ⊎ ((status ≡ 1) × TellsLines (IsLate wait) old new is_mute)
+TellsLate wait status old new is_mute = (new ≡ old) ⊎ ((status ≡ 1) × Says old new is_mute (late_line wait))
+
+-- nobody listens on a port
+unfoldable pub nobody_line : ℕ → List ℕ
+nobody_line port = codes "error: nobody listens on 127.0.0.1:" ++ (decimal port ++ (codes "; 'flagops serve " ++ (decimal port ++ codes " ..' does\n")))
+
+-- that nobody listens is told
+abbrev pub TellsNobody : ℕ → Option (List ℕ) → Option (List ℕ) → Bool → Type 0
+TellsNobody port old new is_mute = Says old new is_mute (nobody_line port) ⊎ Says old new is_mute memory_line
 
 -- ---- the lines of `serve`
 
@@ -69,11 +90,20 @@ gone_line number snapshots end =
     codes "serve: subscriber " ++ (decimal number ++ (codes " has gone after " ++ (decimal snapshots ++ (codes " snapshots: " ++ (reason_of end ++ codes "\n")))))
 
 abbrev pub IsCame : ℕ → List ℕ → Type 0
-IsCame subscribers line = (number : ℕ) × (line ≡ came_line number subscribers)
+IsCame subscribers line = (number : ℕ) × (0 < number) × (number ≤ subscribers) × (line ≡ came_line number subscribers)
 
--- the same; where all were served, it was sent the last one
+-- the same of one whose stream ended so
+abbrev pub IsGoneLine : Disconnected → List ℕ → Type 0
+IsGoneLine gone line = (number : ℕ) × (line ≡ gone_line number gone.frames gone.end)
+
+-- of some that has gone; where all were served, it was sent the last one
 abbrev pub IsGone : Bool → List ℕ → Type 0
-IsGone are_served line = (number : ℕ) × (snapshots : ℕ) × (end : StreamEnd) × (are_served ≡ true → end ≡ Closed) × (line ≡ gone_line number snapshots end)
+IsGone are_served line = (gone : Disconnected) × (are_served ≡ true → gone.end ≡ Closed) × IsGoneLine gone line
+
+-- what is told of one that is counted: that it has gone, or nothing where no end of its stream is known
+abbrev pub TellsGone : Option Disconnected → Option (List ℕ) → Option (List ℕ) → Bool → Type 0
+TellsGone None old new is_mute = new ≡ old
+TellsGone (Some gone) old new is_mute = TellsLines (IsGoneLine gone) old new is_mute
 
 -- where `serve` listens for so many subscribers, and that one has come
 abbrev pub IsArrival : ℕ → ℕ → List ℕ → Type 0

@@ -94,7 +94,7 @@ where
             return Ok(streams);
         };
         streams.push(stream)?;
-        say_came(alloc, err, place.saturating_add(1), subscribers);
+        say_came(alloc, err, place + 1, subscribers);
     }
     Ok(streams)
 }

@@ -33,6 +33,7 @@ const PAUSE: u64 = 50;
 
 /// Follows the stream that somebody serves on a port of this host, as [`follow_lines`] does. A read that brings nothing for
 /// `wait` seconds has failed, which is told; 0 is for ever. Where nobody listens, that is written and told.
+#[tactic(auto, using(crate::proofs::Told::told_late))]
 pub fn follow_port<R: AllocGlobal + Net + Clock, O: Outlet, E: Outlet>(
     rt: &R,
     port: u16,
@@ -43,7 +44,7 @@ pub fn follow_port<R: AllocGlobal + Net + Clock, O: Outlet, E: Outlet>(
 ) -> u8
     requires { O.is_broken out.old ≡ false }
     ensures { (Follows (O.bytes out.old) (O.bytes out.new) (O.is_broken out.new) result × TellsLate wait result (E.bytes err.old) (E.bytes err.new) (E.is_broken err.new))
-        ⊎ FindsNobody (O.bytes out.old) (O.bytes out.new) (O.is_broken out.new) (E.bytes err.old) (E.bytes err.new) (E.is_broken err.new) result }
+        ⊎ FindsNobody port (O.bytes out.old) (O.bytes out.new) (O.is_broken out.new) (E.bytes err.old) (E.bytes err.new) (E.is_broken err.new) result }
 {
     let alloc = rt.alloc();
     match connect(rt, port, wait) {

@@ -28,9 +28,9 @@
 //! is one line, which the documents at these paths make, and which one where a file can't be read, and that files are only read;
 //! of `follow`, that the output is the lines of the snapshots of some stream and how it ended, or that nobody listens.
 //!
-//! What is told a person on the error outlet changes nothing of this. Where there is a refusal, something is told; else nothing
-//! is but that documents will be refused and that subscribers come and go, by `serve`, and that nothing came, by `follow`
-//! (`Told`).
+//! What is told a person on the error outlet changes nothing of this. Where there is a refusal, it is told why (`Why`); else
+//! nothing is told but that documents will be refused and that subscribers come and go, by `serve`, and that nothing came, by
+//! `follow` (`Told`).
 #![tactic(auto)]
 
 mod arrivals;

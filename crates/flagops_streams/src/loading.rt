@@ -1,8 +1,8 @@
 //! The documents that `serve` is asked for.
-ghost use Rattle.std.specs.Prelude.{◌≡◌, ◌+◌, ◌||◌, length, map, IfOk, IfSome, OnOk};
-ghost use Rattle.flagops_streams.specs.Loading.{LoadsTo, documents_view, is_unread, is_unread_next, loaded_at, loaded_next};
+ghost use Rattle.std.specs.Prelude.{◌≡◌, ◌+◌, ◌||◌, false, length, map, IfErr, IfOk, IfSome, OnOk};
+ghost use Rattle.flagops_streams.specs.Loading.{IsFirstRefused, LoadsTo, documents_view, is_unread, is_unread_next, loaded_at, loaded_next};
 ghost use Rattle.flagops_streams.specs.Documents.{documents_in};
-ghost use Rattle.flagops_streams.specs.Refusal.{GivesUnlessWant};
+ghost use Rattle.flagops_streams.specs.Refusal.{GivesUnlessWant, is_want};
 
 use crate::documents::Documents;
 use crate::refusal::Refusal;
@@ -25,6 +25,7 @@ pub fn loaded<'a, F: FileSet>(
 ) -> Result<Documents, Unloaded<'a>>
     ensures exact { IfSome (F.holding files.old) (λ at. LoadsTo result (loaded_at at (map (λ path. path.now) paths.now))) }
     ensures all { IfOk result (λ d. documents_in d ≡ length paths.now) }
+    ensures names { IfErr result (λ u. is_want u.refusal ≡ false → IsFirstRefused (F.holding files.old) (map (λ path. path.now) paths.now) u.path.now) }
     ensures failed { F.has_failed files.new ≡ (F.has_failed files.old || is_unread result) }
     ensures kept { F.holding files.new ≡ F.holding files.old }
 {

@@ -1,15 +1,19 @@
 //! What a person is told on the error outlet. It changes no answer. A line of a subscriber that can't be made is left out; why
 //! there was a refusal is told in any case, by a fixed sentence where there is no memory to say more.
-ghost use Rattle.std.specs.Prelude.{◌≡◌, ◌<◌, false, length, IfErr, IfOk, string_bytes};
-ghost use Rattle.sync_server.specs.End.{is_closed_end};
-ghost use Rattle.flagops_streams.specs.Told.{IsCame, IsForewarning, IsGone, IsLate, Says, TellsLines, TellsText, came_line, forewarning, gone_line, late_line, listening_line, reason_of};
+ghost use Rattle.std.specs.Prelude.{◌≡◌, ◌++◌, false, IfErr, IfOk, string_bytes};
+ghost use Rattle.flagops_streams.specs.Told.{IsForewarning, MayTellLate, Says, TellsLines, TellsNobody, TellsReason, TellsText, came_line, forewarning, gone_line, late_line, listening_line, nobody_line, reason_of};
+ghost use Rattle.flagops_streams.specs.Why.{IsWhy, document_line, left_line, memory_line, sentence_of, source_word, why_lines};
 
+use crate::disconnected::Disconnected;
 use crate::refusal::Refusal;
 use flag_defs::DefFault;
 use flag_text::{Outlet, write_whole};
 use source_merge::SourceFault;
 use std::alloc::{AllocError, Global};
 use sync_server::StreamEnd;
+
+/// What is told where there is no memory to say more.
+pub(crate) const MEMORY: &str = "error: out of memory\n";
 
 /// What a document that is refused leaves.
 const PUBLISHED_BEFORE: &str = "  the subscribers have what was published before it\n";
@@ -31,7 +35,7 @@ fn listening_line(alloc: Global, port: u16, subscribers: usize) -> Result<String
 
 /// A subscriber has come.
 pub(crate) fn say_came<E: Outlet>(alloc: Global, err: &mut E, number: usize, subscribers: usize)
-    ensures lines { TellsLines (IsCame subscribers) (E.bytes err.old) (E.bytes err.new) (E.is_broken err.new) }
+    ensures lines { TellsLines (λ line. line ≡ came_line number subscribers) (E.bytes err.old) (E.bytes err.new) (E.is_broken err.new) }
     ensures stays { E.is_broken err.new ≡ false → E.is_broken err.old ≡ false }
 {
     say_made(err, came_line(alloc, number, subscribers));
@@ -44,18 +48,12 @@ fn came_line(alloc: Global, number: usize, subscribers: usize) -> Result<String,
     format!(in alloc; "serve: subscriber {number} of {subscribers} has come\n")
 }
 
-/// A subscriber has gone.
-pub(crate) fn say_gone<E: Outlet>(
-    alloc: Global,
-    err: &mut E,
-    number: usize,
-    end: StreamEnd,
-    snapshots: u64,
-)
-    ensures lines { TellsLines (IsGone (is_closed_end end)) (E.bytes err.old) (E.bytes err.new) (E.is_broken err.new) }
+/// A subscriber has gone, whose stream ended so.
+pub(crate) fn say_gone<E: Outlet>(alloc: Global, err: &mut E, number: usize, gone: Disconnected)
+    ensures lines { TellsLines (λ line. line ≡ gone_line number gone.frames gone.end) (E.bytes err.old) (E.bytes err.new) (E.is_broken err.new) }
     ensures stays { E.is_broken err.new ≡ false → E.is_broken err.old ≡ false }
 {
-    say_made(err, gone_line(alloc, number, end, snapshots));
+    say_made(err, gone_line(alloc, number, gone.end, gone.frames));
 }
 
 #[tactic(auto, unfolding(crate::specs::Told::gone_line))]
@@ -136,7 +134,7 @@ pub(crate) fn say_why<D: Remarks, E: Outlet>(
     texts: &[Vec<u8>],
     refusal: Refusal,
 )
-    ensures told { TellsText (E.bytes err.old) (E.bytes err.new) (E.is_broken err.new) }
+    ensures told { TellsReason refusal (E.bytes err.old) (E.bytes err.new) (E.is_broken err.new) }
     ensures stays { E.is_broken err.new ≡ false → E.is_broken err.old ≡ false }
 {
     say_lines(err, lines_by(alloc, remarks, texts, refusal));
@@ -145,6 +143,7 @@ pub(crate) fn say_why<D: Remarks, E: Outlet>(
 /// Why a command was refused.
 pub fn say_refused<E: Outlet>(alloc: Global, err: &mut E, refusal: Refusal)
     ensures told { TellsText (E.bytes err.old) (E.bytes err.new) (E.is_broken err.new) }
+    ensures why { TellsReason refusal (E.bytes err.old) (E.bytes err.new) (E.is_broken err.new) }
     ensures stays { E.is_broken err.new ≡ false → E.is_broken err.old ≡ false }
 {
     say_lines(err, lines_of(alloc, refusal));
@@ -152,20 +151,24 @@ pub fn say_refused<E: Outlet>(alloc: Global, err: &mut E, refusal: Refusal)
 
 /// Nobody listens on the port.
 pub(crate) fn say_unreachable<E: Outlet>(alloc: Global, err: &mut E, port: u16)
-    ensures { TellsText (E.bytes err.old) (E.bytes err.new) (E.is_broken err.new) }
+    ensures { TellsNobody port (E.bytes err.old) (E.bytes err.new) (E.is_broken err.new) }
 {
-    say_lines(err, nobody(alloc, port));
+    match nobody_line(alloc, port) {
+        Ok(line) => say(err, line.as_str()),
+        Err(AllocError) => say(err, MEMORY),
+    }
 }
 
-fn nobody(alloc: Global, port: u16) -> Result<String, AllocError>
-    ensures { IfOk result (λ s. 0 < length (string_bytes s)) }
+#[tactic(auto, unfolding(crate::specs::Told::nobody_line))]
+fn nobody_line(alloc: Global, port: u16) -> Result<String, AllocError>
+    ensures { IfOk result (λ s. string_bytes s ≡ nobody_line port) }
 {
     format!(in alloc; "error: nobody listens on 127.0.0.1:{port}; 'flagops serve {port} ..' does\n")
 }
 
 /// Nothing came for so many seconds.
 pub(crate) fn say_late<E: Outlet>(alloc: Global, err: &mut E, wait: u64)
-    ensures { TellsLines (IsLate wait) (E.bytes err.old) (E.bytes err.new) (E.is_broken err.new) }
+    ensures { MayTellLate wait (E.bytes err.old) (E.bytes err.new) (E.is_broken err.new) }
 {
     say_made(err, late_line(alloc, wait));
 }
@@ -180,13 +183,14 @@ fn late_line(alloc: Global, wait: u64) -> Result<String, AllocError>
 }
 
 /// What a person is told of a refusal, of a document by whoever knows where it was read from.
+#[tactic(auto, using(crate::proofs::Reasons::all_why, crate::proofs::Reasons::about_document))]
 fn lines_by<D: Remarks>(
     alloc: Global,
     remarks: &D,
     texts: &[Vec<u8>],
     refusal: Refusal,
 ) -> Result<String, AllocError>
-    ensures { IfOk result (λ s. 0 < length (string_bytes s)) }
+    ensures { IfOk result (λ s. IsWhy refusal (string_bytes s)) }
 {
     let Refusal::Set(SourceFault::Refused(fault), place) = refusal else {
         return lines_of(alloc, refusal);
@@ -201,28 +205,52 @@ fn lines_by<D: Remarks>(
 
 /// What a person is told of a refusal.
 fn lines_of(alloc: Global, refusal: Refusal) -> Result<String, AllocError>
-    ensures { IfOk result (λ s. 0 < length (string_bytes s)) }
+    ensures { IfOk result (λ s. string_bytes s ≡ why_lines refusal) }
 {
-    if let Refusal::Set(fault, place) = refusal {
-        let why = match fault {
-            SourceFault::Refused(fault) => fault.name(),
-            other => other.name(),
-        };
-        return format!(in alloc;
-            "error: the document at place {place} of those to be published is refused: {why}\n{PUBLISHED_BEFORE}"
-        );
-    }
-    if let Refusal::Unserved(missed) = refusal {
-        return format!(in alloc;
+    match refusal {
+        Refusal::Set(fault, place) => document_lines(alloc, fault, place),
+        Refusal::Unserved(missed) => format!(in alloc;
             "error: subscribers that were not sent the last snapshot: {missed}\n"
-        );
+        ),
+        _ => {
+            let sentence = sentence_of(refusal);
+            format!(in alloc; "error: {sentence}\n")
+        }
     }
-    let reason = reason_of(refusal);
-    format!(in alloc; "error: {reason}\n")
+}
+
+/// What a person is told of a document that its source refuses, of which nothing else is known.
+fn document_lines(alloc: Global, fault: SourceFault, place: u64) -> Result<String, AllocError>
+    ensures { IfOk result (λ s. string_bytes s ≡ document_line place (source_word fault) ++ left_line) }
+{
+    let mut lines = document_line(alloc, place, source_word(fault))?;
+    lines.push_str(PUBLISHED_BEFORE)?;
+    Ok(lines)
+}
+
+#[tactic(auto, unfolding(crate::specs::Why::document_line))]
+fn document_line(alloc: Global, place: u64, why: &str) -> Result<String, AllocError>
+    ensures { IfOk result (λ s. string_bytes s ≡ document_line place why.now) }
+{
+    format!(in alloc;
+        "error: the document at place {place} of those to be published is refused: {why}\n"
+    )
+}
+
+/// Why a source refuses a document: the name of the fault.
+fn source_word(fault: SourceFault) -> &'static str
+    ensures { result.now ≡ source_word fault }
+{
+    match fault {
+        SourceFault::Refused(fault) => fault.name(),
+        other => other.name(),
+    }
 }
 
 /// The reason of a refusal that needs no more than a sentence.
-fn reason_of(refusal: Refusal) -> &'static str {
+fn sentence_of(refusal: Refusal) -> &'static str
+    ensures { result.now ≡ sentence_of refusal }
+{
     match refusal {
         Refusal::Add(_) => "'serve' publishes at most 16 documents",
         Refusal::Unreadable => "a document cannot be read",
@@ -254,13 +282,13 @@ fn say_made<E: Outlet>(err: &mut E, line: Result<String, AllocError>)
 
 /// Tells lines, or where they could not be made a fixed sentence.
 fn say_lines<E: Outlet>(err: &mut E, lines: Result<String, AllocError>)
-    requires { IfOk lines (λ s. 0 < length (string_bytes s)) }
-    ensures told { TellsText (E.bytes err.old) (E.bytes err.new) (E.is_broken err.new) }
+    ensures says { IfOk lines (λ s. Says (E.bytes err.old) (E.bytes err.new) (E.is_broken err.new) (string_bytes s)) }
+    ensures sentence { IfErr lines (λ _. Says (E.bytes err.old) (E.bytes err.new) (E.is_broken err.new) memory_line) }
     ensures stays { E.is_broken err.new ≡ false → E.is_broken err.old ≡ false }
 {
     match lines {
         Ok(lines) => say(err, lines.as_str()),
-        Err(AllocError) => say(err, "error: out of memory\n"),
+        Err(AllocError) => say(err, MEMORY),
     }
 }
 

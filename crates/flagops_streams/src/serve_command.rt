@@ -3,23 +3,23 @@ ghost use Rattle.std.specs.Prelude.{◌≡◌, false, true, length, map, IfSome}
 ghost use Rattle.flagops_shell.specs.Console.{IsOpen};
 ghost use Rattle.flagops_streams.specs.Ended.{AnswersServe, RefusesUnread, ServesAsked, TellsServe};
 ghost use Rattle.flagops_streams.specs.Documents.{Answer, count_of};
-ghost use Rattle.flagops_streams.specs.Loading.{AnswersTo};
+ghost use Rattle.flagops_streams.specs.Loading.{AnswersTo, TellsUnloaded};
 ghost use Rattle.flagops_streams.specs.Report.{RefusesBy, Reports, Serves};
-ghost use Rattle.flagops_streams.specs.Told.{IsServeLine, TellsText};
+ghost use Rattle.flagops_streams.specs.Told.{IsServeLine, TellsOfFile, TellsReason};
 ghost use Rattle.flagops_streams.specs.Words.{serving_view};
 ghost use Rattle.flagops_streams.specs.declared.refusal.Refusal.TheVariants.{Unreadable};
 
 use crate::asked::Serving;
 use crate::loading::{Unloaded, loaded};
 use crate::refusal::Refusal;
-use crate::remark::{Remarks, say_refused};
+use crate::remark::{MEMORY, Remarks, say, say_refused};
 use crate::report::refuse;
 use crate::serving::serve_documents;
 use crate::words::read_serve;
 use file_diagnostics::{of_document, of_unreadable};
 use flag_defs::DefFault;
 use flag_text::Outlet;
-use flagops_shell::{Console, FileSet, report_usage, tell};
+use flagops_shell::{Console, FileSet, report_usage};
 use std::alloc::{AllocError, Global};
 use std::convert::AsStr;
 use std::io;
@@ -47,7 +47,7 @@ where
     ensures answers { AnswersServe console.old console.new result (F.holding files.old) (map S.text words.now) }
     ensures serves { ServesAsked console.old console.new result (map S.text words.now) }
     // Whatever the files hold, a read that failed is what is reported and told.
-    ensures unread { RefusesUnread console.old console.new result (F.has_failed files.old) (F.has_failed files.new) }
+    ensures unread { RefusesUnread console.old console.new result (F.holding files.old) (map S.text words.now) (F.has_failed files.old) (F.has_failed files.new) }
     ensures tells { TellsServe console.old console.new result (map S.text words.now) }
     ensures kept { F.holding files.new ≡ F.holding files.old }
 {
@@ -82,7 +82,7 @@ where
         × Reports (IsServeLine serving.now.port serving.now.subscribers) (count_of answer) (O.bytes out.old) (O.bytes out.new) (O.is_broken out.new) (E.bytes err.old) (E.bytes err.new) (E.is_broken err.new) result) }
     ensures serves { Serves (IsServeLine serving.now.port serving.now.subscribers) (length serving.now.documents.items) (O.bytes out.old) (O.bytes out.new) (O.is_broken out.new) (E.bytes err.old) (E.bytes err.new) (E.is_broken err.new) result }
     ensures unread { F.has_failed files.old ≡ false → F.has_failed files.new ≡ true
-        → RefusesBy Unreadable (O.bytes out.old) (O.bytes out.new) (O.is_broken out.new) result × TellsText (E.bytes err.old) (E.bytes err.new) (E.is_broken err.new) }
+        → RefusesBy Unreadable (O.bytes out.old) (O.bytes out.new) (O.is_broken out.new) result × TellsUnloaded (F.holding files.old) (serving_view serving.now).documents (E.bytes err.old) (E.bytes err.new) (E.is_broken err.new) }
     ensures kept { F.holding files.new ≡ F.holding files.old }
 {
     let alloc = rt.alloc();
@@ -129,14 +129,15 @@ impl Remarks for AtPaths<'_, '_> {
 }
 
 /// Tells a person why documents were not loaded, where a file can't be read in the system's words, as far as these are known.
+#[tactic(auto, using(crate::proofs::Reasons::file_told))]
 fn tell_unloaded<E: Outlet>(
     alloc: Global,
     err: &mut E,
     unloaded: &Unloaded<'_>,
     trouble: Option<io::Error>,
 )
-    requires { E.is_broken err.old ≡ false }
-    ensures { TellsText (E.bytes err.old) (E.bytes err.new) (E.is_broken err.new) }
+    ensures told { TellsReason unloaded.now.refusal (E.bytes err.old) (E.bytes err.new) (E.is_broken err.new) }
+    ensures names { unloaded.now.refusal ≡ Unreadable → TellsOfFile unloaded.now.path.now (E.bytes err.old) (E.bytes err.new) (E.is_broken err.new) }
 {
     match unloaded.refusal {
         Refusal::Unreadable => tell_unreadable(alloc, err, unloaded.path, trouble),
@@ -146,11 +147,10 @@ fn tell_unloaded<E: Outlet>(
 
 /// Tells a person of a file that can't be read.
 fn tell_unreadable<E: Outlet>(alloc: Global, err: &mut E, path: &str, trouble: Option<io::Error>)
-    requires { E.is_broken err.old ≡ false }
-    ensures { TellsText (E.bytes err.old) (E.bytes err.new) (E.is_broken err.new) }
+    ensures { TellsOfFile path.now (E.bytes err.old) (E.bytes err.new) (E.is_broken err.new) }
 {
     match of_unreadable(alloc, path, trouble) {
-        Ok(text) => tell(err, text.as_str()),
-        Err(AllocError) => say_refused(alloc, err, Refusal::Unloaded),
+        Ok(text) => say(err, text.as_str()),
+        Err(AllocError) => say(err, MEMORY),
     }
 }

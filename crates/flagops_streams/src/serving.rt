@@ -6,7 +6,7 @@ ghost use Rattle.source_merge.specs.View.{sources_view};
 ghost use Rattle.flagops_streams.specs.Documents.{Answer, Counts, Gives, GivesSome, ServesAll, ServesTo, count_of, documents_in, is_served, less_missed, missed_of, published_in, texts_of, told_view};
 ghost use Rattle.flagops_streams.specs.Report.{Reports, Serves};
 ghost use Rattle.sync_server.specs.End.{is_closed_end};
-ghost use Rattle.flagops_streams.specs.Told.{IsForewarning, IsGone, IsServeLine, TellsLines};
+ghost use Rattle.flagops_streams.specs.Told.{IsForewarning, IsGone, IsServeLine, TellsGone, TellsLines};
 
 use crate::arrivals::{Arrived, arrivals};
 use crate::board::Board;
@@ -440,13 +440,13 @@ fn tell_next<J: ShareName, R: Wait, E: Outlet>(
     published: u64,
     err: &mut E,
 ) -> usize
-    ensures end { (end : Option Disconnected) × (result ≡ (if is_served published end then 0 else 1)) }
+    ensures end { (end : Option Disconnected) × (result ≡ (if is_served published end then 0 else 1)) × TellsGone end (E.bytes err.old) (E.bytes err.new) (E.is_broken err.new) }
     ensures lines { TellsLines (IsGone (nat_eq result 0)) (E.bytes err.old) (E.bytes err.new) (E.is_broken err.new) }
     ensures stays { E.is_broken err.new ≡ false → E.is_broken err.old ≡ false }
 {
     match board.next_end(rt) {
         Some((place, gone)) => {
-            say_gone(alloc, err, place.saturating_add(1), gone.end, gone.frames);
+            say_gone(alloc, err, place.saturating_add(1), gone);
             missed_by(Some(gone), published)
         }
         None => missed_by(None, published),

@@ -30,7 +30,7 @@ use flagops_words::Moment;
 use std::alloc::{AllocError, Global};
 
 /// The resolution of a key in a context, as a line. The document may have floats, or may not; the value of a flag that has some is
-/// printed by its spelling. A person is told of a key that no flag has, and of a flag of another kind.
+/// printed by its spelling. A note names a key that no flag has, and the kind of a flag that is of another.
 #[tactic(auto, unfolding(crate::specs::Resolve::IsResolveReport))]
 pub fn resolve<F: FileSet>(
     alloc: Global,

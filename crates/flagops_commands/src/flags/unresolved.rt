@@ -41,7 +41,7 @@ fn of_unknown_key(alloc: Global, path: &str, flags: &Flags, key: &str) -> Result
     let mut lines = Lines::new(alloc);
     write!(
         lines,
-        " has no flag {}, so the value is DEFAULT\n  {known}\n",
+        " has no flag {}, so it resolves to the default\n  {known}\n",
         lines.name(key),
     );
     lines.headed(Opening::Note, path)
@@ -61,7 +61,7 @@ fn of_other_kind(
     let mut lines = Lines::new(alloc);
     write!(
         lines,
-        ": the flag {} is of the kind {}, not {}, so the value is DEFAULT\n",
+        ": the flag {} is of the kind {}, not {}, so it resolves to the default\n",
         lines.name(key),
         kind.as_str(),
         asked.as_str(),

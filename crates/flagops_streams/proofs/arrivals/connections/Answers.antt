@@ -1,5 +1,5 @@
-use Rattle.std.proofs.Common.{◌≡◌, List, Option, ℕ, Bool, rules, inl, inr}
-use Rattle.flagops_streams.specs.Told.{IsCame, IsArrival, TellsLines, listening_line}
+use Rattle.std.proofs.Common.{◌≡◌, ◌+◌, List, Option, ℕ, Bool, arith, rules, inl, inr}
+use Rattle.flagops_streams.specs.Told.{IsArrival, TellsLines, came_line, listening_line}
 use Rattle.flagops_streams.proofs.Told.{lines_as, lines_behind}
 use Rattle.flagops_streams.proofs.arrivals.connections.Goals as goal
 
@@ -16,5 +16,6 @@ loop-place-init g c = (search rules, listens c.args.port c.args.subscribers _ _ 
 pub loop-place-preserved : goal.loop-place-preserved
 loop-place-preserved g c =
     let so_far = c.loop-place.invariant in
-    let came = lines_as (IsCame c.args.subscribers) (IsArrival c.args.port c.args.subscribers) (λ line is. inr is) _ _ _ c.say_came.ensures.lines in
+    let place = c.loop-place.place in
+    let came = lines_as (λ line. line ≡ came_line (place + 1) c.args.subscribers) (IsArrival c.args.port c.args.subscribers) (λ line is. inr (place + 1, omega arith, omega (arith, c.loop-place-test.true), is)) _ _ _ c.say_came.ensures.lines in
     (search rules, lines_behind (IsArrival c.args.port c.args.subscribers) _ _ _ _ _ c.say_came.ensures.stays so_far.1 came, λ works. so_far.2 (c.say_came.ensures.stays works))

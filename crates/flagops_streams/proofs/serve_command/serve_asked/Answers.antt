@@ -1,10 +1,12 @@
-use Rattle.std.proofs.Common.{[], Err, refl}
+use Rattle.std.proofs.Common.{[], Err, ap, refl, subst}
 use Rattle.flagops_streams.specs.Documents.{count_of}
-use Rattle.flagops_streams.specs.Report.{Reports}
+use Rattle.flagops_streams.specs.Refusal.{is_want}
+use Rattle.flagops_streams.specs.Report.{RefusesBy, Reports}
 use Rattle.flagops_streams.specs.Told.{IsServeLine}
 use Rattle.flagops_streams.specs.Loading.{documents_view}
 use Rattle.flagops_streams.specs.Words.{serving_view}
-use Rattle.flagops_streams.proofs.DocumentsLoaded.{all_served, answered, none_served}
+use Rattle.flagops_streams.specs.declared.refusal.Refusal.{Refusal}
+use Rattle.flagops_streams.proofs.DocumentsLoaded.{all_served, answered, failed_now, none_served, told_of, unreadable_is}
 use Rattle.flagops_streams.proofs.serve_command.serve_asked.Goals as goal
 
 pub returns-in-Ok-clause-answers : goal.returns-in-Ok-clause-answers
@@ -26,4 +28,13 @@ returns-in-Err-clause-answers g c =
     (λ r. Reports (IsServeLine s.port s.subscribers) (count_of r) (g.O.Outlet.bytes c.args.out.now) (g.O.Outlet.bytes c.refuse.new.out) (g.O.Outlet.is_broken c.refuse.new.out)
     (g.E.Outlet.bytes c.args.err.now) (g.E.Outlet.bytes c.tell_unloaded.new.err) (g.E.Outlet.is_broken c.tell_unloaded.new.err) c.refuse.result)
     (none_served (λ p. p.now) c.as_slice-paths.result.now c.args.serving.now.documents.items c.as_slice-paths.ensures.value holding s refl refusal c.in-Err.ensures.exact)
-    (c.refuse.ensures, (g.E.Outlet.bytes c.args.err.now, ([], refl), c.tell_unloaded.ensures))
+    (c.refuse.ensures, (g.E.Outlet.bytes c.args.err.now, ([], refl), c.tell_unloaded.ensures.told))
+
+pub returns-in-Err-clause-unread : goal.returns-in-Err-clause-unread
+returns-in-Err-clause-unread g c = λ fine failed.
+    let s = serving_view c.args.serving.now in
+    let unloaded = c.in-Err.unloaded in
+    let is = unreadable_is unloaded.refusal (failed_now _ _ _ c.in-Err.ensures.failed fine failed) in (
+      subst (λ (r : Refusal). RefusesBy r (g.O.Outlet.bytes c.args.out.now) (g.O.Outlet.bytes c.refuse.new.out) (g.O.Outlet.is_broken c.refuse.new.out) c.refuse.result) is c.refuse.ensures,
+      told_of (λ p. p.now) c.as_slice-paths.result.now c.args.serving.now.documents.items c.as_slice-paths.ensures.value (g.F.FileSet.holding c.args.files.now) s refl unloaded.path.now _ _ _ (c.in-Err.ensures.names (ap is_want is)) (c.tell_unloaded.ensures.names is),
+    )

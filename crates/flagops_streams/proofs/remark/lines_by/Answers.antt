@@ -1,0 +1,15 @@
+use Rattle.std.proofs.Common.{◌≡◌, ◌∙◌, ap, string_bytes, subst, sym}
+use Rattle.source_merge.specs.declared.fault.SourceFault.{SourceFault}
+use Rattle.source_merge.specs.declared.fault.SourceFault.TheVariants.{Refused}
+use Rattle.flagops_streams.specs.Why.{IsWhy}
+use Rattle.flagops_streams.specs.declared.refusal.Refusal.{Refusal}
+use Rattle.flagops_streams.specs.declared.refusal.Refusal.TheVariants.{Set}
+use Rattle.flagops_streams.proofs.Reasons.{about_document}
+use Rattle.flagops_streams.proofs.remark.lines_by.Goals as goal
+
+-- a document that its source refuses, by the lines about it
+pub returns : goal.returns
+returns g c =
+    let s = c.in-Set-Refused-default in
+    let is : c.args.refusal ≡ Set (Refused s.fault) s.place = s.is ∙ ap (λ (e : SourceFault). Set e s.place) s.field-0-is in
+    subst (λ (r : Refusal). IsWhy r (string_bytes c.push_str.new.self)) (sym is) (about_document s.fault s.place (string_bytes c.in_ok-lines.lines) (string_bytes c.push_str.new.self) c.in_ok-push_str.ensures.bytes)
