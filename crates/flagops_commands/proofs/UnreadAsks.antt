@@ -1,5 +1,5 @@
 -- What a person is told of asks that have a member that is not read.
-use Rattle.std.proofs.Common.{◌≡◌, ◌∙◌, ◌++◌, ap, append-nil, ℕ, ◌+◌, List, [], ◌∷◌, Option, Some, None, codes, cond, refl, sym, subst}
+use Rattle.std.proofs.Common.{◌≡◌, ◌∙◌, ◌++◌, ap, ℕ, ◌+◌, List, [], ◌∷◌, Option, Some, None, codes, refl, sym, subst}
 use Rattle.std.specs.Prelude.{IfOk, Result, Ok, Err, String, count_by, is_some, string_bytes}
 use Rattle.std.specs.declared.alloc.Global.{Global}
 use Rattle.std.proofs.lemmas.List.{append_assoc}
@@ -7,14 +7,12 @@ use Rattle.std.proofs.lemmas.List.Recursion.{is_count_by}
 use Rattle.file_diagnostics.specs.Lines.{Grows, IsHeaded}
 use Rattle.file_diagnostics.specs.Meant.{IsMeant}
 use Rattle.file_diagnostics.specs.Named.{quoted}
-use Rattle.flag_text.specs.Shape.{Shape, Items, no_items}
+use Rattle.flag_text.specs.Shape.{Items, no_items}
 use Rattle.flag_text.specs.View.{items_view, view}
 use Rattle.flag_text.specs.declared.tree.Tree.{Tree}
-use Rattle.flagops_drive.specs.File.{file_view}
 use Rattle.flagops_drive.specs.Plain.{asks_shape}
-use Rattle.flagops_drive.specs.declared.asks_file.AsksFile.{AsksFile}
 use Rattle.flagops_drive.specs.declared.plain_ask.PlainAsk.{PlainAsk}
-use Rattle.flagops_commands.specs.DriveSummary.{IsUnreadMember, IsUnreadText, asks_listed, first_unread, unread_count, unread_count_text, unread_member_text}
+use Rattle.flagops_commands.specs.DriveSummary.{IsUnreadMember, IsUnreadText, first_unread, unread_count, unread_count_text, unread_member_text}
 use Rattle.unread_members.specs.Unread.{unread_of}
 use Rattle.unread_members.specs.declared.reader.Reader.TheVariants as reader
 
@@ -24,12 +22,8 @@ counted asks = sym (is_count_by (λ ts. unread_count (items_view ts)) (λ t. is_
 
 -- ---- lines that grow
 
-pub grows_none : (lines : Option (List ℕ)) → Grows lines (Some []) lines
-grows_none None = tt
-grows_none (Some text) = (text, refl, sym (append-nil text))
-
 -- twice is once by both
-pub grows_twice : (first more : List ℕ) (before mid after : Option (List ℕ)) → Grows before (Some first) mid → Grows mid (Some more) after → Grows before (Some (first ++ more)) after
+grows_twice : (first more : List ℕ) (before mid after : Option (List ℕ)) → Grows before (Some first) mid → Grows mid (Some more) after → Grows before (Some (first ++ more)) after
 grows_twice first more before mid None one two = tt
 grows_twice first more before mid (Some text) one (prefix, was, is) =
     let it : Grows before (Some first) (Some prefix) = subst (Grows before (Some first)) was one in
@@ -48,23 +42,15 @@ pub member_told : (u : Option (ℕ × List ℕ)) (number : ℕ) (name ending : L
 member_told u number name ending before mid after is meant one two =
     (unread_member_text (number, name) ++ ending, subst (λ (o : Option (ℕ × List ℕ)). IsUnreadMember o (unread_member_text (number, name) ++ ending)) (sym is) (ending, meant, refl), grows_twice (unread_member_text (number, name)) ending before mid after one two)
 
-pub no_member_told : (u : Option (ℕ × List ℕ)) (lines : Option (List ℕ)) → u ≡ None → (line : List ℕ) × IsUnreadMember u line × Grows lines (Some line) lines
-no_member_told u lines is = ([], subst (λ (o : Option (ℕ × List ℕ)). IsUnreadMember o []) (sym is) refl, grows_none lines)
-
 -- ---- the whole
 
-module _ (path : List ℕ) (asks : List Tree) (t : Shape) (listed : items_view asks ≡ asks_listed t) where
-  text_of : (count : ℕ) (line text lines : List ℕ) → count ≡ unread_count (items_view asks) → IsUnreadMember (first_unread 1 (items_view asks)) line → lines ≡ unread_count_text count ++ line
-      → text ≡ (codes "note: " ++ quoted path) ++ lines → IsUnreadText path (asks_listed t) text
+module _ (path : List ℕ) (asks : Items) where
+  text_of : (count : ℕ) (line text lines : List ℕ) → count ≡ unread_count asks → IsUnreadMember (first_unread 1 asks) line → lines ≡ unread_count_text count ++ line → text ≡ (codes "note: " ++ quoted path) ++ lines → IsUnreadText path asks text
   unfolding IsUnreadText
-  text_of count line text lines many member grown headed = (
-    line,
-    subst (λ (ts : Items). IsUnreadMember (first_unread 1 ts) line) listed member,
-    headed ∙ ap (λ (l : List ℕ). (codes "note: " ++ quoted path) ++ l) (grown ∙ ap (λ (n : ℕ). unread_count_text n ++ line) (many ∙ ap unread_count listed)),
-  )
+  text_of count line text lines many member grown headed = (line, member, headed ∙ ap (λ (l : List ℕ). (codes "note: " ++ quoted path) ++ l) (grown ∙ ap (λ (n : ℕ). unread_count_text n ++ line) many))
 
-  pub unread_told : {E : Type 0} (count : ℕ) (begin one two : Option (List ℕ)) (r : Result (String Global) E) → count ≡ unread_count (items_view asks) → begin ≡ Some [] → Grows begin (Some (unread_count_text count)) one
-      → ((line : List ℕ) × IsUnreadMember (first_unread 1 (items_view asks)) line × Grows one (Some line) two) → IfOk r (λ s. IsHeaded (codes "note: " ++ quoted path) two (string_bytes s)) → IfOk r (λ s. IsUnreadText path (asks_listed t) (string_bytes s))
+  pub unread_told : {E : Type 0} (count : ℕ) (begin one two : Option (List ℕ)) (r : Result (String Global) E) → count ≡ unread_count asks → begin ≡ Some [] → Grows begin (Some (unread_count_text count)) one
+      → ((line : List ℕ) × IsUnreadMember (first_unread 1 asks) line × Grows one (Some line) two) → IfOk r (λ s. IsHeaded (codes "note: " ++ quoted path) two (string_bytes s)) → IfOk r (λ s. IsUnreadText path asks (string_bytes s))
   unread_told count begin one two (Err e) many none first (line, member, more) headed = tt
   unread_told count begin one two (Ok s) many none first (line, member, more) (lines, is, headed) =
       let both : Grows begin (Some (unread_count_text count ++ line)) (Some lines) = subst (Grows begin (Some (unread_count_text count ++ line))) is (grows_twice (unread_count_text count) line begin one two first more) in

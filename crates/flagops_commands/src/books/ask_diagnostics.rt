@@ -2,8 +2,8 @@
 ghost use Rattle.std.specs.Prelude.{◌≡◌, ◌<◌, ◌==◌, ℕ, IfOk, List, Some, codes, if◌then◌else◌, map, option_map, string_bytes};
 ghost use Rattle.file_diagnostics.specs.Lines.{Grows, text_so_far};
 ghost use Rattle.file_diagnostics.specs.Named.{Names, NamesWord};
-ghost use Rattle.flag_text.specs.View.{items_view, view};
-ghost use Rattle.flagops_commands.specs.DriveSummary.{IsUnreadMember, IsUnreadText, asks_listed, asks_text, book_text, ending_text, ending_texts, endings_told, first_unread, nothing_text, plural, sharing_text, summary_text, unread_count, unread_count_text, unrecorded_text};
+ghost use Rattle.flag_text.specs.View.{items_view};
+ghost use Rattle.flagops_commands.specs.DriveSummary.{IsUnreadMember, IsUnreadText, asks_text, book_text, ending_text, ending_texts, endings_told, first_unread, nothing_text, plural, sharing_text, summary_text, unread_count, unread_count_text, unrecorded_text};
 
 use file_diagnostics::{Lines, Opening, put_meant, quoted_name};
 use flag_text::Tree;
@@ -59,26 +59,17 @@ fn member_at<'a>(tree: &'a Tree, place: usize, name: &str) -> Option<&'a Tree> {
 }
 
 /// Says how many asks have a member that is not read, and names the first such member.
-pub fn of_unread_asks(alloc: Global, path: &str, tree: &Tree) -> Result<String, AllocError>
+pub fn of_unread_asks(alloc: Global, path: &str, asks: &[Tree]) -> Result<String, AllocError>
     ensures names { IfOk result (λ s. Names path.now (string_bytes s)) }
-    ensures text { IfOk result (λ s. IsUnreadText path.now (asks_listed (view tree.now)) (string_bytes s)) }
+    ensures text { IfOk result (λ s. IsUnreadText path.now (items_view asks.now) (string_bytes s)) }
 {
-    let asks = asks_listed(tree);
     let mut lines = Lines::new(alloc);
     put_unread_count(&mut lines, unread_count(asks));
     put_first_unread(&mut lines, asks);
     lines.headed(Opening::Note, path)
 }
 
-/// The asks of a tree. What is no list has none.
-fn asks_listed(tree: &Tree) -> &[Tree]
-    ensures { items_view result.now ≡ asks_listed (view tree.now) }
-{
-    tree.as_list().unwrap_or(&[])
-}
-
 /// How many asks have a member that is not read.
-#[tactic(auto, using(crate::proofs::UnreadAsks::counted))]
 fn unread_count(asks: &[Tree]) -> usize
     ensures { result ≡ unread_count (items_view asks.now) }
 {
