@@ -1,8 +1,7 @@
 -- What is told of a refusal.
-use Rattle.std.proofs.Common.{◌≡◌, ◌∙◌, ℕ, Bool, List, ◌∷◌, ◌++◌, Option, Result, Ok, Err, IfOk, IfErr, inl, inr, refl, subst, sym, length, arith, string_bytes}
+use Rattle.std.proofs.Common.{◌≡◌, ℕ, Bool, List, ◌∷◌, ◌++◌, Option, Result, Ok, Err, IfOk, IfErr, inl, inr, refl, subst, sym, length, arith, string_bytes}
 use Rattle.std.specs.Prelude.{◌<◌, String}
 use Rattle.std.specs.declared.alloc.Global.{Global}
-use Rattle.file_diagnostics.specs.Named.{Names}
 use Rattle.flag_defs.specs.declared.fault.DefFault.{DefFault}
 use Rattle.source_merge.specs.declared.fault.SourceFault.TheVariants.{Refused}
 use Rattle.flagops_streams.specs.Told.{Says, TellsOfFile, TellsReason, TellsText}
