@@ -132,7 +132,7 @@ class ControlTest(unittest.TestCase):
         try:
             client.request(method, path, body, headers)
             response = client.getresponse()
-            return response.status, dict(response.getheaders()), response.read()
+            return response.status, {name.lower(): value for name, value in response.getheaders()}, response.read()
         finally:
             client.close()
 
@@ -202,7 +202,7 @@ class Plans(ControlTest):
 
         def ask_as(which):
             status, headers, body = self.ask("POST", "/plan", compact(REQUEST).encode())
-            answers[which] = status, "Retry-After" in headers, body if status == 200 else None
+            answers[which] = status, "retry-after" in headers, body if status == 200 else None
 
         threads = [threading.Thread(target=ask_as, args=(which,)) for which in range(len(answers))]
         for thread in threads:
@@ -219,7 +219,7 @@ class Plans(ControlTest):
         self.begin(document, lines)
         status, headers, body = self.ask("GET", "/snapshot")
         self.assertEqual((status, body.decode()), (200, document))
-        self.assertEqual(self.ask("GET", "/snapshot", **{"If-None-Match": headers["ETag"]})[0], 304)
+        self.assertEqual(self.ask("GET", "/snapshot", **{"If-None-Match": headers["etag"]})[0], 304)
 
     def test_flags_as_the_commands_tell_them(self):
         on = {"state": "ENABLED", "variants": {"on": True, "off": False}, "defaultVariant": "off"}
@@ -316,7 +316,7 @@ class Recorded(ControlTest):
         status, _, body = self.ask("GET", "/record?flag=color&site=0")
         self.assertEqual(status, 200)
         counted = dict(json.loads(line) for line in body.decode().splitlines()[2:])
-        lines = "".join(note("color", 0, "color" + key) for key in keys)
+        lines = "".join(sorted(note("color", 0, "color" + key) for key in keys))
         told = run(["tally", "flags.json", "color", "0"], {"flags.json": self.text("flags.json")}, input=lines)
         wanted = dict(json.loads(line) for line in told.out.splitlines()[2:])
         self.assertEqual(sum(wanted.values()), len(keys), told.err)
@@ -335,7 +335,7 @@ class Reached(ControlTest):
                 with self.subTest(path=path, headers=headers):
                     status, answered, told = self.ask(method, path, body, **headers)
                     self.assertEqual((status, b"checkout" in told or b"<script>" in told), (403, False))
-                    self.assertNotIn("access-control-allow-origin", map(str.lower, answered))
+                    self.assertNotIn("access-control-allow-origin", answered)
             for headers in [{}, {"Host": f"localhost:{port}"}, {"Origin": self.service.origin}, {"Origin": f"http://localhost:{port}"}]:
                 with self.subTest(path=path, headers=headers):
                     self.assertIn(self.ask(method, path, body, **headers)[0], {200} if body is None else {400})

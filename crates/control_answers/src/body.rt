@@ -89,7 +89,7 @@ fn number_or_null(alloc: Global, number: Option<u64>) -> Result<String, AllocErr
 }
 
 /// How many inputs switch in all.
-fn switched_in(switches: &[Switch]) -> u64
+pub(crate) fn switched_in(switches: &[Switch]) -> u64
     requires { sum_by (λ r. r.1) (rows_view switches.now) ≤ tally_inputs }
     ensures { result ≡ switched_in (rows_view switches.now) }
 {
