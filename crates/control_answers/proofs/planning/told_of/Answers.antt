@@ -1,6 +1,7 @@
-use Rattle.std.proofs.Common.{refl, rules}
+use Rattle.std.proofs.Common.{◌∙◌, ℕ, List, ap₂, refl, rules}
 use Rattle.flag_defs.specs.Flags.{flags_view}
 use Rattle.rollout_checks.specs.Tallied.{tally_view}
+use Rattle.control_answers.specs.Token.{token_text}
 use Rattle.control_answers.proofs.Planned.{is_asked}
 use Rattle.control_answers.proofs.planning.told_of.Goals as goal
 
@@ -19,5 +20,5 @@ returns-clause-told c = record {
   picture = c.in_ok-picture.ensures;
   explained = search rules;
   document = c.in_ok-document.ensures;
-  token = search rules;
+  token = c.in_ok-token.ensures ∙ ap₂ (λ (r p : List ℕ). token_text c.args.snapshot.now.document.now r p) c.bytes.ensures c.as_slice.ensures.value;
 }
