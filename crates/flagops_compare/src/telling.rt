@@ -101,8 +101,14 @@ fn unmatched_lines(
     ensures { IfOk result (λ s. string_bytes s ≡ unmatched_lines asked.now.book.now (flags_view old.now) (option_copied asked.now.flag) (pages_view pages.now)) }
 {
     match asked.flag {
-        Some(key) if pages.is_empty() => no_page_lines(alloc, asked.book, key, old),
-        _ => Ok(String::new(alloc)),
+        Some(key) => {
+            if pages.is_empty() {
+                no_page_lines(alloc, asked.book, key, old)
+            } else {
+                Ok(String::new(alloc))
+            }
+        }
+        None => Ok(String::new(alloc)),
     }
 }
 
