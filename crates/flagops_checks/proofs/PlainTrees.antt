@@ -2,7 +2,7 @@
 use Rattle.std.proofs.Common.{◌≡◌, ◌^◌, ℕ, ℤ, pos, Bool, true, false, cond, is_some, nat_lt, codes, List, [], ◌∷◌, length, Option, Some, None, option_map, option_and_then, Ordering, Less, Equal, Greater, refl, ap, ◌∙◌, subst, sym}
 use Rattle.std.specs.Cmp.Lexicographic.{slice_cmp}
 use Rattle.std.specs.Ordering.{match_ordering, nat_cmp}
-use Rattle.std.specs.Prelude.{Result, Ok, Err}
+use Rattle.std.specs.Prelude.{Result, Err}
 use Rattle.std.specs.Str.{bytes_eq, is_utf8}
 use Rattle.json.specs.Json as json
 use Rattle.json.specs.Lex.{tokens}
@@ -27,7 +27,7 @@ use Rattle.unread_members.specs.declared.reader.Reader.TheVariants as reader
 use Rattle.flag_defs.specs.Document.{or_no_members}
 use Rattle.flag_doubts.specs.AllRead.{are_all_read}
 use Rattle.repeated_names.specs.Repeated.{json_of}
-use Rattle.flagops_checks.proofs.Plainly.{AreRead, ArePlainFlags, Each, IsPlainDefinition, IsPlainDocument, IsPlainMember, IsRead, OfObject, document_stays, same_document}
+use Rattle.flagops_checks.proofs.Plainly.{ArePlainFlags, Each, IsPlainDefinition, IsPlainDocument, IsPlainMember, IsRead, OfObject, document_stays, same_document}
 use Rattle.flagops_checks.specs.Judged.{definition_of, is_unread, or_null, tree_in}
 
 -- ---- the tree of a value, member by member

@@ -75,12 +75,7 @@ pub(crate) fn names_of(
 }
 
 /// A tree with each member that is not read. Where all are read, none is made of the text.
-fn unread_in(
-    alloc: Global,
-    bytes: &[u8],
-    floats: bool,
-    all_read: bool,
-) -> Result<Tree, AllocError>
+fn unread_in(alloc: Global, bytes: &[u8], floats: bool, all_read: bool) -> Result<Tree, AllocError>
     requires { all_read ≡ are_all_read (json_of bytes.now) }
     ensures { IfOk result (λ t. HasUnread floats bytes.now (view t)) }
 {

@@ -119,7 +119,9 @@ fn no_page_lines(alloc: Global, path: &str, key: &str, old: &Flags) -> Result<St
     let path = quoted(alloc, path)?;
     let flag = quoted(alloc, key)?;
     let known = known_line(alloc, key, old)?;
-    format!(in alloc; "note: {path}: flag {flag} is not compared: there is no page of it (NoPage)\n{known}")
+    format!(in alloc;
+        "note: {path}: flag {flag} is not compared: there is no page of it (NoPage)\n{known}"
+    )
 }
 
 /// The keys that may be meant, where no flag has this one.
