@@ -231,9 +231,16 @@ class Control:
         """That a plan is right on what is recorded, with its cost; or why it is not."""
         asked = json.loads(body)
         request, plan = asked["request"], asked["plan"]
+        try:
+            tally = self.tally(request["flag"], request.get("site", 0))
+        except Refused as refused:
+            if refused.body["refused"] != "plan":
+                raise
+            # What is wrong with the request is for `verify` to say.
+            tally = '{"book":1}\n'
         with tempfile.TemporaryDirectory() as folder:
             path = lambda name: os.path.join(folder, name)
-            for name, text in [("request", compact(request)), ("plan", compact(plan)), ("tally", self.tally(request["flag"], request.get("site", 0)))]:
+            for name, text in [("request", compact(request)), ("plan", compact(plan)), ("tally", tally)]:
                 with open(path(name), "w", encoding="utf-8") as file:
                     file.write(text)
             return json.loads(self.run(["verify", "--json", "--floats", self.document, path("request"), path("tally"), path("plan")])[0])

@@ -1,12 +1,11 @@
 -- What is told of a refusal.
-use Rattle.std.proofs.Common.{◌≡◌, ◌∙◌, ℕ, Bool, List, ◌∷◌, ◌++◌, Option, Result, Ok, Err, IfOk, IfErr, inl, inr, refl, subst, sym, length, arith, string_bytes}
+use Rattle.std.proofs.Common.{◌≡◌, ℕ, Bool, List, ◌∷◌, ◌++◌, Option, Result, Ok, Err, IfOk, IfErr, inl, inr, refl, subst, sym, length, arith, string_bytes}
 use Rattle.std.specs.Prelude.{◌<◌, String}
 use Rattle.std.specs.declared.alloc.Global.{Global}
-use Rattle.file_diagnostics.specs.Named.{Names}
 use Rattle.flag_defs.specs.declared.fault.DefFault.{DefFault}
 use Rattle.source_merge.specs.declared.fault.SourceFault.TheVariants.{Refused}
 use Rattle.flagops_streams.specs.Told.{Says, TellsOfFile, TellsReason, TellsText}
-use Rattle.flagops_streams.specs.Why.{IsWhy, left_line, memory_line, why_lines}
+use Rattle.flagops_streams.specs.Why.{IsWhy, document_line, left_line, memory_line, why_lines}
 use Rattle.flagops_streams.specs.declared.refusal.Refusal.{Refusal}
 use Rattle.flagops_streams.specs.declared.refusal.Refusal.TheVariants.{Add, Unreadable, Unloaded, Set, Merged, Share, Publish, Unbound, NoConnection, NoThread, Unreachable, Unserved, WantOfMemory}
 
@@ -39,6 +38,7 @@ some_at : (zs : List ℕ) (x : ℕ) (xs : List ℕ) → zs ≡ x ∷ xs → 0 < 
 some_at zs x xs is = subst (λ (bs : List ℕ). 0 < length bs) (sym is) (some_bytes x xs)
 
 why_some : (refusal : Refusal) → 0 < length (why_lines refusal)
+unfolding document_line
 why_some (Add e) = some_at (why_lines (Add e)) _ _ refl
 why_some Unreadable = some_at (why_lines Unreadable) _ _ refl
 why_some Unloaded = some_at (why_lines Unloaded) _ _ refl

@@ -11,5 +11,6 @@ use Rattle.flagops_streams.proofs.remark.lines_by.Goals as goal
 pub returns : goal.returns
 returns g c =
     let s = c.in-Set-Refused-default in
-    let is : c.args.refusal ≡ Set (Refused s.fault) s.place = s.is ∙ ap (λ (e : SourceFault). Set e s.place) s.field-0-is in
+    let named = rw s.is at s.field-0-is in
+    let is : c.args.refusal ≡ Set (Refused s.fault) s.place = s.is ∙ ap (λ (e : SourceFault). Set e s.place) named in
     subst (λ (r : Refusal). IsWhy r (string_bytes c.push_str.new.self)) (sym is) (about_document s.fault s.place (string_bytes c.in_ok-lines.lines) (string_bytes c.push_str.new.self) c.in_ok-push_str.ensures.bytes)
