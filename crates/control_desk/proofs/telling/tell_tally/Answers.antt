@@ -18,8 +18,8 @@ returns-in-Ok c =
     let site = c.args.asked.now.site in
     let files = files_view c.args.files.now in
     let response = c.finish.new.response in
-    subst (λ (flags : Definitions). OnOk c.finish.result ((r : Result (List ℕ) ControlRefusal) × IsRecordAnswer flags key site files r × Tells (codes "tally") Lines r response)) c.flags.ensures
-    (given string_bytes (IsRecordAnswer (flags_view c.flags.result.now) key site files) (λ (r : Result (List ℕ) ControlRefusal). Tells (codes "tally") Lines r response) c.finish.result c.in-Ok.text c.in-Ok.ensures.exact c.finish.ensures)
+    subst (λ (flags : Definitions). OnOk c.finish.result ((r : Result (List ℕ) ControlRefusal) × IsRecordAnswer flags key site files r × Tells (codes "tally") Lines r response)) c.flags-flags.ensures
+    (given string_bytes (IsRecordAnswer (flags_view c.flags-flags.result.now) key site files) (λ (r : Result (List ℕ) ControlRefusal). Tells (codes "tally") Lines r response) c.finish.result c.in-Ok.text c.in-Ok.ensures.exact c.finish.ensures)
 
 -- its refusal is told
 pub returns-in-Err : goal.returns-in-Err
@@ -28,5 +28,5 @@ returns-in-Err c =
     let site = c.args.asked.now.site in
     let files = files_view c.args.files.now in
     let response = c.tell_refusal.new.response in
-    subst (λ (flags : Definitions). OnOk c.tell_refusal.result ((r : Result (List ℕ) ControlRefusal) × IsRecordAnswer flags key site files r × Tells (codes "tally") Lines r response)) c.flags.ensures
-    (refused string_bytes (IsRecordAnswer (flags_view c.flags.result.now) key site files) (λ (r : Result (List ℕ) ControlRefusal). Tells (codes "tally") Lines r response) c.tell_refusal.result c.in-Err.refusal c.in-Err.ensures.exact c.tell_refusal.ensures.refusal c.tell_refusal.ensures.known)
+    subst (λ (flags : Definitions). OnOk c.tell_refusal.result ((r : Result (List ℕ) ControlRefusal) × IsRecordAnswer flags key site files r × Tells (codes "tally") Lines r response)) c.flags-flags.ensures
+    (refused string_bytes (IsRecordAnswer (flags_view c.flags-flags.result.now) key site files) (λ (r : Result (List ℕ) ControlRefusal). Tells (codes "tally") Lines r response) c.tell_refusal.result c.in-Err.refusal c.in-Err.ensures.exact c.tell_refusal.ensures.refusal c.tell_refusal.ensures.known)

@@ -1,0 +1,4 @@
+use Rattle.control_desk.proofs.telling.tell_flags_on.Goals as goal
+
+pub returns : goal.returns
+returns c = ?
