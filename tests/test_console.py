@@ -1,5 +1,6 @@
 """The console in Chromium and Firefox: of the service where the program has one, and else of a server that answers by the commands (`control_server`)."""
 import contextlib
+import copy
 import functools
 import http.client
 import json
@@ -7,6 +8,7 @@ import os
 import subprocess
 import tempfile
 import unittest
+from concurrent.futures import ThreadPoolExecutor
 
 from browser import Chromium, Firefox, Pages
 from control_server import ControlServer
@@ -60,29 +62,36 @@ def browser_of(kind):
 
 
 def in_each_browser(test):
-    """Runs a test in each browser that is here, and tells which is not. No script fails meanwhile, and nothing is asked of another host."""
+    """Runs a test in each browser that is here, in both at once, and tells which is not. No script fails meanwhile, and nothing is asked
+    of another host."""
 
     @functools.wraps(test)
     def run(self):
-        for kind in (Chromium, Firefox):
-            with self.subTest(browser=kind.__name__), contextlib.ExitStack() as self.after:
-                lacking = [it for it in kind.NEEDS if not found(it)]
-                if lacking:
-                    self.skipTest(f"there is no {', '.join(lacking)}")
-                self.browser = browser_of(kind)
-                self.folder = self.after.enter_context(tempfile.TemporaryDirectory())
-                os.mkdir(self.path("log"))
-                self.browser.faults()
-                test(self)
-                self.assertEqual(self.browser.faults(), [])
-                names = self.browser.run("return performance.getEntriesByType('resource').map(one => one.name);")
-                self.assertEqual([name for name in names if not name.startswith((self.server.origin + "/", "blob:" + self.server.origin, "data:"))], [])
+        with ThreadPoolExecutor() as pool:
+            runs = [(kind, pool.submit(copy.copy(self).run_in, kind, test)) for kind in (Chromium, Firefox)]
+            for kind, ran in runs:
+                with self.subTest(browser=kind.__name__):
+                    ran.result()
 
     return run
 
 
 class ConsoleTest(unittest.TestCase):
     """A console over documents and logs of a folder of its own."""
+
+    def run_in(self, kind, test):
+        lacking = [it for it in kind.NEEDS if not found(it)]
+        if lacking:
+            self.skipTest(f"there is no {', '.join(lacking)}")
+        self.browser = browser_of(kind)
+        with contextlib.ExitStack() as self.after:
+            self.folder = self.after.enter_context(tempfile.TemporaryDirectory())
+            os.mkdir(self.path("log"))
+            self.browser.faults()
+            test(self)
+            self.assertEqual(self.browser.faults(), [])
+            names = self.browser.run("return performance.getEntriesByType('resource').map(one => one.name);")
+            self.assertEqual([name for name in names if not name.startswith((self.server.origin + "/", "blob:" + self.server.origin, "data:"))], [])
 
     def path(self, name):
         return os.path.join(self.folder, name)
@@ -141,6 +150,7 @@ class ConsoleTest(unittest.TestCase):
                         file.write(self.browser.picture())
         self.browser.look(1366, False)
 
+
 def shop():
     with open(os.path.join(DEMO, "flags", "shop.json"), encoding="utf-8") as file:
         return file.read()
@@ -164,11 +174,11 @@ class Rollouts(ConsoleTest):
         self.until("document.querySelectorAll('.counts div').length === 100")
         self.look("flag")
         self.browser.click("#sites button")
-        self.assertEqual(self.outcome(), "0 of 300 recorded users switch; 0 would switch if you edited it by hand. No rule that fits costs less.")
+        self.assertEqual(self.outcome(), "0 of 300 recorded users switch; 0 would switch if you edited it by hand. No rule that fits switches fewer.")
         self.browser.fill("#total-1", "10")
         self.browser.click("#keep-1")
         self.until("/^1 of 300/.test(document.getElementById('outcome').textContent)")
-        self.assertEqual(self.outcome(), "1 of 300 recorded users switch; 10 would switch if you edited it by hand. No rule that fits costs less.")
+        self.assertEqual(self.outcome(), "1 of 300 recorded users switch; 10 would switch if you edited it by hand. No rule that fits switches fewer.")
         self.assertEqual(self.browser.run("return document.getElementById('total-0').value;"), "90")
         self.until("document.getElementById('picture').complete && document.getElementById('picture').naturalWidth")
         self.browser.click("#steps")
@@ -187,13 +197,13 @@ class Rollouts(ConsoleTest):
         self.browser.click("#apply-yes")
         self.until("document.querySelectorAll('#history-rows tr').length === 1 && !document.getElementById('history').hidden")
         cells = self.browser.run("return [...document.querySelector('#history-rows tr').cells].map(cell => cell.textContent);")
-        self.assertEqual((cells[1], cells[4]), ("checkouton 5 \u2192 10, off 95 \u2192 90", "Änne <b>"))
+        self.assertEqual((cells[1], cells[4]), ("checkouton 5 \u2192 10, off 95 \u2192 90, by Änne <b>", "Änne <b>"))
         rule = json.loads(self.text("flags.json"))["flags"]["checkout"]["targeting"]["if"][2]["fractional"]
         self.assertEqual(sum(weight for name, weight in rule if name == "on"), 10)
         self.until("/^The document is written/.test(document.getElementById('message').textContent)")
         self.until_served("2")
         self.browser.click("#history-rows button")
-        self.until("/would switch/.test(document.getElementById('history-rows').textContent)")
+        self.until("/Going back would switch 1 of 300 users/.test(document.getElementById('history-rows').textContent)")
         self.look("history")
 
     @in_each_browser
@@ -281,7 +291,7 @@ class Rollouts(ConsoleTest):
         self.outcome()
         self.browser.fill("#total-0", "50")
         self.browser.click("#keep-0")
-        self.until("/^No rule can/.test(document.getElementById('outcome').textContent)")
+        self.until("/^No rule can: 95 points have \"off\"; they may only become \"off\", of which at most 50 are asked for; /.test(document.getElementById('outcome').textContent)")
         self.assertIs(self.browser.run("return document.getElementById('show-diff').disabled;"), True)
         self.look("none")
 

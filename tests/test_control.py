@@ -274,7 +274,9 @@ class Checked(ControlTest):
 class Recorded(ControlTest):
     """Whoever was given a variant before a request came is among the inputs that it is planned on."""
 
-    RULE = [["red", 50], ["blue", 50]]
+    # So many points that most keys have one of their own.
+    RULE = [["red", 5000], ["blue", 5000]]
+    REQUEST = {"plan": 1, "flag": "color", "site": 0, "totals": {"red": 0, "blue": 10000}}
 
     def test_while_others_are_answered(self):
         self.begin(compact({"flags": {"color": {"state": "ENABLED", "variants": {"red": 1, "blue": 2}, "defaultVariant": "red", "targeting": {"fractional": self.RULE}}}}), [])
@@ -285,41 +287,48 @@ class Recorded(ControlTest):
         try:
             for _ in range(20):
                 wait_until(lambda: all(given), "each is given a variant")
-                before = [key for keys in given for key in keys[: len(keys)]]
-                status, answer = self.planned({"plan": 1, "flag": "color", "site": 0, "totals": {"red": 40, "blue": 60}})
-                self.assertEqual(status, 200, answer)
-                self.assertGreaterEqual(answer["inputs"], len(before))
+                before = [it for pairs in given for it in pairs[: len(pairs)]]
+                inputs, switch = self.counted()
+                self.assertGreaterEqual(inputs, len(before))
+                self.assertGreaterEqual(switch, sum(variant == "red" for _, variant in before))
                 self.assertAmong(before)
         finally:
             ended.set()
             for thread in threads:
                 thread.join()
-        everyone = [key for keys in given for key in keys]
+        everyone = [it for pairs in given for it in pairs]
         self.assertAmong(everyone)
-        self.assertEqual(self.planned({"plan": 1, "flag": "color", "site": 0, "totals": {"red": 50, "blue": 50}})[1]["inputs"], len(everyone))
+        self.assertEqual(self.counted(), (len(everyone), sum(variant == "red" for _, variant in everyone)))
+
+    def counted(self):
+        """How many inputs a plan counts, and how many of them switch where nothing stays red."""
+        status, answer = self.planned(self.REQUEST)
+        self.assertEqual(status, 200, answer)
+        return answer["inputs"], answer["switch"]
 
     def ask_on(self, which, given, ended):
-        """Asks with one new key after another, and lists those that were given a variant."""
+        """Asks with one new key after another, and lists those that were given a variant, with it."""
         client = http.client.HTTPConnection("127.0.0.1", self.service.port, timeout=SECONDS)
         number = 0
         while not ended.is_set():
             key = f"user-{which}-{number}"
             client.request("POST", EVALUATE + "color", compact({"context": {"targetingKey": key}}))
             answer = client.getresponse()
-            if "variant" in json.loads(answer.read()) and answer.status == 200:
-                given.append(key)
+            variant = json.loads(answer.read()).get("variant")
+            if variant and answer.status == 200:
+                given.append((key, variant))
             number += 1
         client.close()
 
-    def assertAmong(self, keys):
+    def assertAmong(self, pairs):
         """On each point of the rule at least as many inputs are counted as fall there of these keys."""
         status, _, body = self.ask("GET", "/record?flag=color&site=0")
         self.assertEqual(status, 200)
         counted = dict(json.loads(line) for line in body.decode().splitlines()[2:])
-        lines = "".join(sorted(note("color", 0, "color" + key) for key in keys))
+        lines = "".join(sorted(note("color", 0, "color" + key) for key, _ in pairs))
         told = run(["tally", "flags.json", "color", "0"], {"flags.json": self.text("flags.json")}, input=lines)
         wanted = dict(json.loads(line) for line in told.out.splitlines()[2:])
-        self.assertEqual(sum(wanted.values()), len(keys), told.err)
+        self.assertEqual(sum(wanted.values()), len(pairs), told.err)
         self.assertEqual([point for point, users in wanted.items() if counted.get(point, 0) < users], [])
 
 
