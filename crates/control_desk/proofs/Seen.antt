@@ -26,3 +26,8 @@ at_fault (Err e) is p = p
 pub at_value : {T E P : Type 0} (r : Result T E) → is_err r ≡ false → OnOk r P → P
 at_value (Ok t) is p = p
 at_value (Err e) is p = absurd (cc is)
+
+-- what holds in any case holds where there is a value
+pub on_value : {T E P : Type 0} (r : Result T E) → P → OnOk r P
+on_value (Ok t) p = p
+on_value (Err e) p = tt

@@ -1,4 +1,4 @@
-use Rattle.std.proofs.Common.{◌≡◌, ◌∙◌, ℕ, List, Option, Some, ap, option_map, rules, string_bytes, subst, sym}
+use Rattle.std.proofs.Common.{◌≡◌, ◌∙◌, ℕ, List, Option, Some, ap, option_map, string_bytes, subst, sym}
 use Rattle.std.specs.Prelude.{OnOk}
 use Rattle.http.specs.Request.{body_of}
 use Rattle.log_tallies.specs.Lines.{files_view}
@@ -22,7 +22,7 @@ returns-clause-ok g c =
     let files = files_view c.args.logs.now in
     let response = c.apply.new.response in
     let named : Some (string_bytes c.in-Some.path) ≡ option_map string_bytes self.post.now.rules.applied_to = sym (ap (option_map string_bytes) c.in-Some.is) in
-    let sent : c.as_slice-token.result.now ≡ asked.body = search rules in
+    let sent : c.as_slice-token.result.now ≡ asked.body = c.as_slice-token.ensures ∙ c.body.ensures in
     subst (λ (path : Option (List ℕ)). OnOk c.apply.result (RespondsApplied naming before after (rules_view self.post.now.rules) (page_view self.page) self.seat self.seat asked response path folder held files)) named
     (subst (λ (path : List ℕ). OnOk c.apply.result (TellsApply folder path asked.asker asked.body held files before after response)) c.as_str.ensures.value
     (subst (λ (asker : List ℕ). OnOk c.apply.result (TellsApply folder c.as_str.result.now asker asked.body held files before after response)) c.asker_of.ensures
