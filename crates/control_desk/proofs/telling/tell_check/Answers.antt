@@ -1,5 +1,6 @@
 use Rattle.std.proofs.Common.{◌≡◌, ℕ, List, Result, Ok, codes, inr, map, rules, string_bytes, subst}
-use Rattle.std.specs.Prelude.{OnOk}
+use Rattle.std.specs.Prelude.{OnOk, Vec}
+use Rattle.std.specs.declared.alloc.Global.{Global}
 use Rattle.std.proofs.lemmas.Result.{on_ok_weaker}
 use Rattle.flag_defs.specs.Document.{Definitions}
 use Rattle.flag_defs.specs.Flags.{flags_view}
@@ -25,11 +26,11 @@ returns-in-Ok c =
     let response = c.tell_object.new.response in
     let flags : flags_view c.flags.result.now ≡ (held_view c.args.held.now).flags = c.flags.ensures in
     let told : OnOk c.tell_object.result (IsResponse 200 (type_field Json) (with_passed_over passed (string_bytes c.in-Ok.text)) response) =
-    subst (λ (b : List ℕ). OnOk c.tell_object.result (IsResponse 200 (type_field Json) (with_passed_over passed b) response)) c.into_bytes.ensures.value c.tell_object.ensures in
+    subst (λ (v : Vec ℕ Global). OnOk c.tell_object.result (IsResponse 200 (type_field Json) (with_passed_over passed v.items) response)) c.into_bytes.ensures.value c.tell_object.ensures in
     on_ok_weaker c.tell_object.result
     (λ (answer : (r : Result (List ℕ) ControlRefusal) × IsCheckAnswer (held_view c.args.held.now).flags request plan files r × TellsObject (codes "verify") passed r response). inr (plan, request, pair, answer))
     (subst (λ (f : Definitions). OnOk c.tell_object.result ((r : Result (List ℕ) ControlRefusal) × IsCheckAnswer f request plan files r × TellsObject (codes "verify") passed r response)) flags
-    (given string_bytes (IsCheckAnswer (flags_view c.flags.result.now) request plan files) (λ (r : Result (List ℕ) ControlRefusal). TellsObject (codes "verify") passed r response) c.tell_object.result c.in-Ok.text c.in-Ok.ensures.exact told))
+    (given (string_bytes {Z = Global}) (IsCheckAnswer (flags_view c.flags.result.now) request plan files) (λ (r : Result (List ℕ) ControlRefusal). TellsObject (codes "verify") passed r response) c.tell_object.result c.in-Ok.text c.in-Ok.ensures.exact told))
 
 -- its refusal is told
 pub returns-in-Err : goal.returns-in-Err
@@ -45,4 +46,4 @@ returns-in-Err c =
     on_ok_weaker told.result
     (λ (answer : (r : Result (List ℕ) ControlRefusal) × IsCheckAnswer (held_view c.args.held.now).flags request plan files r × TellsObject (codes "verify") passed r response). inr (plan, request, pair, answer))
     (subst (λ (f : Definitions). OnOk told.result ((r : Result (List ℕ) ControlRefusal) × IsCheckAnswer f request plan files r × TellsObject (codes "verify") passed r response)) flags
-    (refused string_bytes (IsCheckAnswer (flags_view c.flags.result.now) request plan files) (λ (r : Result (List ℕ) ControlRefusal). TellsObject (codes "verify") passed r response) told.result c.in-Err.refusal c.in-Err.ensures.exact told.ensures.refusal told.ensures.known))
+    (refused (string_bytes {Z = Global}) (IsCheckAnswer (flags_view c.flags.result.now) request plan files) (λ (r : Result (List ℕ) ControlRefusal). TellsObject (codes "verify") passed r response) told.result c.in-Err.refusal c.in-Err.ensures.exact told.ensures.refusal told.ensures.known))
