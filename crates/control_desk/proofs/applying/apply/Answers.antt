@@ -1,4 +1,4 @@
-use Rattle.std.proofs.Common.{◌≡◌, ℕ, List, Result, codes, refl, subst}
+use Rattle.std.proofs.Common.{Result, codes, refl, subst}
 use Rattle.std.proofs.lemmas.Result.{on_ok_weaker}
 use Rattle.log_tallies.specs.Lines.{files_view}
 use Rattle.control_answers.specs.Apply.{Applied, IsApplyAnswer, applied_view}

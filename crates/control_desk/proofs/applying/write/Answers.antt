@@ -1,10 +1,8 @@
-use Rattle.std.proofs.Common.{◌≡◌, ◌∙◌, ℕ, Bool, true, List, [], ◌++◌, Option, ap, codes, inl, inr, length, string_bytes, subst, sym}
+use Rattle.std.proofs.Common.{◌≡◌, ◌∙◌, ℕ, Bool, true, List, ◌++◌, ap, codes, inl, inr, length, string_bytes, subst, sym}
 use Rattle.flag_defs.specs.Document.{Definitions}
-use Rattle.flag_defs.specs.Flags.{flags_view}
-use Rattle.flagops_shell.specs.Files.{Holding, KeepsOthers}
+use Rattle.flagops_shell.specs.Files.{KeepsOthers}
 use Rattle.http1.specs.Fields.{Header}
 use Rattle.http_server.specs.Response.{IsResponse, fields_of}
-use Rattle.http_server.specs.declared.response.Response.{Response}
 use Rattle.control_answers.specs.Apply.{applied_view}
 use Rattle.control_desk.specs.Apply.{HoldsText, IsRowOf, Writes, written_text}
 use Rattle.control_desk.specs.Files.{path_in}

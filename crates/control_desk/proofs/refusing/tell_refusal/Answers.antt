@@ -1,4 +1,4 @@
-use Rattle.std.proofs.Common.{◌∙◌, ap}
+use Rattle.std.proofs.Common.{◌∙◌}
 use Rattle.std.proofs.lemmas.Result.{on_ok_weaker}
 use Rattle.http_server.specs.Response.{IsResponse, fields_of}
 use Rattle.control_answers.specs.Refusal.{refusal_text, status_of}

@@ -1,4 +1,4 @@
-use Rattle.std.proofs.Common.{◌≡◌, ℕ, List, Result, Ok, codes, inr, map, rules, string_bytes, subst}
+use Rattle.std.proofs.Common.{◌≡◌, ℕ, List, Result, codes, inr, map, rules, string_bytes, subst}
 use Rattle.std.specs.Prelude.{OnOk, Vec}
 use Rattle.std.specs.declared.alloc.Global.{Global}
 use Rattle.std.proofs.lemmas.Result.{on_ok_weaker}

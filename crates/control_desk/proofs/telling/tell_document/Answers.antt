@@ -1,4 +1,4 @@
-use Rattle.std.proofs.Common.{◌≡◌, ◌∙◌, ℕ, Bool, true, false, List, [], ◌++◌, ap, ap₂, codes, option_map, refl, string_bytes, subst, sym}
+use Rattle.std.proofs.Common.{◌≡◌, ◌∙◌, ℕ, Bool, true, false, List, ◌++◌, ap, ap₂, codes, refl, subst, sym}
 use Rattle.std.specs.Prelude.{OnOk}
 use Rattle.http1.specs.Fields.{Header}
 use Rattle.http_server.specs.Response.{IsResponse, fields_of}

@@ -1,8 +1,5 @@
-use Rattle.std.proofs.Common.{◌≡◌, ◌∙◌, ap, map, refl, string_bytes}
-use Rattle.std.specs.Prelude.{is_some}
+use Rattle.std.proofs.Common.{◌∙◌, ap, map, refl, string_bytes}
 use Rattle.std.proofs.lemmas.Result.{on_ok_weaker}
-use Rattle.flag_defs.specs.Flags.{flags_view}
-use Rattle.flag_defs.specs.Floats.{floats_view}
 use Rattle.http_server.specs.Response.{IsResponse, fields_of}
 use Rattle.control_flags.specs.Flags.{flags_text}
 use Rattle.control_flags.specs.declared.answer.FlagsAsked.{FlagsAsked}

@@ -1,9 +1,9 @@
-use Rattle.std.proofs.Common.{◌≡◌, ◌∙◌, ℕ, List, Result, Ok, codes, string_bytes, subst}
+use Rattle.std.proofs.Common.{ℕ, List, Result, codes, string_bytes, subst}
 use Rattle.std.specs.Prelude.{OnOk}
 use Rattle.std.specs.declared.alloc.Global.{Global}
 use Rattle.flag_defs.specs.Document.{Definitions}
 use Rattle.flag_defs.specs.Flags.{flags_view}
-use Rattle.http_server.specs.Response.{IsResponse, fields_of}
+use Rattle.http_server.specs.Response.{fields_of}
 use Rattle.log_tallies.specs.Lines.{files_view}
 use Rattle.control_answers.specs.Record.{IsRecordAnswer}
 use Rattle.control_answers.specs.declared.refusal.ControlRefusal.{ControlRefusal}

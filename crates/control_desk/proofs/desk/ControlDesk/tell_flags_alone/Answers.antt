@@ -1,4 +1,4 @@
-use Rattle.std.proofs.Common.{◌≡◌, ℕ, List, [], Option, Some, Bor, ap, inr, subst}
+use Rattle.std.proofs.Common.{◌≡◌, [], Option, Some, Bor, ap, inr, subst}
 use Rattle.std.specs.Prelude.{IfSome}
 use Rattle.control_flags.specs.Sites.{Recorded}
 use Rattle.snap_share.specs.Known.{WasRead}

@@ -1,13 +1,12 @@
-use Rattle.std.proofs.Common.{◌≡◌, ℕ, List, Option, Some, Bor, ap, inr, string_bytes, subst}
+use Rattle.std.proofs.Common.{◌≡◌, Option, Some, Bor, ap, inr, string_bytes, subst}
 use Rattle.std.specs.Prelude.{IfSome}
-use Rattle.snap_share.specs.Known.{Seat, WasRead}
+use Rattle.snap_share.specs.Known.{WasRead}
 use Rattle.control_desk.specs.Asked.{call_asked}
 use Rattle.control_desk.specs.Desk.{Page, RespondsOn, page_view}
 use Rattle.control_desk.specs.Held.{numbered_of}
 use Rattle.control_desk.specs.Logs.{AreLogs, bytes_of, passed_by}
 use Rattle.control_desk.specs.Rules.{Rules, rules_view}
 use Rattle.control_desk.specs.declared.held.HeldSnapshot.{HeldSnapshot}
-use Rattle.control_desk.specs.declared.page.ConsolePage.{ConsolePage}
 use Rattle.control_desk.specs.declared.post.DeskPost.{DeskPost}
 use Rattle.control_desk.proofs.Seats.{aside}
 use Rattle.control_desk.proofs.desk.ControlDesk.tell_in_turn.Goals as goal
