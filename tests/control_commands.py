@@ -154,6 +154,15 @@ class Commands:
             self.read["tallies"][asked] = self.run(["tally", "--floats", self.document, key, str(site)], b"".join(line + b"\n" for line in lines))[0]
         return self.read["tallies"][asked]
 
+    def evidence(self, request):
+        """The tally for a request; a book of nothing where it has none, so that the next command says what is wrong with the request."""
+        try:
+            return self.tally(request["flag"], request.get("site", 0))
+        except Refused as refused:
+            if refused.body["refused"] != "plan":
+                raise
+            return '{"book":1}\n'
+
     def flags(self):
         """The flags of the document as the service prints them, and what is said of them: a broken one is an empty object."""
         text = self.text()
@@ -186,7 +195,7 @@ class Commands:
             with open(path("request"), "wb") as file:
                 file.write(body)
             with open(path("tally"), "w", encoding="utf-8") as file:
-                file.write(self.tally(request["flag"], request.get("site", 0)))
+                file.write(self.evidence(request))
             printed, words = self.run(["plan", "--floats", "--explain", "--picture", path("picture"), self.document, path("request"), path("tally")])
             with open(path("plan"), "w", encoding="utf-8") as file:
                 file.write(printed)
@@ -212,16 +221,9 @@ class Commands:
         """That a plan is right on what is recorded, with its cost; or why it is not."""
         asked = json.loads(body)
         request, plan = asked["request"], asked["plan"]
-        try:
-            tally = self.tally(request["flag"], request.get("site", 0))
-        except Refused as refused:
-            if refused.body["refused"] != "plan":
-                raise
-            # What is wrong with the request is for `verify` to say.
-            tally = '{"book":1}\n'
         with tempfile.TemporaryDirectory() as folder:
             path = lambda name: os.path.join(folder, name)
-            for name, text in [("request", compact(request)), ("plan", compact(plan)), ("tally", tally)]:
+            for name, text in [("request", compact(request)), ("plan", compact(plan)), ("tally", self.evidence(request))]:
                 with open(path(name), "w", encoding="utf-8") as file:
                     file.write(text)
             return json.loads(self.run(["verify", "--json", "--floats", self.document, path("request"), path("tally"), path("plan")])[0])
