@@ -12,12 +12,12 @@ use Rattle.rollout_checks.specs.declared.refining.Refining.TheVariants.{Times}
 use Rattle.tally_core.specs.Tally.{PageTally}
 use Rattle.control_answers.specs.Body.{Told, edit_words, switched_in, told_text}
 use Rattle.control_answers.specs.Token.{token_text}
-use Rattle.plan_effects.specs.Effect.{Effect, IsEffect}
+use Rattle.plan_effects.specs.Effect.{IsEffect}
 use Rattle.plan_effects.specs.Picture.{IsPictured}
 use Rattle.control_answers.specs.Kept.{MayBeChanged}
 use Rattle.control_answers.specs.Refusal.{of_printed, of_rollout}
 use Rattle.control_answers.specs.Snapshot.{Snapshot}
-use Rattle.control_answers.specs.Target.{Target, target_of}
+use Rattle.control_answers.specs.Target.{target_of}
 use Rattle.control_answers.specs.Turns.{OfFiles, Outcomes, WithTarget}
 
 -- words that begin with the request, and then what the edit by hand would switch

@@ -121,6 +121,7 @@ fn told_of(
 }
 
 /// Adds what the edit that comes to mind first would switch, in the words of `plan --explain`.
+#[tactic(auto, unfolding(crate::specs::Body::edit_words))]
 fn push_edit(out: &mut String, all: u64, effect: &Effect) -> Result<(), AllocError>
     requires { sum_by (λ r. r.1) (rows_view effect.now.switches.items) ≤ tally_inputs }
     ensures { OnOk result (string_bytes out.new ≡ string_bytes out.old ++ edit_words effect.now.by_hand all (switched_in (rows_view effect.now.switches.items))) }
