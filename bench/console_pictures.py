@@ -5,12 +5,13 @@ import os
 import subprocess
 import sys
 import tempfile
+import unittest
 
 TOP = os.path.dirname(os.path.dirname(os.path.realpath(__file__)))
 sys.path.insert(0, os.path.join(TOP, "tests"))
 
 from browser import Chromium
-from control_server import ControlServer
+from control_service import Service
 from test_console import shop, shop_lines
 
 PICTURES = [("console.png", 1200, False), ("console-dark-at-400.png", 400, True)]
@@ -38,7 +39,8 @@ def main():
         for path, text in [(document, shop()), (os.path.join(logs, "worker-1.log"), "".join(shop_lines()))]:
             with open(path, "w", encoding="utf-8") as file:
                 file.write(text)
-        server = ControlServer(document, logs, allow_apply=True)
+        held = unittest.TestCase()
+        server = Service(held, document, logs, allow_apply=True)
         try:
             browser.begin()
             for name, width, is_dark in PICTURES:
@@ -52,6 +54,7 @@ def main():
         finally:
             browser.close()
             server.close()
+            held.doCleanups()
 
 
 if __name__ == "__main__":

@@ -1,4 +1,4 @@
-"""The console in Chromium and Firefox: of the service where the program has one, and else of a server that answers by the commands (`control_server`)."""
+"""The console in Chromium and Firefox."""
 import contextlib
 import copy
 import functools
@@ -11,8 +11,7 @@ import unittest
 from concurrent.futures import ThreadPoolExecutor
 
 from browser import Chromium, Firefox, Pages
-from control_server import ControlServer
-from control_service import service_of
+from control_service import Service
 from program import PROGRAM, ROOT, SECONDS, found
 
 DEMO = os.path.join(ROOT, "demo")
@@ -111,7 +110,7 @@ class ConsoleTest(unittest.TestCase):
         self.put("log/worker-1.log", "".join(lines[: half + 10]))
         self.put("log/worker-2.log", "".join(lines[half:]))
         paths = self.path("flags.json"), self.path("log")
-        self.server = service_of(self, *paths, **how)
+        self.server = Service(self, *paths, **how)
         self.after.callback(self.server.close)
         self.after.callback(self.browser.open, "about:blank")
         self.browser.open(self.server.origin + "/")
@@ -270,18 +269,13 @@ class Rollouts(ConsoleTest):
     @in_each_browser
     def test_how_much_is_evaluated(self):
         self.begin(shop(), shop_lines())
-        if isinstance(self.server, ControlServer):
-            for count in (100, 160):
-                self.server.server.metrics = f'ofrep_evaluations_total{{reason="SPLIT"}} {count}\n'
-                self.browser.run("await rates();")
-        else:
-            self.browser.run("await rates();")
-            client = http.client.HTTPConnection("127.0.0.1", self.server.port)
-            self.after.callback(client.close)
-            for number in range(50):
-                client.request("POST", "/ofrep/v1/evaluate/flags/checkout", json.dumps({"context": {"targetingKey": f"late-{number}"}}))
-                client.getresponse().read()
-            self.browser.run("await rates();")
+        self.browser.run("await rates();")
+        client = http.client.HTTPConnection("127.0.0.1", self.server.port)
+        self.after.callback(client.close)
+        for number in range(50):
+            client.request("POST", "/ofrep/v1/evaluate/flags/checkout", json.dumps({"context": {"targetingKey": f"late-{number}"}}))
+            client.getresponse().read()
+        self.browser.run("await rates();")
         self.assertRegex(self.browser.run("return document.getElementById('rates').textContent;"), "^A minute: [A-Z_]+ [1-9]")
 
     @in_each_browser

@@ -1,6 +1,5 @@
 """The calls of rollouts from a running service beside the commands on the same files, while others are answered and noted, and while it is
-killed. Where the program has none of these calls, the commands themselves are asked over HTTP (`control_server`), so that these tests
-are tried.
+killed.
 
 CONTROL_DRAWN and CONTROL_KILLS say how many requests are drawn, and how often a service is killed (`bench/control.sh`: 500 and 100)."""
 import http.client
@@ -12,8 +11,8 @@ import threading
 import unittest
 from collections import Counter
 
-from control_server import Control, Refused, compact
-from control_service import serves_console, service_of
+from control_commands import Commands, Refused, compact
+from control_service import Service
 from program import ROOT, SECONDS, run, wait_until
 
 DRAWN = int(os.environ.get("CONTROL_DRAWN", "40"))
@@ -118,9 +117,9 @@ class ControlTest(unittest.TestCase):
 
     def serve(self, logs="log", **how):
         paths = self.path("flags.json"), self.path(logs) if logs else None
-        self.service = service_of(self, *paths, **how)
+        self.service = Service(self, *paths, **how)
         self.addCleanup(self.service.close)
-        self.commands = Control(*paths, allow_apply=how.get("allow_apply", False))
+        self.commands = Commands(*paths)
 
     def shop(self, **how):
         """The service over the demo's flags, with 300 inputs of `checkout`."""
@@ -145,7 +144,7 @@ class ControlTest(unittest.TestCase):
         try:
             return 200, self.commands.plan(compact(request).encode())
         except Refused as refused:
-            return refused.status, refused.body
+            return 400, refused.body
 
 
 class Plans(ControlTest):
@@ -161,8 +160,8 @@ class Plans(ControlTest):
             with self.subTest(number=number, request=request):
                 (status, answer), (wanted_status, wanted) = self.planned(request), self.commanded(request)
                 self.assertEqual(status, wanted_status)
-                # A refusal is told in other words: the commands name files.
-                answer.pop("details", None), wanted.pop("details", None)
+                # A refusal has words beside it, which the commands write for files.
+                answer.pop("details", None)
                 self.assertEqual(answer, wanted)
 
     def test_the_record_is_the_tally_of_the_lines(self):
@@ -264,13 +263,12 @@ class Checked(ControlTest):
         try:
             wanted_status, wanted = 200, self.commands.check(compact(asked).encode())
         except Refused as refused:
-            wanted_status, wanted = refused.status, refused.body
-        answer.pop("details", None), wanted.pop("details", None)
+            wanted_status, wanted = 400, refused.body
+        answer.pop("details", None)
         self.assertEqual((status, answer), (wanted_status, wanted))
         return status
 
 
-@unittest.skipUnless(serves_console(), "the program has no such calls yet")
 class Recorded(ControlTest):
     """Whoever was given a variant before a request came is among the inputs that it is planned on."""
 
@@ -332,7 +330,6 @@ class Recorded(ControlTest):
         self.assertEqual([point for point, users in wanted.items() if counted.get(point, 0) < users], [])
 
 
-@unittest.skipUnless(serves_console(), "the program has no such calls yet")
 class Reached(ControlTest):
     """Who is answered."""
 
@@ -438,7 +435,6 @@ class Applied(ControlTest):
         self.assertEqual(self.ask("POST", "/apply", compact(token).encode())[0], 400)
         self.assertEqual((self.text("flags.json"), json.loads(self.ask("GET", "/history")[2])), (before, []))
 
-    @unittest.skipUnless(serves_console(), "the program has no such calls yet")
     def test_of_several_documents(self):
         other = compact({"flags": {"other": {"state": "ENABLED", "variants": {"on": True}, "defaultVariant": "on"}}})
         self.put("other.json", other)
@@ -450,7 +446,6 @@ class Applied(ControlTest):
         self.assertIs(json.loads(self.ask("GET", "/flags")[2])["may_apply"], False)
 
 
-@unittest.skipUnless(serves_console(), "the program has no such calls yet")
 class Killed(ControlTest):
     """A service that is killed while it applies one plan after another: the document is whole, and the history agrees with it."""
 

@@ -11,7 +11,7 @@ import subprocess
 import tempfile
 import unittest
 
-from control_service import service_of
+from control_service import Service
 from program import PROGRAM, ROOT, SECONDS, found, free_port, needs, run, wait_until
 from test_service import FLAGS, ServiceTest, context
 
@@ -128,7 +128,7 @@ class Running(ServiceTest):
         for path, text in [(users, "ann:{PLAIN}secret\n"), (document, json.dumps({"flags": {"color": flag}})), (os.path.join(logs, "worker-1.log"), '["color",0,null,"colorbob"]\n')]:
             with open(path, "w", encoding="utf-8") as file:
                 file.write(text)
-        server = service_of(self, document, logs, allow_apply=True)
+        server = Service(self, document, logs, allow_apply=True)
         self.addCleanup(server.close)
         client = self.begin_nginx("nginx-console.conf", "console.example.com", [("127.0.0.1:8017", server.origin[7:]), ("/etc/nginx/flagops.users", users)])
 

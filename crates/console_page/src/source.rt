@@ -288,10 +288,11 @@ async function read() {
   list();
 }
 async function load() {
+  $("shown").textContent = "reading what is recorded\u2026";
   try {
     await read();
     route();
-  } catch (error) { say(error.message, true); }
+  } catch (error) { say(error.message, true); $("shown").textContent = ""; }
 }
 const named = (key) => key || '""';
 const shade = (names, name) => `v${Math.max(0, names.indexOf(name)) % 8}`;
@@ -692,5 +693,5 @@ rates();
 pub fn page_policy() -> &'static str
     ensures { result.now ≡ policy_text }
 {
-    "default-src 'none'; style-src 'sha256-63tBB5HS5MzeLdZWP2cKHHWrb5XqWAkOjvvGUvjeLgw='; script-src 'sha256-lo3mTMdEochtpB0uA5YLXwffVG2vkRGBHm4isX0f75M='; connect-src 'self'; img-src blob: data:; base-uri 'none'; form-action 'none'; frame-ancestors 'none'"
+    "default-src 'none'; style-src 'sha256-63tBB5HS5MzeLdZWP2cKHHWrb5XqWAkOjvvGUvjeLgw='; script-src 'sha256-kpi9RIHiaMIRRlHa0Hv7pG1NHvcGGXxguSEcqroEc2Q='; connect-src 'self'; img-src blob: data:; base-uri 'none'; form-action 'none'; frame-ancestors 'none'"
 }
