@@ -43,10 +43,10 @@ returns-clause-ok g c =
         line = string_bytes c.in_ok-row.row;
         row = subst (λ (flags : Definitions). IsRowOf flags asker applied (string_bytes c.in_ok-row.row)) c.flags.ensures c.in_ok-row.ensures;
         writes =
-        subst (λ (h : List ℕ). Writes before after h (string_bytes c.in_ok-row.row) path applied.document) history
-        (subst (λ (l : List ℕ). Writes before after c.as_str-2.result.now l path applied.document) c.as_bytes-2.ensures.value
-        (subst (λ (d : List ℕ). Writes before after c.as_str-2.result.now c.as_bytes-2.result.now path d) c.as_bytes-document.ensures.value
-        (at_value c.note_and_replace.result (sym c.is_err.ensures.value ∙ w.if-is_err.false) c.note_and_replace.ensures.ok)));
+            subst (λ (h : List ℕ). Writes before after h (string_bytes c.in_ok-row.row) path applied.document) history
+            (subst (λ (l : List ℕ). Writes before after c.as_str-2.result.now l path applied.document) c.as_bytes-2.ensures.value
+            (subst (λ (d : List ℕ). Writes before after c.as_str-2.result.now c.as_bytes-2.result.now path d) c.as_bytes-document.ensures.value
+            (at_value c.note_and_replace.result (sym c.is_err.ensures.value ∙ w.if-is_err.false) c.note_and_replace.ensures.ok)));
         response_is = subst (IsResponse 200 (type_field Json) (written_text (length applied.document))) (sym w.response-is) done;
       })
     ]

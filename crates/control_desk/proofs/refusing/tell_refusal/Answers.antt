@@ -15,8 +15,8 @@ returns c =
     let response = c.finish.new.response in
     record {
       refusal =
-      on_ok_weaker c.finish.result (λ (is : IsResponse (status_of c.args.refusal.now) (type_field Json) text response). (c.as_str.result.now, is))
-      (filled c.finish.result (status_of c.args.refusal.now) (fields_of c.args.response.now) (type_field Json) c.as_bytes.result.now text response c.requires.headers (c.as_bytes.ensures.value ∙ c.in_ok-text.ensures)
+          on_ok_weaker c.finish.result (λ (is : IsResponse (status_of c.args.refusal.now) (type_field Json) text response). (c.as_str.result.now, is))
+          (filled c.finish.result (status_of c.args.refusal.now) (fields_of c.args.response.now) (type_field Json) c.as_bytes.result.now text response c.requires.headers (c.as_bytes.ensures.value ∙ c.in_ok-text.ensures)
           (rw c.status_of.ensures at c.finish.ensures));
       known = on_value c.finish.result c.in_default.not-WantOfMemory;
     }

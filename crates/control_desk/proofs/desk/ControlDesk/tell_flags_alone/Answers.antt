@@ -19,6 +19,9 @@ returns-clause-ok g c =
     let response = c.tell_flags.new.response in
     let read : WasRead old.seat (Some s) new.seat = subst (λ (o : Option HeldSnapshot). IfSome o (λ h. WasRead old.seat (Some (numbered_of h)) new.seat)) c.in-Some.is c.in_ok-held.ensures.read in
     let rules : rules_view new.post.now.rules ≡ rules_view old.post.now.rules = ap (λ (p : Bor DeskPost). rules_view p.now.rules) c.hold.ensures.post in
-    inr (s, read,
-    subst (λ (r : Rules). TellsFlags r s [] response) rules
-    (subst (λ (recorded : Recorded). TellsFlags (rules_view new.post.now.rules) s recorded response) c.new-none.ensures.empty c.in_ok-tell_flags.ensures))
+    inr (
+      s,
+      read,
+      subst (λ (r : Rules). TellsFlags r s [] response) rules
+          (subst (λ (recorded : Recorded). TellsFlags (rules_view new.post.now.rules) s recorded response) c.new-none.ensures.empty c.in_ok-tell_flags.ensures),
+    )
