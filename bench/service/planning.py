@@ -1,6 +1,6 @@
-"""What a plan over many recorded inputs takes of a service, and of those who are answered beside it: seconds for GET /record and for POST /plan, the
-most memory held, also by each input, and the 99th percentile of answers before and beside the plans, of CLIENTS connections that ask one
-after another. Usage: planning.py [INPUTS ..]   (1,000,000 and 10,000,000)"""
+"""What a plan over many recorded inputs takes of a service, and of those who are answered beside it: seconds for GET /flags, GET /record and
+POST /plan, the most memory held, also what is more by each input, and the 99th percentile of answers before and beside the plans, of CLIENTS
+connections that ask one after another. Usage: planning.py [INPUTS ..]   (1,000,000 and 10,000,000)"""
 import http.client
 import json
 import os
@@ -75,12 +75,14 @@ def measured(count):
         admin = free_port()
         service = Service(folder, logs, "--admin", f"127.0.0.1:{admin}")
         assert service.serves, service.reports()
-        held = service.kilobytes("VmHWM")
-        print(f"{count:,} inputs, {size / 2**20:,.0f} MiB of logs; listening with {held / 1024:,.0f} MiB", flush=True)
+        print(f"{count:,} inputs, {size / 2**20:,.0f} MiB of logs", flush=True)
         asking = Asking(service)
         try:
             time.sleep(USUAL)
+            # The workers remember the last notes of their logs by now.
+            held = service.kilobytes("VmHWM")
             asking.now = "planning"
+            _, flags = called(admin, "GET", "/flags")
             _, record = called(admin, "GET", "/record?flag=color&site=0")
             plans = [called(admin, "POST", "/plan", REQUEST) for _ in range(PLANS)]
             asking.end()
@@ -88,7 +90,7 @@ def measured(count):
             inputs = json.loads(plans[-1][0])["inputs"]
             assert count <= inputs <= count + CLIENTS * 1000, inputs
             (usual, before), (beside, among) = asking.percentile("usual"), asking.percentile("planning")
-            print(f"  record {record:.2f} s; plan {min(took for _, took in plans):.2f} to {max(took for _, took in plans):.2f} s; most memory {most / 1024:,.0f} MiB, {(most - held) * 1024 / count:.0f} bytes an input")
+            print(f"  flags {flags:.2f} s; record {record:.2f} s; plan {min(took for _, took in plans):.2f} to {max(took for _, took in plans):.2f} s; most memory {most / 1024:,.0f} MiB, before {held / 1024:,.0f} MiB: {(most - held) * 1024 / count:.0f} bytes more an input")
             print(f"  99th percentile of answers: {usual:.2f} ms before ({before:,}), {beside:.2f} ms beside the plans ({among:,}), {beside / usual:.2f} times", flush=True)
         finally:
             asking.end()
