@@ -32,7 +32,6 @@ TAKEN = {
     ("crates/sync_server/src/read.rt", "None => (collected.snapshots, ReadEnd::WantOfMemory),"): (1, "the sink there is a list, which takes a snapshot unless memory ran out"),
     ("crates/flagops_streams/src/following.rt", "None if wants => finish(out, ReadEnd::WantOfMemory),"): (1, "the printer sets `wants` only where there was no memory for a line"),
     ("crates/flagops_streams/src/report.rt", 'write_three(out, b"refused ", call.as_bytes(), b" 0 WantOfMemory\\n");'): (1, "`want` writes the line; its calls are looked for"),
-    ("crates/flagops_streams/src/remark.rt", 'pub(crate) const MEMORY: &str = "error: out of memory\\n";'): (1, "its three uses stand behind `Err(AllocError)`"),
     ("crates/flagops_shell/src/reports.rt", 'write_three(out, b"refused ", call.as_bytes(), b" 0 WantOfMemory\\n");'): (1, "`want` writes the line; its calls are looked for"),
     ("crates/flagops_shell/src/reports.rt", "tell(&mut console.err, Remark::Short.text());"): (1, "`want` tells it; its calls are looked for"),
     ("crates/flagops_shell/src/running.rt", "None => want(console, call),"): (1, "`Outcome::refused` gives none only where memory ran out"),

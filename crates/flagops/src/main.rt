@@ -34,7 +34,7 @@ use watching::{Watch, is_filter, is_service, work_of};
 use words::asked_words;
 
 fn main(rt: HostRuntime) -> ExitCode {
-    let _are_open = open_standard(&rt);
+    open_standard(&rt);
     let words = asked_words(rt.alloc(), env::args(&rt), rt.stderr().is_terminal());
     let work = work_of(&words, rt.stdin().is_terminal());
     let goes_on = is_filter(&words) && !rt.stdout().is_terminal();

@@ -100,10 +100,10 @@ closed_is ends.WriteFault is = absurd (cc (is))
 closed_is ends.ReadSeatFault is = absurd (cc (is))
 closed_is ends.WantOfMemory is = absurd (cc (is))
 
-pub serve_line_as : (port subscribers : ℕ) (b c : Bool) → (c ≡ true → b ≡ true) → (line : List ℕ) → IsServeLine port subscribers b line → IsServeLine port subscribers c line
-serve_line_as port subscribers b c more line (inl warned) = inl warned
-serve_line_as port subscribers b c more line (inr (inl came)) = inr (inl came)
-serve_line_as port subscribers b c more line (inr (inr gone)) = inr (inr (gone_as b c more line gone))
+pub serve_line_as : (paths : List (List ℕ)) (port subscribers : ℕ) (b c : Bool) → (c ≡ true → b ≡ true) → (line : List ℕ) → IsServeLine paths port subscribers b line → IsServeLine paths port subscribers c line
+serve_line_as paths port subscribers b c more line (inl warned) = inl warned
+serve_line_as paths port subscribers b c more line (inr (inl came)) = inr (inl came)
+serve_line_as paths port subscribers b c more line (inr (inr gone)) = inr (inr (gone_as b c more line gone))
 
 -- a sum that is none is one of none and none
 pub left_zero : (n m : ℕ) → nat_eq (n + m) 0 ≡ true → nat_eq n 0 ≡ true
@@ -114,12 +114,12 @@ right_zero n m none = grind (arith, nat_tests)
 
 -- ---- a report behind lines
 
-module _ (Is : Bool → List ℕ → Type 0) (weaker : (line : List ℕ) → Is true line → Is false line) (old new : Option (List ℕ)) (broken : Bool) (err mid err_after : Option (List ℕ)) (before is_mute : Bool) (stays : is_mute ≡ false → before ≡ false) (status : ℕ) where
-  refused_behind : (refusal : Refusal) → TellsLines (Is false) err mid before → RefusesBeside (λ _. ⊥) refusal old new broken mid err_after is_mute status → RefusesBeside (Is false) refusal old new broken err err_after is_mute status
+module _ (paths : List (List ℕ)) (Is : Bool → List ℕ → Type 0) (weaker : (line : List ℕ) → Is true line → Is false line) (old new : Option (List ℕ)) (broken : Bool) (err mid err_after : Option (List ℕ)) (before is_mute : Bool) (stays : is_mute ≡ false → before ≡ false) (status : ℕ) where
+  refused_behind : (refusal : Refusal) → TellsLines (Is false) err mid before → RefusesBeside paths (λ _. ⊥) refusal old new broken mid err_after is_mute status → RefusesBeside paths (Is false) refusal old new broken err err_after is_mute status
   refused_behind refusal lines (by, (between, none, text)) =
       (by, (between, lines_behind (Is false) err mid between before is_mute stays lines (lines_as (λ _. ⊥) (Is false) (λ line never. absurd never) mid between is_mute none), text))
 
-  pub reported_behind : (answer : Result ℕ Refusal) → TellsLines (Is (is_ok answer)) err mid before → Reports (λ _ _. ⊥) answer old new broken mid err_after is_mute status → Reports Is answer old new broken err err_after is_mute status
+  pub reported_behind : (answer : Result ℕ Refusal) → TellsLines (Is (is_ok answer)) err mid before → Reports paths (λ _ _. ⊥) answer old new broken mid err_after is_mute status → Reports paths Is answer old new broken err err_after is_mute status
   reported_behind (Ok n) lines (inl (line, none)) =
       inl (line, lines_behind (Is true) err mid err_after before is_mute stays lines (lines_as (λ _. ⊥) (Is true) (λ line never. absurd never) mid err_after is_mute none))
   reported_behind (Ok n) lines (inr want) = inr (refused_behind WantOfMemory (lines_as (Is true) (Is false) weaker err mid before lines) want)

@@ -5,7 +5,7 @@ use Rattle.file_diagnostics.specs.Named.{Names}
 use Rattle.flag_text.specs.Outlet.{AppendsPart}
 use Rattle.sync_server.specs.declared.end.StreamEnd.{StreamEnd}
 use Rattle.sync_server.specs.declared.end.StreamEnd.TheVariants.{Closed, Limit, WriteFault, ReadSeatFault, WantOfMemory}
-use Rattle.flagops_streams.specs.Why.{IsWhy, memory_line}
+use Rattle.flagops_streams.specs.Why.{IsPathAt, IsWhy, memory_line, why_lines}
 use Rattle.flagops_streams.specs.declared.disconnected.Disconnected.{Disconnected}
 use Rattle.flagops_streams.specs.declared.refusal.Refusal.{Refusal}
 
@@ -27,17 +27,25 @@ TellsLines Is old new is_mute = (lines : List (List ℕ)) × SaysEach Is old new
 abbrev pub TellsText : Option (List ℕ) → Option (List ℕ) → Bool → Type 0
 TellsText old new is_mute = (text : List ℕ) × (0 < length text) × Says old new is_mute text
 
+-- such lines were told, or the sentence where there is no memory for them
+abbrev pub TellsOrShort : (List ℕ → Type 0) → Option (List ℕ) → Option (List ℕ) → Bool → Type 0
+TellsOrShort Is old new is_mute = (text : List ℕ) × (Is text ⊎ (text ≡ memory_line)) × Says old new is_mute text
+
 -- why there was a refusal was told
 abbrev pub TellsReason : Refusal → Option (List ℕ) → Option (List ℕ) → Bool → Type 0
-TellsReason refusal old new is_mute = (text : List ℕ) × IsWhy refusal text × Says old new is_mute text
+TellsReason refusal = TellsOrShort (λ text. text ≡ why_lines refusal)
+
+-- the same of documents at these paths
+abbrev pub TellsReasonAt : List (List ℕ) → Refusal → Option (List ℕ) → Option (List ℕ) → Bool → Type 0
+TellsReasonAt paths refusal = TellsOrShort (IsWhy paths refusal)
 
 -- such lines, and behind them why there was a refusal
-abbrev pub TellsWhy : (List ℕ → Type 0) → Refusal → Option (List ℕ) → Option (List ℕ) → Bool → Type 0
-TellsWhy Is refusal old new is_mute = (between : Option (List ℕ)) × TellsLines Is old between is_mute × TellsReason refusal between new is_mute
+abbrev pub TellsWhy : List (List ℕ) → (List ℕ → Type 0) → Refusal → Option (List ℕ) → Option (List ℕ) → Bool → Type 0
+TellsWhy paths Is refusal old new is_mute = (between : Option (List ℕ)) × TellsLines Is old between is_mute × TellsReasonAt paths refusal between new is_mute
 
 -- lines about a file were told, by its path
 abbrev pub TellsOfFile : List ℕ → Option (List ℕ) → Option (List ℕ) → Bool → Type 0
-TellsOfFile path old new is_mute = (text : List ℕ) × (Names path text ⊎ (text ≡ memory_line)) × Says old new is_mute text
+TellsOfFile path = TellsOrShort (Names path)
 
 -- ---- the line of `follow`
 
@@ -59,7 +67,7 @@ nobody_line port = codes "error: nobody listens on 127.0.0.1:" ++ (decimal port 
 
 -- that nobody listens is told
 abbrev pub TellsNobody : ℕ → Option (List ℕ) → Option (List ℕ) → Bool → Type 0
-TellsNobody port old new is_mute = Says old new is_mute (nobody_line port) ⊎ Says old new is_mute memory_line
+TellsNobody port = TellsOrShort (λ text. text ≡ nobody_line port)
 
 -- ---- the lines of `serve`
 
@@ -109,9 +117,18 @@ TellsGone (Some gone) old new is_mute = TellsLines (IsGoneLine gone) old new is_
 abbrev pub IsArrival : ℕ → ℕ → List ℕ → Type 0
 IsArrival port subscribers line = (line ≡ listening_line port subscribers) ⊎ IsCame subscribers line
 
-abbrev pub IsForewarning : List ℕ → Type 0
-IsForewarning line = (place : ℕ) × (why : List ℕ) × (line ≡ forewarning place why)
+-- that a document will be refused, by its path and its place
+abbrev pub IsForewarned : List ℕ → ℕ → List ℕ → Type 0
+IsForewarned path place line = (why : List ℕ) × Names path why × (line ≡ forewarning place why)
 
--- what `serve` tells: that a document will be refused, and of its subscribers where it listens for so many, that one has come, that one has gone
-abbrev pub IsServeLine : ℕ → ℕ → Bool → List ℕ → Type 0
-IsServeLine port subscribers are_served line = IsForewarning line ⊎ IsArrival port subscribers line ⊎ IsGone are_served line
+-- the same of one of these
+abbrev pub IsForewarning : List (List ℕ) → List ℕ → Type 0
+IsForewarning paths line = (place : ℕ) × (path : List ℕ) × IsPathAt paths place path × IsForewarned path place line
+
+-- of the subscribers: where it listens for so many, that one has come, that one has gone
+abbrev pub IsOfSubscribers : ℕ → ℕ → Bool → List ℕ → Type 0
+IsOfSubscribers port subscribers are_served line = IsArrival port subscribers line ⊎ IsGone are_served line
+
+-- what `serve` tells: that a document will be refused, and of its subscribers
+abbrev pub IsServeLine : List (List ℕ) → ℕ → ℕ → Bool → List ℕ → Type 0
+IsServeLine paths port subscribers are_served line = IsForewarning paths line ⊎ IsOfSubscribers port subscribers are_served line

@@ -1,7 +1,8 @@
 -- What a person is told of a refusal.
-use Rattle.std.specs.Prelude.{◌≡◌, ◌⊎◌, ℕ, List, ◌++◌, codes, decimal}
+use Rattle.std.specs.Prelude.{◌≡◌, ◌≢◌, ◌⊎◌, ◌-◌, ℕ, List, ◌++◌, Some, codes, decimal, slice_get}
 use Rattle.file_diagnostics.specs.Named.{Names}
 use Rattle.flag_defs.specs.Fault as documents
+use Rattle.flag_defs.specs.declared.fault.DefFault.TheVariants as document
 use Rattle.source_merge.specs.Fault as sources
 use Rattle.source_merge.specs.declared.fault.SourceFault.{SourceFault}
 use Rattle.source_merge.specs.declared.fault.SourceFault.TheVariants.{Refused}
@@ -47,12 +48,21 @@ why_lines (Set e place) = document_line place (source_word e) ++ left_line
 why_lines (Unserved missed) = codes "error: subscribers that were not sent the last snapshot: " ++ (decimal missed ++ codes "\n")
 why_lines refusal = codes "error: " ++ (sentence_of refusal ++ codes "\n")
 
--- lines about what is refused: about a document, and what it leaves; or about a file, by its path
-abbrev pub IsAbout : Refusal → List ℕ → Type 0
-IsAbout (Set (Refused e) place) lines = (about : List ℕ) × (lines ≡ about ++ left_line)
-IsAbout Unreadable lines = (path : List ℕ) × Names path lines
-IsAbout refusal lines = ⊥
+-- the path of the document at a place, from 1
+abbrev pub IsPathAt : List (List ℕ) → ℕ → List ℕ → Type 0
+IsPathAt paths place path = slice_get paths (place - 1) ≡ Some path
 
--- lines that say why: those of the refusal, such lines in their place, or the sentence where there is no memory for either
-abbrev pub IsWhy : Refusal → List ℕ → Type 0
-IsWhy refusal lines = (lines ≡ why_lines refusal) ⊎ (lines ≡ memory_line) ⊎ IsAbout refusal lines
+-- a path is one of these
+abbrev pub IsOneOf : List (List ℕ) → List ℕ → Type 0
+IsOneOf paths path = (i : ℕ) × (slice_get paths i ≡ Some path)
+
+-- lines about what is refused: about the document at a place, by its path, and what it leaves; or about the file of one that can't be read
+abbrev pub IsAbout : List (List ℕ) → Refusal → List ℕ → Type 0
+IsAbout paths (Set (Refused e) place) lines =
+    (path : List ℕ) × (about : List ℕ) × IsPathAt paths place path × (e ≢ document.WantOfMemory → Names path about) × (lines ≡ about ++ left_line)
+IsAbout paths Unreadable lines = (path : List ℕ) × IsOneOf paths path × Names path lines
+IsAbout paths refusal lines = ⊥
+
+-- lines that say why, of documents at these paths: those of the refusal, or such lines in their place
+abbrev pub IsWhy : List (List ℕ) → Refusal → List ℕ → Type 0
+IsWhy paths refusal lines = (lines ≡ why_lines refusal) ⊎ IsAbout paths refusal lines
