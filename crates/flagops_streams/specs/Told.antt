@@ -1,5 +1,5 @@
 -- What a person is told beside the output, on an outlet of its own.
-use Rattle.std.specs.Prelude.{◌≡◌, ◌⊎◌, ◌<◌, ◌≤◌, ℕ, Bool, true, false, List, [], ◌∷◌, ◌++◌, codes, decimal, length, Option, Some, None}
+use Rattle.std.specs.Prelude.{◌≡◌, ◌⊎◌, ◌<◌, ◌≤◌, ℕ, zero, suc, Bool, true, false, List, [], ◌∷◌, ◌++◌, codes, decimal, length, Option, Some, None}
 use Rattle.std.specs.Io.KnownBytes.{Appends}
 use Rattle.file_diagnostics.specs.Named.{Names}
 use Rattle.flag_text.specs.Outlet.{AppendsPart}
@@ -18,6 +18,15 @@ Says old new true text = AppendsPart old new text
 abbrev pub SaysEach : (List ℕ → Type 0) → Option (List ℕ) → Option (List ℕ) → Bool → List (List ℕ) → Type 0
 SaysEach Is old new is_mute [] = new ≡ old
 SaysEach Is old new is_mute (line ∷ lines) = (between : Option (List ℕ)) × Is line × Says old between is_mute line × SaysEach Is between new is_mute lines
+
+-- a text was told once, or nothing where there is no memory for it
+abbrev pub MayTell : List ℕ → Option (List ℕ) → Option (List ℕ) → Bool → Type 0
+MayTell text old new is_mute = (new ≡ old) ⊎ Says old new is_mute text
+
+-- the same of a text for each number from 1 on, in their order
+abbrev pub MayTellEach : (ℕ → List ℕ) → ℕ → Option (List ℕ) → Option (List ℕ) → Bool → Type 0
+MayTellEach text zero old new is_mute = new ≡ old
+MayTellEach text (suc n) old new is_mute = (between : Option (List ℕ)) × MayTellEach text n old between is_mute × MayTell (text (suc n)) between new is_mute
 
 -- nothing but such lines was told
 abbrev pub TellsLines : (List ℕ → Type 0) → Option (List ℕ) → Option (List ℕ) → Bool → Type 0
@@ -52,10 +61,6 @@ TellsOfFile path = TellsOrShort (Names path)
 -- nothing came for so many seconds
 unfoldable pub late_line : ℕ → List ℕ
 late_line wait = codes "error: nothing came for " ++ (decimal wait ++ codes " seconds; --wait gives more, and 0 waits for ever\n")
-
--- it is told once, or there is no memory for it
-abbrev pub MayTellLate : ℕ → Option (List ℕ) → Option (List ℕ) → Bool → Type 0
-MayTellLate wait old new is_mute = (new ≡ old) ⊎ Says old new is_mute (late_line wait)
 
 -- nothing is told beside a stream; or, with status 1, that nothing came
 abbrev pub TellsLate : ℕ → ℕ → Option (List ℕ) → Option (List ℕ) → Bool → Type 0
@@ -100,30 +105,40 @@ gone_line number snapshots end =
 abbrev pub IsCame : ℕ → List ℕ → Type 0
 IsCame subscribers line = (number : ℕ) × (0 < number) × (number ≤ subscribers) × (line ≡ came_line number subscribers)
 
--- the same of one whose stream ended so
-abbrev pub IsGoneLine : Disconnected → List ℕ → Type 0
-IsGoneLine gone line = (number : ℕ) × (line ≡ gone_line number gone.frames gone.end)
-
 -- of some that has gone; where all were served, it was sent the last one
 abbrev pub IsGone : Bool → List ℕ → Type 0
-IsGone are_served line = (gone : Disconnected) × (are_served ≡ true → gone.end ≡ Closed) × IsGoneLine gone line
+IsGone are_served line = (gone : Disconnected) × (number : ℕ) × (are_served ≡ true → gone.end ≡ Closed) × (line ≡ gone_line number gone.frames gone.end)
 
--- what is told of one that is counted: that it has gone, or nothing where no end of its stream is known
+-- what is told of one that is counted: once that it has gone, or nothing where no end of its stream is known
 abbrev pub TellsGone : Option Disconnected → Option (List ℕ) → Option (List ℕ) → Bool → Type 0
 TellsGone None old new is_mute = new ≡ old
-TellsGone (Some gone) old new is_mute = TellsLines (IsGoneLine gone) old new is_mute
+TellsGone (Some gone) old new is_mute = (number : ℕ) × MayTell (gone_line number gone.frames gone.end) old new is_mute
+
+-- of each that is counted, the last one first
+abbrev pub TellsEnds : List (Option Disconnected) → Option (List ℕ) → Option (List ℕ) → Bool → Type 0
+TellsEnds [] old new is_mute = new ≡ old
+TellsEnds (end ∷ ends) old new is_mute = (between : Option (List ℕ)) × TellsEnds ends old between is_mute × TellsGone end between new is_mute
+
+-- where `serve` listens for so many subscribers, and that so many have come, one after the other
+abbrev pub TellsArrivals : ℕ → ℕ → ℕ → Option (List ℕ) → Option (List ℕ) → Bool → Type 0
+TellsArrivals port subscribers came old new is_mute =
+    (between : Option (List ℕ)) × MayTell (listening_line port subscribers) old between is_mute × MayTellEach (λ number. came_line number subscribers) came between new is_mute
 
 -- where `serve` listens for so many subscribers, and that one has come
 abbrev pub IsArrival : ℕ → ℕ → List ℕ → Type 0
 IsArrival port subscribers line = (line ≡ listening_line port subscribers) ⊎ IsCame subscribers line
 
 -- that a document will be refused, by its path and its place
-abbrev pub IsForewarned : List ℕ → ℕ → List ℕ → Type 0
-IsForewarned path place line = (why : List ℕ) × Names path why × (line ≡ forewarning place why)
-
--- the same of one of these
 abbrev pub IsForewarning : List (List ℕ) → List ℕ → Type 0
-IsForewarning paths line = (place : ℕ) × (path : List ℕ) × IsPathAt paths place path × IsForewarned path place line
+IsForewarning paths line = (place : ℕ) × (path : List ℕ) × (why : List ℕ) × IsPathAt paths place path × Names path why × (line ≡ forewarning place why)
+
+-- that of this path and place is told once, or nothing where it is accepted or there is no memory
+abbrev pub MayForewarn : List ℕ → ℕ → Option (List ℕ) → Option (List ℕ) → Bool → Type 0
+MayForewarn path place old new is_mute = (new ≡ old) ⊎ ((why : List ℕ) × Names path why × Says old new is_mute (forewarning place why))
+
+-- the same of the one at a place
+abbrev pub MayForewarnAt : List (List ℕ) → ℕ → Option (List ℕ) → Option (List ℕ) → Bool → Type 0
+MayForewarnAt paths place old new is_mute = (new ≡ old) ⊎ ((path : List ℕ) × IsPathAt paths place path × MayForewarn path place old new is_mute)
 
 -- of the subscribers: where it listens for so many, that one has come, that one has gone
 abbrev pub IsOfSubscribers : ℕ → ℕ → Bool → List ℕ → Type 0

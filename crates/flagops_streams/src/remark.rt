@@ -1,7 +1,7 @@
 //! What a person is told on the error outlet. It changes no answer. A line of a subscriber that can't be made is left out; why
 //! there was a refusal is told in any case, by a fixed sentence where there is no memory to say more.
 ghost use Rattle.std.specs.Prelude.{◌≡◌, ◌≢◌, ◌++◌, ◌-◌, false, map, option_map, slice_get, IfErr, IfOk, string_bytes};
-ghost use Rattle.flagops_streams.specs.Told.{IsForewarned, MayTellLate, Says, TellsLines, TellsNobody, TellsReason, TellsReasonAt, TellsText, came_line, forewarning, gone_line, late_line, listening_line, nobody_line, reason_of};
+ghost use Rattle.flagops_streams.specs.Told.{MayForewarn, MayTell, Says, TellsNobody, TellsReason, TellsReasonAt, TellsText, came_line, forewarning, gone_line, late_line, listening_line, nobody_line, reason_of};
 ghost use Rattle.flagops_streams.specs.Why.{IsWhy, document_line, left_line, memory_line, sentence_of, source_word, why_lines};
 
 use crate::disconnected::Disconnected;
@@ -18,7 +18,7 @@ const PUBLISHED_BEFORE: &str = "  the subscribers have what was published before
 
 /// Where subscribers may come.
 pub(crate) fn say_listening<E: Outlet>(alloc: Global, err: &mut E, port: u16, subscribers: usize)
-    ensures lines { TellsLines (λ line. line ≡ listening_line port subscribers) (E.bytes err.old) (E.bytes err.new) (E.is_broken err.new) }
+    ensures line { MayTell (listening_line port subscribers) (E.bytes err.old) (E.bytes err.new) (E.is_broken err.new) }
     ensures stays { E.is_broken err.new ≡ false → E.is_broken err.old ≡ false }
 {
     say_made(err, listening_line(alloc, port, subscribers));
@@ -33,7 +33,7 @@ fn listening_line(alloc: Global, port: u16, subscribers: usize) -> Result<String
 
 /// A subscriber has come.
 pub(crate) fn say_came<E: Outlet>(alloc: Global, err: &mut E, number: usize, subscribers: usize)
-    ensures lines { TellsLines (λ line. line ≡ came_line number subscribers) (E.bytes err.old) (E.bytes err.new) (E.is_broken err.new) }
+    ensures line { MayTell (came_line number subscribers) (E.bytes err.old) (E.bytes err.new) (E.is_broken err.new) }
     ensures stays { E.is_broken err.new ≡ false → E.is_broken err.old ≡ false }
 {
     say_made(err, came_line(alloc, number, subscribers));
@@ -48,7 +48,7 @@ fn came_line(alloc: Global, number: usize, subscribers: usize) -> Result<String,
 
 /// A subscriber has gone, whose stream ended so.
 pub(crate) fn say_gone<E: Outlet>(alloc: Global, err: &mut E, number: usize, gone: Disconnected)
-    ensures lines { TellsLines (λ line. line ≡ gone_line number gone.frames gone.end) (E.bytes err.old) (E.bytes err.new) (E.is_broken err.new) }
+    ensures line { MayTell (gone_line number gone.frames gone.end) (E.bytes err.old) (E.bytes err.new) (E.is_broken err.new) }
     ensures stays { E.is_broken err.new ≡ false → E.is_broken err.old ≡ false }
 {
     say_made(err, gone_line(alloc, number, gone.end, gone.frames));
@@ -96,7 +96,7 @@ pub(crate) fn say_forewarning<E: Outlet>(
     text: &[u8],
     fault: DefFault,
 )
-    ensures lines { fault ≢ DefFault.WantOfMemory → TellsLines (IsForewarned path.now place) (E.bytes err.old) (E.bytes err.new) (E.is_broken err.new) }
+    ensures line { fault ≢ DefFault.WantOfMemory → MayForewarn path.now place (E.bytes err.old) (E.bytes err.new) (E.is_broken err.new) }
     ensures stays { E.is_broken err.new ≡ false → E.is_broken err.old ≡ false }
 {
     if let Ok(why) = of_document(alloc, path, text, fault) {
@@ -106,7 +106,7 @@ pub(crate) fn say_forewarning<E: Outlet>(
 
 /// The same, with the words for why.
 fn say_forewarned<E: Outlet>(alloc: Global, err: &mut E, place: u64, why: &str)
-    ensures lines { TellsLines (λ line. line ≡ forewarning place why.now) (E.bytes err.old) (E.bytes err.new) (E.is_broken err.new) }
+    ensures line { MayTell (forewarning place why.now) (E.bytes err.old) (E.bytes err.new) (E.is_broken err.new) }
     ensures stays { E.is_broken err.new ≡ false → E.is_broken err.old ≡ false }
 {
     say_made(err, forewarning(alloc, place, why));
@@ -158,7 +158,7 @@ fn nobody_line(alloc: Global, port: u16) -> Result<String, AllocError>
 
 /// Nothing came for so many seconds.
 pub(crate) fn say_late<E: Outlet>(alloc: Global, err: &mut E, wait: u64)
-    ensures { MayTellLate wait (E.bytes err.old) (E.bytes err.new) (E.is_broken err.new) }
+    ensures { MayTell (late_line wait) (E.bytes err.old) (E.bytes err.new) (E.is_broken err.new) }
 {
     say_made(err, late_line(alloc, wait));
 }

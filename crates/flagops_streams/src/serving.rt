@@ -6,7 +6,7 @@ ghost use Rattle.source_merge.specs.View.{sources_view};
 ghost use Rattle.flagops_streams.specs.Documents.{Answer, Counts, Gives, GivesSome, ServesAll, ServesTo, count_of, documents_in, is_served, less_missed, missed_of, published_in, texts_of, told_view};
 ghost use Rattle.flagops_streams.specs.Report.{Reports, Serves};
 ghost use Rattle.sync_server.specs.End.{is_closed_end};
-ghost use Rattle.flagops_streams.specs.Told.{IsForewarning, IsGone, IsOfSubscribers, IsServeLine, TellsGone, TellsLines};
+ghost use Rattle.flagops_streams.specs.Told.{IsForewarning, IsGone, IsOfSubscribers, IsServeLine, MayForewarnAt, TellsEnds, TellsGone, TellsLines};
 
 use crate::arrivals::{Arrived, arrivals};
 use crate::board::Board;
@@ -93,7 +93,7 @@ fn forewarn_of<E: Outlet>(
     text: &[u8],
     err: &mut E,
 )
-    ensures lines { TellsLines (IsForewarning (map (λ path. path.now) paths.now)) (E.bytes err.old) (E.bytes err.new) (E.is_broken err.new) }
+    ensures told { MayForewarnAt (map (λ path. path.now) paths.now) place (E.bytes err.old) (E.bytes err.new) (E.is_broken err.new) }
     ensures stays { E.is_broken err.new ≡ false → E.is_broken err.old ≡ false }
 {
     let Some(path) = path_at(paths, place) else {
@@ -424,7 +424,7 @@ fn tell_gone<J: ShareName, R: Wait, E: Outlet>(
     err: &mut E,
 ) -> usize
     ensures few { result ≤ count }
-    ensures ends { (ends : List (Option Disconnected)) × (length ends ≡ count) × (result ≡ missed_of published ends) }
+    ensures ends { (ends : List (Option Disconnected)) × (length ends ≡ count) × (result ≡ missed_of published ends) × TellsEnds ends (E.bytes err.old) (E.bytes err.new) (E.is_broken err.new) }
     ensures lines { TellsLines (IsGone (nat_eq result 0)) (E.bytes err.old) (E.bytes err.new) (E.is_broken err.new) }
     ensures stays { E.is_broken err.new ≡ false → E.is_broken err.old ≡ false }
 {
