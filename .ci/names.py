@@ -29,6 +29,8 @@ FAULTS = {
     "FilterFault": set(),
     "TallyStop": {"Filter"},
     "JoinFault": set(),
+    "LogTallyFault": set(),
+    "ControlRefusal": {"Rollout", "Logs", "ReadPlan", "PrintPlan", "Check", "Keep"},
 }
 
 

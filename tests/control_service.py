@@ -1,19 +1,12 @@
-"""The service with the calls of rollouts, over a document and a folder of logs: that of the program, where it has them, and else a server
-that answers by the commands (`control_server`)."""
+"""The service with the calls of rollouts, over a document and a folder of logs."""
 import os
 import socket
 import subprocess
 
-from control_server import ControlServer
 from program import PROGRAM, SECONDS, free_port, wait_until
 
 # The service looks for documents that have changed this often, in seconds.
 POLL = "1"
-
-
-def serves_console():
-    """Whether the program itself has the calls."""
-    return "--allow-apply" in subprocess.run([PROGRAM, "ofrep", "--help"], capture_output=True, text=True, check=False).stdout
 
 
 def is_open(port):
@@ -22,7 +15,7 @@ def is_open(port):
 
 
 class Service:
-    """The program's. What it tells a person goes to the file `told` beside the document."""
+    """A service. What it tells a person goes to the file `told` beside the document."""
 
     def __init__(self, test, document, logs, allow_apply=False, words=()):
         self.port, admin = free_port(test), free_port(test)
@@ -40,8 +33,3 @@ class Service:
     def close(self):
         self.child.kill()
         self.child.wait()
-
-
-def service_of(test, document, logs, **how):
-    """The service over this document and this folder of logs, if any."""
-    return (Service(test, document, logs, **how) if serves_console() else ControlServer(document, logs, **how))

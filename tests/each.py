@@ -35,7 +35,7 @@ class Result(unittest.TextTestResult):
         if self.bad() > bad:
             self.say("failed")
         elif len(self.skipped) > skipped:
-            self.say(f"skipped {self.skipped[-1][1]}")
+            self.say(f"skipped {'; '.join(dict.fromkeys(why for _, why in self.skipped[skipped:]))}")
         else:
             self.say("passed")
 

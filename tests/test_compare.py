@@ -122,6 +122,10 @@ class Edit:
     def words(self):
         return ["compare", "old", "new", "book", *(["--flag", self.flag] if self.flag else [])]
 
+    def is_unmatched(self):
+        """A flag is asked for that no page is of."""
+        return self.flag is not None and all(page.flag != self.flag for page in self.pages)
+
 
 def book_of(pages):
     lines = [{"book": 1}]
@@ -266,18 +270,23 @@ class Compare(ProgramTest):
             with self.subTest(number=number, files=files, words=words):
                 ran = run(words, files)
                 self.assertEqual((ran.out, ran.status), (wanted.lines, 0), ran.err)
-                self.assert_told(ran.err, wanted.left)
+                self.assert_told(ran.err, edit, wanted.left)
                 self.assertEqual({name: ran.files[name] for name in files}, files)
                 strict = run([*words, "--strict"], files)
-                self.assertEqual((strict.out, strict.status, strict.err), (wanted.lines, 1 if wanted.left else 0, ran.err))
+                self.assertEqual((strict.out, strict.status, strict.err), (wanted.lines, 1 if wanted.left or edit.is_unmatched() else 0, ran.err))
                 objects = run([*words, "--json"], files)
                 self.assertEqual((objects.out, objects.err), ("".join(compact(it) + "\n" for it in wanted.texts), ran.err))
                 seen.update([reason for _, _, reason in wanted.left] + ["row" for it in wanted.texts if it.get("switches")])
-        self.assertEqual(set(seen), {"NoFlag", "NoSite", "OtherExpression", "Computed", "NoWeight", "TooHeavy", "row"})
+                seen.update(["NoPage"] if edit.is_unmatched() else [])
+        self.assertEqual(set(seen), {"NoFlag", "NoSite", "OtherExpression", "Computed", "NoWeight", "TooHeavy", "NoPage", "row"})
 
-    def assert_told(self, told, left):
-        """A line for each page that is not compared, with the document and the reason."""
+    def assert_told(self, told, edit, left):
+        """A line for each page that is not compared, with the document and the reason, or the flag that has no page."""
         lines = told.splitlines()
+        if edit.is_unmatched():
+            self.assertEqual(lines[0], f'note: "book": flag {compact(edit.flag)} is not compared: there is no page of it (NoPage)')
+            self.assertEqual(len(lines), 1 if edit.flag in edit.old else 2, told)
+            return
         self.assertEqual(len(lines), len(left), told)
         for line, (page, side, reason) in zip(lines, left):
             self.assertTrue(line.startswith(f'note: "{side}": flag {compact(page.flag)} site {page.site} is not compared: '), line)
@@ -313,8 +322,28 @@ class Compare(ProgramTest):
             ran = run(["compare", "old", "new", "tally", *more], files)
             self.assertEqual((ran.out, ran.status), ("refused compare 1 OtherTally\n", 1))
             self.assertIn('error: "tally": ', ran.err)
-        ran = run(["compare", "old", "new", "tally", "--flag", "none of these"], files)
-        self.assertEqual((ran.out, ran.status, ran.err), ("switch 0 of 0\n", 0, ""))
+        for more, status in [[], 0], [["--strict"], 1]:
+            ran = run(["compare", "old", "new", "tally", "--flag", "none of these", *more], files)
+            self.assertEqual((ran.out, ran.status), ("switch 0 of 0\n", status))
+            self.assertTrue(ran.err.startswith('note: "tally": flag "none of these" is not compared: there is no page of it (NoPage)\n'), ran.err)
+
+    def test_a_flag_without_a_page(self):
+        """A misspelled key is told with those that are similar, and is no success with `--strict`."""
+        checkout = Flag({"state": "ENABLED", "variants": {"on": True, "off": False}, "defaultVariant": "off"}, [])
+        text = text_of({"checkout": checkout, "theme": checkout})
+        files = {"old": text, "new": text, "book": book_of({Page("checkout", 0, None): ["checkoutann"]})}
+        none = 'note: "book": flag %s is not compared: there is no page of it (NoPage)\n'
+        for key, told in [
+            ("checkuot", none % '"checkuot"' + '  similar keys: "checkout"\n'),
+            ("x", none % '"x"' + '  known flags: "checkout", "theme"\n'),
+            ("theme", none % '"theme"'),
+        ]:
+            for more, status in [[], 0], [["--strict"], 1]:
+                with self.subTest(key=key, more=more):
+                    ran = run(["compare", "old", "new", "book", "--flag", key, *more], files)
+                    self.assertEqual((ran.out, ran.err, ran.status), ("switch 0 of 0\n", told, status))
+                    texts = run(["compare", "old", "new", "book", "--flag", key, "--json", *more], files)
+                    self.assertEqual((texts.out, texts.err, texts.status), ('{"inputs":0,"left":0,"switch":0}\n', told, status))
 
     def test_refusals(self):
         """The files are read in their order, and the first that is refused is named."""
@@ -350,8 +379,9 @@ class Compare(ProgramTest):
                 self.assertEqual({**ran.files, "old.svg": "before"}, plain.files)
                 self.assert_drawn(edit, wanted, ran.files["old.svg"], seen)
                 strict = run([*words, "--strict", "--picture", "old.svg"], files)
-                self.assertEqual(strict.status, 1 if wanted.left else 0)
-                self.assertEqual(strict.files["old.svg"], "before" if wanted.left else ran.files["old.svg"])
+                is_doubted = bool(wanted.left) or edit.is_unmatched()
+                self.assertEqual(strict.status, 1 if is_doubted else 0)
+                self.assertEqual(strict.files["old.svg"], "before" if is_doubted else ran.files["old.svg"])
                 seen["left" if wanted.left else "whole"] += 1
         self.assertGreater(min(seen[it] for it in ["left", "whole", "page", "row", "none"]), 0, seen)
 

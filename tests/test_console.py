@@ -1,5 +1,6 @@
-"""The console in Chromium and Firefox: of the service where the program has one, and else of a server that answers by the commands (`control_server`)."""
+"""The console in Chromium and Firefox."""
 import contextlib
+import copy
 import functools
 import http.client
 import json
@@ -7,10 +8,10 @@ import os
 import subprocess
 import tempfile
 import unittest
+from concurrent.futures import ThreadPoolExecutor
 
 from browser import Chromium, Firefox, Pages
-from control_server import ControlServer
-from control_service import service_of
+from control_service import Service
 from program import PROGRAM, ROOT, SECONDS, found
 
 DEMO = os.path.join(ROOT, "demo")
@@ -60,29 +61,36 @@ def browser_of(kind):
 
 
 def in_each_browser(test):
-    """Runs a test in each browser that is here, and tells which is not. No script fails meanwhile, and nothing is asked of another host."""
+    """Runs a test in each browser that is here, in both at once, and tells which is not. No script fails meanwhile, and nothing is asked
+    of another host."""
 
     @functools.wraps(test)
     def run(self):
-        for kind in (Chromium, Firefox):
-            with self.subTest(browser=kind.__name__), contextlib.ExitStack() as self.after:
-                lacking = [it for it in kind.NEEDS if not found(it)]
-                if lacking:
-                    self.skipTest(f"there is no {', '.join(lacking)}")
-                self.browser = browser_of(kind)
-                self.folder = self.after.enter_context(tempfile.TemporaryDirectory())
-                os.mkdir(self.path("log"))
-                self.browser.faults()
-                test(self)
-                self.assertEqual(self.browser.faults(), [])
-                names = self.browser.run("return performance.getEntriesByType('resource').map(one => one.name);")
-                self.assertEqual([name for name in names if not name.startswith((self.server.origin + "/", "blob:" + self.server.origin, "data:"))], [])
+        with ThreadPoolExecutor() as pool:
+            runs = [(kind, pool.submit(copy.copy(self).run_in, kind, test)) for kind in (Chromium, Firefox)]
+            for kind, ran in runs:
+                with self.subTest(browser=kind.__name__):
+                    ran.result()
 
     return run
 
 
 class ConsoleTest(unittest.TestCase):
     """A console over documents and logs of a folder of its own."""
+
+    def run_in(self, kind, test):
+        lacking = [it for it in kind.NEEDS if not found(it)]
+        if lacking:
+            self.skipTest(f"there is no {', '.join(lacking)}")
+        self.browser = browser_of(kind)
+        with contextlib.ExitStack() as self.after:
+            self.folder = self.after.enter_context(tempfile.TemporaryDirectory())
+            os.mkdir(self.path("log"))
+            self.browser.faults()
+            test(self)
+            self.assertEqual(self.browser.faults(), [])
+            names = self.browser.run("return performance.getEntriesByType('resource').map(one => one.name);")
+            self.assertEqual([name for name in names if not name.startswith((self.server.origin + "/", "blob:" + self.server.origin, "data:"))], [])
 
     def path(self, name):
         return os.path.join(self.folder, name)
@@ -102,7 +110,7 @@ class ConsoleTest(unittest.TestCase):
         self.put("log/worker-1.log", "".join(lines[: half + 10]))
         self.put("log/worker-2.log", "".join(lines[half:]))
         paths = self.path("flags.json"), self.path("log")
-        self.server = service_of(self, *paths, **how)
+        self.server = Service(self, *paths, **how)
         self.after.callback(self.server.close)
         self.after.callback(self.browser.open, "about:blank")
         self.browser.open(self.server.origin + "/")
@@ -141,6 +149,7 @@ class ConsoleTest(unittest.TestCase):
                         file.write(self.browser.picture())
         self.browser.look(1366, False)
 
+
 def shop():
     with open(os.path.join(DEMO, "flags", "shop.json"), encoding="utf-8") as file:
         return file.read()
@@ -164,11 +173,11 @@ class Rollouts(ConsoleTest):
         self.until("document.querySelectorAll('.counts div').length === 100")
         self.look("flag")
         self.browser.click("#sites button")
-        self.assertEqual(self.outcome(), "0 of 300 recorded users switch; 0 would switch if you edited it by hand. No rule that fits costs less.")
+        self.assertEqual(self.outcome(), "0 of 300 recorded users switch; 0 would switch if you edited it by hand. No rule that fits switches fewer.")
         self.browser.fill("#total-1", "10")
         self.browser.click("#keep-1")
         self.until("/^1 of 300/.test(document.getElementById('outcome').textContent)")
-        self.assertEqual(self.outcome(), "1 of 300 recorded users switch; 10 would switch if you edited it by hand. No rule that fits costs less.")
+        self.assertEqual(self.outcome(), "1 of 300 recorded users switch; 10 would switch if you edited it by hand. No rule that fits switches fewer.")
         self.assertEqual(self.browser.run("return document.getElementById('total-0').value;"), "90")
         self.until("document.getElementById('picture').complete && document.getElementById('picture').naturalWidth")
         self.browser.click("#steps")
@@ -187,13 +196,13 @@ class Rollouts(ConsoleTest):
         self.browser.click("#apply-yes")
         self.until("document.querySelectorAll('#history-rows tr').length === 1 && !document.getElementById('history').hidden")
         cells = self.browser.run("return [...document.querySelector('#history-rows tr').cells].map(cell => cell.textContent);")
-        self.assertEqual((cells[1], cells[4]), ("checkouton 5 \u2192 10, off 95 \u2192 90", "Änne <b>"))
+        self.assertEqual((cells[1], cells[4]), ("checkouton 5 \u2192 10, off 95 \u2192 90, by Änne <b>", "Änne <b>"))
         rule = json.loads(self.text("flags.json"))["flags"]["checkout"]["targeting"]["if"][2]["fractional"]
         self.assertEqual(sum(weight for name, weight in rule if name == "on"), 10)
         self.until("/^The document is written/.test(document.getElementById('message').textContent)")
         self.until_served("2")
         self.browser.click("#history-rows button")
-        self.until("/would switch/.test(document.getElementById('history-rows').textContent)")
+        self.until("/Going back would switch 1 of 300 users/.test(document.getElementById('history-rows').textContent)")
         self.look("history")
 
     @in_each_browser
@@ -260,18 +269,13 @@ class Rollouts(ConsoleTest):
     @in_each_browser
     def test_how_much_is_evaluated(self):
         self.begin(shop(), shop_lines())
-        if isinstance(self.server, ControlServer):
-            for count in (100, 160):
-                self.server.server.metrics = f'ofrep_evaluations_total{{reason="SPLIT"}} {count}\n'
-                self.browser.run("await rates();")
-        else:
-            self.browser.run("await rates();")
-            client = http.client.HTTPConnection("127.0.0.1", self.server.port)
-            self.after.callback(client.close)
-            for number in range(50):
-                client.request("POST", "/ofrep/v1/evaluate/flags/checkout", json.dumps({"context": {"targetingKey": f"late-{number}"}}))
-                client.getresponse().read()
-            self.browser.run("await rates();")
+        self.browser.run("await rates();")
+        client = http.client.HTTPConnection("127.0.0.1", self.server.port)
+        self.after.callback(client.close)
+        for number in range(50):
+            client.request("POST", "/ofrep/v1/evaluate/flags/checkout", json.dumps({"context": {"targetingKey": f"late-{number}"}}))
+            client.getresponse().read()
+        self.browser.run("await rates();")
         self.assertRegex(self.browser.run("return document.getElementById('rates').textContent;"), "^A minute: [A-Z_]+ [1-9]")
 
     @in_each_browser
@@ -281,7 +285,7 @@ class Rollouts(ConsoleTest):
         self.outcome()
         self.browser.fill("#total-0", "50")
         self.browser.click("#keep-0")
-        self.until("/^No rule can/.test(document.getElementById('outcome').textContent)")
+        self.until("/^No rule can: 95 points have \"off\"; they may only become \"off\", of which at most 50 are asked for; /.test(document.getElementById('outcome').textContent)")
         self.assertIs(self.browser.run("return document.getElementById('show-diff').disabled;"), True)
         self.look("none")
 

@@ -1,6 +1,5 @@
 """The calls of rollouts from a running service beside the commands on the same files, while others are answered and noted, and while it is
-killed. Where the program has none of these calls, the commands themselves are asked over HTTP (`control_server`), so that these tests
-are tried.
+killed.
 
 CONTROL_DRAWN and CONTROL_KILLS say how many requests are drawn, and how often a service is killed (`bench/control.sh`: 500 and 100)."""
 import http.client
@@ -12,8 +11,8 @@ import threading
 import unittest
 from collections import Counter
 
-from control_server import Control, Refused, compact
-from control_service import serves_console, service_of
+from control_commands import Commands, Refused, compact
+from control_service import Service
 from program import ROOT, SECONDS, run, wait_until
 
 DRAWN = int(os.environ.get("CONTROL_DRAWN", "40"))
@@ -118,9 +117,9 @@ class ControlTest(unittest.TestCase):
 
     def serve(self, logs="log", **how):
         paths = self.path("flags.json"), self.path(logs) if logs else None
-        self.service = service_of(self, *paths, **how)
+        self.service = Service(self, *paths, **how)
         self.addCleanup(self.service.close)
-        self.commands = Control(*paths, allow_apply=how.get("allow_apply", False))
+        self.commands = Commands(*paths)
 
     def shop(self, **how):
         """The service over the demo's flags, with 300 inputs of `checkout`."""
@@ -132,7 +131,7 @@ class ControlTest(unittest.TestCase):
         try:
             client.request(method, path, body, headers)
             response = client.getresponse()
-            return response.status, dict(response.getheaders()), response.read()
+            return response.status, {name.lower(): value for name, value in response.getheaders()}, response.read()
         finally:
             client.close()
 
@@ -145,7 +144,7 @@ class ControlTest(unittest.TestCase):
         try:
             return 200, self.commands.plan(compact(request).encode())
         except Refused as refused:
-            return refused.status, refused.body
+            return 400, refused.body
 
 
 class Plans(ControlTest):
@@ -161,8 +160,8 @@ class Plans(ControlTest):
             with self.subTest(number=number, request=request):
                 (status, answer), (wanted_status, wanted) = self.planned(request), self.commanded(request)
                 self.assertEqual(status, wanted_status)
-                # A refusal is told in other words: the commands name files.
-                answer.pop("details", None), wanted.pop("details", None)
+                # A refusal has words beside it, which the commands write for files.
+                answer.pop("details", None)
                 self.assertEqual(answer, wanted)
 
     def test_the_record_is_the_tally_of_the_lines(self):
@@ -202,7 +201,7 @@ class Plans(ControlTest):
 
         def ask_as(which):
             status, headers, body = self.ask("POST", "/plan", compact(REQUEST).encode())
-            answers[which] = status, "Retry-After" in headers, body if status == 200 else None
+            answers[which] = status, "retry-after" in headers, body if status == 200 else None
 
         threads = [threading.Thread(target=ask_as, args=(which,)) for which in range(len(answers))]
         for thread in threads:
@@ -219,7 +218,7 @@ class Plans(ControlTest):
         self.begin(document, lines)
         status, headers, body = self.ask("GET", "/snapshot")
         self.assertEqual((status, body.decode()), (200, document))
-        self.assertEqual(self.ask("GET", "/snapshot", **{"If-None-Match": headers["ETag"]})[0], 304)
+        self.assertEqual(self.ask("GET", "/snapshot", **{"If-None-Match": headers["etag"]})[0], 304)
 
     def test_flags_as_the_commands_tell_them(self):
         on = {"state": "ENABLED", "variants": {"on": True, "off": False}, "defaultVariant": "off"}
@@ -264,17 +263,18 @@ class Checked(ControlTest):
         try:
             wanted_status, wanted = 200, self.commands.check(compact(asked).encode())
         except Refused as refused:
-            wanted_status, wanted = refused.status, refused.body
-        answer.pop("details", None), wanted.pop("details", None)
+            wanted_status, wanted = 400, refused.body
+        answer.pop("details", None)
         self.assertEqual((status, answer), (wanted_status, wanted))
         return status
 
 
-@unittest.skipUnless(serves_console(), "the program has no such calls yet")
 class Recorded(ControlTest):
     """Whoever was given a variant before a request came is among the inputs that it is planned on."""
 
-    RULE = [["red", 50], ["blue", 50]]
+    # So many points that most keys have one of their own.
+    RULE = [["red", 5000], ["blue", 5000]]
+    REQUEST = {"plan": 1, "flag": "color", "site": 0, "totals": {"red": 0, "blue": 10000}}
 
     def test_while_others_are_answered(self):
         self.begin(compact({"flags": {"color": {"state": "ENABLED", "variants": {"red": 1, "blue": 2}, "defaultVariant": "red", "targeting": {"fractional": self.RULE}}}}), [])
@@ -285,45 +285,51 @@ class Recorded(ControlTest):
         try:
             for _ in range(20):
                 wait_until(lambda: all(given), "each is given a variant")
-                before = [key for keys in given for key in keys[: len(keys)]]
-                status, answer = self.planned({"plan": 1, "flag": "color", "site": 0, "totals": {"red": 40, "blue": 60}})
-                self.assertEqual(status, 200, answer)
-                self.assertGreaterEqual(answer["inputs"], len(before))
+                before = [it for pairs in given for it in pairs[: len(pairs)]]
+                inputs, switch = self.counted()
+                self.assertGreaterEqual(inputs, len(before))
+                self.assertGreaterEqual(switch, sum(variant == "red" for _, variant in before))
                 self.assertAmong(before)
         finally:
             ended.set()
             for thread in threads:
                 thread.join()
-        everyone = [key for keys in given for key in keys]
+        everyone = [it for pairs in given for it in pairs]
         self.assertAmong(everyone)
-        self.assertEqual(self.planned({"plan": 1, "flag": "color", "site": 0, "totals": {"red": 50, "blue": 50}})[1]["inputs"], len(everyone))
+        self.assertEqual(self.counted(), (len(everyone), sum(variant == "red" for _, variant in everyone)))
+
+    def counted(self):
+        """How many inputs a plan counts, and how many of them switch where nothing stays red."""
+        status, answer = self.planned(self.REQUEST)
+        self.assertEqual(status, 200, answer)
+        return answer["inputs"], answer["switch"]
 
     def ask_on(self, which, given, ended):
-        """Asks with one new key after another, and lists those that were given a variant."""
+        """Asks with one new key after another, and lists those that were given a variant, with it."""
         client = http.client.HTTPConnection("127.0.0.1", self.service.port, timeout=SECONDS)
         number = 0
         while not ended.is_set():
             key = f"user-{which}-{number}"
             client.request("POST", EVALUATE + "color", compact({"context": {"targetingKey": key}}))
             answer = client.getresponse()
-            if "variant" in json.loads(answer.read()) and answer.status == 200:
-                given.append(key)
+            variant = json.loads(answer.read()).get("variant")
+            if variant and answer.status == 200:
+                given.append((key, variant))
             number += 1
         client.close()
 
-    def assertAmong(self, keys):
+    def assertAmong(self, pairs):
         """On each point of the rule at least as many inputs are counted as fall there of these keys."""
         status, _, body = self.ask("GET", "/record?flag=color&site=0")
         self.assertEqual(status, 200)
         counted = dict(json.loads(line) for line in body.decode().splitlines()[2:])
-        lines = "".join(note("color", 0, "color" + key) for key in keys)
+        lines = "".join(sorted(note("color", 0, "color" + key) for key, _ in pairs))
         told = run(["tally", "flags.json", "color", "0"], {"flags.json": self.text("flags.json")}, input=lines)
         wanted = dict(json.loads(line) for line in told.out.splitlines()[2:])
-        self.assertEqual(sum(wanted.values()), len(keys), told.err)
+        self.assertEqual(sum(wanted.values()), len(pairs), told.err)
         self.assertEqual([point for point, users in wanted.items() if counted.get(point, 0) < users], [])
 
 
-@unittest.skipUnless(serves_console(), "the program has no such calls yet")
 class Reached(ControlTest):
     """Who is answered."""
 
@@ -335,7 +341,7 @@ class Reached(ControlTest):
                 with self.subTest(path=path, headers=headers):
                     status, answered, told = self.ask(method, path, body, **headers)
                     self.assertEqual((status, b"checkout" in told or b"<script>" in told), (403, False))
-                    self.assertNotIn("access-control-allow-origin", map(str.lower, answered))
+                    self.assertNotIn("access-control-allow-origin", answered)
             for headers in [{}, {"Host": f"localhost:{port}"}, {"Origin": self.service.origin}, {"Origin": f"http://localhost:{port}"}]:
                 with self.subTest(path=path, headers=headers):
                     self.assertIn(self.ask(method, path, body, **headers)[0], {200} if body is None else {400})
@@ -429,7 +435,6 @@ class Applied(ControlTest):
         self.assertEqual(self.ask("POST", "/apply", compact(token).encode())[0], 400)
         self.assertEqual((self.text("flags.json"), json.loads(self.ask("GET", "/history")[2])), (before, []))
 
-    @unittest.skipUnless(serves_console(), "the program has no such calls yet")
     def test_of_several_documents(self):
         other = compact({"flags": {"other": {"state": "ENABLED", "variants": {"on": True}, "defaultVariant": "on"}}})
         self.put("other.json", other)
@@ -441,7 +446,6 @@ class Applied(ControlTest):
         self.assertIs(json.loads(self.ask("GET", "/flags")[2])["may_apply"], False)
 
 
-@unittest.skipUnless(serves_console(), "the program has no such calls yet")
 class Killed(ControlTest):
     """A service that is killed while it applies one plan after another: the document is whole, and the history agrees with it."""
 

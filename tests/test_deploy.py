@@ -1,5 +1,7 @@
 """The files of `deploy/`, by the programs that read them where they are there: systemd, Prometheus, nginx, logrotate. NGINX_REQUESTS
 is how many go through nginx, 1,000 by default."""
+import base64
+import getpass
 import http.client
 import json
 import os
@@ -9,6 +11,7 @@ import subprocess
 import tempfile
 import unittest
 
+from control_service import Service
 from program import PROGRAM, ROOT, SECONDS, found, free_port, needs, run, wait_until
 from test_service import FLAGS, ServiceTest, context
 
@@ -74,28 +77,22 @@ class Files(unittest.TestCase):
 
 
 class Running(ServiceTest):
-    @needs("nginx", "openssl")
-    def test_nginx(self):
-        """Behind nginx with TLS the protocol is served, and nothing else."""
+    def begin_nginx(self, name, host, edits):
+        """A client of nginx by this file of `deploy/` with these edits, with a certificate for this host."""
         key, pem = (os.path.join(self.folder, name) for name in ("key", "pem"))
-        made = ran("openssl", "req", "-x509", "-newkey", "rsa:2048", "-nodes", "-subj", "/CN=flags.example.com", "-days", "2", "-keyout", key, "-out", pem)
+        made = ran("openssl", "req", "-x509", "-newkey", "rsa:2048", "-nodes", "-subj", f"/CN={host}", "-days", "2", "-keyout", key, "-out", pem)
         self.assertEqual(made.returncode, 0, made.stdout)
-        self.start("--log", "log")
         port = free_port(self)
-        text = text_of("nginx.conf")
-        for old, new in [
-            ("127.0.0.1:8016", f"127.0.0.1:{self.port}"),
-            ("listen 443 ssl", f"listen 127.0.0.1:{port} ssl"),
-            ("/etc/ssl/flags.example.com.pem", pem),
-            ("/etc/ssl/private/flags.example.com.key", key),
-        ]:
+        text = text_of(name)
+        own = [("listen 443 ssl", f"listen 127.0.0.1:{port} ssl"), (f"/etc/ssl/{host}.pem", pem), (f"/etc/ssl/private/{host}.key", key)]
+        for old, new in [*own, *edits]:
             self.assertIn(old, text)
             text = text.replace(old, new)
         here = {name: os.path.join(self.folder, name) for name in ("pid", "error", "access")}
         temporary = "\n".join(f"{name}_temp_path {os.path.join(self.folder, name)};" for name in ("client_body", "proxy", "fastcgi", "uwsgi", "scgi"))
         config = os.path.join(self.folder, "nginx.conf")
         with open(config, "w", encoding="utf-8") as file:
-            file.write(f"daemon off;\npid {here['pid']};\nerror_log {here['error']};\nevents {{}}\nhttp {{\naccess_log {here['access']};\n{temporary}\n{text}\n}}\n")
+            file.write(f"daemon off;\nuser {getpass.getuser()};\npid {here['pid']};\nerror_log {here['error']};\nevents {{}}\nhttp {{\naccess_log {here['access']};\n{temporary}\n{text}\n}}\n")
         server = subprocess.Popen([found("nginx"), "-c", config], stdout=subprocess.DEVNULL, stderr=subprocess.DEVNULL)
         self.addCleanup(server.wait)
         self.addCleanup(server.terminate)
@@ -104,6 +101,13 @@ class Running(ServiceTest):
         trusted.check_hostname = False
         client = http.client.HTTPSConnection("127.0.0.1", port, context=trusted, timeout=SECONDS)
         self.addCleanup(client.close)
+        return client
+
+    @needs("nginx", "openssl")
+    def test_nginx(self):
+        """Behind nginx with TLS the protocol is served, and nothing else."""
+        self.start("--log", "log")
+        client = self.begin_nginx("nginx.conf", "flags.example.com", [("127.0.0.1:8016", f"127.0.0.1:{self.port}")])
         for turn in range(REQUESTS):
             client.request("POST", f"{FLAGS}/color", context(f"user-{turn}"))
             told = client.getresponse()
@@ -113,6 +117,39 @@ class Running(ServiceTest):
             client.request("GET", path)
             told = client.getresponse()
             self.assertEqual((told.status, told.read() != b"ok"), (404, True), path)
+
+    @needs("nginx", "openssl")
+    def test_nginx_before_the_console(self):
+        """Behind a login the console plans and applies, and pages of other origins reach nothing."""
+        users, document, logs = (os.path.join(self.folder, name) for name in ("users", "flags.json", "logs"))
+        os.mkdir(logs)
+        rule = {"fractional": [["on", 5], ["off", 95]]}
+        flag = {"state": "ENABLED", "variants": {"on": True, "off": False}, "defaultVariant": "off", "targeting": rule}
+        for path, text in [(users, "ann:{PLAIN}secret\n"), (document, json.dumps({"flags": {"color": flag}})), (os.path.join(logs, "worker-1.log"), '["color",0,null,"colorbob"]\n')]:
+            with open(path, "w", encoding="utf-8") as file:
+                file.write(text)
+        server = Service(self, document, logs, allow_apply=True)
+        self.addCleanup(server.close)
+        client = self.begin_nginx("nginx-console.conf", "console.example.com", [("127.0.0.1:8017", server.origin[7:]), ("/etc/nginx/flagops.users", users)])
+
+        def ask(method, path, body=None, **headers):
+            client.request(method, path, body, {"Host": "console.example.com", **headers})
+            told = client.getresponse()
+            return told.status, told.read()
+
+        login = {"Authorization": "Basic " + base64.b64encode(b"ann:secret").decode()}
+        own = {**login, "Origin": "https://console.example.com"}
+        self.assertEqual(ask("GET", "/")[0], 401)
+        self.assertIn(b"<title>flagops</title>", ask("GET", "/", **login)[1])
+        self.assertEqual(ask("GET", "/flags", **login)[0], 200)
+        self.assertEqual([ask("GET", path, **login)[0] for path in ("/stop", "/healthz", "/ofrep/v1/configuration")], [404] * 3)
+        request = {"plan": 1, "flag": "color", "site": 0, "totals": {"on": 10, "off": 90}}
+        self.assertEqual(ask("POST", "/plan", json.dumps(request), **{**login, "Origin": "https://evil.example.com"})[0], 403)
+        self.assertEqual(ask("GET", "/flags", **{**login, "Host": "evil.example.com"})[0], 404)
+        status, body = ask("POST", "/plan", json.dumps(request), **own)
+        self.assertEqual(status, 200, body)
+        self.assertEqual(ask("POST", "/apply", json.dumps(json.loads(body)["token"]), **own)[0], 200)
+        self.assertEqual([row["who"] for row in json.loads(ask("GET", "/history", **own)[1])], ["ann"])
 
     @needs("logrotate")
     def test_logrotate(self):

@@ -94,6 +94,18 @@ class Commands(ProgramTest):
             if line.startswith("broken: flags"):
                 self.assertEqual("--floats reads it" in line, "mixed" not in line, line)
 
+    def test_what_is_doubted_does_not_depend_on_how_a_number_is_spelled(self):
+        """Not even where it is too large for a double, so that the document is JSON with floats alone."""
+        text = '{"flags":{"f":{"state":"ENABLED","variants":{"a":%s,"b":2.5},"defaultVariant":"a","targting":{"if":[]}}},"flgs":{}}'
+        told = """note: "d" has a member that is not read:
+  "flgs"; perhaps "flags" is meant
+note: "d": flag "f" has a member that is not read: "targting" (perhaps "targeting" is meant) (Unread)
+"""
+        for number in SPELLED:
+            with self.subTest(number):
+                ran = run(["check", "--floats", "--strict", "d"], {"d": text % number})
+                self.assertEqual((ran.out, ran.err, ran.status), ('"f" good\n', told, 1))
+
     def test_resolutions(self):
         for key, kind, default, context_, printed in RESOLUTIONS:
             with self.subTest(key=key, kind=kind):

@@ -102,6 +102,7 @@ fn answered<L: BookName, G: Gate, R: Wait>(
     ensures grown { IfOk result (λ _. length (own seat.new) + refused.new ≤ length (own seat.old) + refused.old + most_units) }
     ensures gated { IfOk result (λ _. G.started round.now.gate.now ask × G.told round.now.gate.now ask) }
     ensures stalled { StallsOf (G.refused round.now.gate.now) (length round.now.asks.now) result }
+    ensures wanted { IfErr result (λ e. e ≢ DriveFault.Stalled → G.started round.now.gate.now ask) }
     ensures started { IfErr result (λ e. is_of_workers e ≡ false) }
 {
     if !starts(round.gate, ask) {

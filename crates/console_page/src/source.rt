@@ -34,7 +34,7 @@ button,input{font:inherit;color:inherit;background:var(--field);border:1px solid
 button{cursor:pointer;background:var(--card)}button:hover:enabled{border-color:var(--mark)}
 button.main{background:var(--mark);border-color:var(--mark);color:var(--mark-ink);font-weight:600}
 button:disabled{opacity:.5;cursor:default}
-input[type=number]{width:6.5em;font-variant-numeric:tabular-nums}input[type=range]{padding:0;border:0;background:none;accent-color:var(--mark);width:100%;min-width:60px}
+input[type=number]{width:6.5em;font-variant-numeric:tabular-nums}input[type=range]{margin:0;padding:0;border:0;background:none;accent-color:var(--mark);width:100%;min-width:60px}
 input[type=range]{display:block;height:24px}input[type=checkbox]{width:20px;height:20px;accent-color:var(--mark);vertical-align:middle;margin:0}
 :focus-visible{outline:3px solid var(--mark);outline-offset:2px}
 .card{background:var(--card);border:1px solid var(--line);border-radius:12px;padding:18px 20px;margin:0 0 16px;min-width:0}
@@ -45,11 +45,11 @@ input[type=range]{display:block;height:24px}input[type=checkbox]{width:20px;heig
 table{border-collapse:collapse;width:100%}
 th{font-weight:600;font-size:.875rem;color:var(--soft)}tbody th{color:var(--ink);font-size:1rem;min-width:6em}
 th,td{text-align:left;padding:9px 12px 9px 0;border-bottom:1px solid var(--line);vertical-align:middle;overflow-wrap:anywhere}
-thead th{overflow-wrap:normal}tbody tr:last-child>*{border-bottom:0}th:last-child,td:last-child{padding-right:0}
+th .soft{font-weight:400}thead th{overflow-wrap:normal}tbody tr:last-child>*{border-bottom:0}th:last-child,td:last-child{padding-right:0}
 .mono{font:.875rem/1.5 ui-monospace,"DejaVu Sans Mono",Menlo,Consolas,monospace;white-space:pre-wrap}
 .n{text-align:right;font-variant-numeric:tabular-nums;white-space:nowrap;padding-right:28px}
 .sr{position:absolute;width:1px;height:1px;overflow:hidden;clip-path:inset(50%);white-space:nowrap}
-#rates:empty{display:none}
+#key,#percents{margin-left:6px}#rates:empty{display:none}
 .soft{color:var(--soft)}.bad{color:var(--bad)}.warn{color:var(--warn)}.small{font-size:.875rem}
 .chips{display:flex;flex-wrap:wrap;gap:6px 8px;margin:6px 0 16px}
 .chip{display:inline-block;font-size:.8125rem;line-height:1.5;border:1px solid var(--line);border-radius:99px;padding:1px 10px;background:var(--card);white-space:nowrap}
@@ -59,25 +59,27 @@ pre span{display:block;padding:0 4px}pre .added{background:var(--added)}pre .gon
 summary{cursor:pointer;font-weight:600;padding:4px 0}details{margin:8px 0}
 .bar{display:flex;width:100%;height:34px;border-radius:6px;overflow:hidden;border:1px solid var(--line)}
 .bar.thin{height:12px;border-radius:4px;min-width:90px}
-.bar div{min-width:0;overflow:hidden;color:#10151a;font-size:.8125rem;font-weight:600;line-height:32px;padding-left:8px;white-space:nowrap;text-overflow:ellipsis;border-right:1px solid #fff8}
-.bar.thin div{padding:0;border:0}
+.bar div{min-width:0;overflow:hidden;color:#10151a;font-size:.8125rem;font-weight:600;line-height:32px;border-right:1px solid #fff8;container-type:inline-size}
+.bar span{display:block;overflow:hidden;padding-left:8px;white-space:nowrap;text-overflow:ellipsis}@container(max-width:36px){.bar span{display:none}}
+.bar.thin div{border:0}
 .counts{display:flex;align-items:flex-end;height:64px;margin-top:6px;border-bottom:1px solid var(--line)}
 .counts div{flex:1 1 0;min-width:0;background:var(--soft)}
 .ends{display:flex;flex-wrap:wrap;justify-content:space-between;gap:0 12px}
 .v0{background:#e69f00}.v1{background:#56b4e9}.v2{background:#009e73}.v3{background:#f0e442}.v4{background:#3f7fd0}.v5{background:#d55e00}.v6{background:#cc79a7}.v7{background:#a0a0a0}
 .swatch{display:inline-block;flex:none;width:14px;height:14px;border-radius:4px;vertical-align:-2px;margin-right:8px}
-.figures{display:flex;flex-wrap:wrap;gap:8px 40px}.figures b{display:block;font-size:2.5rem;line-height:1.15;font-weight:650;font-variant-numeric:tabular-nums;letter-spacing:-.02em}
+.figures{display:flex;flex-wrap:wrap;gap:8px 40px}.figures>div{max-width:20em}.figures b{display:block;font-size:2.5rem;line-height:1.15;font-weight:650;font-variant-numeric:tabular-nums;letter-spacing:-.02em}
 .figures .second b{color:var(--soft)}
 #outcome{margin:8px 0 0}#passed:empty,#sources:empty{display:none}#result[aria-busy=true] .fades{opacity:.45}
+#result[aria-busy=true] h3::after{content:" \2014  planning";font-weight:400;color:var(--soft);animation:later 1s step-end}@keyframes later{from{opacity:0}}
 .picture{width:100%;height:auto;display:block;border:1px solid var(--line);border-radius:8px;margin-top:14px}
 #history-rows a{overflow-wrap:break-word}.whole{white-space:nowrap}
-#message:empty{display:none}#message{margin:0 0 16px;padding:10px 14px;border:1px solid currentColor;border-radius:8px;background:var(--card)}
+#message:empty{display:none}#message{margin:0 0 16px;padding:10px 14px;border:1px solid var(--line);border-radius:8px;background:var(--card)}#message.bad{border-color:currentColor}
 dialog{border:1px solid var(--line);border-radius:12px;background:var(--card);color:var(--ink);max-width:min(92vw,480px);padding:20px 24px}dialog::backdrop{background:#0008}
 .empty{padding:28px 0;text-align:center;color:var(--soft)}
 #message button{margin-left:8px}
 [hidden]{display:none!important}
 @media(max-width:900px){.two{grid-template-columns:minmax(0,1fr)}.right{grid-column:1;grid-row:auto}}
-@media(max-width:600px){header>div,main{padding-left:14px;padding-right:14px}label.aside{margin-left:0;width:100%}label.aside input{flex:1}.wide{display:none}.picture{min-width:620px}.card{padding:14px}#total-rows tr{display:grid;grid-template-columns:1fr auto auto;gap:0 12px;align-items:center;border-bottom:1px solid var(--line);padding:8px 0}#total-rows tr>*{border:0;padding:3px 0}#total-rows .slide{grid-column:1/-1}.totals thead,#history-table thead{display:none}.totals,#total-rows,#history-table,#history-rows{display:block}#history-rows tr{display:grid;grid-template-columns:1fr auto;gap:0 12px;border-bottom:1px solid var(--line);padding:8px 0}#history-rows tr:last-child{border:0}#history-rows td{border:0;padding:3px 0}#history-rows td:nth-child(2){grid-area:1/1}#history-rows td:nth-child(3){grid-area:1/2;padding-right:0}#history-rows td:first-child{grid-area:2/1/3/3;font-size:.875rem;color:var(--soft)}#history-rows td:last-child{grid-area:3/1/4/3}.figures{display:grid;grid-template-columns:1fr 1fr;gap:8px 20px}.figures b{font-size:2rem}.ends span:nth-child(2){order:3;width:100%}}
+@media(max-width:600px){header>div,main{padding-left:14px;padding-right:14px}header .aside{padding-bottom:8px}label.aside{margin-left:0;width:100%}label.aside input{flex:1}.wide{display:none}.picture{min-width:620px}.card{padding:14px}#total-rows tr{display:grid;grid-template-columns:1fr auto;gap:0 12px;align-items:center;border-bottom:1px solid var(--line);padding:8px 0}#total-rows tr>*{border:0;padding:3px 0}#total-rows tr>td:nth-child(3){text-align:right}#total-rows .slide{grid-column:1/-1}.totals thead,#history-table thead{display:none}.totals,#total-rows,#history-table,#history-rows{display:block}#history-rows tr{display:grid;grid-template-columns:1fr auto;gap:0 12px;border-bottom:1px solid var(--line);padding:8px 0}#history-rows tr:last-child{border:0}#history-rows td{border:0;padding:3px 0}#history-rows td:nth-child(2){grid-area:1/1}#history-rows td:nth-child(3){grid-area:1/2;padding-right:0}#history-rows td:first-child{grid-area:2/1/3/3;font-size:.875rem;color:var(--soft)}#history-rows td:last-child{grid-area:3/1/4/3}.figures{display:grid;grid-template-columns:1fr 1fr;gap:8px 20px}.figures b{font-size:2rem}.ends span:nth-child(2){order:3;width:100%}}
 @media(min-width:601px){.narrow{display:none}}
 </style>
 </head>
@@ -94,7 +96,7 @@ dialog{border:1px solid var(--line);border-radius:12px;background:var(--card);co
   <section id="flags" aria-labelledby="flags-title">
     <div class="row"><h2 id="flags-title" tabindex="-1">Flags</h2><span id="shown" class="soft" role="status"></span>
     <label class="aside">Search <input id="search" type="search" size="18"></label></div>
-    <div class="card"><div class="scroll"><table><thead><tr><th scope="col">Flag</th><th scope="col" class="wide">State</th><th scope="col" class="wide">Type</th><th scope="col" class="wide">Rollout</th><th scope="col" class="wide">Points</th><th scope="col" class="n wide">Recorded</th><th scope="col" class="wide">Default</th></tr></thead><tbody id="flag-rows"></tbody></table></div>
+    <div class="card" id="flag-card" hidden><div class="scroll"><table><thead><tr><th scope="col">Flag</th><th scope="col" class="wide">State</th><th scope="col" class="wide">Type</th><th scope="col" class="wide">Rollout</th><th scope="col" class="wide">Points</th><th scope="col" class="n wide">Recorded</th><th scope="col" class="wide">Default</th></tr></thead><tbody id="flag-rows"></tbody></table></div>
     <p id="none-found" class="empty" hidden>No flag has this in its key.</p>
     <button id="more" type="button" hidden>Show more</button></div>
   </section>
@@ -139,7 +141,7 @@ dialog{border:1px solid var(--line);border-radius:12px;background:var(--card);co
           <div class="row small"><span class="soft">Copy</span>
             <button id="copy-request" type="button">the request</button>
             <button id="copy-plan" type="button" disabled>the plan</button>
-            <button id="copy-line" type="button">the command line</button>
+            <button id="copy-line" type="button">the command line</button><span id="copied" class="soft" role="status"></span>
           </div>
         </div>
         <div class="card" id="change" hidden><h3>What changes in the document</h3>
@@ -155,7 +157,7 @@ dialog{border:1px solid var(--line);border-radius:12px;background:var(--card);co
   </section>
   <section id="history" aria-labelledby="history-title" hidden>
     <div class="row"><h2 id="history-title" tabindex="-1">History</h2></div>
-    <div class="card"><div class="scroll"><table id="history-table"><thead><tr><th scope="col">Applied</th><th scope="col">Flag</th><th scope="col" class="n">Cost</th><th scope="col" class="n wide">Of recorded</th><th scope="col" class="wide">By</th><th scope="col">Going back now</th></tr></thead><tbody id="history-rows"></tbody></table></div>
+    <div class="card" id="history-card" hidden><div class="scroll"><table id="history-table"><thead><tr><th scope="col">Applied</th><th scope="col">Flag</th><th scope="col" class="n">Cost</th><th scope="col" class="n wide">Of recorded</th><th scope="col" class="wide">By</th><th scope="col">Going back now</th></tr></thead><tbody id="history-rows"></tbody></table></div>
     <p id="history-none" class="empty" hidden>Nothing was applied yet.</p></div>
   </section>
 </main>
@@ -183,6 +185,7 @@ const spelled = (n) => n.toLocaleString("en");
 const number = (n, kind) => make("td", { class: kind ? `n ${kind}` : "n" }, n == null ? "" : spelled(n));
 const plural = (n, word) => `${spelled(n)} ${word}${n === 1 ? "" : "s"}`;
 const chip = (text, kind) => make("span", { class: `chip ${kind || ""}` }, text);
+const sentence = (text) => text && text[0].toUpperCase() + text.slice(1) + (/[.!?]$/.test(text) ? "" : ".");
 const say = (text, bad) => { $("message").textContent = text; $("message").className = bad ? "bad" : ""; };
 
 async function call(method, path, body, headers = {}) {
@@ -194,10 +197,10 @@ async function call(method, path, body, headers = {}) {
     text = await response.text();
   } catch { throw new Error("The service does not answer."); }
   if (response.ok) return { text, headers: response.headers };
-  if (response.status === 401) { $("key-field").hidden = false; throw new Error("The service asks for a key: put it in above."); }
+  if (response.status === 401) { $("key-field").hidden = false; $("key").focus(); throw new Error("The service asks for a key: put it in above."); }
   let why;
   try { why = JSON.parse(text); } catch { why = {}; }
-  const error = new Error((why.details || why.errorDetails || "").trim() || (why.refused ? `${why.refused} ${why.number} ${why.name}` : `The service answers ${response.status}.`));
+  const error = new Error(sentence((why.details || why.errorDetails || "").trim()) || (why.refused ? `${why.refused} ${why.number} ${why.name}` : `The service answers ${response.status}.`));
   error.status = response.status;
   throw error;
 }
@@ -275,7 +278,7 @@ function flagsOf(all) {
 }
 // Reads the flags that are served now.
 async function read() {
-  const all = parsed((await call("GET", "flags")).text);
+  const all = parsed((await calmly("GET", "flags")).text);
   const rank = (flag) => (flag.broken ? 0 : flag.doubts.length ? 1 : 2);
   flags = flagsOf(all).sort((a, b) => rank(a) - rank(b) || (a.key < b.key ? -1 : a.key > b.key ? 1 : 0));
   ({ may_apply: mayApply, sources, snapshot } = all);
@@ -285,10 +288,11 @@ async function read() {
   list();
 }
 async function load() {
+  $("shown").textContent = "reading what is recorded\u2026";
   try {
     await read();
     route();
-  } catch (error) { say(error.message, true); }
+  } catch (error) { say(error.message, true); $("shown").textContent = ""; }
 }
 const named = (key) => key || '""';
 const shade = (names, name) => `v${Math.max(0, names.indexOf(name)) % 8}`;
@@ -303,7 +307,7 @@ function barOf(flag, rule, thin) {
   const parts = [...totals].map(([name, points]) => `${name} ${spelled(points)}`).join(", ");
   const bar = make("div", { class: thin ? "bar thin" : "bar", role: "img", "aria-label": `${parts}, of ${plural(all, "point")}`, title: parts });
   for (const [name, weight] of thin ? totals : rule) {
-    const piece = make("div", { class: shade(names, name), title: `${name}: ${spelled(weight)}` }, thin || weight * (innerWidth > 900 ? 25 : 9) < all ? "" : name);
+    const piece = make("div", { class: shade(names, name), title: `${name}: ${spelled(weight)}` }, thin ? null : make("span", {}, name));
     piece.style.flex = `${weight} ${weight} 0`;
     bar.append(piece);
   }
@@ -321,13 +325,14 @@ function list() {
     const first = flag.sites.find((one) => one.rule), points = first ? [...shareOf(first.rule)].map(([name, n]) => `${name} ${spelled(n)}`).join(", ") : "";
     const why = flag.broken || flag.doubts.join("; ");
     return make("tr", {},
-      cell(make("a", { href: link("flag", flag.key) }, named(flag.key)), make("span", { class: "narrow" }, " ", badge(flag)), why ? make("div", { class: flag.broken ? "bad small" : "warn small" }, why) : null, points ? make("div", { class: "narrow soft small" }, points) : null),
+      cell(make("a", { href: link("flag", flag.key) }, named(flag.key)), make("span", { class: "narrow" }, " ", badge(flag)), why ? make("div", { class: flag.broken ? "bad small" : "warn small" }, why) : null, points ? make("div", { class: "narrow soft small" }, first.inputs == null ? points : `${points}; ${plural(first.inputs, "recorded user")}`) : null),
       wide(badge(flag)), wide(flag.kind || ""), wide(first ? barOf(flag, first.rule, true) : ""), wide(points),
       number(first && first.inputs, "wide"), wide(flag.default == null ? "" : flag.default));
   }));
   $("shown").textContent = found.length === flags.length ? plural(found.length, "flag") : `${spelled(found.length)} of ${plural(flags.length, "flag")}`;
   $("none-found").hidden = found.length > 0 || !flags.length;
   $("more").hidden = found.length <= shown;
+  $("flag-card").hidden = false;
 }
 function openFlag(flag) {
   $("flag-title").textContent = named(flag.key);
@@ -361,7 +366,7 @@ async function histogram(key, one, by, place, users) {
     users.textContent = `${plural(head.inputs, "recorded user")}, by ${by}`;
     place.setAttribute("aria-label", `${plural(head.inputs, "recorded user")} over the points`);
     place.replaceChildren(...columns.map((n) => { const column = make("div", { title: plural(n, "user") }); column.style.height = `${100 * n / most}%`; return column; }));
-  } catch (error) { users.textContent = ""; place.replaceWith(make("p", { class: "soft small" }, error.message)); }
+  } catch (error) { users.textContent = error.message; place.remove(); }
 }
 
 // ---- a rollout
@@ -372,9 +377,9 @@ function openRollout(flag, one) {
   $("rollout-title").textContent = flag.sites.length > 1 ? `Change rollout ${one.site + 1} of ${flag.key}` : `Change the rollout of ${flag.key}`;
   $("rollout-flag").textContent = flag.key;
   $("rollout-flag").href = link("flag", flag.key);
-  $("rollout-about").textContent = `${plural(one.total, "point")}, by ${one.by == null ? "the flag's key and the targeting key" : one.by}`;
+  $("rollout-about").textContent = `Each user falls on one of ${plural(one.total, "point")}, by ${one.by == null ? "the flag's key and the targeting key" : one.by}.`;
   $("total-rows").replaceChildren(...names.map((name, i) => make("tr", {},
-    make("th", { scope: "row" }, make("span", { class: `swatch ${shade(names, name)}` }), name), number(totals.get(name) || 0, "wide"),
+    make("th", { scope: "row" }, make("span", { class: `swatch ${shade(names, name)}` }), name, make("span", { class: "narrow soft small" }, ` now ${spelled(totals.get(name) || 0)}`)), number(totals.get(name) || 0, "wide"),
     cell(make("input", { type: "number", min: 0, max: one.total, value: totals.get(name) || 0, id: `total-${i}`, "aria-label": `points of ${name}`, oninput: () => change(i) })),
     make("td", { class: "slide" }, make("input", { type: "range", min: 0, max: one.total, value: totals.get(name) || 0, id: `slide-${i}`, "aria-label": `points of ${name}`, oninput: (event) => { $(`total-${i}`).value = event.target.value; change(i); } })),
     cell(make("label", {}, make("input", { type: "checkbox", id: `keep-${i}`, "aria-label": `nobody loses ${name}`, onchange: () => keep(i) }), make("span", { class: "narrow small" }, " nobody loses it"))))));
@@ -454,6 +459,7 @@ function buttons(ready) {
   for (const id of ["download", "show-diff"]) $(id).disabled = !ready;
   $("copy-plan").disabled = !answer;
   $("change").hidden = true;
+  $("copied").textContent = "";
 }
 function clear() {
   answer = null;
@@ -469,10 +475,10 @@ function unplanned(error) {
   $("outcome").className = "bad";
 }
 const figure = (value, text, second) => make("div", { class: second ? "second" : "" }, make("b", {}, value), make("span", { class: "soft" }, text));
-const noRule = ({ plan: { none, side } }) => {
-  const names = none.map((name) => `"${name}"`).join(", ");
-  return side === "under" ? `No rule can: too few points may have ${names}.` : `No rule can: of the points that have ${names} now, too many may neither stay nor change.`;
-};
+// Why no rule fits: what the service says of it, without the line that names the request.
+const noRule = ({ explained }) => `No rule can: ${explained.trimEnd().split("\n").slice(1).map((line) => line.trim()).join("; ")}.`;
+// What no other rule does better: where each change costs the same, the cost is the number of those who switch.
+const least = ({ token: { request: asked } }) => ("prices" in asked || "price" in asked ? "No rule that fits costs less." : "No rule that fits switches fewer.");
 function showPicture(image, text, alt) {
   if (image.src) URL.revokeObjectURL(image.src);
   if (text) { image.src = URL.createObjectURL(new Blob([text], { type: "image/svg+xml" })); image.alt = alt; }
@@ -501,7 +507,7 @@ function planned(reply) {
     ...(reply.plan.cost === reply.switch ? [] : [figure(spelled(reply.plan.cost), "is what they cost", true)])] : []));
   $("outcome").className = fits ? "soft" : "bad";
   $("outcome").replaceChildren(...(fits
-    ? [make("span", { class: "sr" }, `${spelled(reply.switch)} of ${plural(reply.inputs, "recorded user")} switch${hand ? `; ${spelled(reply.by_hand)} ${hand}` : ""}. `), "No rule that fits costs less."]
+    ? [make("span", { class: "sr" }, `${spelled(reply.switch)} of ${plural(reply.inputs, "recorded user")} switch${hand ? `; ${spelled(reply.by_hand)} ${hand}` : ""}. `), least(reply)]
     : [noRule(reply)]));
   const passed = reply.passed_over || [];
   $("passed").textContent = [reply.inputs === 0 ? "Nobody is recorded here, so this says nothing of who switches." : "", passed.length ? `Not counted, as they are compressed: ${passed.join(", ")}.` : ""].filter(Boolean).join(" ");
@@ -541,7 +547,9 @@ async function steps() {
 }
 
 // ---- what a person takes along
-const copy = async (text, what) => { try { await navigator.clipboard.writeText(text); say(`${what} is copied.`); } catch { say(`${what} can't be copied here.`, true); } };
+async function copy(text, what) {
+  try { await navigator.clipboard.writeText(text); $("copied").textContent = `${what} is copied.`; } catch { $("copied").textContent = `${what} can't be copied here.`; }
+}
 const quotedWord = (text) => `'${text.replaceAll("'", "'\\''")}'`;
 function commandLine() {
   const { flag, one } = site, base = location.origin, curl = $("key").value ? 'curl -s -H "Authorization: Bearer $KEY"' : "curl -s";
@@ -583,7 +591,8 @@ async function showDifference() {
     $("diff").replaceChildren(...(text === answer.document ? [make("span", {}, "Nothing changes.")] : difference(text, answer.document)));
     $("change").hidden = false;
     $("apply").disabled = !mayApply;
-    $("apply-why").textContent = mayApply ? "" : sources.length === 1 ? "This service does not write documents: download the new one, or start it with --allow-apply." : `The new document has the flags of all ${sources.length} documents: put the rule into the one that has this flag.`;
+    const alone = ["This service does not write documents: download the new one, or start it with ", make("span", { class: "whole" }, "--allow-apply"), "."];
+    $("apply-why").replaceChildren(...(mayApply ? [] : sources.length === 1 ? alone : [`The new document has the flags of all ${sources.length} documents: put the rule into the one that has this flag.`]));
     $("change").scrollIntoView({ block: "nearest" });
   } catch (error) { say(error.message, true); }
 }
@@ -612,14 +621,16 @@ async function apply() {
 // ---- history
 async function openHistory() {
   show("history", "history-title");
+  $("history-card").hidden = true;
   try {
     const rows = JSON.parse((await call("GET", "history")).text);
     $("history-rows").replaceChildren(...rows.map((row) => make("tr", {}, cell(make("time", { datetime: row.time }, ...row.time.replace(/(\.\d+)?Z$/, " UTC").split(/T(?=\d)/).flatMap((part, i) => [i ? " " : null, make("span", { class: "whole" }, part)]))),
-      cell(make("a", { href: link("flag", row.flag) }, row.flag), row.site ? ` (rollout ${row.site + 1})` : "", make("div", { class: "soft small" }, changeOf(row))),
+      cell(make("a", { href: link("flag", row.flag) }, row.flag), row.site ? ` (rollout ${row.site + 1})` : "", make("div", { class: "soft small" }, changeOf(row), row.who ? make("span", { class: "narrow" }, `, by ${row.who}`) : null)),
       make("td", { class: "n" }, make("span", { class: "narrow soft small" }, "cost "), spelled(row.cost)), number(row.inputs, "wide"), wide(row.who || "not said"),
-      cell(make("button", { type: "button", onclick: (event) => goingBack(row, event.target) }, "What would it do?")))));
+      cell(make("button", { type: "button", onclick: (event) => goingBack(row, event.target) }, "What would it switch?")))));
     $("history-table").hidden = rows.length === 0;
     $("history-none").hidden = rows.length > 0;
+    $("history-card").hidden = false;
   } catch (error) { say(error.message, true); }
 }
 // How many points each variant had, and has.
@@ -634,7 +645,7 @@ async function goingBack(row, button) {
   let text;
   try {
     const reply = await planOf({ plan: 1, flag: row.flag, site: row.site, totals });
-    text = hasRule(reply) ? `${spelled(reply.switch)} of ${plural(reply.inputs, "user")} would switch` : "no rule can";
+    text = hasRule(reply) ? `Going back would switch ${spelled(reply.switch)} of ${plural(reply.inputs, "user")}.` : noRule(reply);
   } catch (error) { text = error.message; }
   button.replaceWith(make("span", { role: "status" }, text));
 }
@@ -682,5 +693,5 @@ rates();
 pub fn page_policy() -> &'static str
     ensures { result.now ≡ policy_text }
 {
-    "default-src 'none'; style-src 'sha256-pBtBDeyadhDEHXHpdXfy6HvBWgfv7/AoLWm4ezZhJjQ='; script-src 'sha256-WIUIGlJ0q7vfuR2IOeb6udMb+hqTDem4MZPfMIFNpHs='; connect-src 'self'; img-src blob: data:; base-uri 'none'; form-action 'none'; frame-ancestors 'none'"
+    "default-src 'none'; style-src 'sha256-63tBB5HS5MzeLdZWP2cKHHWrb5XqWAkOjvvGUvjeLgw='; script-src 'sha256-kpi9RIHiaMIRRlHa0Hv7pG1NHvcGGXxguSEcqroEc2Q='; connect-src 'self'; img-src blob: data:; base-uri 'none'; form-action 'none'; frame-ancestors 'none'"
 }

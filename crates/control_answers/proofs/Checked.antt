@@ -1,5 +1,5 @@
 -- What is told of an answer.
-use Rattle.std.proofs.Common.{◌≡◌, ◌≢◌, ℕ, List, Result, Ok, Err, refl, sym, subst, ap, ◌∙◌}
+use Rattle.std.proofs.Common.{◌≡◌, ◌≢◌, ℕ, List, Result, Ok, Err, refl, sym, subst, ap}
 use Rattle.flag_defs.specs.Document.{Definitions}
 use Rattle.plan_text.specs.Answer.{Answer}
 use Rattle.plan_text.specs.PlanFile.{answer_of}
@@ -13,7 +13,6 @@ use Rattle.control_answers.specs.Check.{IsVerdictOn, WithAnswer, valid_text}
 use Rattle.control_answers.specs.Refusal.{of_read, of_verdict}
 use Rattle.control_answers.specs.Turns.{Gives, Outcomes}
 use Rattle.control_answers.specs.declared.refusal.ControlRefusal.{ControlRefusal}
-use Rattle.control_answers.specs.declared.refusal.ControlRefusal.TheVariants.{WantOfMemory}
 use Rattle.control_answers.proofs.Turns.{refused}
 
 module _ {A B : Type 0} (seen : A → B) where

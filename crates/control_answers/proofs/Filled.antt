@@ -1,5 +1,5 @@
 -- Each page of a site is given a number, and no number changes.
-use Rattle.std.proofs.Common.{◌≡◌, ◌≢◌, ◌∙◌, ℕ, Bool, true, false, cond, unwrap_or, List, [], ◌∷◌, ◌++◌, Option, Some, None, refl, sym, ap, subst, ⊎_elim}
+use Rattle.std.proofs.Common.{◌≡◌, ◌∙◌, ℕ, Bool, true, false, cond, unwrap_or, List, [], ◌∷◌, ◌++◌, Option, Some, None, refl, sym, ap, subst, ⊎_elim}
 use Rattle.std.specs.Prelude.{◌||◌}
 use Rattle.std.specs.BTreeMap.{is_at}
 use Rattle.std.specs.Cmp.{tied_itself}
@@ -14,7 +14,7 @@ use Rattle.flag_defs.specs.Document.{Definitions}
 use Rattle.log_tallies.specs.Counts.{AreCounts, IsCountOf, counted_on}
 use Rattle.tally_core.proofs.Pages.{same_page}
 use Rattle.control_flags.specs.Sites.{Recorded, recorded_on}
-use Rattle.control_answers.specs.SiteCounts.{AreSiteCounts, Fills, IsSiteCount, filled, site_pages}
+use Rattle.control_answers.specs.SiteCounts.{AreSiteCounts, Fills, IsSiteCount, site_pages}
 
 abbrev among : PageName → List PageName → Bool
 among page pages = list_any (λ p. page_eq p page) pages

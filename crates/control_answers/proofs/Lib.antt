@@ -1,14 +1,15 @@
 mod Checked
 mod Filled
 mod Joined
+mod NoText
 mod Outcomes
 mod Pages
+mod Parts
 mod Planned
 mod Recorded
 mod Right
 mod Rows
 mod Tallied
-mod Texts
 mod Tokens
 mod Turns
 mod WithRule

@@ -1,7 +1,7 @@
 -- What is told of a plan.
-use Rattle.std.proofs.Common.{◌≡◌, ◌≢◌, ℕ, List, true, is_ok, Result, Ok, Err, refl, sym, ap, ◌∙◌, subst}
+use Rattle.std.proofs.Common.{◌≡◌, ◌≢◌, ℕ, List, true, is_ok, Result, Ok, Err, refl, sym, ap, subst}
 use Rattle.flag_defs.specs.Document.{Definitions}
-use Rattle.plan_text.specs.Answer.{Answer, planned_view}
+use Rattle.plan_text.specs.Answer.{planned_view}
 use Rattle.plan_text.specs.PlanFile.{plan_file}
 use Rattle.plan_text.specs.declared.fault.PlanFileFault.{PlanFileFault}
 use Rattle.plan_text.specs.declared.fault.PlanFileFault.TheVariants as plan_fault

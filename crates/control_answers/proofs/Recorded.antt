@@ -5,19 +5,19 @@ use Rattle.book_core.specs.Page.{PageName}
 use Rattle.log_tallies.specs.Recorded.{IsRecordTally, IsTallyOfHashes, IsTallyOfInputs}
 use Rattle.log_tallies.specs.Tallies.{TalliesFiles}
 use Rattle.log_tallies.specs.declared.fault.LogTallyFault.{LogTallyFault}
-use Rattle.plan_text.specs.Answer.{Answer, planned_view}
+use Rattle.plan_text.specs.Answer.{planned_view}
 use Rattle.plan_text.specs.PlanFile.{plan_file}
 use Rattle.plan_text.specs.declared.fault.PlanFileFault.{PlanFileFault}
 use Rattle.plan_text.specs.declared.planned.Planned.{Planned}
 use Rattle.rollout.specs.Tallied.{IsTallyPlanned, TalliesAskAsBooks}
-use Rattle.rollout_checks.specs.Tallied.{AreTallied, TallyProblem, tally_problem_of}
+use Rattle.rollout_checks.specs.Tallied.{TallyProblem, tally_problem_of}
 use Rattle.rollout_checks.specs.declared.fault.RolloutFault.{RolloutFault}
 use Rattle.rollout_checks.specs.declared.refining.Refining.TheVariants.{Times}
 use Rattle.tally_core.specs.Law.{HashesStandForInputs, IsTallyOf}
 use Rattle.tally_core.specs.Tally.{PageTally}
 use Rattle.control_answers.proofs.Tallied.{tallied}
 use Rattle.control_answers.specs.Law.{AnswersPlanTheRecord, IsAnswerFor, PlansHashes, PlansInputs, PlansTheRecord}
-use Rattle.control_answers.specs.Plan.{IsPlanAnswer, IsPlanOn, IsPrinted, IsReported}
+use Rattle.control_answers.specs.Plan.{IsPlanOn, IsPrinted, IsReported}
 use Rattle.control_answers.specs.Snapshot.{Snapshot}
 use Rattle.control_answers.specs.Target.{Target, target_of}
 use Rattle.control_answers.specs.Turns.{OfFiles, WithTally, WithTarget}

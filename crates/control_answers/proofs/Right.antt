@@ -1,5 +1,5 @@
 -- What is found right is right for the inputs that the files hold.
-use Rattle.std.proofs.Common.{◌≡◌, ◌⊎◌, ◌∙◌, ℕ, List, true, false, Option, Some, None, Result, Ok, Err, inl, inr, refl, sym, ap, subst}
+use Rattle.std.proofs.Common.{◌≡◌, ◌⊎◌, ℕ, List, true, false, Option, Some, None, Result, Ok, Err, inl, inr, refl, subst}
 use Rattle.book_core.specs.Book.{Inputs}
 use Rattle.book_core.specs.Page.{PageName}
 use Rattle.flag_defs.specs.Document.{Definitions}
@@ -10,7 +10,7 @@ use Rattle.plan_text.specs.Answer.{Answer}
 use Rattle.plan_text.specs.PlanFile.{answer_of}
 use Rattle.plan_text.specs.declared.fault.PlanFileFault.{PlanFileFault}
 use Rattle.rollout.specs.Tallied.{TalliesAskAsBooks}
-use Rattle.rollout_checks.specs.Tallied.{AreTallied, IsTallyShown, TallyProblem, tally_problem_of}
+use Rattle.rollout_checks.specs.Tallied.{IsTallyShown, TallyProblem, tally_problem_of}
 use Rattle.rollout_checks.specs.Verified.{refining_for}
 use Rattle.rollout_checks.specs.declared.fault.RolloutFault.{RolloutFault}
 use Rattle.rollout_checks.specs.declared.verify_fault.VerifyFault.{VerifyFault}

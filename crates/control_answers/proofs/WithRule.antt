@@ -1,5 +1,5 @@
 -- The document with a rule at the site of a request.
-use Rattle.std.proofs.Common.{◌≡◌, ◌≢◌, ◌∙◌, ℕ, List, Result, Ok, Err, String, Global, string_bytes, true, sym, ap, subst}
+use Rattle.std.proofs.Common.{◌≡◌, ◌≢◌, ◌∙◌, ℕ, List, Result, Ok, Err, true, sym, ap, subst}
 use Rattle.bucket_core.specs.Rule.{Entries}
 use Rattle.flag_defs.specs.Document.{Definitions}
 use Rattle.kept_document.specs.Kept.{place_in}

@@ -1,5 +1,5 @@
 -- What comes of a token: its plan, checked on what files hold, and then in the document.
-use Rattle.std.specs.Prelude.{◌≡◌, ◌≢◌, ◌⊎◌, ℕ, List, true, false, OnOk, Option, Some, None, Result, Ok, Err, string_bytes}
+use Rattle.std.specs.Prelude.{◌≡◌, ◌⊎◌, ℕ, List, true, false, Option, Some, None, Result, Ok, Err, string_bytes}
 use Rattle.plan_text.specs.Answer.{Answer, planned_view}
 use Rattle.plan_text.specs.PlanFile.{answer_of}
 use Rattle.rollout_checks.specs.declared.verify_fault.VerifyFault.{VerifyFault}
@@ -9,7 +9,7 @@ use Rattle.control_answers.specs.Doubts.{doubt_of}
 use Rattle.control_answers.specs.Kept.{IsChanged}
 use Rattle.control_answers.specs.Snapshot.{Snapshot}
 use Rattle.control_answers.specs.Refusal.{of_verdict_of_token}
-use Rattle.control_answers.specs.Target.{Target, target_of}
+use Rattle.control_answers.specs.Target.{target_of}
 use Rattle.control_answers.specs.Token.{IsNoToken, IsToken, Token, is_tag_of}
 use Rattle.control_answers.specs.Turns.{OfFiles, Outcomes, WithTarget}
 use Rattle.control_answers.specs.declared.applying.Applied as program

@@ -45,6 +45,12 @@ rows_text later (r ∷ rs) = comma_if later ++ (row_text r ++ rows_text true rs)
 abbrev pub switched_in : Rows → ℕ
 switched_in rows = sum_by (λ r. r.1) rows
 
+-- what the edit that comes to mind first would switch of so many inputs, beside the plan, as `plan --explain` says it
+unfoldable pub edit_words : Option ℕ → ℕ → ℕ → List ℕ
+edit_words None all by_plan = []
+edit_words (Some by_hand) all by_plan =
+    codes "  your edit by hand, each variant in one block, would switch " ++ (decimal by_hand ++ (codes " of " ++ (decimal all ++ (codes "; this plan switches " ++ (decimal by_plan ++ codes "\n")))))
+
 -- ---- the whole
 
 abbrev pub numbers_text : Told → List ℕ

@@ -9,7 +9,7 @@ use Rattle.rollout_checks.specs.Verified.{refining_for}
 use Rattle.rollout_checks.specs.declared.verify_fault.VerifyFault.{VerifyFault}
 use Rattle.tally_core.specs.Tally.{PageTally}
 use Rattle.control_answers.specs.Refusal.{of_read, of_verdict}
-use Rattle.control_answers.specs.Target.{Target, target_of}
+use Rattle.control_answers.specs.Target.{target_of}
 use Rattle.control_answers.specs.Turns.{OfFiles, Outcomes, WithTarget}
 use Rattle.control_answers.specs.declared.refusal.ControlRefusal.{ControlRefusal}
 

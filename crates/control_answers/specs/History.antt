@@ -18,10 +18,18 @@ pub record AppliedRow : Type 0 where
   pub cost : ℕ
   pub inputs : ℕ
 
+abbrev pub cost_text : AppliedRow → List ℕ
+cost_text r = codes "{\"cost\":" ++ (decimal r.cost ++ (codes ",\"flag\":" ++ (quoted r.flag ++ (codes ",\"inputs\":" ++ decimal r.inputs))))
+
+abbrev pub rules_text : AppliedRow → List ℕ
+rules_text r = codes ",\"new\":" ++ (rule_text r.new ++ (codes ",\"old\":" ++ (rule_text r.old ++ (codes ",\"site\":" ++ decimal r.site))))
+
+abbrev pub who_text : AppliedRow → List ℕ
+who_text r = codes ",\"time\":" ++ (quoted r.time ++ (codes ",\"who\":" ++ (quoted r.who ++ codes "}\n")))
+
+-- what it costs, the rules, and when and by whom it was applied
 abbrev pub row_text : AppliedRow → List ℕ
-row_text r =
-    codes "{\"cost\":" ++ (decimal r.cost ++ (codes ",\"flag\":" ++ (quoted r.flag ++ (codes ",\"inputs\":" ++ (decimal r.inputs ++ (codes ",\"new\":" ++ (rule_text r.new
-    ++ (codes ",\"old\":" ++ (rule_text r.old ++ (codes ",\"site\":" ++ (decimal r.site ++ (codes ",\"time\":" ++ (quoted r.time ++ (codes ",\"who\":" ++ (quoted r.who ++ codes "}\n")))))))))))))))
+row_text r = cost_text r ++ (rules_text r ++ who_text r)
 
 -- ---- as it is told
 

@@ -1,5 +1,5 @@
 -- What is planned of a request on what files hold.
-use Rattle.std.specs.Prelude.{◌≡◌, ℕ, List, codes, Result, Ok, Err}
+use Rattle.std.specs.Prelude.{◌≡◌, ◌++◌, ℕ, List, codes, Result, Ok, Err}
 use Rattle.file_diagnostics.specs.Named.{Names}
 use Rattle.plan_text.specs.Answer.{Answer, planned_view}
 use Rattle.plan_text.specs.PlanFile.{plan_file}
@@ -10,15 +10,19 @@ use Rattle.rollout_checks.specs.Tallied.{TallyProblem, tally_problem_of}
 use Rattle.rollout_checks.specs.declared.fault.RolloutFault.{RolloutFault}
 use Rattle.rollout_checks.specs.declared.refining.Refining.TheVariants.{Times}
 use Rattle.tally_core.specs.Tally.{PageTally}
-use Rattle.control_answers.specs.Body.{Told, told_text}
+use Rattle.control_answers.specs.Body.{Told, edit_words, switched_in, told_text}
 use Rattle.control_answers.specs.Token.{token_text}
-use Rattle.plan_effects.specs.Effect.{Effect, IsEffect}
+use Rattle.plan_effects.specs.Effect.{IsEffect}
 use Rattle.plan_effects.specs.Picture.{IsPictured}
 use Rattle.control_answers.specs.Kept.{MayBeChanged}
 use Rattle.control_answers.specs.Refusal.{of_printed, of_rollout}
 use Rattle.control_answers.specs.Snapshot.{Snapshot}
-use Rattle.control_answers.specs.Target.{Target, target_of}
+use Rattle.control_answers.specs.Target.{target_of}
 use Rattle.control_answers.specs.Turns.{OfFiles, Outcomes, WithTarget}
+
+-- words that begin with the request, and then what the edit by hand would switch
+abbrev pub IsExplained : Told → Type 0
+IsExplained a = (words : List ℕ) × Names (codes "request") words × (a.explained ≡ words ++ edit_words a.by_hand a.inputs (switched_in a.switches))
 
 -- what is told of a plan is of this snapshot, this request, this tally and this answer
 pub record IsTold (s : Snapshot) (request : List ℕ) (t : PageTally) (answer : Answer) (plan : List ℕ) (a : Told) : Type 0 where
@@ -29,7 +33,7 @@ pub record IsTold (s : Snapshot) (request : List ℕ) (t : PageTally) (answer : 
   pub plan_is : a.plan ≡ plan
   pub effect : IsEffect problem answer (record { switches = a.switches; by_hand = a.by_hand })
   pub picture : IsPictured problem answer a.picture
-  pub explained : Names (codes "request") a.explained
+  pub explained : IsExplained a
   pub document : MayBeChanged s request answer a.document
   pub token : a.token ≡ token_text s.document request plan
 

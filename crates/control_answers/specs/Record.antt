@@ -1,5 +1,5 @@
 -- What is recorded at a site.
-use Rattle.std.specs.Prelude.{◌≡◌, ℕ, List, Result, Ok}
+use Rattle.std.specs.Prelude.{◌≡◌, ℕ, List, Ok}
 use Rattle.flag_defs.specs.Document.{Definitions}
 use Rattle.tally_core.specs.Tally.{PageTally}
 use Rattle.tally_text.specs.File.{tally_text}

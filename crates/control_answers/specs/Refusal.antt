@@ -1,5 +1,5 @@
 -- Why a call is refused: as the command that it stands for refuses it.
-use Rattle.std.specs.Prelude.{ℕ, ◌+◌, List, ◌++◌, codes, decimal}
+use Rattle.std.specs.Prelude.{ℕ, List, ◌++◌, codes, decimal}
 use Rattle.flag_text.specs.Printing.{text_of}
 use Rattle.flag_text.specs.Shape.{text}
 use Rattle.kept_document.specs.declared.fault.KeepFault.{KeepFault}

@@ -1,9 +1,9 @@
 -- What is tallied: the inputs of a site's page, in as many points as the weights of its rule sum to.
-use Rattle.std.specs.Prelude.{◌≡◌, ℕ, ◌==◌, nat_lt, List, if◌then◌else◌, Result, Ok, Err}
+use Rattle.std.specs.Prelude.{ℕ, ◌==◌, nat_lt, List, if◌then◌else◌, Result, Ok, Err}
 use Rattle.bucket_core.specs.Rule.{Entries, entries_view, total_weight}
 use Rattle.book_core.specs.Page.{PageName}
 use Rattle.flag_defs.specs.Document.{Definitions}
-use Rattle.price_core.specs.Request.{Asked, asked_of}
+use Rattle.price_core.specs.Request.{asked_of}
 use Rattle.rollout_checks.specs.Lawful.{Place, and_then, by_price, max_planned, place_of}
 use Rattle.rollout_checks.specs.declared.fault.RolloutFault.{RolloutFault}
 use Rattle.rollout_checks.specs.declared.fault.RolloutFault.TheVariants.{NoWeight, TotalTooLarge}

@@ -2,9 +2,10 @@
 ghost use Rattle.std.specs.Prelude.{◌≡◌, ◌++◌, ◌≤◌, false, IfOk, OnOk, option_map, string_bytes, sum_by};
 ghost use Rattle.limits.specs.Limits.{tally_inputs};
 ghost use Rattle.rule_switches.specs.Switches.{row_view, rows_view};
-ghost use Rattle.control_answers.specs.Body.{comma_if, number_or_null, numbers_text, row_text, rows_text, switched_in, text_or_null, texts_text, told_text};
+ghost use Rattle.control_answers.specs.Body.{number_or_null, numbers_text, row_text, rows_text, switched_in, text_or_null, texts_text, told_text};
 ghost use Rattle.control_answers.specs.View.{told_view};
 
+use crate::texts::comma_if;
 use flag_text::push_string;
 use plan_effects::Effect;
 use rule_switches::Switch;
@@ -68,15 +69,11 @@ fn numbers_text(alloc: Global, told: &Told) -> Result<String, AllocError>
     ensures { IfOk result (λ s. string_bytes s ≡ numbers_text (told_view told.now)) }
 {
     let by_hand = number_or_null(alloc, told.effect.by_hand)?;
-    let inputs = told.inputs;
-    let snapshot = told.snapshot;
+    let (inputs, snapshot) = (told.inputs, told.snapshot);
     let switch = switched_in(told.effect.switches.as_slice());
-    let mut text = String::from_str(alloc, "{\"by_hand\":")?;
-    text.push_str(by_hand.as_str())?;
-    write!(text, ",\"inputs\":{inputs}")?;
-    write!(text, ",\"snapshot\":{snapshot}")?;
-    write!(text, ",\"switch\":{switch},\"switches\":[")?;
-    Ok(text)
+    format!(in alloc;
+        "{{\"by_hand\":{by_hand},\"inputs\":{inputs},\"snapshot\":{snapshot},\"switch\":{switch},\"switches\":["
+    )
 }
 
 fn number_or_null(alloc: Global, number: Option<u64>) -> Result<String, AllocError>
@@ -89,7 +86,7 @@ fn number_or_null(alloc: Global, number: Option<u64>) -> Result<String, AllocErr
 }
 
 /// How many inputs switch in all.
-fn switched_in(switches: &[Switch]) -> u64
+pub(crate) fn switched_in(switches: &[Switch]) -> u64
     requires { sum_by (λ r. r.1) (rows_view switches.now) ≤ tally_inputs }
     ensures { result ≡ switched_in (rows_view switches.now) }
 {
@@ -107,13 +104,6 @@ fn push_rows(alloc: Global, out: &mut String, rows: &[Switch]) -> Result<(), All
         later = true;
     }
     Ok(())
-}
-
-/// A comma, where it is not the first item.
-pub(crate) fn comma_if(later: bool) -> &'static str
-    ensures { result.now ≡ comma_if later }
-{
-    if later { "," } else { "" }
 }
 
 fn push_row(alloc: Global, out: &mut String, row: &Switch) -> Result<(), AllocError>

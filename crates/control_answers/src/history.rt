@@ -1,11 +1,13 @@
 //! What was applied, and when.
 ghost use Rattle.std.specs.Prelude.{◌≡◌, ◌++◌, ◌∷◌, [], filter, IfOk, OnOk, string_bytes};
+ghost use Rattle.bucket_core.specs.Rule.{entries_view};
+ghost use Rattle.control_flags.specs.Sites.{rule_text};
 ghost use Rattle.line_batches.specs.Lines.{lines_view};
-ghost use Rattle.control_answers.specs.History.{IsHistory, is_row, row_view, rows_from, row_text};
+ghost use Rattle.control_answers.specs.History.{IsHistory, cost_text, is_row, row_text, row_view, rows_from, rules_text, who_text};
 
-use crate::body::comma_if;
+use crate::texts::{comma_if, quoted};
 use control_flags::push_rule;
-use flag_text::{TextFault, push_string, read_tree};
+use flag_text::{TextFault, read_tree};
 use line_batches::cut_line;
 use std::alloc::{AllocError, Global};
 
@@ -37,18 +39,48 @@ pub struct AppliedRow<'a> {
 pub fn history_row(alloc: Global, row: &AppliedRow<'_>) -> Result<String, AllocError>
     ensures { IfOk result (λ s. string_bytes s ≡ row_text (row_view row.now)) }
 {
-    let (site, cost, inputs) = (row.site, row.cost, row.inputs);
-    let mut out = format!(in alloc; "{{\"cost\":{cost},\"flag\":")?;
-    push_string(alloc, &mut out, row.flag)?;
-    write!(out, ",\"inputs\":{inputs},\"new\":")?;
-    push_rule(alloc, &mut out, row.new)?;
-    out.push_str(",\"old\":")?;
-    push_rule(alloc, &mut out, row.old)?;
-    write!(out, ",\"site\":{site},\"time\":")?;
-    push_string(alloc, &mut out, row.time)?;
-    out.push_str(",\"who\":")?;
-    push_string(alloc, &mut out, row.who)?;
-    out.push_str("}\n")?;
+    let rules = rules_text(alloc, row)?;
+    let who = who_text(alloc, row)?;
+    let mut text = cost_text(alloc, row)?;
+    text.push_str(rules.as_str())?;
+    text.push_str(who.as_str())?;
+    Ok(text)
+}
+
+/// What the plan costs how many inputs of which flag.
+fn cost_text(alloc: Global, row: &AppliedRow<'_>) -> Result<String, AllocError>
+    ensures { IfOk result (λ s. string_bytes s ≡ cost_text (row_view row.now)) }
+{
+    let (cost, inputs) = (row.cost, row.inputs);
+    let flag = quoted(alloc, row.flag)?;
+    format!(in alloc; "{{\"cost\":{cost},\"flag\":{flag},\"inputs\":{inputs}")
+}
+
+/// The rule of the plan, and that which stood at the site.
+fn rules_text(alloc: Global, row: &AppliedRow<'_>) -> Result<String, AllocError>
+    ensures { IfOk result (λ s. string_bytes s ≡ rules_text (row_view row.now)) }
+{
+    let site = row.site;
+    let new = rule_text(alloc, row.new)?;
+    let old = rule_text(alloc, row.old)?;
+    format!(in alloc; ",\"new\":{new},\"old\":{old},\"site\":{site}")
+}
+
+/// When it was applied, and by whom.
+fn who_text(alloc: Global, row: &AppliedRow<'_>) -> Result<String, AllocError>
+    ensures { IfOk result (λ s. string_bytes s ≡ who_text (row_view row.now)) }
+{
+    let time = quoted(alloc, row.time)?;
+    let who = quoted(alloc, row.who)?;
+    format!(in alloc; ",\"time\":{time},\"who\":{who}}}\n")
+}
+
+/// The entries of a rule, as JSON has them.
+fn rule_text(alloc: Global, entries: &[(String, u64)]) -> Result<String, AllocError>
+    ensures { IfOk result (λ s. string_bytes s ≡ rule_text (entries_view entries.now)) }
+{
+    let mut out = String::new(alloc);
+    push_rule(alloc, &mut out, entries)?;
     Ok(out)
 }
 

@@ -16,7 +16,7 @@
 //! let body = plan_answer(alloc, &snapshot, request, files.as_slice())?;
 //! ```
 //!
-//! Stated, over the definitions of `specs/` (the proofs are not checked yet): each body is the text of what the same snapshot, request
+//! Proved, over the definitions of `specs/`: each body is the text of what the same snapshot, request
 //! and files stand for (`Record`, `Check`, `Plan`, `Apply`), or the first refusal, by the number and the name of the command that
 //! refuses so (`Refusal`); what needs no memory is refused even where none is left. A plan is one on just the inputs whose note lines
 //! stand in the files, each counted once, and costs these the least of all that fit, or none fits; where the notes are without
@@ -43,6 +43,7 @@ mod recording;
 mod refusal;
 mod snapshot;
 mod target;
+mod texts;
 mod token;
 
 pub use applying::{Applied, apply_answer};

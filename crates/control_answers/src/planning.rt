@@ -1,5 +1,5 @@
 //! The plan of a request on what is recorded.
-ghost use Rattle.std.specs.Prelude.{◌≡◌, ◌<◌, ◌≤◌, false, length, Ok, IfOk, IsErrOf, sum_by};
+ghost use Rattle.std.specs.Prelude.{◌≡◌, ◌<◌, ◌≤◌, ◌++◌, false, length, Ok, OnOk, IfOk, IsErrOf, string_bytes, sum_by};
 ghost use Rattle.std.specs.Str.{is_utf8};
 ghost use Rattle.flag_defs.specs.Flags.{flags_view};
 ghost use Rattle.limits.specs.Limits.{tally_inputs};
@@ -10,6 +10,7 @@ ghost use Rattle.rollout.specs.Tallied.{IsTallyPlanned};
 ghost use Rattle.rollout_checks.specs.Tallied.{tally_problem_of};
 ghost use Rattle.rollout_checks.specs.declared.refining.Refining.TheVariants.{Times};
 ghost use Rattle.rule_switches.specs.Switches.{rows_view};
+ghost use Rattle.control_answers.specs.Body.{edit_words, switched_in};
 ghost use Rattle.control_answers.specs.Plan.{IsPlanAnswer, IsPlanOn, IsTold};
 ghost use Rattle.control_answers.specs.Snapshot.{snapshot_view};
 ghost use Rattle.control_answers.specs.Refusal.{bad_request};
@@ -17,7 +18,7 @@ ghost use Rattle.control_answers.specs.Target.{target_view};
 ghost use Rattle.control_answers.specs.Turns.{Gives, OfFiles};
 ghost use Rattle.control_answers.specs.View.{bytes_view, told_view};
 
-use crate::body::{Told, told_text};
+use crate::body::{Told, switched_in, told_text};
 use crate::changing::changed_if_any;
 use crate::question::{Question, question_of};
 use crate::refusal::{ControlRefusal, of_printed};
@@ -25,7 +26,7 @@ use crate::snapshot::Snapshot;
 use crate::target::Target;
 use crate::token::token_text;
 use log_tallies::{LogFile, tally_files};
-use plan_effects::{effect_of, picture_of, posed};
+use plan_effects::{Effect, effect_of, picture_of, posed};
 use plan_text::{Planned, print_planned};
 use rollout::plan_file_on_tally;
 use rollout_checks::RequestFile;
@@ -101,11 +102,12 @@ fn told_of(
     let flags = snapshot.flags;
     let token = token_text(alloc, snapshot.document, request.bytes(), plan.as_slice())?;
     let document = changed_if_any(alloc, snapshot, request, planned)?;
-    let counts = tally.counts.as_slice();
-    let explained = of_planned(alloc, "request", flags, request, 1, counts, planned)?;
     let problem = posed(alloc, flags, request, tally, planned)?;
     let effect = effect_of(alloc, &problem, planned)?;
     let picture = picture_of(alloc, &problem, planned)?;
+    let counts = tally.counts.as_slice();
+    let mut explained = of_planned(alloc, "request", flags, request, 1, counts, planned)?;
+    push_edit(&mut explained, tally.inputs, &effect)?;
     Ok(Told {
         snapshot: snapshot.number,
         inputs: tally.inputs,
@@ -116,4 +118,20 @@ fn told_of(
         picture,
         token,
     })
+}
+
+/// Adds what the edit that comes to mind first would switch, in the words of `plan --explain`.
+#[tactic(auto, unfolding(crate::specs::Body::edit_words))]
+fn push_edit(out: &mut String, all: u64, effect: &Effect) -> Result<(), AllocError>
+    requires { sum_by (λ r. r.1) (rows_view effect.now.switches.items) ≤ tally_inputs }
+    ensures { OnOk result (string_bytes out.new ≡ string_bytes out.old ++ edit_words effect.now.by_hand all (switched_in (rows_view effect.now.switches.items))) }
+{
+    let Some(by_hand) = effect.by_hand else {
+        return Ok(());
+    };
+    let by_plan = switched_in(effect.switches.as_slice());
+    write!(
+        out,
+        "  your edit by hand, each variant in one block, would switch {by_hand} of {all}; this plan switches {by_plan}\n"
+    )
 }

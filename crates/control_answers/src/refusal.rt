@@ -3,7 +3,7 @@ ghost use Rattle.std.specs.Prelude.{◌≡◌, IfOk, string_bytes};
 ghost use Rattle.control_answers.specs.Refusal.{call_of, keep_name, keep_number, logs_name, logs_number, name_of, number_of, of_check, of_keep, of_logs, of_price, of_printed, of_read, of_rollout, of_verdict, of_verdict_of_token, refusal_text, status_of};
 ghost use Rattle.control_answers.specs.declared.refusal.ControlRefusal.TheVariants.{WantOfMemory};
 
-use flag_text::push_string;
+use crate::texts::quoted;
 use kept_document::KeepFault;
 use log_tallies::LogTallyFault;
 use plan_text::PlanFileFault;
@@ -133,12 +133,10 @@ impl ControlRefusal {
         let call = self.call(asked);
         let number = self.number();
         let name = self.name();
-        let mut text = format!(in alloc;
-            "{{\"refused\":\"{call}\",\"number\":{number},\"name\":\"{name}\",\"details\":"
-        )?;
-        push_string(alloc, &mut text, details)?;
-        text.push_str("}\n")?;
-        Ok(text)
+        let details = quoted(alloc, details)?;
+        format!(in alloc;
+            "{{\"refused\":\"{call}\",\"number\":{number},\"name\":\"{name}\",\"details\":{details}}}\n"
+        )
     }
 }
 

@@ -1,7 +1,9 @@
 pub mod Crossings
 mod Fields
+mod Filled
 pub mod Items
 mod LogFiles
 mod Outcomes
 mod Routes
 mod Seen
+mod Seats

@@ -1,5 +1,5 @@
 -- What a call gives, where memory did not run out.
-use Rattle.std.proofs.Common.{◌≡◌, ◌≢◌, Result, Ok, Err}
+use Rattle.std.proofs.Common.{◌≢◌, Result, Ok, Err}
 use Rattle.std.specs.Prelude.{OnOk}
 use Rattle.control_answers.specs.Turns.{Gives, Outcomes}
 use Rattle.control_answers.specs.declared.refusal.ControlRefusal.{ControlRefusal}

@@ -6,8 +6,7 @@ use Rattle.control_calls.specs.declared.place.ControlPlace.TheVariants.{Console,
 use Rattle.control_desk.specs.Route.{is_console, other_method, route_at, route_of, served, takes}
 use Rattle.control_desk.specs.declared.reply.Reply.{Reply}
 use Rattle.control_desk.specs.declared.reply.Reply.TheVariants.{Unauthorized}
-use Rattle.control_desk.specs.declared.route.Route.{Route}
-use Rattle.control_desk.specs.declared.route.Route.TheVariants.{Forwarded, Replied, Called}
+use Rattle.control_desk.specs.declared.route.Route.TheVariants.{Replied, Called}
 
 -- a call leads to the place that was found
 at : (taken known : Bool) (found place : ControlPlace) (reply : Reply) → found ≢ Elsewhere

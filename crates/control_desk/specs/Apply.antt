@@ -2,7 +2,7 @@
 use Rattle.std.specs.Prelude.{◌≡◌, ◌⊎◌, ℕ, Bool, true, false, List, [], ◌++◌, codes, decimal, length, Option, Some, None, option_and_then, unwrap_or, Result, Ok, Err}
 use Rattle.bucket_core.specs.Rule.{Entries}
 use Rattle.control_answers.specs.Apply.{Applied, IsApplyAnswer}
-use Rattle.control_answers.specs.History.{AppliedRow, row_text}
+use Rattle.control_answers.specs.History.{row_text}
 use Rattle.control_answers.specs.Snapshot.{Snapshot}
 use Rattle.control_answers.specs.declared.refusal.ControlRefusal.{ControlRefusal}
 use Rattle.control_answers.specs.declared.refusal.ControlRefusal.TheVariants.{OtherDocument}

@@ -1,7 +1,6 @@
 -- What is answered from.
 use Rattle.std.specs.Prelude.{◌≡◌, ℕ, List, string_bytes}
 use Rattle.std.specs.Arc.{arc_value}
-use Rattle.flag_defs.specs.Flags.{flags_view}
 use Rattle.sync_frames.specs.Snapshots.{Numbered, snapshot_view}
 use Rattle.control_answers.specs.Snapshot.{Snapshot}
 use Rattle.control_desk.specs.declared.held.HeldSnapshot as program

@@ -1,5 +1,5 @@
 -- What the answers of a desk rest on stands, and stays.
-use Rattle.std.proofs.Common.{◌≡◌, ◌⊎◌, ℕ, Bool, List, Option, is_some, inl, inr, subst, sym}
+use Rattle.std.proofs.Common.{◌≡◌, ℕ, List, Option, is_some, inl, inr, subst, sym}
 use Rattle.flagops_shell.specs.Files.{Holding}
 use Rattle.http.specs.declared.request.Request.{Request}
 use Rattle.http_server.specs.declared.response.Response.{Response}

@@ -1,4 +1,4 @@
-pub use Rattle.flagops_shell.specs.Files
+pub use Rattle.flagops_shell.specs.Files as Holdings
 pub use Rattle.control_answers.specs.Snapshot
 pub use Rattle.control_calls.specs.Calls
 pub mod Names

@@ -12,7 +12,7 @@
 //! desk.call(&request, &mut response)?;
 //! ```
 //!
-//! Stated, over the definitions of `specs/` (the proofs are not checked yet): what is routed where (`Route`); each answer is that of
+//! Proved, over the definitions of `specs/`: what is routed where (`Route`); each answer is that of
 //! `control_answers` to the call, on the flags of the snapshot that was read and on the bytes of the files that were (`Answers`); these
 //! are all files of the folder that are logs, where what it holds is known (`Logs`); and what is applied was found right on them, where
 //! the document's file still held the text of that snapshot, and was noted before (`Apply`). Where the desk answers, the service behind

@@ -3,17 +3,21 @@ ghost use Rattle.std.specs.Prelude.{◌≡◌, false};
 
 use crate::dispatch::flagops;
 use crate::watching::Watcher;
+use control_desk::DeskPaths;
 use flag_text::Outlet;
 use flagops_filters::Opening;
-use flagops_service::Host;
 use flagops_shell::{Console, FileSet};
 use limits::STACK_BYTES;
 use line_batches::Inlet;
+use log_file::LogPaths;
 use std::convert::AsStr;
 use std::io;
+use std::net::{Net, TcpListener, TcpStream};
 use std::process::ExitCode;
+use std::random::RandomSource;
 use std::sync::Wait;
 use std::thread::{self, Builder, Threads};
+use std::time::Clock;
 
 /// Does what the words ask for on a stack of its own, where there is memory for one.
 pub fn on_stack<R, S, I, F, O, E, W>(
@@ -26,7 +30,15 @@ pub fn on_stack<R, S, I, F, O, E, W>(
     watcher: &W,
 ) -> Option<ExitCode>
 where
-    R: Host,
+    R: AllocGlobal
+        + LogPaths
+        + DeskPaths
+        + Net<Listener = TcpListener, Stream = TcpStream>
+        + Clock
+        + RandomSource
+        + Threads
+        + Wait
+        + Sync,
     S: AsStr + Send + Drop,
     I: Inlet + Opening + Send + Drop,
     F: FileSet + Send + Drop,

@@ -16,7 +16,7 @@ use Rattle.flagops_shell.specs.Outcomes.{IsCallOf}
 use Rattle.flagops_shell.specs.Diagnostic.{Says}
 use Rattle.flagops_shell.specs.Ending.{KeepsUnlessDone, Remarks}
 use Rattle.flagops_shell.specs.Files.{Holding}
-use Rattle.flagops_shell.specs.Report.{Report, outcome_view}
+use Rattle.flagops_shell.specs.Report.{Report}
 use Rattle.flagops_shell.specs.declared.outcome.Outcome.{Outcome}
 use Rattle.flagops_shell.specs.declared.refused.Remark.{Remark}
 use Rattle.flagops_shell.specs.declared.refused.Remark.TheVariants.{Lines, Short}

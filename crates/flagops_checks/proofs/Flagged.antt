@@ -19,22 +19,22 @@ drop_suc (y ∷ ys) (suc i) x h = drop_suc ys i x h
 drop_next : {X : Type 0} (xs : List X) (i : ℕ) (x : X) → slice_get xs i ≡ Some x → drop i xs ≡ x ∷ drop (i + 1) xs
 drop_next xs i x h = rw add-one (drop_suc xs i x h)
 
-module _ (bytes : List ℕ) (fs : Definitions) where
+module _ (floats : Bool) (bytes : List ℕ) (fs : Definitions) where
   abbrev all : List Judged
-  all = map (judged bytes) fs
+  all = map (judged floats bytes) fs
 
   -- a flag more
   pub pushed : (i : ℕ) (key : List ℕ) (d : Definition) (before after : List Judged) (j : Judged) → slice_get fs i ≡ Some (key, d)
-      → before ++ map (judged bytes) (drop i fs) ≡ map (judged bytes) fs → j ≡ judged bytes (key, d) → after ≡ before ++ (j ∷ [])
-      → after ++ map (judged bytes) (drop (i + 1) fs) ≡ map (judged bytes) fs
+      → before ++ map (judged floats bytes) (drop i fs) ≡ map (judged floats bytes) fs → j ≡ judged floats bytes (key, d) → after ≡ before ++ (j ∷ [])
+      → after ++ map (judged floats bytes) (drop (i + 1) fs) ≡ map (judged floats bytes) fs
   pushed i key d before after j at goes is more =
-      let rest = map (judged bytes) (drop (i + 1) fs) in
-      let next : map (judged bytes) (drop i fs) ≡ judged bytes (key, d) ∷ rest = ap (map (judged bytes)) (drop_next fs i (key, d) at) in
-      let whole : before ++ (judged bytes (key, d) ∷ rest) ≡ map (judged bytes) fs = ap (λ (l : List Judged). before ++ l) (sym next) ∙ goes in
-      rw (more, is, append_assoc before (judged bytes (key, d) ∷ []) rest) whole
+      let rest = map (judged floats bytes) (drop (i + 1) fs) in
+      let next : map (judged floats bytes) (drop i fs) ≡ judged floats bytes (key, d) ∷ rest = ap (map (judged floats bytes)) (drop_next fs i (key, d) at) in
+      let whole : before ++ (judged floats bytes (key, d) ∷ rest) ≡ map (judged floats bytes) fs = ap (λ (l : List Judged). before ++ l) (sym next) ∙ goes in
+      rw (more, is, append_assoc before (judged floats bytes (key, d) ∷ []) rest) whole
 
-  pub same : (key : List ℕ) (d : Definition) (broken : Bool) (doubts : FlagDoubts) (sites : SiteDoubts) (doubled repeated : Bool) → broken ≡ is_broken d → doubts.unread ≡ (flag_doubts (tree_in bytes) key d).unread
-      → doubts.weight ≡ (flag_doubts (tree_in bytes) key d).weight → doubts.variant ≡ (flag_doubts (tree_in bytes) key d).variant → doubts.never ≡ (flag_doubts (tree_in bytes) key d).never
+  pub same : (key : List ℕ) (d : Definition) (broken : Bool) (doubts : FlagDoubts) (sites : SiteDoubts) (doubled repeated : Bool) → broken ≡ is_broken d → doubts.unread ≡ (flag_doubts (tree_in floats bytes) key d).unread
+      → doubts.weight ≡ (flag_doubts (tree_in floats bytes) key d).weight → doubts.variant ≡ (flag_doubts (tree_in floats bytes) key d).variant → doubts.never ≡ (flag_doubts (tree_in floats bytes) key d).never
       → sites.total ≡ (site_doubts d).total → sites.constant ≡ (site_doubts d).constant → doubled ≡ is_doubled bytes key → repeated ≡ is_repeated bytes key
-      → (let j : Judged = record { key = key; is_broken = broken; doubts = doubts; sites = sites; is_doubled = doubled; is_repeated = repeated } in j) ≡ judged bytes (key, d)
+      → (let j : Judged = record { key = key; is_broken = broken; doubts = doubts; sites = sites; is_doubled = doubled; is_repeated = repeated } in j) ≡ judged floats bytes (key, d)
   same key d broken doubts sites doubled repeated b u w v n s k t r = rw (← b, ← u, ← w, ← v, ← n, ← s, ← k, ← t, ← r) refl

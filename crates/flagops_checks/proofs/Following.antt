@@ -29,22 +29,22 @@ use Rattle.flagops_checks.specs.declared.refusal.CheckRefusal.TheVariants.{Load}
 -- ---- one document
 
 refused_of : (floats : Bool) (path : List ℕ) (o : Result (List ℕ) Refusal) (e : CheckRefusal) → Lifts Load (IsDocumentOfAs floats o) (Err e) → IsCheckedOf floats path o (Err e)
-refused_of floats path (Err f) e (given, is, same) = ap (λ (r : Result Definitions CheckRefusal). r >>= λ flags. Ok (checked path [] flags)) (same ∙ ap (refused_by Load) is)
-refused_of floats path (Ok bytes) e (given, is, same) = (given, is, ap (λ (r : Result Definitions CheckRefusal). r >>= λ flags. Ok (checked path bytes flags)) same)
+refused_of floats path (Err f) e (given, is, same) = ap (λ (r : Result Definitions CheckRefusal). r >>= λ flags. Ok (checked floats path [] flags)) (same ∙ ap (refused_by Load) is)
+refused_of floats path (Ok bytes) e (given, is, same) = (given, is, ap (λ (r : Result Definitions CheckRefusal). r >>= λ flags. Ok (checked floats path bytes flags)) same)
 
 module _ (floats : Bool) (at : Holding) (path : List ℕ) where
   pub no_document : (e : CheckRefusal) → IsDocumentAt floats at path (Err e) → IsCheckedAt floats at path (Err e)
   unfolding IsDocumentAt files.IsDocumentAs IsCheckedAt
   no_document e is = refused_of floats path (refused_by file.Load (load_of at path max_text)) e is
 
-  pub a_document : (bytes : List ℕ) (flags : Definitions) → load_of at path max_text ≡ Ok bytes → IsDocumentAt floats at path (Ok flags) → IsCheckedAt floats at path (Ok (checked path bytes flags))
+  pub a_document : (bytes : List ℕ) (flags : Definitions) → load_of at path max_text ≡ Ok bytes → IsDocumentAt floats at path (Ok flags) → IsCheckedAt floats at path (Ok (checked floats path bytes flags))
   unfolding IsDocumentAt files.IsDocumentAs IsCheckedAt
   a_document bytes flags loaded (given, is, same) =
       let known : refused_by file.Load (load_of at path max_text) ≡ Ok bytes = ap (refused_by file.Load) loaded in
       let found : IsDocumentInAs floats bytes given = subst (λ (o : Result (List ℕ) Refusal). IsDocumentOfAs floats o given) known is in
-      let r : Result Checked CheckRefusal = Ok (checked path bytes flags) in
+      let r : Result Checked CheckRefusal = Ok (checked floats path bytes flags) in
       subst (λ (o : Result (List ℕ) Refusal). IsCheckedOf floats path o r) (sym known)
-      (given, found, ap (λ (d : Result Definitions CheckRefusal). d >>= λ fs. Ok (checked path bytes fs)) same)
+      (given, found, ap (λ (d : Result Definitions CheckRefusal). d >>= λ fs. Ok (checked floats path bytes fs)) same)
 
 -- ---- along the paths
 
@@ -159,6 +159,6 @@ next_refused form g path None e is = tt
 next_refused form g path (Some at) e is = λ wanted. no_document form.floats at path e.refusal (is wanted)
 
 pub next_found : (form : Form) (g : Gathered) (path : List ℕ) (h : Option Holding) (bytes : List ℕ) (flags : Definitions) (next : Gathered) → IfSome h (λ at. IsDocumentAt form.floats at path (Ok flags)) → IfSome h (λ at. load_of at path max_text ≡ Ok bytes)
-    → Adds form (checked path bytes flags) g next → IfSome h (λ at. GivesNext form g (Ok next) (IsCheckedAt form.floats at path))
+    → Adds form (checked form.floats path bytes flags) g next → IfSome h (λ at. GivesNext form g (Ok next) (IsCheckedAt form.floats at path))
 next_found form g path None bytes flags next is loaded adds = tt
-next_found form g path (Some at) bytes flags next is loaded adds = (checked path bytes flags, a_document form.floats at path bytes flags loaded is, adds)
+next_found form g path (Some at) bytes flags next is loaded adds = (checked form.floats path bytes flags, a_document form.floats at path bytes flags loaded is, adds)

@@ -5,6 +5,7 @@ mod Loaded
 mod Matched
 mod Null
 mod Plainly
+mod PlainTrees
 mod Printed
 mod Spoken
 mod Within

@@ -1,6 +1,6 @@
 -- A document that was loaded, and a refusal to load it, as the command has them.
 use Rattle.std.proofs.Common.{◌≡◌, List, Option, IfSome, false, ℕ, refl, ◌∙◌, ◌||◌, ap, sym, Bool, true}
-use Rattle.std.specs.Prelude.{Result, Ok, Err}
+use Rattle.std.specs.Prelude.{Ok, Err}
 use Rattle.flag_defs.specs.Document.{Definitions}
 use Rattle.flagops_shell.proofs.Lifted.{given_one, refused_one}
 use Rattle.flagops_shell.specs.Diagnostic.{Says}

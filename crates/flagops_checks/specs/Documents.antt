@@ -19,7 +19,7 @@ IsDocumentAt floats at path r = Lifts Load (files.IsDocumentAs floats at path) r
 -- what is found of the bytes that were loaded from a path, or why they are no document
 abbrev pub IsCheckedOf : Bool → List ℕ → Result (List ℕ) Refusal → Result Checked CheckRefusal → Type 0
 IsCheckedOf floats path (Err e) r = r ≡ Err (Load e)
-IsCheckedOf floats path (Ok bytes) r = (document : Result Definitions Refusal) × IsDocumentInAs floats bytes document × (r ≡ (refused_by Load document >>= λ flags. Ok (checked path bytes flags)))
+IsCheckedOf floats path (Ok bytes) r = (document : Result Definitions Refusal) × IsDocumentInAs floats bytes document × (r ≡ (refused_by Load document >>= λ flags. Ok (checked floats path bytes flags)))
 
 unfoldable pub IsCheckedAt : Bool → Holding → List ℕ → Result Checked CheckRefusal → Type 0
 IsCheckedAt floats at path r = IsCheckedOf floats path (refused_by file.Load (load_of at path max_text)) r

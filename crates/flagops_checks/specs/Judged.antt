@@ -2,7 +2,8 @@
 use Rattle.std.specs.Prelude.{◌||◌, ℕ, Bool, false, is_some, List, map, Option, Some, None, Result, Ok, Err}
 use Rattle.std.specs.List.{list_any}
 use Rattle.flag_defs.specs.Definition.{Definition}
-use Rattle.flag_defs.specs.Document.{Definitions, flags_in, max_bytes, or_no_members}
+use Rattle.file_diagnostics.specs.Broken.{document_in}
+use Rattle.flag_defs.specs.Document.{Definitions, flags_in, or_no_members}
 use Rattle.flag_defs.specs.Flag as documents
 use Rattle.flag_doubts.specs.Doubled as doubled
 use Rattle.flag_doubts.specs.Doubts as doubts
@@ -10,7 +11,6 @@ use Rattle.flag_doubts.specs.Repeated as repeated
 use Rattle.flag_doubts.specs.declared.doubt.Doubt.{Doubt}
 use Rattle.flag_doubts.specs.declared.doubt.Doubt.TheVariants.{Doubled, Never, Repeated, Unread, Variant, Weight}
 use Rattle.flag_doubts.specs.declared.doubt.FlagDoubts.{FlagDoubts}
-use Rattle.flag_text.specs.Reading.{doc_of}
 use Rattle.flag_text.specs.Readers.{find_member}
 use Rattle.flag_text.specs.Shape.{Shape, null}
 use Rattle.flag_text.specs.declared.fault.TextFault.{TextFault}
@@ -47,13 +47,13 @@ has Never j = j.doubts.never
 abbrev pub is_doubted : Judged → Bool
 is_doubted j = has Doubled j || (has Repeated j || (has Unread j || (has Weight j || (has Variant j || (has Never j || (j.sites.total || j.sites.constant))))))
 
--- the tree of the bytes of a document
+-- the tree of the bytes of a document, which may have floats or may not
 abbrev pub or_null : Result Shape TextFault → Shape
 or_null (Ok t) = t
 or_null (Err e) = null
 
-abbrev pub tree_in : List ℕ → Shape
-tree_in bytes = or_null (doc_of bytes max_bytes)
+abbrev pub tree_in : Bool → List ℕ → Shape
+tree_in floats bytes = or_null (document_in floats bytes)
 
 -- the definition of a flag has a member that nobody reads
 abbrev pub is_unread : Option Shape → Bool
@@ -72,11 +72,11 @@ flag_doubts document key d = record {
 }
 
 -- a flag of the document that the bytes are
-abbrev pub judged : List ℕ → List ℕ × Definition → Judged
-judged bytes f = record {
+abbrev pub judged : Bool → List ℕ → List ℕ × Definition → Judged
+judged floats bytes f = record {
   key = f.0;
   is_broken = documents.is_broken f.1;
-  doubts = flag_doubts (tree_in bytes) f.0 f.1;
+  doubts = flag_doubts (tree_in floats bytes) f.0 f.1;
   sites = site_doubts f.1;
   is_doubled = doubled.is_doubled bytes f.0;
   is_repeated = repeated.is_repeated bytes f.0;
@@ -91,12 +91,12 @@ pub record Checked : Type 0 where
   pub is_unread : Bool
   pub is_repeated : Bool
 
-abbrev pub checked : List ℕ → List ℕ → Definitions → Checked
-checked path bytes flags = record {
+abbrev pub checked : Bool → List ℕ → List ℕ → Definitions → Checked
+checked floats path bytes flags = record {
   path = path;
   bytes = bytes;
-  flags = map (judged bytes) flags;
-  is_unread = is_some (unread_of reader.Document (tree_in bytes));
+  flags = map (judged floats bytes) flags;
+  is_unread = is_some (unread_of reader.Document (tree_in floats bytes));
   is_repeated = repeated.has_repeated bytes;
 }
 

@@ -1,5 +1,5 @@
 -- Why the command `check` is refused, and the line that a refusal is written as.
-use Rattle.std.specs.Prelude.{◌≡◌, ℕ, Bool, true, false, List, codes, Result}
+use Rattle.std.specs.Prelude.{ℕ, Bool, true, false, List, codes, Result}
 use Rattle.flagops_shell.specs.Report.{want_line_of}
 use Rattle.flagops_shell.specs.Diagnostic.{RemarksOf}
 use Rattle.flagops_shell.specs.Ending as shell

@@ -1,5 +1,5 @@
 -- Sites that split users otherwise than is mostly meant (flagd: custom operations, fractional).
-use Rattle.std.specs.Prelude.{ℕ, ◌-◌, ◌==◌, nat_le, Bool, true, false, not, ◌||◌, ◌&&◌, List, codes, Option, Some, None}
+use Rattle.std.specs.Prelude.{ℕ, ◌-◌, ◌==◌, nat_le, Bool, true, false, not, ◌||◌, ◌&&◌, List, codes}
 use Rattle.std.specs.Str.{bytes_eq}
 use Rattle.flag_defs.specs.Definition.{Definition}
 use Rattle.flag_defs.specs.Flag.{targeting_in}

@@ -105,9 +105,9 @@ fn with_flags(
     repeated: Repeated,
 ) -> Result<Gathered, AllocError>
     requires { Finds (json_of bytes.now) repeated }
-    ensures { IfOk result (Adds form (checked path.now bytes.now (flags_view flags.now)) all) }
+    ensures { IfOk result (Adds form (checked form.floats path.now bytes.now (flags_view flags.now)) all) }
 {
-    let names = names_of(alloc, bytes, repeated)?;
+    let names = names_of(alloc, bytes, form.floats, repeated)?;
     let checked = Checked {
         path,
         bytes,

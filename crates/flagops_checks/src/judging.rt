@@ -74,7 +74,7 @@ pub(crate) fn judge<'a>(
     flags: &'a Flags,
 ) -> Result<Vec<Judged<'a>>, AllocError>
     requires { AreKnown names.now }
-    ensures { IfOk result (λ v. map judged_view v.items ≡ map (judged names.now.bytes.now) (flags_view flags.now)) }
+    ensures { IfOk result (λ v. map judged_view v.items ≡ map (judged names.now.floats names.now.bytes.now) (flags_view flags.now)) }
 {
     let definitions = definitions_in(&names.document);
     let mut all = Vec::with_capacity(alloc, flags.len())?;

@@ -12,3 +12,4 @@ mod Members
 mod Noted
 pub mod Refusing
 mod Summary
+mod UnreadAsks

@@ -19,7 +19,7 @@ use Rattle.flagops_shell.specs.declared.refused.Remark.TheVariants.{Short, Lines
 use Rattle.flagops_commands.specs.Drive.{before_at}
 use Rattle.flagops_commands.specs.Loaded.{AreFlagsAt, tree_at}
 use Rattle.flagops_commands.specs.Refusal.{Refused}
-use Rattle.flagops_commands.specs.DriveSummary.{TellsDriven, TellsPrinted, TellsUnread, summary_text}
+use Rattle.flagops_commands.specs.DriveSummary.{IsUnreadText, TellsDriven, TellsPrinted, TellsUnread, asks_listed, summary_text}
 
 -- lines that begin with a note are about the name behind it
 pub note_names : (name rest lines : List ℕ) → lines ≡ codes "note: " ++ (quoted name ++ rest) → Names name lines
@@ -29,10 +29,10 @@ note_names name rest lines is = (Note, rest, is)
 module _ (path : List ℕ) (asks : Shape) (tally : Tally) (lines : List ℕ) where
   -- the summary alone, and behind what is said of members that are not read
   pub alone : has_unread_ask asks ≡ false → lines ≡ summary_text path tally → TellsDriven path asks tally lines
-  alone none is = ([], subst (λ (b : Bool). TellsUnread b path []) (sym none) refl, is)
+  alone none is = ([], subst (λ (b : Bool). TellsUnread b path (asks_listed asks) []) (sym none) refl, is)
 
-  pub behind : (unread : List ℕ) → has_unread_ask asks ≡ true → Names path unread → lines ≡ unread ++ summary_text path tally → TellsDriven path asks tally lines
-  behind unread some names is = (unread, subst (λ (b : Bool). TellsUnread b path unread) (sym some) names, is)
+  pub behind : (unread : List ℕ) → has_unread_ask asks ≡ true → IsUnreadText path (asks_listed asks) unread → lines ≡ unread ++ summary_text path tally → TellsDriven path asks tally lines
+  behind unread some told is = (unread, subst (λ (b : Bool). TellsUnread b path (asks_listed asks) unread) (sym some) told, is)
 
 -- what holds of a value holds of one that was returned unchanged
 pub if_same : {X E : Type 0} (r : Result X E) (x : X) (P : X → Type 0) → IfOk r (λ d. d ≡ x) → P x → IfOk r P

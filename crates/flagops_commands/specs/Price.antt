@@ -1,5 +1,5 @@
 -- What the command `price` answers.
-use Rattle.std.specs.Prelude.{ℕ, pos, List, [], ◌∷◌, ◌++◌, ◌==◌, ◌&&◌, Bool, true, nat_le, length, codes, decimal, if◌then◌else◌, Option, Some, None, option_map, option_and_then, Result, Ok, Err}
+use Rattle.std.specs.Prelude.{◌≡◌, ℕ, pos, List, [], ◌∷◌, ◌++◌, ◌==◌, ◌&&◌, Bool, true, nat_le, length, codes, decimal, if◌then◌else◌, Option, Some, None, option_map, option_and_then, Result, Ok, Err}
 use Rattle.flag_text.specs.Printing.{text_of}
 use Rattle.flag_text.specs.Readers.{as_text, as_list}
 use Rattle.flag_text.specs.Reading.{tree_of}
@@ -15,7 +15,9 @@ use Rattle.flagops_shell.specs.Files.{Holding}
 use Rattle.flagops_files.specs.Loading.{max_text}
 use Rattle.flagops_shell.specs.Outcomes.{◌>>=◌, refused_by, beside, done}
 use Rattle.flagops_shell.specs.Report.{Report}
-use Rattle.flagops_rollouts.specs.Doubts.{is_unread}
+use Rattle.flagops_shell.specs.declared.refused.Remark.{Remark}
+use Rattle.flagops_rollouts.specs.Beside.{Tells}
+use Rattle.flagops_rollouts.specs.Doubts.{is_unread, request_parts}
 use Rattle.flagops_commands.specs.Totals.{totals_by_name}
 use Rattle.flagops_commands.specs.Loaded.{bytes_at, rule_at}
 use Rattle.flagops_commands.specs.declared.refusal.ListedRefusal.{ListedRefusal}
@@ -34,6 +36,10 @@ unfoldable pub request_at : Holding → List ℕ → Result (Asked × Bool) List
 request_at at path = do
   bytes ← bytes_at at path
   with_doubt bytes (refused_by ReadRequest (asked_of bytes))
+
+-- what is told of it: a part on members that are not read, and one on names that stand more than once, where there are any
+unfoldable pub TellsRequestAt : Holding → List ℕ → Option Remark → Type 0
+TellsRequestAt at path told = (bytes : List ℕ) × (bytes_at at path ≡ Ok bytes) × Tells (request_parts path bytes) told
 
 -- the texts of a list of texts
 abbrev pub texts_of : Items → Option Inputs

@@ -12,6 +12,7 @@ use Rattle.flagops_commands.specs.declared.refusal.PriceMismatch.TheVariants.{We
 use Rattle.flagops_commands.specs.declared.refusal.ListedRefusal.{ListedRefusal}
 use Rattle.flagops_commands.specs.declared.refusal.ListedRefusal.TheVariants.{Note, Price, Drive, Doubted, WouldLose}
 use Rattle.flagops_commands.specs.DriveSummary.{TellsPrinted}
+use Rattle.flagops_commands.specs.Price.{TellsRequestAt}
 use Rattle.flagops_rollouts.specs.Doubts.{NamesDoubted}
 use Rattle.flagops_rollouts.specs.Finer.{TellsFinerOf}
 use Rattle.flagops_rollouts.specs.Remarks.{TellsAppliedAt, TellsDoubtsAt, TellsKeptAt, TellsPlanAt}
@@ -88,8 +89,9 @@ numbers_of (plan document request book refine strict explain floats) at report =
 numbers_of (drive document asks workers book add replace strict json floats) at report = TellsPrinted floats at document asks book add json report.text
 numbers_of asked at report = λ lines. Unit {0}
 
--- and of a command on rollouts all that is told, part after part
+-- and of `price` and of a command on rollouts all that is told, part after part
 abbrev pub parts_of : Asked → Holding → Report → Option Remark → Type 0
+parts_of (price old new request keys json) at report told = TellsRequestAt at request told
 parts_of (verify document request book answer refine strict json floats) at report told = TellsDoubtsAt floats at document request book told
 parts_of (plan document request book refine strict explain floats) at report told = TellsPlanAt floats at document request book (unwrap_or refine 1) explain report.text told
 parts_of (apply document answer key site strict floats) at report told = TellsAppliedAt floats at document answer key site told

@@ -11,7 +11,7 @@ use Rattle.flagops_shell.specs.Files.{Holding}
 use Rattle.flagops_shell.specs.declared.outcome.Outcome.{Outcome}
 use Rattle.flagops_shell.specs.declared.refused.Remark.{Remark}
 
--- of a report the pages that have no rules to compare, and of a refusal the name of the first file that is refused
+-- of a report what is doubted of its pages, and of a refusal the name of the first file that is refused
 pub remarks : (files : Option Holding) (a : Comparing) (r : Result Outcome Told) → IfSome files (λ at. TellsRefused (attempts_of at a) a r) → IfSome files (λ at. IfOk r (λ o. IfSome o.remark (Says (TellsLeft at a))))
     → IfSome files (λ at. Remarks is_want (remark_of at a) r)
 remarks None a r names notes = tt

@@ -7,9 +7,9 @@ use Rattle.flagops_compare.specs.Compared.{IsComparedOn}
 use Rattle.flagops_compare.specs.Drawn.{Draws, DrawsAt, LeavesBut, pages_drawn}
 use Rattle.flagops_compare.specs.Loaded.{IsLoadedAt, Loaded, compare_attempts, loaded_of}
 use Rattle.flagops_compare.specs.Refusal.{is_want}
-use Rattle.flagops_compare.specs.Report.{IsCompareReport, IsWithLoaded, IsWithPages, NamesRefused, TellsLeft, TellsOfLoaded, attempts_of, compare_report, has_left, picture_attempts, picture_path}
+use Rattle.flagops_compare.specs.Report.{IsCompareReport, IsWithLoaded, IsWithPages, NamesRefused, TellsLeft, TellsOfLoaded, attempts_of, compare_report, is_doubted, picture_attempts, picture_path}
 use Rattle.flagops_compare.specs.Step.{GivesOne, IsDrawnAt, TellsRefused, Told}
-use Rattle.flagops_compare.specs.Told.{note_lines}
+use Rattle.flagops_compare.specs.Told.{told_lines}
 use Rattle.flagops_compare.specs.Words.{Comparing}
 use Rattle.flagops_compare.specs.declared.refusal.CompareRefusal.{CompareRefusal}
 use Rattle.flagops_compare.specs.declared.refusal.CompareRefusal.TheVariants.{WantOfMemory, Load, OtherTally}
@@ -94,7 +94,7 @@ module _ (ps : Pictures) (path : List ℕ) where
   pub undrawn_at : (h : Option Holding) (t : Told) → t.refusal ≡ WantOfMemory → IsDrawnAt {X = Unit {0}} ps path h h (Err t)
   undrawn_at h t is = ((is_none t is), refl)
 
--- ---- a page that has no rules to compare, with `--strict`
+-- ---- what is doubted, with `--strict`
 
 chosen : (b : Bool) (p : Option Text) (path : Text) → (if b then None else p) ≡ Some path → ◌≡◌ {A = ℕ} (if b then 1 else 0) 0
 chosen true p path is = absurd (apart is)
@@ -121,10 +121,10 @@ module _ (a : Comparing) (pages : List PageFound) (ps : Pictures) (o : Outcome) 
     drawn_too old new draws = (shown, subst (λ (p : Option Text). DrawsAt ps p old new) (sym there) draws)
 
     pub is_done : (outcome_view o).status ≡ 0
-    is_done = ap (λ r. r.status) shown ∙ chosen (a.strict && has_left pages) a.picture path there
+    is_done = ap (λ r. r.status) shown ∙ chosen (a.strict && is_doubted a pages) a.picture path there
 
     pub left_but : (old new : Option Holding) → Draws ps path old new → LeavesBut a.picture old new
-    left_but old new (bytes, picture, stores, others) = subst (λ (p : Option Text). LeavesBut p old new) (sym (asked_for (a.strict && has_left pages) a.picture path there)) (inr others)
+    left_but old new (bytes, picture, stores, others) = subst (λ (p : Option Text). LeavesBut p old new) (sym (asked_for (a.strict && is_doubted a pages) a.picture path there)) (inr others)
 
 module _ (a : Comparing) (pages : List PageFound) (ps : Pictures) where
   -- the pages were not reported
@@ -137,7 +137,7 @@ module _ (a : Comparing) (pages : List PageFound) (ps : Pictures) where
   -- the picture was not written
   module _ (path : Text) (there : picture_path a pages ≡ Some path) (t : Told) where
     abbrev asked : a.picture ≡ Some path
-    asked = asked_for (a.strict && has_left pages) a.picture path there
+    asked = asked_for (a.strict && is_doubted a pages) a.picture path there
 
     pub refused_too : (old new : Option Holding) → IsDrawnAt {X = Unit {0}} ps path old new (Err t) → GivesOne (Err t) (IsWithPages old new a ps pages)
     refused_too old new (fault, same) = λ no_want. ((fault no_want).0, ap is_some there, same)
@@ -227,12 +227,12 @@ module _ (a : Comparing) where
   told_behind None l r loaded tells = tt
   told_behind (Some at) l r loaded tells = behind_at at l r loaded tells
 
-  pub noted_so : (l : Loaded) (pages : List PageFound) (r : Result Outcome Told) → IsComparedOn l a.flag (Ok pages) → IfOk r (λ o. IfSome o.remark (Says (λ lines. lines ≡ note_lines a.old a.new pages))) → IfOk r (λ o. IfSome o.remark (Says (TellsOfLoaded a l)))
+  pub noted_so : (l : Loaded) (pages : List PageFound) (r : Result Outcome Told) → IsComparedOn l a.flag (Ok pages) → IfOk r (λ o. IfSome o.remark (Says (λ lines. lines ≡ told_lines a l.old pages))) → IfOk r (λ o. IfSome o.remark (Says (TellsOfLoaded a l)))
   noted_so l pages (Ok o) is says = in_remark o.remark says
     where
-      in_remark : (m : Option Remark) → IfSome m (Says (λ lines. lines ≡ note_lines a.old a.new pages)) → IfSome m (Says (TellsOfLoaded a l))
+      in_remark : (m : Option Remark) → IfSome m (Says (λ lines. lines ≡ told_lines a l.old pages)) → IfSome m (Says (TellsOfLoaded a l))
       in_remark None says = tt
-      in_remark (Some m) says = says_so (λ lines. lines ≡ note_lines a.old a.new pages) (TellsOfLoaded a l) m (λ lines same. (pages, is, same)) says
+      in_remark (Some m) says = says_so (λ lines. lines ≡ told_lines a l.old pages) (TellsOfLoaded a l) m (λ lines same. (pages, is, same)) says
   noted_so l pages (Err t) is says = tt
 
   pub noted : (holding : Option Holding) (l : Loaded) (r : Result Outcome Told) → IfSome holding (λ at. IsLoadedAt a.floats at a.old a.new a.book (Ok l)) → IfOk r (λ o. IfSome o.remark (Says (TellsOfLoaded a l)))

@@ -1,11 +1,11 @@
 -- What `compare` comes to.
-use Rattle.std.specs.Prelude.{◌≡◌, ℕ, nat_lt, Bool, true, ◌&&◌, List, [], ◌∷◌, ◌++◌, if◌then◌else◌, is_some, Option, Some, None, Result, Ok, Err}
+use Rattle.std.specs.Prelude.{◌≡◌, ℕ, nat_eq, nat_lt, Bool, true, ◌&&◌, ◌||◌, List, [], ◌∷◌, ◌++◌, length, if◌then◌else◌, is_some, Option, Some, None, Result, Ok, Err}
 use Rattle.clap.specs.Walk.{Text}
 use Rattle.flagops_compare.specs.Compared.{IsComparedOn}
 use Rattle.flagops_compare.specs.Drawn.{DrawsAt, pages_drawn}
 use Rattle.flagops_compare.specs.Loaded.{Loaded, IsLoadedAt, compare_attempts}
 use Rattle.flagops_compare.specs.Printed.{report_text}
-use Rattle.flagops_compare.specs.Told.{note_lines}
+use Rattle.flagops_compare.specs.Told.{told_lines}
 use Rattle.flagops_compare.specs.Words.{Comparing}
 use Rattle.flagops_compare.specs.declared.refusal.CompareRefusal.{CompareRefusal}
 use Rattle.flagops_compare.specs.declared.refusal.CompareRefusal.TheVariants.{WantOfMemory, Load, OtherTally}
@@ -30,21 +30,28 @@ Came = Result Report CompareRefusal
 abbrev pub has_left : List PageFound → Bool
 has_left pages = nat_lt 0 (all_left pages)
 
+-- a flag is asked for that no page is of
+abbrev pub is_unmatched : Option Text → List PageFound → Bool
+is_unmatched only pages = is_some only && nat_eq (length pages) 0
+
+abbrev pub is_doubted : Comparing → List PageFound → Bool
+is_doubted a pages = has_left pages || is_unmatched a.flag pages
+
 -- with `--strict` this is no success
 abbrev pub compare_status : Bool → Bool → ℕ
-compare_status strict some_left = if strict && some_left then 1 else 0
+compare_status strict doubted = if strict && doubted then 1 else 0
 
 abbrev pub tally_refusal : TallyFault → CompareRefusal
 tally_refusal tally.WantOfMemory = WantOfMemory
 tally_refusal tally.OtherTally = OtherTally
 
--- what is printed of the pages; a person is told beside it where a page has no rules to compare
+-- what is printed of the pages; a person is told beside it where a page has no rules to compare, or the flag that is asked for has no page
 abbrev pub compare_report : Comparing → List PageFound → Report
-compare_report a pages = record { text = report_text a.json pages; status = compare_status a.strict (has_left pages); is_told = has_left pages }
+compare_report a pages = record { text = report_text a.json pages; status = compare_status a.strict (is_doubted a pages); is_told = is_doubted a pages }
 
--- where the picture that is asked for is written: nowhere where `--strict` finds a page that has no rules to compare
+-- where the picture that is asked for is written: nowhere where `--strict` refuses what is doubted
 abbrev pub picture_path : Comparing → List PageFound → Option Text
-picture_path a pages = if a.strict && has_left pages then None else a.picture
+picture_path a pages = if a.strict && is_doubted a pages then None else a.picture
 
 -- The pages are reported, and their picture is written where one is asked for, or its file is refused to be. After a refusal all files are as
 -- they were.
@@ -66,9 +73,9 @@ IsCompareReport at new a r = (loaded : Result Loaded Refusal) × IsLoadedAt a.fl
 
 -- ---- what is told
 
--- the pages that have no rules to compare
+-- the pages that have no rules to compare, or the flag without a page
 abbrev pub TellsOfLoaded : Comparing → Loaded → List ℕ → Type 0
-TellsOfLoaded a l lines = (pages : List PageFound) × IsComparedOn l a.flag (Ok pages) × (lines ≡ note_lines a.old a.new pages)
+TellsOfLoaded a l lines = (pages : List PageFound) × IsComparedOn l a.flag (Ok pages) × (lines ≡ told_lines a l.old pages)
 
 unfoldable pub TellsLeft : Holding → Comparing → List ℕ → Type 0
 TellsLeft at a lines = (l : Loaded) × IsLoadedAt a.floats at a.old a.new a.book (Ok l) × TellsOfLoaded a l lines

@@ -7,7 +7,7 @@ use Rattle.flagops_compare.specs.declared.asked.Comparing as code
 use Rattle.flagops_words.specs.Alone.{asked_in, faults_in}
 use Rattle.flagops_words.specs.Words.{◌>>=◌, floats_flag, has_floats, is_json, is_strict, json_flag, required, strict_flag}
 
--- the paths of both documents and of the book, the key of the flag and the path of the picture where there are such, whether a page that has no rules to compare is no
+-- the paths of both documents and of the book, the key of the flag and the path of the picture where there are such, whether a page that has no rules to compare, or a flag without a page, is no
 -- success, whether the answer is JSON, and whether the documents may have floats
 pub record Comparing : Type 0 where
   pub old : Text

@@ -13,7 +13,7 @@ pub struct Comparing<'a> {
     pub flag: Option<&'a str>,
     /// The file that the picture is written to, where one is asked for.
     pub picture: Option<&'a str>,
-    /// Whether a page that has no rules to compare is no success.
+    /// Whether a page that has no rules to compare, or a flag without a page, is no success.
     pub strict: bool,
     /// Whether the answer is printed as JSON.
     pub json: bool,

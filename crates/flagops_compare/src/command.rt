@@ -5,9 +5,9 @@ ghost use Rattle.flagops_compare.specs.Command.{description};
 ghost use Rattle.flagops_compare.specs.Drawn.{LeavesBut, pages_drawn};
 ghost use Rattle.flagops_compare.specs.Loaded.{loaded_view};
 ghost use Rattle.flagops_compare.specs.Refusal.{is_want};
-ghost use Rattle.flagops_compare.specs.Report.{IsCompareReport, IsWithLoaded, IsWithPages, TellsLeft, TellsOfLoaded, attempts_of, compare_report, compare_status, has_left, picture_attempts};
+ghost use Rattle.flagops_compare.specs.Report.{IsCompareReport, IsWithLoaded, IsWithPages, TellsLeft, TellsOfLoaded, attempts_of, compare_report, compare_status, is_doubted, picture_attempts};
 ghost use Rattle.flagops_compare.specs.Step.{GivesOne, IsDrawnAt, TellsRefused, is_file_fault};
-ghost use Rattle.flagops_compare.specs.Told.{note_lines};
+ghost use Rattle.flagops_compare.specs.Told.{told_lines};
 ghost use Rattle.flagops_compare.specs.Words as words;
 ghost use Rattle.flagops_compare.specs.Words.{comparing_view};
 ghost use Rattle.flagops_compare.specs.declared.refusal.CompareRefusal.TheVariants.{Load, OtherTally, WantOfMemory};
@@ -26,8 +26,9 @@ use crate::drawing::drawn;
 use crate::loading::{Loaded, load_both};
 use crate::printing::printed;
 use crate::refusal::CompareRefusal;
-use crate::telling::note_lines;
+use crate::telling::{is_unmatched, told_lines};
 use crate::words::read_comparing;
+use flag_defs::Flags;
 use flagops_files::{file_line, store};
 use flagops_shell::{Command, FileSet, Outcome, Refused, Remark, Status};
 use page_switches::{Comparison, Edit, PageFound, TallyFault};
@@ -36,8 +37,7 @@ use std::convert::AsStr;
 use std::thread::Threads;
 
 /// It prints what the edit from one document to another does to recorded users; a person is told of pages that have no rules to
-/// compare, which with `--strict` are no success. Files are only read, but for that
-/// of the picture.
+/// compare, and of a flag without a page, which with `--strict` are no success. Files are only read, but for that of the picture.
 impl<'w, R: Threads, F: FileSet> Command<'w, R, F> for Comparing<'w> {
     type Refusal = CompareRefusal;
 
@@ -137,10 +137,10 @@ fn answered<F: FileSet>(
     ensures left { LeavesBut (option_copied asked.now.picture) (F.holding files.old) (F.holding files.new) }
     ensures kept { KeepsUnlessDone (F.holding files.old) (F.holding files.new) result }
     ensures names { TellsRefused (picture_attempts (option_copied asked.now.picture)) (comparing_view asked.now) result }
-    ensures notes { IfOk result (λ o. IfSome o.remark (Says (λ lines. lines ≡ note_lines asked.now.old.now asked.now.new.now (pages_view compared.now.pages.items)))) }
+    ensures notes { IfOk result (λ o. IfSome o.remark (Says (λ lines. lines ≡ told_lines (comparing_view asked.now) (flags_view edit.entry.old.now) (pages_view compared.now.pages.items)))) }
 {
-    let outcome = shown(alloc, asked, compared)?;
-    let Some(path) = picture_path(asked, compared.left > 0) else {
+    let outcome = shown(alloc, asked, edit.old, compared)?;
+    let Some(path) = picture_path(asked, is_doubted(asked, compared)) else {
         return Ok(outcome);
     };
     match draw_at(alloc, files, path, edit, compared.pages.as_slice()) {
@@ -149,11 +149,11 @@ fn answered<F: FileSet>(
     }
 }
 
-/// Where the picture that is asked for is written: nowhere where `--strict` finds a page that has no rules to compare.
-fn picture_path<'a>(asked: &Comparing<'a>, some_left: bool) -> Option<&'a str>
-    ensures { option_copied result ≡ (if asked.now.strict && some_left then None else option_copied asked.now.picture) }
+/// Where the picture that is asked for is written: nowhere where `--strict` refuses what is doubted.
+fn picture_path<'a>(asked: &Comparing<'a>, doubted: bool) -> Option<&'a str>
+    ensures { option_copied result ≡ (if asked.now.strict && doubted then None else option_copied asked.now.picture) }
 {
-    if asked.strict && some_left {
+    if asked.strict && doubted {
         None
     } else {
         asked.picture
@@ -203,45 +203,59 @@ fn write_at<F: FileSet>(
 fn shown(
     alloc: Global,
     asked: &Comparing<'_>,
+    old: &Flags,
     compared: &Comparison,
 ) -> Result<Outcome, Refused<CompareRefusal>>
     requires { AreSums compared.now }
     ensures exact { IfOk result (λ o. outcome_view o ≡ compare_report (comparing_view asked.now) (pages_view compared.now.pages.items)) }
     ensures wants { IfErr result (λ e. e.refusal ≡ WantOfMemory) }
-    ensures notes { IfOk result (λ o. IfSome o.remark (Says (λ lines. lines ≡ note_lines asked.now.old.now asked.now.new.now (pages_view compared.now.pages.items)))) }
+    ensures notes { IfOk result (λ o. IfSome o.remark (Says (λ lines. lines ≡ told_lines (comparing_view asked.now) (flags_view old.now) (pages_view compared.now.pages.items)))) }
 {
     match printed(alloc, compared, asked.json) {
         Ok(text) => Ok(Outcome {
             text: text.into_bytes(),
-            status: status_of(asked.strict, compared.left > 0),
-            remark: remark_of(alloc, asked, compared),
+            status: status_of(asked.strict, is_doubted(asked, compared)),
+            remark: remark_of(alloc, asked, old, compared),
         }),
         Err(AllocError) => Err(out_of_memory()),
     }
 }
 
-/// With `--strict` a page that has no rules to compare is no success.
-fn status_of(strict: bool, some_left: bool) -> Status
-    ensures { status_number result ≡ compare_status strict some_left }
+/// Whether a page has no rules to compare, or the flag that is asked for has no page.
+fn is_doubted(asked: &Comparing<'_>, compared: &Comparison) -> bool
+    requires { AreSums compared.now }
+    ensures { result ≡ is_doubted (comparing_view asked.now) (pages_view compared.now.pages.items) }
 {
-    if strict && some_left {
+    compared.left > 0 || is_unmatched(asked, compared.pages.as_slice())
+}
+
+/// With `--strict` what is doubted is no success.
+fn status_of(strict: bool, doubted: bool) -> Status
+    ensures { status_number result ≡ compare_status strict doubted }
+{
+    if strict && doubted {
         Status::Refused
     } else {
         Status::Done
     }
 }
 
-/// What a person is told, where a page has no rules to compare.
+/// What a person is told, where something is doubted.
 #[tactic(auto, using(flagops_files::proofs::Told::says))]
-fn remark_of(alloc: Global, asked: &Comparing<'_>, compared: &Comparison) -> Option<Remark>
+fn remark_of(
+    alloc: Global,
+    asked: &Comparing<'_>,
+    old: &Flags,
+    compared: &Comparison,
+) -> Option<Remark>
     requires { AreSums compared.now }
-    ensures told { is_some result ≡ has_left (pages_view compared.now.pages.items) }
-    ensures says { IfSome result (Says (λ lines. lines ≡ note_lines asked.now.old.now asked.now.new.now (pages_view compared.now.pages.items))) }
+    ensures told { is_some result ≡ is_doubted (comparing_view asked.now) (pages_view compared.now.pages.items) }
+    ensures says { IfSome result (Says (λ lines. lines ≡ told_lines (comparing_view asked.now) (flags_view old.now) (pages_view compared.now.pages.items))) }
 {
-    if compared.left == 0 {
+    if !is_doubted(asked, compared) {
         return None;
     }
-    let lines = note_lines(alloc, asked, compared.pages.as_slice());
+    let lines = told_lines(alloc, asked, old, compared.pages.as_slice());
     Some(Remark::of(lines))
 }
 

@@ -15,8 +15,9 @@
 //!
 //! Proved, over the definitions in `specs/`, of [`Comparing`]: over files whose bytes are known it comes to what the edit does on
 //! the pages of the book, or on the page of the tally (`Report`), unless memory ran out; what is printed is `Printed`; a page that
-//! has no rules to compare is told with the reason and the document (`Told`), and a refusal by the file that is refused; no
-//! file changes but that of the picture, where one is asked for and no page is left out that `--strict` asks for (`Drawn`).
+//! has no rules to compare is told with the reason and the document, a flag that is asked for and has no page by its key (`Told`),
+//! and a refusal by the file that is refused; no file changes but that of the picture, where one is asked for and `--strict` doubts
+//! nothing (`Drawn`).
 #![tactic(auto)]
 
 mod asked;

@@ -17,7 +17,7 @@ pub(crate) fn usage<'a>(alloc: Global) -> Result<Command<'a>, AllocError>
     let strict = flag(
         alloc,
         "strict",
-        "End with status 1 where a page has no rules to compare",
+        "End with status 1 where a page has no rules to compare, or KEY has no page",
     );
     let json = flag(alloc, "json", "Print the answer as JSON, in a line");
     begun(alloc)?.arg(strict)?.arg(json)?.arg(floats(alloc))

@@ -23,14 +23,23 @@ use unread_members::Reader;
 pub fn unread(alloc: Global, path: &str, bytes: &[u8]) -> Result<Option<Remark>, AllocError>
     ensures told { IfOk result (λ r. is_some r ≡ is_unread bytes.now) }
     ensures notes { IfOk result (λ r. IfSome r (Says (Names path.now))) }
+    ensures parts { IfOk result (Tells (request_parts path.now bytes.now)) }
 {
-    let unread = match read_tree(alloc, bytes, TEXT_LIMIT as usize) {
-        Ok(tree) => unread_in(alloc, path, &tree),
-        Err(TextFault::WantOfMemory) => return Err(AllocError),
-        Err(_) => None,
-    };
+    let unread = unread_member_of(alloc, path, bytes)?;
     let repeated = repeated(alloc, path, bytes)?;
     Ok(with_more(path, unread, repeated))
+}
+
+/// What is told of members of a request that are not read, by their names alone.
+fn unread_member_of(alloc: Global, path: &str, bytes: &[u8]) -> Result<Option<Remark>, AllocError>
+    ensures told { IfOk result (λ r. is_some r ≡ has_unread (tree_of bytes.now max_text)) }
+    ensures notes { IfOk result (λ r. IfSome r (Says (Names path.now))) }
+{
+    match read_tree(alloc, bytes, TEXT_LIMIT as usize) {
+        Ok(tree) => Ok(unread_in(alloc, path, &tree)),
+        Err(TextFault::WantOfMemory) => Err(AllocError),
+        Err(_) => Ok(None),
+    }
 }
 
 /// The same of the file of a request, which was read.
@@ -48,7 +57,7 @@ pub fn unread_in_file(
     Ok(with_more(path, unread, repeated))
 }
 
-/// What is told of members of a request that are not read, by their names alone.
+/// The same of the file of a request, which was read.
 fn unread_member(alloc: Global, path: &str, request: &RequestFile) -> Option<Remark>
     ensures told { is_some result ≡ has_unread (tree_of request.now max_text) }
     ensures notes { IfSome result (Says (Names path.now)) }

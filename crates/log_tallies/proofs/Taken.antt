@@ -20,7 +20,6 @@ use Rattle.tally_core.specs.Tally.{PageTally}
 use Rattle.tally_filters.specs.Blank.{is_blank}
 use Rattle.tally_filters.specs.Filter.{Filtered, RefusesLine, Takes, TakesAll, numbered}
 use Rattle.tally_filters.specs.declared.fault.FilterFault.{FilterFault}
-use Rattle.tally_filters.specs.declared.fault.FilterFault.TheVariants.{WantOfMemory, Line, Order, TooMany, Mixed}
 use Rattle.log_tallies.proofs.Among.{In, from_in, in_front, in_middle}
 use Rattle.log_tallies.specs.Recorded.{AreMixed}
 use Rattle.log_tallies.specs.Sorted.{TalliesLines}

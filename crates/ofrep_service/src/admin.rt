@@ -186,7 +186,7 @@ fn answer_operations<J: ShareName, R: Net + LogPaths + DeskPaths + Clock>(
 }
 
 /// A desk before a worker, which goes by the rules and the keys of a board and answers from the snapshots of a seat.
-fn desk_of<'a, J: ShareName, R: DeskPaths, S>(
+fn desk_of<'a, J: ShareName, R: DeskPaths, S: Drop>(
     rt: &'a R,
     alloc: Global,
     board: &'a Board,

@@ -1,7 +1,9 @@
 //! Diagnostics of an asks file, and what became of the asks in words.
-ghost use Rattle.std.specs.Prelude.{◌≡◌, ◌<◌, ◌==◌, IfOk, codes, if◌then◌else◌, map, string_bytes};
+ghost use Rattle.std.specs.Prelude.{◌≡◌, ◌<◌, ◌==◌, ℕ, IfOk, List, Some, codes, if◌then◌else◌, map, option_map, string_bytes};
+ghost use Rattle.file_diagnostics.specs.Lines.{Grows, text_so_far};
 ghost use Rattle.file_diagnostics.specs.Named.{Names, NamesWord};
-ghost use Rattle.flagops_commands.specs.DriveSummary.{asks_text, book_text, ending_text, ending_texts, endings_told, nothing_text, plural, sharing_text, summary_text, unrecorded_text};
+ghost use Rattle.flag_text.specs.View.{items_view};
+ghost use Rattle.flagops_commands.specs.DriveSummary.{IsUnreadMember, IsUnreadText, asks_text, book_text, ending_text, ending_texts, endings_told, first_unread, nothing_text, plural, sharing_text, summary_text, unread_count, unread_count_text, unrecorded_text};
 
 use file_diagnostics::{Lines, Opening, put_meant, quoted_name};
 use flag_text::Tree;
@@ -57,29 +59,56 @@ fn member_at<'a>(tree: &'a Tree, place: usize, name: &str) -> Option<&'a Tree> {
 }
 
 /// Says how many asks have a member that is not read, and names the first such member.
-pub fn of_unread_asks(alloc: Global, path: &str, tree: &Tree) -> Result<String, AllocError>
+pub fn of_unread_asks(alloc: Global, path: &str, asks: &[Tree]) -> Result<String, AllocError>
     ensures names { IfOk result (λ s. Names path.now (string_bytes s)) }
+    ensures text { IfOk result (λ s. IsUnreadText path.now (items_view asks.now) (string_bytes s)) }
 {
-    let asks = tree.as_list().unwrap_or(&[]);
-    let unread = asks
-        .iter()
-        .filter(|ask| Reader::Ask.unread(ask).is_some())
-        .count();
-    let ending = plural(unread as u128);
     let mut lines = Lines::new(alloc);
+    put_unread_count(&mut lines, unread_count(asks));
+    put_first_unread(&mut lines, asks);
+    lines.headed(Opening::Note, path)
+}
+
+/// How many asks have a member that is not read.
+fn unread_count(asks: &[Tree]) -> usize
+    ensures { result ≡ unread_count (items_view asks.now) }
+{
+    asks.iter()
+        .filter(|ask| Reader::Ask.unread(ask).is_some())
+        .count()
+}
+
+#[tactic(auto, unfolding(crate::specs::DriveSummary::unread_count_text))]
+fn put_unread_count(lines: &mut Lines, count: usize)
+    ensures { Grows (text_so_far lines.old) (Some (unread_count_text count)) (text_so_far lines.new) }
+{
+    let ending = plural(count as u128);
     write!(
         lines,
-        ": {unread} ask{ending} with a member that is not read\n"
+        ": {count} ask{ending} with a member that is not read\n"
     );
+}
+
+/// The first member of an ask that is not read, with the one that may be meant.
+fn put_first_unread(lines: &mut Lines, asks: &[Tree])
+    ensures { (line : List ℕ) × IsUnreadMember (first_unread 1 (items_view asks.now)) line × Grows (text_so_far lines.old) (Some line) (text_so_far lines.new) }
+{
+    if let Some((number, name)) = first_unread(asks) {
+        write!(lines, "  {} in ask {number}", lines.name(name));
+        put_meant(lines, name, Reader::Ask);
+    }
+}
+
+/// The number of the first ask that has a member that is not read, counted from 1, and its first such member.
+fn first_unread(asks: &[Tree]) -> Option<(usize, &str)>
+    ensures { option_map (λ u. (u.0, u.1.now)) result ≡ first_unread 1 (items_view asks.now) }
+{
     for (place, ask) in asks.iter().enumerate() {
         if let Some(name) = Reader::Ask.unread(ask) {
-            let number = place.saturating_add(1);
-            write!(lines, "  {} in ask {number}", lines.name(name));
-            put_meant(&mut lines, name, Reader::Ask);
-            break;
+            return Some((place + 1, name));
         }
     }
-    lines.headed(Opening::Note, path)
+    None
 }
 
 /// Explains why asks that were read were not answered: `fault` is the name of the refusal, `workers` the number asked for.

@@ -1,10 +1,12 @@
 //! The file of asks that `drive` answers: how it is loaded, and what a person is told of it.
 ghost use Rattle.std.specs.Prelude.{◌≡◌, ◌||◌, true, IfOk, IfSome, string_bytes};
 ghost use Rattle.flag_text.specs.Shape.{is_whole};
+ghost use Rattle.flag_text.specs.View.{items_view, view};
 ghost use Rattle.flagops_drive.specs.File.{file_view};
 ghost use Rattle.flagops_files.specs.Loading as loading;
 ghost use Rattle.flagops_files.specs.Loading.{max_text};
 ghost use Rattle.flagops_files.specs.Refusal as refusals;
+ghost use Rattle.flagops_commands.specs.DriveSummary.{IsUnreadText, asks_listed};
 ghost use Rattle.flagops_commands.specs.Loaded.{tree_at};
 ghost use Rattle.flagops_files.specs.Told.{file};
 ghost use Rattle.file_diagnostics.specs.Named.{Names};
@@ -84,10 +86,18 @@ pub fn of_no_asks(alloc: Global, path: &str, asks: &AsksFile<'_>) -> Result<Stri
 
 /// What a person is told of asks that have a member that is not read; those that were read have none.
 pub fn of_unread(alloc: Global, path: &str, asks: &AsksFile<'_>) -> Result<String, AllocError>
-    ensures { IfOk result (λ s. Names path.now (string_bytes s)) }
+    ensures names { IfOk result (λ s. Names path.now (string_bytes s)) }
+    ensures text { IfOk result (λ s. IsUnreadText path.now (asks_listed (file_view asks.now)) (string_bytes s)) }
 {
     match asks {
-        AsksFile::Plain(_) => of_unread_asks(alloc, path, &Tree::Null),
-        AsksFile::Tree(tree) => of_unread_asks(alloc, path, tree),
+        AsksFile::Plain(_) => of_unread_asks(alloc, path, &[]),
+        AsksFile::Tree(tree) => of_unread_asks(alloc, path, asks_listed(tree)),
     }
+}
+
+/// The asks of a tree. What is no list has none.
+fn asks_listed(tree: &Tree) -> &[Tree]
+    ensures { items_view result.now ≡ asks_listed (view tree.now) }
+{
+    tree.as_list().unwrap_or(&[])
 }

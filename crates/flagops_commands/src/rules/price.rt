@@ -4,10 +4,12 @@ ghost use Rattle.std.specs.List.Sorted.{IsPermutation, IsSorted};
 ghost use Rattle.bucket_core.specs.Rule.{Entries, total_weight};
 ghost use Rattle.flag_text.specs.Shape.{members_are_whole, object, whole};
 ghost use Rattle.flag_text.specs.View.{view};
-ghost use Rattle.flagops_commands.specs.Price.{request_at, are_short, are_taken, exposed, price_report, weighed, weighed_bytes, weighed_keys, with_doubt, price_json, price_lines, price_members, price_text, number_or_null, total_lines, total_members, forbidden_line, cost_line};
+ghost use Rattle.flagops_commands.specs.Price.{TellsRequestAt, request_at, are_short, are_taken, exposed, price_report, weighed, weighed_bytes, weighed_keys, with_doubt, price_json, price_lines, price_members, price_text, number_or_null, total_lines, total_members, forbidden_line, cost_line};
 ghost use Rattle.flagops_commands.specs.Loaded.{bytes_at};
 ghost use Rattle.flagops_commands.specs.Calls.{loads_keys, loads_request, notes_keys, price_calls, price_itself, weighs_keys};
 ghost use Rattle.flagops_files.specs.Loading.{max_text};
+ghost use Rattle.flagops_rollouts.specs.Beside.{Tells};
+ghost use Rattle.flagops_rollouts.specs.Doubts.{request_parts};
 ghost use Rattle.flagops_shell.specs.Outcomes.{refused_by};
 ghost use Rattle.flagops_shell.specs.Report.{outcome_view};
 ghost use Rattle.flagops_commands.specs.Refusal.{ComesFrom, GivesUnlessWant, is_file_fault, TellsOf, TellsOfOne};
@@ -69,6 +71,7 @@ pub fn price<R: Threads + Sync, F: FileSet>(
     ensures kept { F.holding files.new ≡ F.holding files.old }
     ensures names { IfSome (F.holding files.old) (λ at. TellsOfFirst (price_attempts at old.now new.now request.now keys.now) result) }
     ensures notes { IfOk result (λ o. IfSome o.remark (Says (Names request.now))) }
+    ensures parts { IfSome (F.holding files.old) (λ at. IfOk result (λ o. TellsRequestAt at request.now o.remark)) }
 {
     let old = load_rule(alloc, files, old)?;
     let new = load_rule(alloc, files, new)?;
@@ -106,6 +109,7 @@ fn load_request<F: FileSet>(
     ensures kept { F.holding files.new ≡ F.holding files.old }
     ensures names { TellsOf (file path.now) result }
     ensures notes { IfOk result (λ r. IfSome r.remark (Says (Names path.now))) }
+    ensures parts { IfSome (F.holding files.old) (λ at. IfOk result (λ r. TellsRequestAt at path.now r.remark)) }
 {
     let bytes = load_bytes(alloc, files, path)?;
     request_in(alloc, path, bytes.as_slice())
@@ -119,6 +123,7 @@ fn request_in(alloc: Global, path: &str, bytes: &[u8]) -> Result<NotedRequest, R
     ensures read { is_file_fault result ≡ false }
     ensures names { TellsOf (file path.now) result }
     ensures notes { IfOk result (λ r. IfSome r.remark (Says (Names path.now))) }
+    ensures parts { IfOk result (λ r. Tells (request_parts path.now bytes.now) r.remark) }
 {
     match Request::read(alloc, bytes) {
         Ok(request) => match unread(alloc, path, bytes) {

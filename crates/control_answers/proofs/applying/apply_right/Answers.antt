@@ -1,4 +1,4 @@
-use Rattle.std.proofs.Common.{◌≡◌, ◌∙◌, Err, ap, sym, string_bytes}
+use Rattle.std.proofs.Common.{◌≡◌, ◌∙◌, ℕ, Ok, Err, ap, rules, subst, sym, string_bytes}
 use Rattle.std.proofs.lemmas.Result.{err_from_is_err_and}
 use Rattle.flag_defs.specs.Flags.{flags_view}
 use Rattle.plan_text.specs.Answer.{planned_view}
@@ -36,4 +36,9 @@ returns-in-Some c =
 
 pub returns-in-None : goal.returns-in-None
 returns-in-None c =
-    undoubted (snapshot_view c.args.snapshot.now) c.args.request (planned_view c.args.planned) c.args.tally.now (string_bytes c.in_ok-document.document) c.in_ok-document.ensures (sym c.in_ok-doubt.ensures ∙ c.in-None.is)
+    let s = snapshot_view c.args.snapshot.now in
+    let answer = planned_view c.args.planned in
+    let text = string_bytes c.in_ok-document.document in
+    let inputs : c.tally.inside.inputs ≡ c.args.tally.now.inputs = search rules in
+    subst (λ (n : ℕ). IsApplied s c.args.request answer c.args.tally.now (Ok (record { document = text; request = c.args.request; answer = answer; inputs = n }))) (sym inputs)
+    (undoubted s c.args.request answer c.args.tally.now text c.in_ok-document.ensures (sym c.in_ok-doubt.ensures ∙ c.in-None.is))

@@ -1,13 +1,14 @@
 use Rattle.std.proofs.Common.{◌≡◌, List, ℕ, Ok, rules, string_bytes, subst, sym, true}
+use Rattle.std.proofs.lemmas.Bool.{false≢true}
 use Rattle.flag_defs.specs.Flags.{flags_view}
 use Rattle.flag_defs.specs.Floats.{MeansAs}
 use Rattle.kept_document.specs.Kept.{KeptAt, place_in}
-use Rattle.control_answers.proofs.Texts.{no_flags}
+use Rattle.control_answers.proofs.NoText.{no_flags}
 use Rattle.control_answers.proofs.changing.edited.Goals as goal
 
 -- bytes that are no text mean no flags
 pub unreachable-requires : goal.unreachable-requires
-unreachable-requires c = no_flags c.in-Ok.text.items (flags_view c.args.wanted.now) c.in-Err-from_utf8.ensures.succeeds c.in-Ok.ensures.means
+unreachable-requires c = no_flags c.in-Ok.text.items (flags_view c.args.wanted.now) (λ is. false≢true (c.in-Err-from_utf8.ensures.succeeds is)) c.in-Ok.ensures.means
 
 pub returns-in-Ok-from_utf8 : goal.returns-in-Ok-from_utf8
 returns-in-Ok-from_utf8 c =

@@ -1,4 +1,4 @@
-use Rattle.std.proofs.Common.{Option, List, ap, subst}
+use Rattle.std.proofs.Common.{Option, subst}
 use Rattle.std.proofs.lemmas.Result.{on_ok_weaker}
 use Rattle.logic_ast.specs.Expression.{Expression}
 use Rattle.control_answers.specs.SiteCounts.{Fills, pages_by}

@@ -1,6 +1,8 @@
-use Rattle.std.proofs.Common.{refl, rules}
+use Rattle.std.proofs.Common.{◌∙◌, ℕ, List, ap₂, refl, rules}
+use Rattle.std.specs.Prelude.{string_bytes}
 use Rattle.flag_defs.specs.Flags.{flags_view}
 use Rattle.rollout_checks.specs.Tallied.{tally_view}
+use Rattle.control_answers.specs.Token.{token_text}
 use Rattle.control_answers.proofs.Planned.{is_asked}
 use Rattle.control_answers.proofs.planning.told_of.Goals as goal
 
@@ -17,7 +19,7 @@ returns-clause-told c = record {
   plan_is = refl;
   effect = c.in_ok-effect.ensures.effect;
   picture = c.in_ok-picture.ensures;
-  explained = search rules;
+  explained = (string_bytes c.in_ok-explained.explained, c.in_ok-explained.ensures.names, c.in_ok-push_edit.ensures);
   document = c.in_ok-document.ensures;
-  token = search rules;
+  token = c.in_ok-token.ensures ∙ ap₂ (λ (r p : List ℕ). token_text c.args.snapshot.now.document.now r p) c.bytes.ensures c.as_slice.ensures.value;
 }

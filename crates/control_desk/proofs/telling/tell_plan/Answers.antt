@@ -1,4 +1,4 @@
-use Rattle.std.proofs.Common.{◌≡◌, ℕ, List, Result, codes, map, string_bytes, subst}
+use Rattle.std.proofs.Common.{◌≡◌, ℕ, List, Result, codes, map, rules, string_bytes, subst}
 use Rattle.std.specs.Prelude.{OnOk}
 use Rattle.log_tallies.specs.Lines.{files_view}
 use Rattle.control_answers.specs.Plan.{IsPlanAnswer}

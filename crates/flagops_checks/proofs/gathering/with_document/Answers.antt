@@ -22,5 +22,5 @@ returns-in_err-bytes-clause-exact g c =
 pub returns-in-Ok-clause-exact : goal.returns-in-Ok-clause-exact
 returns-in-Ok-clause-exact g c =
     let flags = flags_view c.in_ok-bytes.field-0.flags in
-    let adds = subst (λ (b : List ℕ). Adds c.args.form (checked c.args.path.now b flags) c.args.all c.in-Ok.next) c.as_slice.ensures.value c.in-Ok.ensures in
+    let adds = subst (λ (b : List ℕ). Adds c.args.form (checked c.args.form.floats c.args.path.now b flags) c.args.all c.in-Ok.next) c.as_slice.ensures.value c.in-Ok.ensures in
     next_found c.args.form c.args.all c.args.path.now (g.F.FileSet.holding c.args.files.now) c.in_ok-bytes.field-0.bytes.items flags c.in-Ok.next c.in_ok-bytes.ensures.exact c.in_ok-bytes.ensures.bytes adds

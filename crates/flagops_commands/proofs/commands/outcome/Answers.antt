@@ -24,6 +24,9 @@ returns-in-Drive-clause-names g c = as_asked (g.F.FileSet.holding c.args.files.n
 pub returns-in-Plan-clause-numbers : goal.returns-in-Plan-clause-numbers
 returns-in-Plan-clause-numbers g c = points_told (g.F.FileSet.holding c.args.files.now) _ _ _ _ _ _ _ _ c.plan.result (ap asked_view c.in-Plan.is) c.plan.ensures.numbers
 
+pub returns-in-Price-clause-parts : goal.returns-in-Price-clause-parts
+returns-in-Price-clause-parts g c = parts_told (g.F.FileSet.holding c.args.files.now) _ _ c.price.result (ap asked_view c.in-Price.is) c.price.ensures.parts
+
 pub returns-in-Verify-clause-parts : goal.returns-in-Verify-clause-parts
 returns-in-Verify-clause-parts g c = parts_told (g.F.FileSet.holding c.args.files.now) _ _ c.verify.result (ap asked_view c.in-Verify.is) c.verify.ensures.parts
 

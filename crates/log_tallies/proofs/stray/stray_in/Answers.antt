@@ -1,4 +1,4 @@
-use Rattle.std.proofs.Common.{true, false, subst, arith}
+use Rattle.std.proofs.Common.{subst, arith}
 use Rattle.log_tallies.proofs.Strays.{looked_more, looked_none, none_here, stray_here}
 use Rattle.log_tallies.specs.Stray.{IsTold}
 use Rattle.log_tallies.proofs.stray.stray_in.Goals as goal

@@ -44,8 +44,8 @@ returns-in-Replied-clause-ok g c =
     )
 
 -- a call leads somewhere
-pub answer-requires-place : goal.answer-requires-place
-answer-requires-place g c =
+pub answer-requires-clause-place : goal.answer-requires-clause-place
+answer-requires-clause-place g c =
     let old = c.args.self.now in
     let request = c.args.request.now in
     let rules = rules_view old.post.now.rules in

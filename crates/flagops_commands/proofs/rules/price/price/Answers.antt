@@ -1,4 +1,4 @@
-use Rattle.std.proofs.Common.{◌≡◌, ◌∙◌, ℕ, List, [], ◌∷◌, Bool, ap, is_some, subst, sym}
+use Rattle.std.proofs.Common.{◌≡◌, ◌∙◌, ℕ, List, [], ◌∷◌, Bool, IfSome, Option, ap, is_some, subst, sym}
 use Rattle.std.proofs.lemmas.Result.{err_from_is_err_and}
 use Rattle.std.specs.Prelude.{Result, Err}
 use Rattle.bucket_core.specs.Rule.{Entries}
@@ -6,10 +6,11 @@ use Rattle.price_core.specs.Request.{Asked}
 use Rattle.flagops_files.specs.Told.{file, word}
 use Rattle.flagops_shell.specs.Files.{Holding}
 use Rattle.flagops_shell.specs.declared.outcome.Outcome.{Outcome}
+use Rattle.flagops_shell.specs.declared.refused.Remark.{Remark}
 use Rattle.flagops_commands.proofs.Driving.{at_first}
 use Rattle.flagops_commands.proofs.Firsts.{among_first, behind_three, first_refused, second_refused, third_refused}
 use Rattle.flagops_commands.specs.Loaded.{rule_at}
-use Rattle.flagops_commands.specs.Price.{request_at}
+use Rattle.flagops_commands.specs.Price.{TellsRequestAt, request_at}
 use Rattle.flagops_commands.specs.Refusal.{Refused, Subjects, TellsOfOne}
 use Rattle.flagops_commands.specs.Subjects.{is_of_keys, is_of_rules, old_weights}
 use Rattle.flagops_commands.specs.declared.refusal.ListedRefusal.{ListedRefusal}
@@ -66,3 +67,8 @@ returns-in_err-outcome-clause-names g c =
     behind_three (file c.args.old.now) (file c.args.new.now) (file c.args.request.now) (IsRule c.args.old.now) (IsRule c.args.new.now) (IsRequest c.args.request.now) (made c.args.keys.now) (g.F.FileSet.holding c.args.files.now) c.from_residual-in_err-outcome.result
     c.in_ok-old.old c.in_ok-old.ensures.exact c.in_ok-new.new (at_first _ _ _ c.load_rule.ensures.kept c.in_ok-new.ensures.exact) (c.in_ok-request.field-0.request, is_some c.in_ok-request.field-0.remark) (at_first _ _ _ (c.load_rule-2.ensures.kept ∙ c.load_rule.ensures.kept) c.in_ok-request.ensures.exact)
     (subst (λ (s : Result Outcome Refused). TellsOfOne (made c.args.keys.now) s) (sym is) c.in_err-outcome.ensures.names)
+
+pub returns-clause-parts : goal.returns-clause-parts
+returns-clause-parts g c =
+    subst (λ (m : Option Remark). IfSome (g.F.FileSet.holding c.args.files.now) (λ at. TellsRequestAt at c.args.request.now m)) (sym c.beside.ensures.remark)
+    (at_first _ _ _ (c.load_rule-2.ensures.kept ∙ c.load_rule.ensures.kept) c.in_ok-request.ensures.parts)

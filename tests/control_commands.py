@@ -1,23 +1,13 @@
-"""The calls of rollouts from a running service, answered by the commands on the same files: what the service is compared with, and what
-the console's tests ask while it has none. It knows documents of one source, with a targeting that is a `fractional` or holds some."""
+"""The calls of rollouts from a running service, answered by the commands on the same files: what the service is compared with. It knows
+documents of one source, with a targeting that is a `fractional` or holds some."""
 import hashlib
-import http.server
 import json
 import os
 import re
 import subprocess
-import sys
 import tempfile
-import threading
-import time
-from urllib.parse import parse_qs, urlsplit
 
-from program import PROGRAM, ROOT
-
-sys.path.insert(0, os.path.join(ROOT, "tools"))
-from embed_console import policy_of
-
-CONSOLE = os.path.join(ROOT, "console", "console.html")
+from program import PROGRAM
 
 
 class Spelled(str):
@@ -118,34 +108,29 @@ def tag_of(text):
 class Refused(Exception):
     """A call that a command refuses."""
 
-    def __init__(self, call, number, name, details, status=400):
+    def __init__(self, call, number, name):
         super().__init__(name)
-        self.body = {"refused": call, "number": number, "name": name, "details": details}
-        self.status = status
+        self.body = {"refused": call, "number": number, "name": name}
 
 
-class Control:
-    """What is answered of a document at a path and of the logs in a folder."""
+class Commands:
+    """What is answered of a document at a path and of the logs in a folder, with the number of the first snapshot."""
 
-    def __init__(self, document, logs, allow_apply=False):
-        self.document, self.logs, self.allow_apply = document, logs, allow_apply
-        self.number, self.seen, self.read = 0, None, {}
+    def __init__(self, document, logs):
+        self.document, self.logs, self.read = document, logs, {}
 
     def text(self):
         with open(self.document, encoding="utf-8") as file:
-            text = file.read()
-        if text != self.seen:
-            self.number, self.seen = self.number + 1, text
-        return text
+            return file.read()
 
     def run(self, words, given=None):
         """What a command prints; its refusal where it is refused."""
         ended = subprocess.run([PROGRAM, *words], input=given, capture_output=True, check=False)
-        out, err = ended.stdout.decode(), ended.stderr.decode()
+        out = ended.stdout.decode()
         if ended.returncode not in (0, 3):
             found = re.search(r"^refused (\w+) (\d+) (\w+)", out, re.MULTILINE)
-            raise Refused(found[1], int(found[2]), found[3], err.strip())
-        return out, err
+            raise Refused(found[1], int(found[2]), found[3])
+        return out, ended.stderr.decode()
 
     def names(self):
         """The names of all logs, those that were rotated among them."""
@@ -164,12 +149,19 @@ class Control:
         return self.read["lines"]
 
     def tally(self, key, site):
-        if self.logs is None:
-            raise Refused("control", 1, "NoRecord", "The service keeps no log.", 409)
         lines, asked = self.lines(), (self.text(), key, site)
         if asked not in self.read["tallies"]:
             self.read["tallies"][asked] = self.run(["tally", "--floats", self.document, key, str(site)], b"".join(line + b"\n" for line in lines))[0]
         return self.read["tallies"][asked]
+
+    def evidence(self, request):
+        """The tally for a request; a book of nothing where it has none, so that the next command says what is wrong with the request."""
+        try:
+            return self.tally(request["flag"], request.get("site", 0))
+        except Refused as refused:
+            if refused.body["refused"] != "plan":
+                raise
+            return '{"book":1}\n'
 
     def flags(self):
         """The flags of the document as the service prints them, and what is said of them: a broken one is an empty object."""
@@ -187,13 +179,11 @@ class Control:
                 total = sum(weight for _, weight in rule) if rule else None
                 sites.append({"by": by, "flag": key, "site": site, "rule": rule, "total": total, "inputs": self.counted(key, site, by)})
         doubts = sorted(([json.loads(found[1]), found[2]] for found in map(DOUBTED.search, remarks) if found), key=lambda it: (it[0].encode(), DOUBTS.index(it[1])))
-        head = {"snapshot": self.number, "may_apply": self.allow_apply, "remarks": "".join(line + "\n" for line in remarks if BROKEN.match(line))}
+        head = {"snapshot": 1, "may_apply": False, "remarks": "".join(line + "\n" for line in remarks if BROKEN.match(line))}
         return {**head, "sources": [self.document], "sites": sites, "doubts": doubts, "kinds": kinds, "merged": {"flags": merged}}
 
     def counted(self, key, site, by):
-        """How many inputs are noted of a page; nothing where no log is kept."""
-        if self.logs is None:
-            return None
+        """How many inputs are noted of a page."""
         page = compact([key, site, by])[:-1].encode() + b","
         return sum(line.startswith(page) for line in self.lines())
 
@@ -205,7 +195,7 @@ class Control:
             with open(path("request"), "wb") as file:
                 file.write(body)
             with open(path("tally"), "w", encoding="utf-8") as file:
-                file.write(self.tally(request["flag"], request.get("site", 0)))
+                file.write(self.evidence(request))
             printed, words = self.run(["plan", "--floats", "--explain", "--picture", path("picture"), self.document, path("request"), path("tally")])
             with open(path("plan"), "w", encoding="utf-8") as file:
                 file.write(printed)
@@ -221,7 +211,7 @@ class Control:
         switches = switches_of(old, new, counts) if new else []
         by_hand = sum(row["inputs"] for row in switches_of(old, obvious(old, new), counts)) if new else None
         answer = {
-            "by_hand": by_hand, "inputs": head["inputs"], "snapshot": self.number, "switch": sum(row["inputs"] for row in switches), "switches": switches,
+            "by_hand": by_hand, "inputs": head["inputs"], "snapshot": 1, "switch": sum(row["inputs"] for row in switches), "switches": switches,
             "document": document, "explained": EXPLAINED.search(words.replace(path("request"), "request"))[0], "picture": picture, "plan": plan, "token": {"document": tag_of(text), "plan": plan, "request": request},
         }
         passed_over = [name for name in self.names() if name.endswith(COMPRESSED)]
@@ -233,139 +223,7 @@ class Control:
         request, plan = asked["request"], asked["plan"]
         with tempfile.TemporaryDirectory() as folder:
             path = lambda name: os.path.join(folder, name)
-            for name, text in [("request", compact(request)), ("plan", compact(plan)), ("tally", self.tally(request["flag"], request.get("site", 0)))]:
+            for name, text in [("request", compact(request)), ("plan", compact(plan)), ("tally", self.evidence(request))]:
                 with open(path(name), "w", encoding="utf-8") as file:
                     file.write(text)
             return json.loads(self.run(["verify", "--json", "--floats", self.document, path("request"), path("tally"), path("plan")])[0])
-
-    def apply(self, body, who):
-        if not self.allow_apply:
-            raise Refused("apply", 1, "NotAllowed", "The service was not started with --allow-apply.", 404)
-        token = json.loads(body)
-        before = self.text()
-        if token["document"] != tag_of(before):
-            raise Refused("control", 3, "OtherDocument", "The document has changed since this was planned.", 409)
-        made = self.plan(compact(token["request"]).encode())
-        if not made["inputs"]:
-            raise Refused("apply", 17, "Unrecorded", "Nothing is recorded of the site.")
-        if made["plan"] != token["plan"]:
-            raise Refused("verify", 6, "Cost", "The plan is not right on what is recorded now.")
-        request = token["request"]
-        _, old = site_of(rules_of(json.loads(before)["flags"][request["flag"]]["targeting"])[request.get("site", 0)])
-        row = {
-            "cost": token["plan"]["cost"], "flag": request["flag"], "inputs": made["inputs"], "new": token["plan"]["rule"], "old": old,
-            "site": request.get("site", 0), "time": time.strftime("%Y-%m-%dT%H:%M:%SZ", time.gmtime()), "who": who,
-        }
-        with open(os.path.join(self.logs, "applied.log"), "a", encoding="utf-8") as file:
-            file.write(compact(row) + "\n")
-        with open(self.document + ".new", "w", encoding="utf-8") as file:
-            file.write(made["document"])
-        os.replace(self.document + ".new", self.document)
-        return {"written": len(made["document"].encode())}
-
-    def history(self):
-        if self.logs is None:
-            raise Refused("control", 1, "NoRecord", "The service keeps no log.", 409)
-        path = os.path.join(self.logs, "applied.log")
-        if not os.path.exists(path):
-            return []
-        with open(path, encoding="utf-8") as file:
-            return [json.loads(line) for line in reversed(file.read().splitlines())]
-
-
-class Answers(http.server.BaseHTTPRequestHandler):
-    """One request."""
-
-    protocol_version = "HTTP/1.1"
-
-    def send(self, status, body, kind="application/json", **headers):
-        self.send_response(status)
-        self.send_header("Content-Type", kind)
-        self.send_header("Content-Length", str(len(body)))
-        for name, value in headers.items():
-            self.send_header(name.replace("_", "-"), value)
-        self.end_headers()
-        self.wfile.write(body)
-
-    def answered(self, ask):
-        try:
-            self.send(200, (compact(ask()) + "\n").encode())
-        except Refused as refused:
-            self.send(refused.status, (compact(refused.body) + "\n").encode())
-
-    def is_own(self):
-        port = self.server.server_port
-        hosts = {f"127.0.0.1:{port}", f"localhost:{port}"}
-        origin = self.headers.get("Origin")
-        if self.headers.get("Host") not in hosts or origin not in {None, *(f"http://{host}" for host in hosts)}:
-            self.send(403, b"{}")
-            return False
-        return True
-
-    def do_GET(self):
-        control, url = self.server.control, urlsplit(self.path)
-        if not self.is_own():
-            return
-        with control.lock:
-            if url.path == "/":
-                with open(CONSOLE, "rb") as file:
-                    self.send(200, file.read(), "text/html; charset=utf-8", Content_Security_Policy=self.server.policy)
-            elif url.path == "/flags":
-                self.answered(control.flags)
-            elif url.path == "/snapshot":
-                text = control.text()
-                tag = f'"{tag_of(text)}"'
-                if self.headers.get("If-None-Match") == tag:
-                    self.send(304, b"", ETag=tag)
-                else:
-                    self.send(200, text.encode(), ETag=tag, X_Snapshot=str(control.number))
-            elif url.path == "/record":
-                asked = parse_qs(url.query)
-                try:
-                    self.send(200, control.tally(asked["flag"][0], int(asked["site"][0])).encode(), "application/jsonl")
-                except Refused as refused:
-                    self.send(refused.status, compact(refused.body).encode())
-            elif url.path == "/history":
-                self.answered(control.history)
-            elif url.path == "/metrics":
-                self.send(200, self.server.metrics.encode(), "text/plain; version=0.0.4")
-            else:
-                self.send(404, b"{}")
-
-    def do_POST(self):
-        control = self.server.control
-        body = self.rfile.read(int(self.headers.get("Content-Length", 0)))
-        if not self.is_own():
-            return
-        with control.lock:
-            if self.path == "/plan":
-                self.answered(lambda: control.plan(body))
-            elif self.path == "/check":
-                self.answered(lambda: control.check(body))
-            elif self.path == "/apply":
-                self.answered(lambda: control.apply(body, self.headers.get("From", "").encode("latin-1").decode()))
-            else:
-                self.send(404, b"{}")
-
-    def log_message(self, *_):
-        pass
-
-
-class ControlServer:
-    """A server of these calls on the loopback."""
-
-    def __init__(self, document, logs, **how):
-        self.control = Control(document, logs, **how)
-        self.control.lock = threading.Lock()
-        self.server = http.server.ThreadingHTTPServer(("127.0.0.1", 0), Answers)
-        self.server.control, self.server.metrics = self.control, ""
-        with open(CONSOLE, encoding="utf-8") as file:
-            self.server.policy = policy_of(file.read())
-        self.origin = f"http://127.0.0.1:{self.server.server_port}"
-        threading.Thread(target=self.server.serve_forever, daemon=True).start()
-
-    def close(self):
-        # What is asked from now on finds no files any more.
-        self.server.handle_error = lambda *_: None
-        self.server.shutdown()
-        self.server.server_close()
