@@ -10,7 +10,7 @@ use Rattle.flagops_streams.specs.declared.refusal.Refusal.{Refusal}
 use Rattle.flagops_streams.specs.declared.refusal.Refusal.TheVariants.{Add, Unreadable, Unloaded, Set, Merged, Share, Publish, Unbound, NoConnection, NoThread, Unreachable, Unserved, WantOfMemory}
 use Rattle.flagops_streams.specs.Loading.{AnswersTo, IsFirstRefused, Loaded, ServesLoaded, TellsUnloaded, loaded_at, loaded_from, loaded_next, refused_from, refused_here}
 use Rattle.flagops_streams.specs.Told.{TellsOfFile, TellsReason, TellsReasonAt}
-use Rattle.flagops_streams.specs.Why.{IsOneOf}
+use Rattle.flagops_streams.specs.Why.{IsOneOf, refused_document}
 use Rattle.flagops_streams.proofs.Reasons.{file_told, reason_at}
 use Rattle.flagops_streams.specs.Words.{Serving}
 
@@ -68,12 +68,12 @@ unreadable_is WantOfMemory is = cc
 
 -- why documents at these paths were not loaded was told
 pub unloaded_told : (paths : List (List ℕ)) (path : List ℕ) (refusal : Refusal) (old new : Option (List ℕ)) (is_mute : Bool)
-    → IsOneOf paths path → (is_unreadable refusal ≡ false → TellsReason refusal old new is_mute) → (refusal ≡ Unreadable → TellsOfFile path old new is_mute) → TellsReasonAt paths refusal old new is_mute
-unloaded_told paths path refusal old new is_mute one told names = by (is_unreadable refusal) refl
+    → IsOneOf paths path → None ≡ refused_document refusal → (is_unreadable refusal ≡ false → TellsReason refusal old new is_mute) → (refusal ≡ Unreadable → TellsOfFile path old new is_mute) → TellsReasonAt paths refusal old new is_mute
+unloaded_told paths path refusal old new is_mute one none told names = by (is_unreadable refusal) refl
   where
     by : (b : Bool) → is_unreadable refusal ≡ b → TellsReasonAt paths refusal old new is_mute
     by true is = subst (λ (r : Refusal). TellsReasonAt paths r old new is_mute) (sym (unreadable_is refusal is)) (file_told paths path old new is_mute one (names (unreadable_is refusal is)))
-    by false is = reason_at paths refusal old new is_mute (told is)
+    by false is = reason_at paths refusal old new is_mute none (told is)
 
 -- it failed now, where it had not before
 pub failed_now : (old new now : Bool) → new ≡ (old || now) → old ≡ false → new ≡ true → now ≡ true

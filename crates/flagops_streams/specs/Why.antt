@@ -1,7 +1,8 @@
 -- What a person is told of a refusal.
-use Rattle.std.specs.Prelude.{◌≡◌, ◌≢◌, ◌⊎◌, ◌-◌, ℕ, List, ◌++◌, Some, codes, decimal, slice_get}
+use Rattle.std.specs.Prelude.{◌≡◌, ◌≢◌, ◌⊎◌, ◌-◌, ℕ, List, ◌++◌, Option, None, Some, MatchOption, codes, decimal, slice_get}
 use Rattle.file_diagnostics.specs.Named.{Names}
 use Rattle.flag_defs.specs.Fault as documents
+use Rattle.flag_defs.specs.declared.fault.DefFault.{DefFault}
 use Rattle.flag_defs.specs.declared.fault.DefFault.TheVariants as document
 use Rattle.source_merge.specs.Fault as sources
 use Rattle.source_merge.specs.declared.fault.SourceFault.{SourceFault}
@@ -56,13 +57,23 @@ IsPathAt paths place path = slice_get paths (place - 1) ≡ Some path
 abbrev pub IsOneOf : List (List ℕ) → List ℕ → Type 0
 IsOneOf paths path = (i : ℕ) × (slice_get paths i ≡ Some path)
 
--- lines about what is refused: about the document at a place, by its path, and what it leaves; or about the file of one that can't be read
-abbrev pub IsAbout : List (List ℕ) → Refusal → List ℕ → Type 0
-IsAbout paths (Set (Refused e) place) lines =
-    (path : List ℕ) × (about : List ℕ) × IsPathAt paths place path × (e ≢ document.WantOfMemory → Names path about) × (lines ≡ about ++ left_line)
-IsAbout paths Unreadable lines = (path : List ℕ) × IsOneOf paths path × Names path lines
-IsAbout paths refusal lines = ⊥
+-- lines about a document by its path, and what it leaves
+abbrev pub IsAboutDocument : List ℕ → DefFault → List ℕ → Type 0
+IsAboutDocument path e lines = (about : List ℕ) × (e ≢ document.WantOfMemory → Names path about) × (lines ≡ about ++ left_line)
 
--- lines that say why, of documents at these paths: those of the refusal, or such lines in their place
+-- lines about the file of a document that can't be read
+abbrev pub IsAboutFile : List (List ℕ) → Refusal → List ℕ → Type 0
+IsAboutFile paths Unreadable lines = (path : List ℕ) × IsOneOf paths path × Names path lines
+IsAboutFile paths refusal lines = ⊥
+
+-- the place, from 1, of a document that is refused, and why
+abbrev pub refused_document : Refusal → Option (ℕ × DefFault)
+refused_document (Set (Refused e) place) = Some (place, e)
+refused_document refusal = None
+
+-- lines that say why, of documents at these paths: about the document that is refused, by its path; else those of the refusal, or
+-- about a file that can't be read
 abbrev pub IsWhy : List (List ℕ) → Refusal → List ℕ → Type 0
-IsWhy paths refusal lines = (lines ≡ why_lines refusal) ⊎ IsAbout paths refusal lines
+IsWhy paths refusal lines =
+    MatchOption (refused_document refusal) ((lines ≡ why_lines refusal) ⊎ IsAboutFile paths refusal lines)
+    (λ d. MatchOption (slice_get paths (d.0 - 1)) (lines ≡ why_lines refusal) (λ path. IsAboutDocument path d.1 lines))

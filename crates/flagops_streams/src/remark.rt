@@ -1,8 +1,9 @@
 //! What a person is told on the error outlet. It changes no answer. A line of a subscriber that can't be made is left out; why
 //! there was a refusal is told in any case, by a fixed sentence where there is no memory to say more.
-ghost use Rattle.std.specs.Prelude.{◌≡◌, ◌≢◌, ◌++◌, ◌-◌, false, map, option_map, slice_get, IfErr, IfOk, string_bytes};
+ghost use Rattle.std.specs.Prelude.{◌≡◌, ◌≢◌, ◌++◌, ◌-◌, false, [], map, option_map, slice_get, unwrap_or, IfErr, IfOk, string_bytes};
+ghost use Rattle.flagops_streams.specs.Documents.{texts_of};
 ghost use Rattle.flagops_streams.specs.Told.{MayForewarn, MayTell, Says, TellsNobody, TellsReason, TellsReasonAt, TellsText, came_line, forewarning, gone_line, late_line, listening_line, nobody_line, reason_of};
-ghost use Rattle.flagops_streams.specs.Why.{IsWhy, document_line, left_line, memory_line, sentence_of, source_word, why_lines};
+ghost use Rattle.flagops_streams.specs.Why.{IsAboutDocument, IsWhy, document_line, left_line, memory_line, refused_document, sentence_of, source_word, why_lines};
 
 use crate::disconnected::Disconnected;
 use crate::refusal::Refusal;
@@ -173,7 +174,7 @@ fn late_line(alloc: Global, wait: u64) -> Result<String, AllocError>
 }
 
 /// What a person is told of a refusal, of a document by the path of its file.
-#[tactic(auto, using(crate::proofs::Reasons::all_why))]
+#[tactic(auto, using(crate::proofs::Reasons::why_else, crate::proofs::Reasons::why_nowhere, crate::proofs::Reasons::why_there))]
 fn lines_by(
     alloc: Global,
     paths: &[&str],
@@ -182,16 +183,45 @@ fn lines_by(
 ) -> Result<String, AllocError>
     ensures { IfOk result (λ s. IsWhy (map (λ path. path.now) paths.now) refusal (string_bytes s)) }
 {
-    let Refusal::Set(SourceFault::Refused(fault), place) = refusal else {
-        return lines_of(alloc, refusal);
-    };
-    let Some(path) = path_at(paths, place) else {
-        return lines_of(alloc, refusal);
-    };
-    let Some(text) = texts.iter().nth(place.saturating_sub(1) as usize) else {
-        return lines_of(alloc, refusal);
-    };
-    let mut lines = of_document(alloc, path, text.as_slice(), fault)?;
+    match refused_document(refusal) {
+        Some((place, fault)) => match path_at(paths, place) {
+            Some(path) => lines_about(alloc, path, text_at(texts, place), fault),
+            None => lines_of(alloc, refusal),
+        },
+        None => lines_of(alloc, refusal),
+    }
+}
+
+/// The place, from 1, of a document that is refused, and why.
+fn refused_document(refusal: Refusal) -> Option<(u64, DefFault)>
+    ensures { result ≡ refused_document refusal }
+{
+    match refusal {
+        Refusal::Set(SourceFault::Refused(fault), place) => Some((place, fault)),
+        _ => None,
+    }
+}
+
+/// The bytes of the document at a place, from 1; none where there is no such document.
+fn text_at(texts: &[Vec<u8>], place: u64) -> &[u8]
+    ensures { result.now ≡ unwrap_or (slice_get (texts_of texts.now) (place - 1)) [] }
+{
+    match texts.get(place.saturating_sub(1) as usize) {
+        Some(text) => text.as_slice(),
+        None => b"",
+    }
+}
+
+/// What a person is told of a document with this path and these bytes, which is refused once others are published.
+fn lines_about(
+    alloc: Global,
+    path: &str,
+    text: &[u8],
+    fault: DefFault,
+) -> Result<String, AllocError>
+    ensures { IfOk result (λ s. IsAboutDocument path.now fault (string_bytes s)) }
+{
+    let mut lines = of_document(alloc, path, text, fault)?;
     lines.push_str(PUBLISHED_BEFORE)?;
     Ok(lines)
 }

@@ -1,4 +1,4 @@
-use Rattle.std.proofs.Common.{◌∙◌, ℕ, List, [], Err, ap, inr, length, refl, subst}
+use Rattle.std.proofs.Common.{◌∙◌, ℕ, List, [], Err, ap, inr, length, refl, subst, sym}
 use Rattle.flagops_streams.specs.Documents.{count_of, documents_in}
 use Rattle.flagops_streams.specs.Refusal.{is_want}
 use Rattle.flagops_streams.specs.Report.{RefusesBy, Reports, Serves}
@@ -46,7 +46,7 @@ returns-in-Err-clause-answers g c =
     (λ r. Reports s.documents (IsServeLine s.documents s.port s.subscribers) (count_of r) (g.O.Outlet.bytes c.args.out.now) (g.O.Outlet.bytes c.refuse.new.out) (g.O.Outlet.is_broken c.refuse.new.out)
     (g.E.Outlet.bytes c.args.err.now) (g.E.Outlet.bytes c.tell_unloaded.new.err) (g.E.Outlet.is_broken c.tell_unloaded.new.err) c.refuse.result)
     (none_served (λ p. p.now) c.as_slice-paths.result.now c.args.serving.now.documents.items c.as_slice-paths.ensures.value holding s refl refusal c.in-Err.ensures.exact)
-    (c.refuse.ensures, (g.E.Outlet.bytes c.args.err.now, ([], refl), unloaded_told s.documents c.in-Err.unloaded.path.now refusal _ _ _ one c.tell_unloaded.ensures.told c.tell_unloaded.ensures.names))
+    (c.refuse.ensures, (g.E.Outlet.bytes c.args.err.now, ([], refl), unloaded_told s.documents c.in-Err.unloaded.path.now refusal _ _ _ one (sym c.in-Err.ensures.unread) c.tell_unloaded.ensures.told c.tell_unloaded.ensures.names))
 
 pub returns-in-Err-clause-serves : goal.returns-in-Err-clause-serves
 returns-in-Err-clause-serves g c =
@@ -54,7 +54,7 @@ returns-in-Err-clause-serves g c =
     let refusal = c.in-Err.unloaded.refusal in
     let same = named (λ p. p.now) c.as_slice-paths.result.now c.args.serving.now.documents.items c.as_slice-paths.ensures.value (g.F.FileSet.holding c.args.files.now) s refl in
     let one = subst (λ (ps : List (List ℕ)). IsOneOf ps c.in-Err.unloaded.path.now) same c.in-Err.ensures.one in
-    inr (refusal, (c.refuse.ensures, (g.E.Outlet.bytes c.args.err.now, ([], refl), unloaded_told s.documents c.in-Err.unloaded.path.now refusal _ _ _ one c.tell_unloaded.ensures.told c.tell_unloaded.ensures.names)))
+    inr (refusal, (c.refuse.ensures, (g.E.Outlet.bytes c.args.err.now, ([], refl), unloaded_told s.documents c.in-Err.unloaded.path.now refusal _ _ _ one (sym c.in-Err.ensures.unread) c.tell_unloaded.ensures.told c.tell_unloaded.ensures.names)))
 
 pub returns-in-Err-clause-unread : goal.returns-in-Err-clause-unread
 returns-in-Err-clause-unread g c = λ fine failed.
