@@ -14,6 +14,21 @@ def is_open(port):
         return probe.connect_ex(("127.0.0.1", port)) == 0
 
 
+class Folder:
+    """The files of a test, in its `folder`."""
+
+    def path(self, name):
+        return os.path.join(self.folder, name)
+
+    def put(self, name, text):
+        with open(self.path(name), "w", encoding="utf-8") as file:
+            file.write(text)
+
+    def text(self, name):
+        with open(self.path(name), encoding="utf-8") as file:
+            return file.read()
+
+
 class Service:
     """A service. What it tells a person goes to the file `told` beside the document."""
 

@@ -11,7 +11,7 @@ import unittest
 from concurrent.futures import ThreadPoolExecutor
 
 from browser import Chromium, Firefox, Pages
-from control_service import Service
+from control_service import Folder, Service
 from program import PROGRAM, ROOT, SECONDS, found
 
 DEMO = os.path.join(ROOT, "demo")
@@ -75,7 +75,7 @@ def in_each_browser(test):
     return run
 
 
-class ConsoleTest(unittest.TestCase):
+class ConsoleTest(Folder, unittest.TestCase):
     """A console over documents and logs of a folder of its own."""
 
     def run_in(self, kind, test):
@@ -91,17 +91,6 @@ class ConsoleTest(unittest.TestCase):
             self.assertEqual(self.browser.faults(), [])
             names = self.browser.run("return performance.getEntriesByType('resource').map(one => one.name);")
             self.assertEqual([name for name in names if not name.startswith((self.server.origin + "/", "blob:" + self.server.origin, "data:"))], [])
-
-    def path(self, name):
-        return os.path.join(self.folder, name)
-
-    def put(self, name, text):
-        with open(self.path(name), "w", encoding="utf-8") as file:
-            file.write(text)
-
-    def text(self, name):
-        with open(self.path(name), encoding="utf-8") as file:
-            return file.read()
 
     def begin(self, document, lines, **how):
         """Opens the console over this document and these lines of two workers, some of which stand in both logs."""

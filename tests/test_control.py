@@ -12,7 +12,7 @@ import unittest
 from collections import Counter
 
 from control_commands import Commands, Refused, compact
-from control_service import Service
+from control_service import Folder, Service
 from program import ROOT, SECONDS, run, wait_until
 
 DRAWN = int(os.environ.get("CONTROL_DRAWN", "40"))
@@ -86,7 +86,7 @@ class Rules:
         return [targeting["fractional"]] if "fractional" in targeting else [it["fractional"] for it in targeting["if"][1:]]
 
 
-class ControlTest(unittest.TestCase):
+class ControlTest(Folder, unittest.TestCase):
     """A service over a document and logs of a folder of its own."""
 
     maxDiff = None
@@ -96,17 +96,6 @@ class ControlTest(unittest.TestCase):
         self.addCleanup(folder.cleanup)
         self.folder = folder.name
         os.mkdir(self.path("log"))
-
-    def path(self, name):
-        return os.path.join(self.folder, name)
-
-    def put(self, name, text):
-        with open(self.path(name), "w", encoding="utf-8") as file:
-            file.write(text)
-
-    def text(self, name):
-        with open(self.path(name), encoding="utf-8") as file:
-            return file.read()
 
     def begin(self, document, lines, **how):
         """A service over this document, with these lines in the logs of two workers."""
