@@ -51,7 +51,8 @@ impl Driven {
     fn of_no_asks(alloc: Global) -> Driven
         ensures answers { result.answers.items ≡ [] }
         ensures book { result.book ≡ [] }
-        ensures counts { (result.calls ≡ 0) × (result.news ≡ 0) × (result.full ≡ 0) × (result.long ≡ 0) }
+        ensures counts { (result.calls ≡ 0) × (result.news ≡ 0) × (result.full ≡ 0) }
+        ensures long { result.long ≡ 0 }
     {
         Driven {
             answers: Vec::new(alloc),
@@ -72,6 +73,7 @@ impl Driven {
 /// 1000000 times. A refusal comes after all workers have ended, and drops the book. The gate is told of each ask that was
 /// answered. Where there are no asks it takes no memory, and so is refused for the number of workers alone. The condition is
 /// fewer than 2^32 asks.
+#[tactic(auto, using(crate::proofs::NoAsks::no_answers, crate::proofs::NoAsks::none_long, crate::proofs::NoAsks::of_none))]
 pub fn drive<'x, G: Gate, R: Threads + Wait + Sync>(
     rt: &R,
     alloc: Global,
