@@ -113,12 +113,7 @@ fn write<F: DeskFiles>(
 }
 
 /// Whether the file at a path holds this text.
-fn holds<F: DeskFiles>(
-    files: &mut F,
-    alloc: Global,
-    path: &str,
-    text: &str,
-) -> io::Result<bool>
+fn holds<F: DeskFiles>(files: &mut F, alloc: Global, path: &str, text: &str) -> io::Result<bool>
     ensures same { IfOk result (λ same. HoldsText same (F.holding files.old) path.now text.now) }
     ensures failed { OnErr result (F.faults files.old < F.faults files.new) }
     ensures counted { F.faults files.old ≤ F.faults files.new }

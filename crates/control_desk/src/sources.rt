@@ -121,11 +121,7 @@ impl<J: ShareName> PublishedSources<J> {
     }
 
     /// Sets what is known of the snapshot that was published last, and returns what holds it then.
-    pub fn set<R: Wait>(
-        &self,
-        rt: &R,
-        text: SourceText<J>,
-    ) -> MutexGuard<'_, Option<SourceText<J>>>
+    pub fn set<R: Wait>(&self, rt: &R, text: SourceText<J>) -> MutexGuard<'_, Option<SourceText<J>>>
         ensures { mutex_guard_value result ≡ Some text }
     {
         let mut last = self.last.lock(rt);

@@ -30,11 +30,7 @@ impl Turn {
     }
 
     /// Takes it, and waits for it for ten seconds where another has it. None where it does not come by then, or another waits.
-    pub(crate) fn take<R: Clock>(
-        &self,
-        rt: &R,
-        met: &mut Obstacles,
-    ) -> Option<MutexGuard<'_, ()>>
+    pub(crate) fn take<R: Clock>(&self, rt: &R, met: &mut Obstacles) -> Option<MutexGuard<'_, ()>>
         ensures none { IfNone result (IsTaken (met_by met.old) (met_by met.new)) }
         ensures grows { Grows (met_by met.old) (met_by met.new) }
     {

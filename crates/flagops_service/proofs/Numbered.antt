@@ -40,12 +40,12 @@ module _ (at : Holding) (e : Loaded) where
     where
       by : (added : Result SourceList Refusal) (read : Result (List ℕ) Refusal) → source_added d.sources (length d.texts + 1) ≡ added
           → ((added >>= λ sources. read >>= λ text. Ok (behind d text sources)) >>= λ next. loaded_from at next paths) ≡ Ok e → Behind d
-      by (Ok sources) (Ok text) as h =
+      by (Ok sources) (Ok text) same h =
           let rest = loaded_behind (behind d text sources) paths h in
-          let next : numbered_from d (text ∷ rest.0) ≡ numbered_from (behind d text sources) rest.0 = ap (λ (r : Result SourceList Refusal). r >>= λ more. numbered_from (behind d text more) rest.0) as in
+          let next : numbered_from d (text ∷ rest.0) ≡ numbered_from (behind d text sources) rest.0 = ap (λ (r : Result SourceList Refusal). r >>= λ more. numbered_from (behind d text more) rest.0) same in
           (text ∷ rest.0, rest.1 ∙ append_assoc d.texts (text ∷ []) rest.0, next ∙ rest.2)
-      by (Ok sources) (Err refusal) as h = absurd (cc h)
-      by (Err refusal) read as h = absurd (cc h)
+      by (Ok sources) (Err refusal) same h = absurd (cc h)
+      by (Err refusal) read same h = absurd (cc h)
 
 pub numbered_all : (at : Holding) (paths : List (List ℕ)) (d : Loaded) → loaded_at at paths ≡ Ok d → numbered d.texts ≡ Ok d
 numbered_all at paths d loaded =

@@ -45,11 +45,7 @@ pub(crate) fn merge_documents(
 
 /// Sets each document, of which there is one at least, at the source of its place, merged over those before it, and gives the
 /// last merge. The first that refuses is the answer.
-fn merge_all(
-    alloc: Global,
-    sources: &mut Sources,
-    texts: &[Vec<u8>],
-) -> Result<Flags, Refusal>
+fn merge_all(alloc: Global, sources: &mut Sources, texts: &[Vec<u8>]) -> Result<Flags, Refusal>
     requires { 0 < length texts.now }
     ensures { GivesMore (sources_view sources.old) (sources_view sources.new) (texts_of texts.now) [] result }
 {

@@ -64,7 +64,9 @@ pub(crate) fn watch<J: ShareName, R: Clock + LogPaths + Wait, F: FileSet, E: Out
         watched.show(board);
         clients.renew(rt, board, files, err);
         if waits {
-            waits = publish(rt, watched, publisher, sources, shown, board, answering, err);
+            waits = publish(
+                rt, watched, publisher, sources, shown, board, answering, err,
+            );
         }
     }
 }

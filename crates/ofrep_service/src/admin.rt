@@ -133,12 +133,14 @@ where
         move |scope| -> Option<T>
             requires { IsSend J.row × IsSync J.row × IsSync R.row × B.pre beside }
         {
-            if let Some(Operations {
-                post,
-                seats,
-                desks,
-                sources,
-            }) = admin
+            if let Some(
+                Operations {
+                    post,
+                    seats,
+                    desks,
+                    sources,
+                },
+            ) = admin
             {
                 for (seat, desk) in seats.into_iter().zip(desks) {
                     let Ok(own) = post.again(alloc) else {

@@ -25,8 +25,8 @@ loop-turn-preserved g c =
     let published : Publishes (sources_view now.sources) (texts_of now.accepted.items) desks l.publisher last l.shown shown =
     elim c.if-waits.branch [
       | then-waits w ↦
-        subst (λ (all : List Flags). Publishes (sources_view now.sources) (texts_of now.accepted.items) desks l.publisher all l.shown shown) (sym w.publisher-is)
-        (subst (λ (s : Option Source). Publishes (sources_view now.sources) (texts_of now.accepted.items) desks l.publisher w.publish-waits.new.publisher l.shown s) (sym w.shown-is) w.publish-waits.ensures)
+          subst (λ (all : List Flags). Publishes (sources_view now.sources) (texts_of now.accepted.items) desks l.publisher all l.shown shown) (sym w.publisher-is)
+          (subst (λ (s : Option Source). Publishes (sources_view now.sources) (texts_of now.accepted.items) desks l.publisher w.publish-waits.new.publisher l.shown s) (sym w.shown-is) w.publish-waits.ensures)
       | else-waits w ↦ inl (w.publisher-is, w.shown-is)
     ] in
     let held = c.show_sizes.ensures ∙ l.invariant.1 in
