@@ -10,7 +10,7 @@ use crate::files::DeskFiles;
 use crate::names::is_chosen;
 use crate::obstacles::Obstacles;
 use log_tallies::LogFile;
-use std::alloc::{AllocError, Global};
+use std::alloc::{AllocError, AllocFailed, Global};
 
 /// How often a folder is listed where a file of it is gone by the time that it is read: it was renamed.
 const TRIES: usize = 10;
@@ -44,6 +44,16 @@ impl From<AllocError> for Unread {
     ghost from_gives = { λ _ e. e ≡ WantOfMemory };
 
     fn from(_fault: AllocError) -> Unread {
+        Unread::WantOfMemory
+    }
+}
+
+impl<T: Drop> From<AllocFailed<T>> for Unread {
+    ghost use Rattle.control_desk.specs.declared.logs.Unread.TheVariants.{WantOfMemory};
+
+    ghost from_gives = { λ _ e. e ≡ WantOfMemory };
+
+    fn from(_fault: AllocFailed<T>) -> Unread {
         Unread::WantOfMemory
     }
 }

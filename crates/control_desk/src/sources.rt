@@ -185,7 +185,7 @@ impl<J: ShareName> Model for ShownText<J> {
 impl<J: ShareName> ShownText<J> {
     /// The text that a lock holds, which is let go.
     pub fn of(held: MutexGuard<'_, Option<SourceText<J>>>) -> Option<ShownText<J>>
-        ensures { result ≡ mutex_guard_value held }
+        ensures { result ≡ mutex_guard_value held.entry }
     {
         match &*held {
             Some(text) => Some(ShownText {
