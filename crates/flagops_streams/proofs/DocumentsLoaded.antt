@@ -1,6 +1,7 @@
 -- Documents that are loaded, one after the other, and served.
-use Rattle.std.proofs.Common.{◌≡◌, ◌+◌, ◌<◌, ◌∙◌, ◌||◌, ℕ, Bool, true, false, List, [], ◌∷◌, Option, Some, None, Result, Ok, Err, IfSome, refl, add-one, ap, drop, get_or, length, map, subst, sym}
+use Rattle.std.proofs.Common.{◌≡◌, ◌+◌, ◌<◌, ◌∙◌, ◌||◌, ℕ, Bool, true, false, List, [], ◌∷◌, Option, Some, None, Result, Ok, Err, IfSome, option_map, refl, add-one, ap, drop, get_or, length, map, subst, sym}
 use Rattle.std.proofs.Math.Seq.{drop-cons}
+use Rattle.std.proofs.lemmas.Option.{slice_get-get_or, slice_get-map}
 use Rattle.flagops_shell.specs.Files.{Holding}
 use Rattle.flagops_shell.specs.Outcomes.{◌>>=◌}
 use Rattle.flagops_streams.specs.Documents.{Answer, ServesTo}
@@ -8,7 +9,9 @@ use Rattle.flagops_streams.specs.Refusal.{is_unreadable, is_want}
 use Rattle.flagops_streams.specs.declared.refusal.Refusal.{Refusal}
 use Rattle.flagops_streams.specs.declared.refusal.Refusal.TheVariants.{Add, Unreadable, Unloaded, Set, Merged, Share, Publish, Unbound, NoConnection, NoThread, Unreachable, Unserved, WantOfMemory}
 use Rattle.flagops_streams.specs.Loading.{AnswersTo, IsFirstRefused, Loaded, ServesLoaded, TellsUnloaded, loaded_at, loaded_from, loaded_next, refused_from, refused_here}
-use Rattle.flagops_streams.specs.Told.{TellsOfFile}
+use Rattle.flagops_streams.specs.Told.{TellsOfFile, TellsReason, TellsReasonAt}
+use Rattle.flagops_streams.specs.Why.{IsOneOf, refused_document}
+use Rattle.flagops_streams.proofs.Reasons.{file_told, reason_at}
 use Rattle.flagops_streams.specs.Words.{Serving}
 
 -- what follows for files whose bytes are known
@@ -29,6 +32,10 @@ pub first_left : {X : Type 0} (now : X → List ℕ) (xs : List X) (i : ℕ) (z 
 first_left now xs i z inside =
     let left : drop i xs ≡ get_or xs i z ∷ drop (i + 1) xs = rw add-one (drop-cons xs i z inside) in
     ap (map now) left
+
+-- one of them
+pub one_of : {X : Type 0} (now : X → List ℕ) (xs : List X) (i : ℕ) (z : X) → i < length xs → IsOneOf (map now xs) (now (get_or xs i z))
+one_of now xs i z inside = (i, slice_get-map now xs i ∙ ap (option_map now) (slice_get-get_or xs i z inside))
 
 -- where the first of the paths left is refused, so are all
 pub refused_next : (at : Holding) (d : Loaded) (path : List ℕ) (paths rest : List (List ℕ)) (all : Result Loaded Refusal) (refusal : Refusal)
@@ -59,6 +66,15 @@ unreadable_is Unreachable is = cc
 unreadable_is (Unserved missed) is = cc
 unreadable_is WantOfMemory is = cc
 
+-- why documents at these paths were not loaded was told
+pub unloaded_told : (paths : List (List ℕ)) (path : List ℕ) (refusal : Refusal) (old new : Option (List ℕ)) (is_mute : Bool)
+    → IsOneOf paths path → None ≡ refused_document refusal → (is_unreadable refusal ≡ false → TellsReason refusal old new is_mute) → (refusal ≡ Unreadable → TellsOfFile path old new is_mute) → TellsReasonAt paths refusal old new is_mute
+unloaded_told paths path refusal old new is_mute one none told names = by (is_unreadable refusal) refl
+  where
+    by : (b : Bool) → is_unreadable refusal ≡ b → TellsReasonAt paths refusal old new is_mute
+    by true is = subst (λ (r : Refusal). TellsReasonAt paths r old new is_mute) (sym (unreadable_is refusal is)) (file_told paths path old new is_mute one (names (unreadable_is refusal is)))
+    by false is = reason_at paths refusal old new is_mute none (told is)
+
 -- it failed now, where it had not before
 pub failed_now : (old new now : Bool) → new ≡ (old || now) → old ≡ false → new ≡ true → now ≡ true
 failed_now old new now is fine failed = sym (sym failed ∙ is ∙ ap (λ (b : Bool). b || now) fine)
@@ -81,7 +97,7 @@ answered holding s answer Reported answers report =
 
 -- the same over the words' own paths, of which the slice was taken
 module _ {X : Type 0} (now : X → List ℕ) (slice items : List X) (same : slice ≡ items) (holding : Option Holding) (s : Serving) (paths : s.documents ≡ map now items) where
-  named : map now slice ≡ s.documents
+  pub named : map now slice ≡ s.documents
   named = ap (map now) same ∙ sym paths
 
   pub all_served : (d : Loaded) (answer : Answer) → IfSome holding (λ at. loaded_at at (map now slice) ≡ Ok d) → ServesTo s.floats s.subscribers d.sources d.texts [] answer → IfSome holding (λ at. AnswersTo at s answer)

@@ -17,13 +17,13 @@ module _ (old new : Shown) (status : ℕ) where
   abbrev pub AnswersServe : Option Holding → List Text → Type 0
   AnswersServe files words = IfSome (serve_by words) (λ s. IfSome files (λ at.
       ((answer : Answer) × AnswersTo at s answer
-      × Reports (IsServeLine s.port s.subscribers) (count_of answer) old.printed new.printed new.is_broken old.reported new.reported new.is_mute status)
+      × Reports s.documents (IsServeLine s.documents s.port s.subscribers) (count_of answer) old.printed new.printed new.is_broken old.reported new.reported new.is_mute status)
       ⊎ ShowsWordsWant old new status))
 
   -- all documents were published, or there was a refusal
   abbrev pub ServesAsked : List Text → Type 0
   ServesAsked words = IfSome (serve_by words) (λ s.
-      Serves (IsServeLine s.port s.subscribers) (length s.documents) old.printed new.printed new.is_broken old.reported new.reported new.is_mute status
+      Serves s.documents (IsServeLine s.documents s.port s.subscribers) (length s.documents) old.printed new.printed new.is_broken old.reported new.reported new.is_mute status
       ⊎ ShowsWordsWant old new status)
 
   -- the lines of a stream, beside which nothing is told but that nothing came; or nobody listens on the port, which is told

@@ -16,13 +16,13 @@ Writes old new true status text wanted = AppendsPart old new text × (status ≡
 abbrev pub RefusesBy : Refusal → Option (List ℕ) → Option (List ℕ) → Bool → ℕ → Type 0
 RefusesBy refusal old new broken status = Writes old new broken status (line_of refusal) 1 ⊎ Writes old new broken status (want_line (call_of refusal)) 1
 
--- The same, and why is told beside it, behind lines of which each is one of these.
-abbrev pub RefusesBeside : (List ℕ → Type 0) → Refusal → Option (List ℕ) → Option (List ℕ) → Bool → Option (List ℕ) → Option (List ℕ) → Bool → ℕ → Type 0
-RefusesBeside Is refusal old new broken err err_after is_mute status = RefusesBy refusal old new broken status × TellsWhy Is refusal err err_after is_mute
+-- The same, and why is told beside it, of documents at these paths, behind lines of which each is one of these.
+abbrev pub RefusesBeside : List (List ℕ) → (List ℕ → Type 0) → Refusal → Option (List ℕ) → Option (List ℕ) → Bool → Option (List ℕ) → Option (List ℕ) → Bool → ℕ → Type 0
+RefusesBeside paths Is refusal old new broken err err_after is_mute status = RefusesBy refusal old new broken status × TellsWhy paths Is refusal err err_after is_mute
 
 -- that of some refusal
-abbrev pub Refuses : (List ℕ → Type 0) → Option (List ℕ) → Option (List ℕ) → Bool → Option (List ℕ) → Option (List ℕ) → Bool → ℕ → Type 0
-Refuses Is old new broken err err_after is_mute status = (refusal : Refusal) × RefusesBeside Is refusal old new broken err err_after is_mute status
+abbrev pub Refuses : List (List ℕ) → (List ℕ → Type 0) → Option (List ℕ) → Option (List ℕ) → Bool → Option (List ℕ) → Option (List ℕ) → Bool → ℕ → Type 0
+Refuses paths Is old new broken err err_after is_mute status = (refusal : Refusal) × RefusesBeside paths Is refusal old new broken err err_after is_mute status
 
 -- the line of so many publications
 unfoldable pub published_line : ℕ → List ℕ
@@ -34,15 +34,15 @@ Publishes Is n old new broken err err_after is_mute status = Writes old new brok
 
 -- All of so many documents were published, or there was a refusal. The lines that may be told are others where every
 -- subscriber was served.
-abbrev pub Serves : (Bool → List ℕ → Type 0) → ℕ → Option (List ℕ) → Option (List ℕ) → Bool → Option (List ℕ) → Option (List ℕ) → Bool → ℕ → Type 0
-Serves Is n old new broken err err_after is_mute status =
-    Publishes (Is true) n old new broken err err_after is_mute status ⊎ Refuses (Is false) old new broken err err_after is_mute status
+abbrev pub Serves : List (List ℕ) → (Bool → List ℕ → Type 0) → ℕ → Option (List ℕ) → Option (List ℕ) → Bool → Option (List ℕ) → Option (List ℕ) → Bool → ℕ → Type 0
+Serves paths Is n old new broken err err_after is_mute status =
+    Publishes (Is true) n old new broken err err_after is_mute status ⊎ Refuses paths (Is false) old new broken err err_after is_mute status
 
 -- what `serve` answered: so many publications, unless there is no memory for the line, or a refusal
-abbrev pub Reports : (Bool → List ℕ → Type 0) → Result ℕ Refusal → Option (List ℕ) → Option (List ℕ) → Bool → Option (List ℕ) → Option (List ℕ) → Bool → ℕ → Type 0
-Reports Is (Ok n) old new broken err err_after is_mute status =
-    Publishes (Is true) n old new broken err err_after is_mute status ⊎ RefusesBeside (Is false) WantOfMemory old new broken err err_after is_mute status
-Reports Is (Err refusal) old new broken err err_after is_mute status = RefusesBeside (Is false) refusal old new broken err err_after is_mute status
+abbrev pub Reports : List (List ℕ) → (Bool → List ℕ → Type 0) → Result ℕ Refusal → Option (List ℕ) → Option (List ℕ) → Bool → Option (List ℕ) → Option (List ℕ) → Bool → ℕ → Type 0
+Reports paths Is (Ok n) old new broken err err_after is_mute status =
+    Publishes (Is true) n old new broken err err_after is_mute status ⊎ RefusesBeside paths (Is false) WantOfMemory old new broken err err_after is_mute status
+Reports paths Is (Err refusal) old new broken err err_after is_mute status = RefusesBeside paths (Is false) refusal old new broken err err_after is_mute status
 
 -- nobody listens on a port, which is told alone
 abbrev pub FindsNobody : ℕ → Option (List ℕ) → Option (List ℕ) → Bool → Option (List ℕ) → Option (List ℕ) → Bool → ℕ → Type 0

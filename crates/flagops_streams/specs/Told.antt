@@ -1,11 +1,11 @@
 -- What a person is told beside the output, on an outlet of its own.
-use Rattle.std.specs.Prelude.{◌≡◌, ◌⊎◌, ◌<◌, ◌≤◌, ℕ, Bool, true, false, List, [], ◌∷◌, ◌++◌, codes, decimal, length, Option, Some, None}
+use Rattle.std.specs.Prelude.{◌≡◌, ◌⊎◌, ◌<◌, ◌≤◌, ℕ, zero, suc, Bool, true, false, List, [], ◌∷◌, ◌++◌, codes, decimal, length, Option, Some, None}
 use Rattle.std.specs.Io.KnownBytes.{Appends}
 use Rattle.file_diagnostics.specs.Named.{Names}
 use Rattle.flag_text.specs.Outlet.{AppendsPart}
 use Rattle.sync_server.specs.declared.end.StreamEnd.{StreamEnd}
 use Rattle.sync_server.specs.declared.end.StreamEnd.TheVariants.{Closed, Limit, WriteFault, ReadSeatFault, WantOfMemory}
-use Rattle.flagops_streams.specs.Why.{IsWhy, memory_line}
+use Rattle.flagops_streams.specs.Why.{IsPathAt, IsWhy, memory_line, why_lines}
 use Rattle.flagops_streams.specs.declared.disconnected.Disconnected.{Disconnected}
 use Rattle.flagops_streams.specs.declared.refusal.Refusal.{Refusal}
 
@@ -19,6 +19,15 @@ abbrev pub SaysEach : (List ℕ → Type 0) → Option (List ℕ) → Option (Li
 SaysEach Is old new is_mute [] = new ≡ old
 SaysEach Is old new is_mute (line ∷ lines) = (between : Option (List ℕ)) × Is line × Says old between is_mute line × SaysEach Is between new is_mute lines
 
+-- a text was told once, or nothing where there is no memory for it
+abbrev pub MayTell : List ℕ → Option (List ℕ) → Option (List ℕ) → Bool → Type 0
+MayTell text old new is_mute = (new ≡ old) ⊎ Says old new is_mute text
+
+-- the same of a text for each number from 1 on, in their order
+abbrev pub MayTellEach : (ℕ → List ℕ) → ℕ → Option (List ℕ) → Option (List ℕ) → Bool → Type 0
+MayTellEach text zero old new is_mute = new ≡ old
+MayTellEach text (suc n) old new is_mute = (between : Option (List ℕ)) × MayTellEach text n old between is_mute × MayTell (text (suc n)) between new is_mute
+
 -- nothing but such lines was told
 abbrev pub TellsLines : (List ℕ → Type 0) → Option (List ℕ) → Option (List ℕ) → Bool → Type 0
 TellsLines Is old new is_mute = (lines : List (List ℕ)) × SaysEach Is old new is_mute lines
@@ -27,27 +36,31 @@ TellsLines Is old new is_mute = (lines : List (List ℕ)) × SaysEach Is old new
 abbrev pub TellsText : Option (List ℕ) → Option (List ℕ) → Bool → Type 0
 TellsText old new is_mute = (text : List ℕ) × (0 < length text) × Says old new is_mute text
 
+-- such lines were told, or the sentence where there is no memory for them
+abbrev pub TellsOrShort : (List ℕ → Type 0) → Option (List ℕ) → Option (List ℕ) → Bool → Type 0
+TellsOrShort Is old new is_mute = (text : List ℕ) × (Is text ⊎ (text ≡ memory_line)) × Says old new is_mute text
+
 -- why there was a refusal was told
 abbrev pub TellsReason : Refusal → Option (List ℕ) → Option (List ℕ) → Bool → Type 0
-TellsReason refusal old new is_mute = (text : List ℕ) × IsWhy refusal text × Says old new is_mute text
+TellsReason refusal = TellsOrShort (λ text. text ≡ why_lines refusal)
+
+-- the same of documents at these paths
+abbrev pub TellsReasonAt : List (List ℕ) → Refusal → Option (List ℕ) → Option (List ℕ) → Bool → Type 0
+TellsReasonAt paths refusal = TellsOrShort (IsWhy paths refusal)
 
 -- such lines, and behind them why there was a refusal
-abbrev pub TellsWhy : (List ℕ → Type 0) → Refusal → Option (List ℕ) → Option (List ℕ) → Bool → Type 0
-TellsWhy Is refusal old new is_mute = (between : Option (List ℕ)) × TellsLines Is old between is_mute × TellsReason refusal between new is_mute
+abbrev pub TellsWhy : List (List ℕ) → (List ℕ → Type 0) → Refusal → Option (List ℕ) → Option (List ℕ) → Bool → Type 0
+TellsWhy paths Is refusal old new is_mute = (between : Option (List ℕ)) × TellsLines Is old between is_mute × TellsReasonAt paths refusal between new is_mute
 
 -- lines about a file were told, by its path
 abbrev pub TellsOfFile : List ℕ → Option (List ℕ) → Option (List ℕ) → Bool → Type 0
-TellsOfFile path old new is_mute = (text : List ℕ) × (Names path text ⊎ (text ≡ memory_line)) × Says old new is_mute text
+TellsOfFile path = TellsOrShort (Names path)
 
 -- ---- the line of `follow`
 
 -- nothing came for so many seconds
 unfoldable pub late_line : ℕ → List ℕ
 late_line wait = codes "error: nothing came for " ++ (decimal wait ++ codes " seconds; --wait gives more, and 0 waits for ever\n")
-
--- it is told once, or there is no memory for it
-abbrev pub MayTellLate : ℕ → Option (List ℕ) → Option (List ℕ) → Bool → Type 0
-MayTellLate wait old new is_mute = (new ≡ old) ⊎ Says old new is_mute (late_line wait)
 
 -- nothing is told beside a stream; or, with status 1, that nothing came
 abbrev pub TellsLate : ℕ → ℕ → Option (List ℕ) → Option (List ℕ) → Bool → Type 0
@@ -59,7 +72,7 @@ nobody_line port = codes "error: nobody listens on 127.0.0.1:" ++ (decimal port 
 
 -- that nobody listens is told
 abbrev pub TellsNobody : ℕ → Option (List ℕ) → Option (List ℕ) → Bool → Type 0
-TellsNobody port old new is_mute = Says old new is_mute (nobody_line port) ⊎ Says old new is_mute memory_line
+TellsNobody port = TellsOrShort (λ text. text ≡ nobody_line port)
 
 -- ---- the lines of `serve`
 
@@ -92,26 +105,45 @@ gone_line number snapshots end =
 abbrev pub IsCame : ℕ → List ℕ → Type 0
 IsCame subscribers line = (number : ℕ) × (0 < number) × (number ≤ subscribers) × (line ≡ came_line number subscribers)
 
--- the same of one whose stream ended so
-abbrev pub IsGoneLine : Disconnected → List ℕ → Type 0
-IsGoneLine gone line = (number : ℕ) × (line ≡ gone_line number gone.frames gone.end)
-
 -- of some that has gone; where all were served, it was sent the last one
 abbrev pub IsGone : Bool → List ℕ → Type 0
-IsGone are_served line = (gone : Disconnected) × (are_served ≡ true → gone.end ≡ Closed) × IsGoneLine gone line
+IsGone are_served line = (gone : Disconnected) × (number : ℕ) × (are_served ≡ true → gone.end ≡ Closed) × (line ≡ gone_line number gone.frames gone.end)
 
--- what is told of one that is counted: that it has gone, or nothing where no end of its stream is known
+-- what is told of one that is counted: once that it has gone, or nothing where no end of its stream is known
 abbrev pub TellsGone : Option Disconnected → Option (List ℕ) → Option (List ℕ) → Bool → Type 0
 TellsGone None old new is_mute = new ≡ old
-TellsGone (Some gone) old new is_mute = TellsLines (IsGoneLine gone) old new is_mute
+TellsGone (Some gone) old new is_mute = (number : ℕ) × MayTell (gone_line number gone.frames gone.end) old new is_mute
+
+-- of each that is counted, the last one first
+abbrev pub TellsEnds : List (Option Disconnected) → Option (List ℕ) → Option (List ℕ) → Bool → Type 0
+TellsEnds [] old new is_mute = new ≡ old
+TellsEnds (end ∷ ends) old new is_mute = (between : Option (List ℕ)) × TellsEnds ends old between is_mute × TellsGone end between new is_mute
+
+-- where `serve` listens for so many subscribers, and that so many have come, one after the other
+abbrev pub TellsArrivals : ℕ → ℕ → ℕ → Option (List ℕ) → Option (List ℕ) → Bool → Type 0
+TellsArrivals port subscribers came old new is_mute =
+    (between : Option (List ℕ)) × MayTell (listening_line port subscribers) old between is_mute × MayTellEach (λ number. came_line number subscribers) came between new is_mute
 
 -- where `serve` listens for so many subscribers, and that one has come
 abbrev pub IsArrival : ℕ → ℕ → List ℕ → Type 0
 IsArrival port subscribers line = (line ≡ listening_line port subscribers) ⊎ IsCame subscribers line
 
-abbrev pub IsForewarning : List ℕ → Type 0
-IsForewarning line = (place : ℕ) × (why : List ℕ) × (line ≡ forewarning place why)
+-- that a document will be refused, by its path and its place
+abbrev pub IsForewarning : List (List ℕ) → List ℕ → Type 0
+IsForewarning paths line = (place : ℕ) × (path : List ℕ) × (why : List ℕ) × IsPathAt paths place path × Names path why × (line ≡ forewarning place why)
 
--- what `serve` tells: that a document will be refused, and of its subscribers where it listens for so many, that one has come, that one has gone
-abbrev pub IsServeLine : ℕ → ℕ → Bool → List ℕ → Type 0
-IsServeLine port subscribers are_served line = IsForewarning line ⊎ IsArrival port subscribers line ⊎ IsGone are_served line
+-- that of this path and place is told once, or nothing where it is accepted or there is no memory
+abbrev pub MayForewarn : List ℕ → ℕ → Option (List ℕ) → Option (List ℕ) → Bool → Type 0
+MayForewarn path place old new is_mute = (new ≡ old) ⊎ ((why : List ℕ) × Names path why × Says old new is_mute (forewarning place why))
+
+-- the same of the one at a place
+abbrev pub MayForewarnAt : List (List ℕ) → ℕ → Option (List ℕ) → Option (List ℕ) → Bool → Type 0
+MayForewarnAt paths place old new is_mute = (new ≡ old) ⊎ ((path : List ℕ) × IsPathAt paths place path × MayForewarn path place old new is_mute)
+
+-- of the subscribers: where it listens for so many, that one has come, that one has gone
+abbrev pub IsOfSubscribers : ℕ → ℕ → Bool → List ℕ → Type 0
+IsOfSubscribers port subscribers are_served line = IsArrival port subscribers line ⊎ IsGone are_served line
+
+-- what `serve` tells: that a document will be refused, and of its subscribers
+abbrev pub IsServeLine : List (List ℕ) → ℕ → ℕ → Bool → List ℕ → Type 0
+IsServeLine paths port subscribers are_served line = IsForewarning paths line ⊎ IsOfSubscribers port subscribers are_served line

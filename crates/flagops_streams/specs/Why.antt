@@ -1,7 +1,9 @@
 -- What a person is told of a refusal.
-use Rattle.std.specs.Prelude.{◌≡◌, ◌⊎◌, ℕ, List, ◌++◌, codes, decimal}
+use Rattle.std.specs.Prelude.{◌≡◌, ◌≢◌, ◌⊎◌, ◌-◌, ℕ, List, ◌++◌, Option, None, Some, MatchOption, codes, decimal, slice_get}
 use Rattle.file_diagnostics.specs.Named.{Names}
 use Rattle.flag_defs.specs.Fault as documents
+use Rattle.flag_defs.specs.declared.fault.DefFault.{DefFault}
+use Rattle.flag_defs.specs.declared.fault.DefFault.TheVariants as document
 use Rattle.source_merge.specs.Fault as sources
 use Rattle.source_merge.specs.declared.fault.SourceFault.{SourceFault}
 use Rattle.source_merge.specs.declared.fault.SourceFault.TheVariants.{Refused}
@@ -47,12 +49,31 @@ why_lines (Set e place) = document_line place (source_word e) ++ left_line
 why_lines (Unserved missed) = codes "error: subscribers that were not sent the last snapshot: " ++ (decimal missed ++ codes "\n")
 why_lines refusal = codes "error: " ++ (sentence_of refusal ++ codes "\n")
 
--- lines about what is refused: about a document, and what it leaves; or about a file, by its path
-abbrev pub IsAbout : Refusal → List ℕ → Type 0
-IsAbout (Set (Refused e) place) lines = (about : List ℕ) × (lines ≡ about ++ left_line)
-IsAbout Unreadable lines = (path : List ℕ) × Names path lines
-IsAbout refusal lines = ⊥
+-- the path of the document at a place, from 1
+abbrev pub IsPathAt : List (List ℕ) → ℕ → List ℕ → Type 0
+IsPathAt paths place path = slice_get paths (place - 1) ≡ Some path
 
--- lines that say why: those of the refusal, such lines in their place, or the sentence where there is no memory for either
-abbrev pub IsWhy : Refusal → List ℕ → Type 0
-IsWhy refusal lines = (lines ≡ why_lines refusal) ⊎ (lines ≡ memory_line) ⊎ IsAbout refusal lines
+-- a path is one of these
+abbrev pub IsOneOf : List (List ℕ) → List ℕ → Type 0
+IsOneOf paths path = (i : ℕ) × (slice_get paths i ≡ Some path)
+
+-- lines about a document by its path, and what it leaves
+abbrev pub IsAboutDocument : List ℕ → DefFault → List ℕ → Type 0
+IsAboutDocument path e lines = (about : List ℕ) × (e ≢ document.WantOfMemory → Names path about) × (lines ≡ about ++ left_line)
+
+-- lines about the file of a document that can't be read
+abbrev pub IsAboutFile : List (List ℕ) → Refusal → List ℕ → Type 0
+IsAboutFile paths Unreadable lines = (path : List ℕ) × IsOneOf paths path × Names path lines
+IsAboutFile paths refusal lines = ⊥
+
+-- the place, from 1, of a document that is refused, and why
+abbrev pub refused_document : Refusal → Option (ℕ × DefFault)
+refused_document (Set (Refused e) place) = Some (place, e)
+refused_document refusal = None
+
+-- lines that say why, of documents at these paths: about the document that is refused, by its path; else those of the refusal, or
+-- about a file that can't be read
+abbrev pub IsWhy : List (List ℕ) → Refusal → List ℕ → Type 0
+IsWhy paths refusal lines =
+    MatchOption (refused_document refusal) ((lines ≡ why_lines refusal) ⊎ IsAboutFile paths refusal lines)
+    (λ d. MatchOption (slice_get paths (d.0 - 1)) (lines ≡ why_lines refusal) (λ path. IsAboutDocument path d.1 lines))

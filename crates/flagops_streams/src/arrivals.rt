@@ -1,7 +1,7 @@
 //! Waiting for the subscribers.
 ghost use Rattle.std.specs.Prelude.{◌≡◌, ◌+◌, ◌<◌, ◌≤◌, ◌^◌, false, vec_len, IfErr, IfOk};
 ghost use Rattle.flagops_streams.specs.Documents.{MayFail};
-ghost use Rattle.flagops_streams.specs.Told.{IsArrival, TellsLines};
+ghost use Rattle.flagops_streams.specs.Told.{IsArrival, TellsArrivals, TellsLines};
 
 use crate::refusal::Refusal;
 use crate::remark::{say_came, say_listening};
@@ -41,6 +41,7 @@ where
     E: Outlet,
     ensures came { IfOk result (λ arrived. vec_len arrived.streams + arrived.absent ≡ subscribers) }
     ensures refused { IfErr result (λ refusal. MayFail subscribers refusal) }
+    ensures told { IfOk result (λ arrived. TellsArrivals port subscribers (vec_len arrived.streams) (E.bytes err.old) (E.bytes err.new) (E.is_broken err.new)) }
     ensures lines { TellsLines (IsArrival port subscribers) (E.bytes err.old) (E.bytes err.new) (E.is_broken err.new) }
     ensures stays { E.is_broken err.new ≡ false → E.is_broken err.old ≡ false }
 {
@@ -74,6 +75,7 @@ where
     E: Outlet,
     ensures few { IfOk result (λ streams. vec_len streams ≤ subscribers) }
     ensures refused { IfErr result (λ refusal. MayFail subscribers refusal) }
+    ensures told { IfOk result (λ streams. TellsArrivals port subscribers (vec_len streams) (E.bytes err.old) (E.bytes err.new) (E.is_broken err.new)) }
     ensures lines { TellsLines (IsArrival port subscribers) (E.bytes err.old) (E.bytes err.new) (E.is_broken err.new) }
     ensures stays { E.is_broken err.new ≡ false → E.is_broken err.old ≡ false }
 {

@@ -1,5 +1,5 @@
 //! The documents that are published one after the other.
-ghost use Rattle.std.specs.Prelude.{◌≡◌, ◌≤◌, ◌+◌, ◌++◌, ◌∷◌, [], decimal, length, string_bytes, false, Ok, Err, IfErr, IfOk, OnErr, OnOk};
+ghost use Rattle.std.specs.Prelude.{◌≡◌, ◌≤◌, ◌+◌, ◌++◌, ◌∷◌, [], decimal, string_bytes, false, None, Ok, Err, IfErr, IfOk, OnErr, OnOk};
 ghost use Rattle.flag_defs.specs.Flags.{flags_view};
 ghost use Rattle.flag_defs.specs.Floats.{floats_view};
 ghost use Rattle.source_merge.specs.Floats.{IsMarkedAs, merged_marks, sources_floats};
@@ -8,6 +8,7 @@ ghost use Rattle.source_merge.specs.Sources.{SetsAs, most_sources};
 ghost use Rattle.source_merge.specs.View.{sources_view};
 ghost use Rattle.flagops_streams.specs.Documents.{LeavesSources, MayRefuse, documents_in, source_added, texts_of};
 ghost use Rattle.flagops_streams.specs.Refusal.{GivesUnlessWant, is_unreadable};
+ghost use Rattle.flagops_streams.specs.Why.{refused_document};
 
 use crate::refusal::Refusal;
 use flag_defs::Flags;
@@ -52,6 +53,7 @@ impl Documents {
         ensures texts { self.new.texts ≡ self.old.texts }
         ensures kept { OnErr result (sources_view self.new.sources ≡ sources_view self.old.sources) }
         ensures loads { IfErr result (λ refusal. is_unreadable refusal ≡ false) }
+        ensures unread { IfErr result (λ refusal. refused_document refusal ≡ None) }
     {
         let place = self.texts.len();
         if place >= SOURCES {
@@ -72,6 +74,7 @@ impl Documents {
         ensures sources { self.new.sources ≡ self.old.sources }
         ensures want { IfErr result (λ refusal. refusal ≡ Refusal.WantOfMemory) }
         ensures loads { IfErr result (λ refusal. is_unreadable refusal ≡ false) }
+        ensures unread { IfErr result (λ refusal. refused_document refusal ≡ None) }
     {
         self.texts.push(text)?;
         Ok(())

@@ -30,7 +30,7 @@
 //!
 //! What is told a person on the error outlet changes nothing of this. Where there is a refusal, it is told why (`Why`); else
 //! nothing is told but that documents will be refused and that subscribers come and go, by `serve`, and that nothing came, by
-//! `follow` (`Told`).
+//! `follow` (`Told`). A document is told of by the path of its file.
 #![tactic(auto)]
 
 mod arrivals;
@@ -61,7 +61,7 @@ pub use follow_command::follow;
 pub use following::{follow_lines, follow_port};
 pub use loading::{Unloaded, loaded};
 pub use refusal::Refusal;
-pub use remark::{Remarks, say, say_refused};
+pub use remark::{say, say_refused};
 pub use report::{refuse, write_line};
 pub use serve_command::serve;
 pub use serving::serve_documents;

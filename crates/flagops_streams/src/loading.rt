@@ -1,8 +1,9 @@
 //! The documents that `serve` is asked for.
-ghost use Rattle.std.specs.Prelude.{◌≡◌, ◌+◌, ◌||◌, false, length, map, IfErr, IfOk, IfSome, OnOk};
+ghost use Rattle.std.specs.Prelude.{◌≡◌, ◌+◌, ◌||◌, false, None, length, map, IfErr, IfOk, IfSome, OnOk};
 ghost use Rattle.flagops_streams.specs.Loading.{IsFirstRefused, LoadsTo, documents_view, is_unread, is_unread_next, loaded_at, loaded_next};
 ghost use Rattle.flagops_streams.specs.Documents.{documents_in};
 ghost use Rattle.flagops_streams.specs.Refusal.{GivesUnlessWant, is_want};
+ghost use Rattle.flagops_streams.specs.Why.{IsOneOf, refused_document};
 
 use crate::documents::Documents;
 use crate::refusal::Refusal;
@@ -26,6 +27,8 @@ pub fn loaded<'a, F: FileSet>(
     ensures exact { IfSome (F.holding files.old) (λ at. LoadsTo result (loaded_at at (map (λ path. path.now) paths.now))) }
     ensures all { IfOk result (λ d. documents_in d ≡ length paths.now) }
     ensures names { IfErr result (λ u. is_want u.refusal ≡ false → IsFirstRefused (F.holding files.old) (map (λ path. path.now) paths.now) u.path.now) }
+    ensures one { IfErr result (λ u. IsOneOf (map (λ path. path.now) paths.now) u.path.now) }
+    ensures unread { IfErr result (λ u. refused_document u.refusal ≡ None) }
     ensures failed { F.has_failed files.new ≡ (F.has_failed files.old || is_unread result) }
     ensures kept { F.holding files.new ≡ F.holding files.old }
 {
@@ -48,6 +51,7 @@ fn load_next<F: FileSet>(
 ) -> Result<(), Refusal>
     ensures exact { IfSome (F.holding files.old) (λ at. GivesUnlessWant (λ _. documents_view documents.new) result (loaded_next at (documents_view documents.old) path.now)) }
     ensures more { OnOk result (documents_in documents.new ≡ documents_in documents.old + 1) }
+    ensures unread { IfErr result (λ refusal. refused_document refusal ≡ None) }
     ensures failed { F.has_failed files.new ≡ (F.has_failed files.old || is_unread_next result) }
     ensures kept { F.holding files.new ≡ F.holding files.old }
 {

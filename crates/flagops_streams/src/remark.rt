@@ -1,26 +1,25 @@
 //! What a person is told on the error outlet. It changes no answer. A line of a subscriber that can't be made is left out; why
 //! there was a refusal is told in any case, by a fixed sentence where there is no memory to say more.
-ghost use Rattle.std.specs.Prelude.{◌≡◌, ◌++◌, false, IfErr, IfOk, string_bytes};
-ghost use Rattle.flagops_streams.specs.Told.{IsForewarning, MayTellLate, Says, TellsLines, TellsNobody, TellsReason, TellsText, came_line, forewarning, gone_line, late_line, listening_line, nobody_line, reason_of};
-ghost use Rattle.flagops_streams.specs.Why.{IsWhy, document_line, left_line, memory_line, sentence_of, source_word, why_lines};
+ghost use Rattle.std.specs.Prelude.{◌≡◌, ◌≢◌, ◌++◌, ◌-◌, false, [], map, option_map, slice_get, unwrap_or, IfErr, IfOk, string_bytes};
+ghost use Rattle.flagops_streams.specs.Documents.{texts_of};
+ghost use Rattle.flagops_streams.specs.Told.{MayForewarn, MayTell, Says, TellsNobody, TellsReason, TellsReasonAt, TellsText, came_line, forewarning, gone_line, late_line, listening_line, nobody_line, reason_of};
+ghost use Rattle.flagops_streams.specs.Why.{IsAboutDocument, IsWhy, document_line, left_line, memory_line, refused_document, sentence_of, source_word, why_lines};
 
 use crate::disconnected::Disconnected;
 use crate::refusal::Refusal;
+use file_diagnostics::of_document;
 use flag_defs::DefFault;
 use flag_text::{Outlet, write_whole};
 use source_merge::SourceFault;
 use std::alloc::{AllocError, Global};
 use sync_server::StreamEnd;
 
-/// What is told where there is no memory to say more.
-pub(crate) const MEMORY: &str = "error: out of memory\n";
-
 /// What a document that is refused leaves.
 const PUBLISHED_BEFORE: &str = "  the subscribers have what was published before it\n";
 
 /// Where subscribers may come.
 pub(crate) fn say_listening<E: Outlet>(alloc: Global, err: &mut E, port: u16, subscribers: usize)
-    ensures lines { TellsLines (λ line. line ≡ listening_line port subscribers) (E.bytes err.old) (E.bytes err.new) (E.is_broken err.new) }
+    ensures line { MayTell (listening_line port subscribers) (E.bytes err.old) (E.bytes err.new) (E.is_broken err.new) }
     ensures stays { E.is_broken err.new ≡ false → E.is_broken err.old ≡ false }
 {
     say_made(err, listening_line(alloc, port, subscribers));
@@ -35,7 +34,7 @@ fn listening_line(alloc: Global, port: u16, subscribers: usize) -> Result<String
 
 /// A subscriber has come.
 pub(crate) fn say_came<E: Outlet>(alloc: Global, err: &mut E, number: usize, subscribers: usize)
-    ensures lines { TellsLines (λ line. line ≡ came_line number subscribers) (E.bytes err.old) (E.bytes err.new) (E.is_broken err.new) }
+    ensures line { MayTell (came_line number subscribers) (E.bytes err.old) (E.bytes err.new) (E.is_broken err.new) }
     ensures stays { E.is_broken err.new ≡ false → E.is_broken err.old ≡ false }
 {
     say_made(err, came_line(alloc, number, subscribers));
@@ -50,7 +49,7 @@ fn came_line(alloc: Global, number: usize, subscribers: usize) -> Result<String,
 
 /// A subscriber has gone, whose stream ended so.
 pub(crate) fn say_gone<E: Outlet>(alloc: Global, err: &mut E, number: usize, gone: Disconnected)
-    ensures lines { TellsLines (λ line. line ≡ gone_line number gone.frames gone.end) (E.bytes err.old) (E.bytes err.new) (E.is_broken err.new) }
+    ensures line { MayTell (gone_line number gone.frames gone.end) (E.bytes err.old) (E.bytes err.new) (E.is_broken err.new) }
     ensures stays { E.is_broken err.new ≡ false → E.is_broken err.old ≡ false }
 {
     say_made(err, gone_line(alloc, number, gone.end, gone.frames));
@@ -82,38 +81,33 @@ fn reason(end: StreamEnd) -> &'static str
     }
 }
 
-/// What a person is told of a document, by whoever knows where it was read from.
-pub trait Remarks {
-    /// Why the document at this place, from 1, is refused, with these bytes: a line or two.
-    fn of_document(
-        &self,
-        alloc: Global,
-        place: u64,
-        text: &[u8],
-        fault: DefFault,
-    ) -> Result<String, AllocError>;
+/// The path of the document at a place, from 1.
+pub(crate) fn path_at<'a>(paths: &[&'a str], place: u64) -> Option<&'a str>
+    ensures { option_map (λ path. path.now) result ≡ slice_get (map (λ path. path.now) paths.now) (place - 1) }
+{
+    paths.get(place.saturating_sub(1) as usize).copied()
 }
 
-/// The document at a place, from 1, will be refused.
-pub(crate) fn say_forewarning<D: Remarks, E: Outlet>(
+/// The document at a place, from 1, which was read from the file at a path, will be refused.
+pub(crate) fn say_forewarning<E: Outlet>(
     alloc: Global,
     err: &mut E,
-    remarks: &D,
+    path: &str,
     place: u64,
     text: &[u8],
     fault: DefFault,
 )
-    ensures lines { TellsLines IsForewarning (E.bytes err.old) (E.bytes err.new) (E.is_broken err.new) }
+    ensures line { fault ≢ DefFault.WantOfMemory → MayForewarn path.now place (E.bytes err.old) (E.bytes err.new) (E.is_broken err.new) }
     ensures stays { E.is_broken err.new ≡ false → E.is_broken err.old ≡ false }
 {
-    if let Ok(why) = remarks.of_document(alloc, place, text, fault) {
+    if let Ok(why) = of_document(alloc, path, text, fault) {
         say_forewarned(alloc, err, place, why.as_str());
     }
 }
 
 /// The same, with the words for why.
 fn say_forewarned<E: Outlet>(alloc: Global, err: &mut E, place: u64, why: &str)
-    ensures lines { TellsLines IsForewarning (E.bytes err.old) (E.bytes err.new) (E.is_broken err.new) }
+    ensures line { MayTell (forewarning place why.now) (E.bytes err.old) (E.bytes err.new) (E.is_broken err.new) }
     ensures stays { E.is_broken err.new ≡ false → E.is_broken err.old ≡ false }
 {
     say_made(err, forewarning(alloc, place, why));
@@ -126,18 +120,18 @@ fn forewarning(alloc: Global, place: u64, why: &str) -> Result<String, AllocErro
     format!(in alloc; "serve: document {place} will be refused\n{why}")
 }
 
-/// Why documents, or no more of them, were published.
-pub(crate) fn say_why<D: Remarks, E: Outlet>(
+/// Why documents with these paths and bytes, or no more of them, were published.
+pub(crate) fn say_why<E: Outlet>(
     alloc: Global,
     err: &mut E,
-    remarks: &D,
+    paths: &[&str],
     texts: &[Vec<u8>],
     refusal: Refusal,
 )
-    ensures told { TellsReason refusal (E.bytes err.old) (E.bytes err.new) (E.is_broken err.new) }
+    ensures told { TellsReasonAt (map (λ path. path.now) paths.now) refusal (E.bytes err.old) (E.bytes err.new) (E.is_broken err.new) }
     ensures stays { E.is_broken err.new ≡ false → E.is_broken err.old ≡ false }
 {
-    say_lines(err, lines_by(alloc, remarks, texts, refusal));
+    say_lines(err, lines_by(alloc, paths, texts, refusal));
 }
 
 /// Why a command was refused.
@@ -153,10 +147,7 @@ pub fn say_refused<E: Outlet>(alloc: Global, err: &mut E, refusal: Refusal)
 pub(crate) fn say_unreachable<E: Outlet>(alloc: Global, err: &mut E, port: u16)
     ensures { TellsNobody port (E.bytes err.old) (E.bytes err.new) (E.is_broken err.new) }
 {
-    match nobody_line(alloc, port) {
-        Ok(line) => say(err, line.as_str()),
-        Err(AllocError) => say(err, MEMORY),
-    }
+    say_lines(err, nobody_line(alloc, port));
 }
 
 #[tactic(auto, unfolding(crate::specs::Told::nobody_line))]
@@ -168,7 +159,7 @@ fn nobody_line(alloc: Global, port: u16) -> Result<String, AllocError>
 
 /// Nothing came for so many seconds.
 pub(crate) fn say_late<E: Outlet>(alloc: Global, err: &mut E, wait: u64)
-    ensures { MayTellLate wait (E.bytes err.old) (E.bytes err.new) (E.is_broken err.new) }
+    ensures { MayTell (late_line wait) (E.bytes err.old) (E.bytes err.new) (E.is_broken err.new) }
 {
     say_made(err, late_line(alloc, wait));
 }
@@ -182,23 +173,55 @@ fn late_line(alloc: Global, wait: u64) -> Result<String, AllocError>
     )
 }
 
-/// What a person is told of a refusal, of a document by whoever knows where it was read from.
-#[tactic(auto, using(crate::proofs::Reasons::all_why, crate::proofs::Reasons::about_document))]
-fn lines_by<D: Remarks>(
+/// What a person is told of a refusal, of a document by the path of its file.
+#[tactic(auto, using(crate::proofs::Reasons::why_else, crate::proofs::Reasons::why_nowhere, crate::proofs::Reasons::why_there))]
+fn lines_by(
     alloc: Global,
-    remarks: &D,
+    paths: &[&str],
     texts: &[Vec<u8>],
     refusal: Refusal,
 ) -> Result<String, AllocError>
-    ensures { IfOk result (λ s. IsWhy refusal (string_bytes s)) }
+    ensures { IfOk result (λ s. IsWhy (map (λ path. path.now) paths.now) refusal (string_bytes s)) }
 {
-    let Refusal::Set(SourceFault::Refused(fault), place) = refusal else {
-        return lines_of(alloc, refusal);
-    };
-    let Some(text) = texts.iter().nth(place.saturating_sub(1) as usize) else {
-        return lines_of(alloc, refusal);
-    };
-    let mut lines = remarks.of_document(alloc, place, text.as_slice(), fault)?;
+    match refused_document(refusal) {
+        Some((place, fault)) => match path_at(paths, place) {
+            Some(path) => lines_about(alloc, path, text_at(texts, place), fault),
+            None => lines_of(alloc, refusal),
+        },
+        None => lines_of(alloc, refusal),
+    }
+}
+
+/// The place, from 1, of a document that is refused, and why.
+fn refused_document(refusal: Refusal) -> Option<(u64, DefFault)>
+    ensures { result ≡ refused_document refusal }
+{
+    match refusal {
+        Refusal::Set(SourceFault::Refused(fault), place) => Some((place, fault)),
+        _ => None,
+    }
+}
+
+/// The bytes of the document at a place, from 1; none where there is no such document.
+fn text_at(texts: &[Vec<u8>], place: u64) -> &[u8]
+    ensures { result.now ≡ unwrap_or (slice_get (texts_of texts.now) (place - 1)) [] }
+{
+    match texts.get(place.saturating_sub(1) as usize) {
+        Some(text) => text.as_slice(),
+        None => b"",
+    }
+}
+
+/// What a person is told of a document with this path and these bytes, which is refused once others are published.
+fn lines_about(
+    alloc: Global,
+    path: &str,
+    text: &[u8],
+    fault: DefFault,
+) -> Result<String, AllocError>
+    ensures { IfOk result (λ s. IsAboutDocument path.now fault (string_bytes s)) }
+{
+    let mut lines = of_document(alloc, path, text, fault)?;
     lines.push_str(PUBLISHED_BEFORE)?;
     Ok(lines)
 }
@@ -281,14 +304,14 @@ fn say_made<E: Outlet>(err: &mut E, line: Result<String, AllocError>)
 }
 
 /// Tells lines, or where they could not be made a fixed sentence.
-fn say_lines<E: Outlet>(err: &mut E, lines: Result<String, AllocError>)
+pub(crate) fn say_lines<E: Outlet>(err: &mut E, lines: Result<String, AllocError>)
     ensures says { IfOk lines (λ s. Says (E.bytes err.old) (E.bytes err.new) (E.is_broken err.new) (string_bytes s)) }
     ensures sentence { IfErr lines (λ _. Says (E.bytes err.old) (E.bytes err.new) (E.is_broken err.new) memory_line) }
     ensures stays { E.is_broken err.new ≡ false → E.is_broken err.old ≡ false }
 {
     match lines {
         Ok(lines) => say(err, lines.as_str()),
-        Err(AllocError) => say(err, MEMORY),
+        Err(AllocError) => say(err, "error: out of memory\n"),
     }
 }
 

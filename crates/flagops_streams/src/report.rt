@@ -1,10 +1,10 @@
 //! Writing what a command of streams reports.
-ghost use Rattle.std.specs.Prelude.{◌≡◌, false, IfOk, string_bytes};
+ghost use Rattle.std.specs.Prelude.{◌≡◌, false, map, IfOk, string_bytes};
 ghost use Rattle.flagops_streams.specs.Refusal.{want_line};
 ghost use Rattle.flagops_streams.specs.Report.{Reports, RefusesBy, Writes, published_line};
 
 use crate::refusal::Refusal;
-use crate::remark::{Remarks, say_refused, say_why};
+use crate::remark::{say_refused, say_why};
 use flag_text::{Outlet, write_whole};
 use flagops_shell::write_three;
 use std::alloc::{AllocError, Global};
@@ -44,17 +44,18 @@ fn want<O: Outlet>(out: &mut O, call: &str) -> u8
 }
 
 /// Writes what `serve` answered: how many documents were published, with status 0, or the line of a refusal with status 1,
-/// and then a person is told why.
-pub(crate) fn report_answer<D: Remarks, O: Outlet, E: Outlet>(
+/// and then a person is told why, of documents with these paths and bytes.
+#[tactic(auto, using(crate::proofs::Reasons::reason_at))]
+pub(crate) fn report_answer<O: Outlet, E: Outlet>(
     alloc: Global,
     out: &mut O,
     err: &mut E,
-    remarks: &D,
+    paths: &[&str],
     texts: &[Vec<u8>],
     answer: Result<u64, Refusal>,
 ) -> u8
     requires { O.is_broken out.old ≡ false }
-    ensures reports { Reports (λ _ _. ⊥) answer (O.bytes out.old) (O.bytes out.new) (O.is_broken out.new) (E.bytes err.old) (E.bytes err.new) (E.is_broken err.new) result }
+    ensures reports { Reports (map (λ path. path.now) paths.now) (λ _ _. ⊥) answer (O.bytes out.old) (O.bytes out.new) (O.is_broken out.new) (E.bytes err.old) (E.bytes err.new) (E.is_broken err.new) result }
     ensures stays { E.is_broken err.new ≡ false → E.is_broken err.old ≡ false }
 {
     match answer {
@@ -66,7 +67,7 @@ pub(crate) fn report_answer<D: Remarks, O: Outlet, E: Outlet>(
             }
         },
         Err(refusal) => {
-            say_why(alloc, err, remarks, texts, refusal);
+            say_why(alloc, err, paths, texts, refusal);
             refuse(alloc, out, refusal)
         }
     }

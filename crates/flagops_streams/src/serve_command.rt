@@ -4,6 +4,7 @@ ghost use Rattle.flagops_shell.specs.Console.{IsOpen};
 ghost use Rattle.flagops_streams.specs.Ended.{AnswersServe, RefusesUnread, ServesAsked, TellsServe};
 ghost use Rattle.flagops_streams.specs.Documents.{Answer, count_of};
 ghost use Rattle.flagops_streams.specs.Loading.{AnswersTo, TellsUnloaded};
+ghost use Rattle.flagops_streams.specs.Refusal.{is_unreadable};
 ghost use Rattle.flagops_streams.specs.Report.{RefusesBy, Reports, Serves};
 ghost use Rattle.flagops_streams.specs.Told.{IsServeLine, TellsOfFile, TellsReason};
 ghost use Rattle.flagops_streams.specs.Words.{serving_view};
@@ -12,15 +13,14 @@ ghost use Rattle.flagops_streams.specs.declared.refusal.Refusal.TheVariants.{Unr
 use crate::asked::Serving;
 use crate::loading::{Unloaded, loaded};
 use crate::refusal::Refusal;
-use crate::remark::{MEMORY, Remarks, say, say_refused};
+use crate::remark::{say_lines, say_refused};
 use crate::report::refuse;
 use crate::serving::serve_documents;
 use crate::words::read_serve;
-use file_diagnostics::{of_document, of_unreadable};
-use flag_defs::DefFault;
+use file_diagnostics::of_unreadable;
 use flag_text::Outlet;
 use flagops_shell::{Console, FileSet, report_usage};
-use std::alloc::{AllocError, Global};
+use std::alloc::Global;
 use std::convert::AsStr;
 use std::io;
 use std::net::{Net, TcpListener, TcpStream};
@@ -79,8 +79,8 @@ where
     requires out_whole { O.is_broken out.old ≡ false }
     requires err_whole { E.is_broken err.old ≡ false }
     ensures answers { IfSome (F.holding files.old) (λ at. (answer : Answer) × AnswersTo at (serving_view serving.now) answer
-        × Reports (IsServeLine serving.now.port serving.now.subscribers) (count_of answer) (O.bytes out.old) (O.bytes out.new) (O.is_broken out.new) (E.bytes err.old) (E.bytes err.new) (E.is_broken err.new) result) }
-    ensures serves { Serves (IsServeLine serving.now.port serving.now.subscribers) (length serving.now.documents.items) (O.bytes out.old) (O.bytes out.new) (O.is_broken out.new) (E.bytes err.old) (E.bytes err.new) (E.is_broken err.new) result }
+        × Reports (serving_view serving.now).documents (IsServeLine (serving_view serving.now).documents serving.now.port serving.now.subscribers) (count_of answer) (O.bytes out.old) (O.bytes out.new) (O.is_broken out.new) (E.bytes err.old) (E.bytes err.new) (E.is_broken err.new) result) }
+    ensures serves { Serves (serving_view serving.now).documents (IsServeLine (serving_view serving.now).documents serving.now.port serving.now.subscribers) (length serving.now.documents.items) (O.bytes out.old) (O.bytes out.new) (O.is_broken out.new) (E.bytes err.old) (E.bytes err.new) (E.is_broken err.new) result }
     ensures unread { F.has_failed files.old ≡ false → F.has_failed files.new ≡ true
         → RefusesBy Unreadable (O.bytes out.old) (O.bytes out.new) (O.is_broken out.new) result × TellsUnloaded (F.holding files.old) (serving_view serving.now).documents (E.bytes err.old) (E.bytes err.new) (E.is_broken err.new) }
     ensures kept { F.holding files.new ≡ F.holding files.old }
@@ -95,7 +95,7 @@ where
             serving.wait,
             serving.floats,
             documents,
-            &AtPaths { paths },
+            paths,
             out,
             err,
         ),
@@ -106,37 +106,14 @@ where
     }
 }
 
-/// The words for documents that were read from these paths.
-#[derive(Drop)]
-struct AtPaths<'p, 'a> {
-    paths: &'p [&'a str],
-}
-
-impl Remarks for AtPaths<'_, '_> {
-    fn of_document(
-        &self,
-        alloc: Global,
-        place: u64,
-        text: &[u8],
-        fault: DefFault,
-    ) -> Result<String, AllocError> {
-        let path = match self.paths.iter().nth(place.saturating_sub(1) as usize) {
-            Some(path) => *path,
-            None => "",
-        };
-        of_document(alloc, path, text, fault)
-    }
-}
-
 /// Tells a person why documents were not loaded, where a file can't be read in the system's words, as far as these are known.
-#[tactic(auto, using(crate::proofs::Reasons::file_told))]
 fn tell_unloaded<E: Outlet>(
     alloc: Global,
     err: &mut E,
     unloaded: &Unloaded<'_>,
     trouble: Option<io::Error>,
 )
-    ensures told { TellsReason unloaded.now.refusal (E.bytes err.old) (E.bytes err.new) (E.is_broken err.new) }
+    ensures told { is_unreadable unloaded.now.refusal ≡ false → TellsReason unloaded.now.refusal (E.bytes err.old) (E.bytes err.new) (E.is_broken err.new) }
     ensures names { unloaded.now.refusal ≡ Unreadable → TellsOfFile unloaded.now.path.now (E.bytes err.old) (E.bytes err.new) (E.is_broken err.new) }
 {
     match unloaded.refusal {
@@ -149,8 +126,5 @@ fn tell_unloaded<E: Outlet>(
 fn tell_unreadable<E: Outlet>(alloc: Global, err: &mut E, path: &str, trouble: Option<io::Error>)
     ensures { TellsOfFile path.now (E.bytes err.old) (E.bytes err.new) (E.is_broken err.new) }
 {
-    match of_unreadable(alloc, path, trouble) {
-        Ok(text) => say(err, text.as_str()),
-        Err(AllocError) => say(err, MEMORY),
-    }
+    say_lines(err, of_unreadable(alloc, path, trouble));
 }

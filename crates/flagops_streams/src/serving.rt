@@ -6,14 +6,14 @@ ghost use Rattle.source_merge.specs.View.{sources_view};
 ghost use Rattle.flagops_streams.specs.Documents.{Answer, Counts, Gives, GivesSome, ServesAll, ServesTo, count_of, documents_in, is_served, less_missed, missed_of, published_in, texts_of, told_view};
 ghost use Rattle.flagops_streams.specs.Report.{Reports, Serves};
 ghost use Rattle.sync_server.specs.End.{is_closed_end};
-ghost use Rattle.flagops_streams.specs.Told.{IsForewarning, IsGone, IsServeLine, TellsGone, TellsLines};
+ghost use Rattle.flagops_streams.specs.Told.{IsForewarning, IsGone, IsOfSubscribers, IsServeLine, MayForewarnAt, TellsEnds, TellsGone, TellsLines};
 
 use crate::arrivals::{Arrived, arrivals};
 use crate::board::Board;
 use crate::disconnected::Disconnected;
 use crate::documents::{Documents, merge_next};
 use crate::refusal::Refusal;
-use crate::remark::{Remarks, say_forewarning, say_gone};
+use crate::remark::{path_at, say_forewarning, say_gone};
 use crate::report::report_answer;
 use crate::subscriber::attend;
 use core::mem::replace_with;
@@ -32,16 +32,16 @@ use sync_server::StreamEnd;
 
 /// Publishes documents to so many subscribers, which it first waits for on a port of this host, and writes what came of it.
 /// `wait` seconds are given to the subscribers to come, and to each to be served; 0 is for ever.
-/// `floats` says whether the documents may have floats. `remarks` has the words for a person where a document is refused.
-/// The conditions are an output that is not broken and one document at least.
-pub fn serve_documents<R, D, O, E>(
+/// `floats` says whether the documents may have floats. `paths` are those of their files, by which a person is told of one that
+/// is refused. The conditions are an output that is not broken and one document at least.
+pub fn serve_documents<R, O, E>(
     rt: &R,
     port: u16,
     subscribers: usize,
     wait: u64,
     floats: bool,
     documents: Documents,
-    remarks: &D,
+    paths: &[&str],
     out: &mut O,
     err: &mut E,
 ) -> u8
@@ -52,56 +52,53 @@ where
         + Threads
         + Wait
         + Sync,
-    D: Remarks,
     O: Outlet,
     E: Outlet + Drop,
     requires whole { O.is_broken out.old ≡ false }
     requires some { 0 < documents_in documents }
-    ensures serves { Serves (IsServeLine port subscribers) (documents_in documents) (O.bytes out.old) (O.bytes out.new) (O.is_broken out.new) (E.bytes err.old) (E.bytes err.new) (E.is_broken err.new) result }
-    ensures documents { (answer : Answer) × ServesAll floats subscribers documents answer × Reports (IsServeLine port subscribers) (count_of answer) (O.bytes out.old) (O.bytes out.new) (O.is_broken out.new) (E.bytes err.old) (E.bytes err.new) (E.is_broken err.new) result }
+    ensures serves { Serves (map (λ path. path.now) paths.now) (IsServeLine (map (λ path. path.now) paths.now) port subscribers) (documents_in documents) (O.bytes out.old) (O.bytes out.new) (O.is_broken out.new) (E.bytes err.old) (E.bytes err.new) (E.is_broken err.new) result }
+    ensures documents { (answer : Answer) × ServesAll floats subscribers documents answer × Reports (map (λ path. path.now) paths.now) (IsServeLine (map (λ path. path.now) paths.now) port subscribers) (count_of answer) (O.bytes out.old) (O.bytes out.new) (O.is_broken out.new) (E.bytes err.old) (E.bytes err.new) (E.is_broken err.new) result }
 {
     let alloc = rt.alloc();
     let Documents { sources, texts } = documents;
     let texts = texts.as_slice();
-    forewarn(alloc, remarks, floats, texts, err);
+    forewarn(alloc, paths, floats, texts, err);
     let answer = publish_in_turn(rt, port, subscribers, wait, floats, sources, texts, err);
-    report_answer(alloc, out, err, remarks, texts, answer)
+    report_answer(alloc, out, err, paths, texts, answer)
 }
 
 /// Tells of each document behind the first that will be refused once its turn comes, and why.
-fn forewarn<D: Remarks, E: Outlet>(
-    alloc: Global,
-    remarks: &D,
-    floats: bool,
-    texts: &[Vec<u8>],
-    err: &mut E,
-)
-    ensures lines { TellsLines IsForewarning (E.bytes err.old) (E.bytes err.new) (E.is_broken err.new) }
+fn forewarn<E: Outlet>(alloc: Global, paths: &[&str], floats: bool, texts: &[Vec<u8>], err: &mut E)
+    ensures lines { TellsLines (IsForewarning (map (λ path. path.now) paths.now)) (E.bytes err.old) (E.bytes err.new) (E.is_broken err.new) }
     ensures stays { E.is_broken err.new ≡ false → E.is_broken err.old ≡ false }
 {
-    for place in 1..texts.len() {
-        forewarn_of(alloc, remarks, floats, place, texts[place].as_slice(), err);
+    for before in 1..texts.len() {
+        let place = (before as u64).saturating_add(1);
+        forewarn_of(alloc, paths, place, floats, texts[before].as_slice(), err);
     }
 }
 
-/// The same of one document, with so many before it.
-fn forewarn_of<D: Remarks, E: Outlet>(
+/// The same of one document, by its place, from 1.
+fn forewarn_of<E: Outlet>(
     alloc: Global,
-    remarks: &D,
+    paths: &[&str],
+    place: u64,
     floats: bool,
-    before: usize,
     text: &[u8],
     err: &mut E,
 )
-    ensures lines { TellsLines IsForewarning (E.bytes err.old) (E.bytes err.new) (E.is_broken err.new) }
+    ensures told { MayForewarnAt (map (λ path. path.now) paths.now) place (E.bytes err.old) (E.bytes err.new) (E.is_broken err.new) }
     ensures stays { E.is_broken err.new ≡ false → E.is_broken err.old ≡ false }
 {
-    match read_flags_as(alloc, text, floats) {
-        Ok(_) | Err(DefFault::WantOfMemory) => {}
-        Err(fault) => {
-            let place = (before as u64).saturating_add(1);
-            say_forewarning(alloc, err, remarks, place, text, fault);
-        }
+    let Some(path) = path_at(paths, place) else {
+        return;
+    };
+    let Err(fault) = read_flags_as(alloc, text, floats) else {
+        return;
+    };
+    match fault {
+        DefFault::WantOfMemory => {}
+        _ => say_forewarning(alloc, err, path, place, text, fault),
     }
 }
 
@@ -132,7 +129,7 @@ where
     E: Outlet + Drop,
     requires { 0 < length texts.now }
     ensures serves { Counts (ServesTo floats subscribers (sources_view sources) (texts_of texts.now) []) result }
-    ensures lines { TellsLines (IsServeLine port subscribers (is_ok result)) (E.bytes err.old) (E.bytes err.new) (E.is_broken err.new) }
+    ensures lines { TellsLines (IsOfSubscribers port subscribers (is_ok result)) (E.bytes err.old) (E.bytes err.new) (E.is_broken err.new) }
     ensures stays { E.is_broken err.new ≡ false → E.is_broken err.old ≡ false }
 {
     let alloc = rt.alloc();
@@ -421,7 +418,7 @@ fn tell_gone<J: ShareName, R: Wait, E: Outlet>(
     err: &mut E,
 ) -> usize
     ensures few { result ≤ count }
-    ensures ends { (ends : List (Option Disconnected)) × (length ends ≡ count) × (result ≡ missed_of published ends) }
+    ensures ends { (ends : List (Option Disconnected)) × (length ends ≡ count) × (result ≡ missed_of published ends) × TellsEnds ends (E.bytes err.old) (E.bytes err.new) (E.is_broken err.new) }
     ensures lines { TellsLines (IsGone (nat_eq result 0)) (E.bytes err.old) (E.bytes err.new) (E.is_broken err.new) }
     ensures stays { E.is_broken err.new ≡ false → E.is_broken err.old ≡ false }
 {

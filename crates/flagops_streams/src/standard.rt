@@ -10,18 +10,17 @@ const TRIES: u32 = 4;
 
 /// Opens each of the descriptors 0 to 2 that is closed, on `/dev/null` for reading: else the next file or connection that is
 /// opened would be one of them, and would be written what is for a person. What is written to one of them fails, as to a
-/// closed one. It answers whether all three are open; it is to be called before anything else is opened. No clause says so: which
-/// descriptor a file gets is not told by what opens it.
-pub fn open_standard<R: Files<File = File>>(files: &R) -> bool {
+/// closed one. They stay closed where it can't be opened. It is to be called before anything else is opened. No clause says so:
+/// which descriptor a file gets is not told by what opens it.
+pub fn open_standard<R: Files<File = File>>(files: &R) {
     for _try in 0..TRIES {
         let Ok(file) = File::open(files, "/dev/null") else {
-            return false;
+            return;
         };
         if file.as_raw_fd() > LAST_STANDARD {
-            return true;
+            return;
         }
         // It stays open as long as the process.
         let _descriptor = file.into_raw_fd();
     }
-    true
 }

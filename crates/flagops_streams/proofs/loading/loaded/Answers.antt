@@ -2,7 +2,7 @@ use Rattle.std.proofs.Common.{arith, ◌≡◌, ◌+◌, ◌∙◌, Err, Ok, ap,
 use Rattle.std.proofs.lemmas.List.{drop_all}
 use Rattle.flagops_streams.specs.Refusal.{is_want}
 use Rattle.flagops_streams.specs.Loading.{documents_view, loaded_at, loaded_from, refused_at, refused_from}
-use Rattle.flagops_streams.proofs.DocumentsLoaded.{both_known, first_left, refused_first, refused_next, where_known}
+use Rattle.flagops_streams.proofs.DocumentsLoaded.{both_known, first_left, one_of, refused_first, refused_next, where_known}
 use Rattle.flagops_streams.proofs.loading.loaded.Goals as goal
 
 pub returns-in-Err-clause-exact : goal.returns-in-Err-clause-exact
@@ -41,3 +41,6 @@ returns-clause-exact g c =
     (λ at. loaded_from at d (map (λ p. p.now) (drop l.named-index paths)) ≡ loaded_at at (map (λ p. p.now) paths)) (λ at. loaded_at at (map (λ p. p.now) paths) ≡ Ok d)
     (λ at so_far. sym so_far ∙ ap (λ ps. loaded_from at d (map (λ p. p.now) ps)) (drop_all l.named-index paths c.loop-named-test.false))
     l.invariant.0
+
+pub returns-in-Err-clause-one : goal.returns-in-Err-clause-one
+returns-in-Err-clause-one g c = one_of (λ p. p.now) c.args.paths.now c.loop-named.named-index _ (omega arith)

@@ -3,7 +3,7 @@ use Rattle.std.proofs.lemmas.Result.{err_from_is_err_and}
 use Rattle.flag_defs.specs.Flags.{flags_view}
 use Rattle.source_merge.specs.View.{sources_view}
 use Rattle.flagops_streams.specs.Documents.{Gives, MayRefuse, Merges, ServesTo, texts_of}
-use Rattle.flagops_streams.specs.Told.{IsArrival, IsGone, IsServeLine}
+use Rattle.flagops_streams.specs.Told.{IsArrival, IsGone, IsOfSubscribers}
 use Rattle.flagops_streams.proofs.Gives.{first_of, first_served, refused_alone}
 use Rattle.flagops_streams.proofs.Told.{lines_as, lines_behind}
 use Rattle.flagops_streams.proofs.serving.publish_in_turn.Goals as goal
@@ -43,14 +43,14 @@ returns-clause-serves g c =
 pub returns-clause-lines : goal.returns-clause-lines
 returns-clause-lines g c =
     let are_served = is_ok c.publish_to.result in
-    let Is = IsServeLine c.args.port c.args.subscribers are_served in
-    let came = lines_as (IsArrival c.args.port c.args.subscribers) Is (λ line is. inr (inl is)) _ _ _ c.arrivals.ensures.lines in
-    lines_behind Is _ _ _ _ _ c.publish_to.ensures.stays came (lines_as (IsGone are_served) Is (λ line is. inr (inr is)) _ _ _ c.publish_to.ensures.lines)
+    let Is = IsOfSubscribers c.args.port c.args.subscribers are_served in
+    let came = lines_as (IsArrival c.args.port c.args.subscribers) Is (λ line is. inl is) _ _ _ c.arrivals.ensures.lines in
+    lines_behind Is _ _ _ _ _ c.publish_to.ensures.stays came (lines_as (IsGone are_served) Is (λ line is. inr is) _ _ _ c.publish_to.ensures.lines)
 
 -- who came is told of the subscribers
 pub returns-in_err-arrived-clause-lines : goal.returns-in_err-arrived-clause-lines
 returns-in_err-arrived-clause-lines g c =
-    lines_as (IsArrival c.args.port c.args.subscribers) (IsServeLine c.args.port c.args.subscribers (is_ok c.from_residual-in_err-arrived.result)) (λ line is. inr (inl is)) _ _ _ c.arrivals.ensures.lines
+    lines_as (IsArrival c.args.port c.args.subscribers) (IsOfSubscribers c.args.port c.args.subscribers (is_ok c.from_residual-in_err-arrived.result)) (λ line is. inl is) _ _ _ c.arrivals.ensures.lines
 
 -- nothing is told before
 pub returns-in_err-flags-clause-lines : goal.returns-in_err-flags-clause-lines

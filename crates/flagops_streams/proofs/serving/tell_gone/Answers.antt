@@ -2,7 +2,7 @@ use Rattle.std.proofs.Common.{◌∙◌, ◌+◌, ◌∷◌, arith, ap, nat_eq}
 use Rattle.flagops_streams.specs.Documents.{missed_of}
 use Rattle.flagops_streams.specs.Told.{IsGone}
 use Rattle.flagops_streams.proofs.Served.{at_most_one}
-use Rattle.flagops_streams.proofs.Told.{gone_as, left_zero, lines_as, lines_behind, right_zero}
+use Rattle.flagops_streams.proofs.Told.{ends_more, gone_as, left_zero, lines_as, lines_behind, right_zero}
 use Rattle.flagops_streams.proofs.serving.tell_gone.Goals as goal
 
 pub loop-subscriber-preserved : goal.loop-subscriber-preserved
@@ -18,5 +18,10 @@ loop-subscriber-preserved g c =
       omega (arith, so_far.0, at_most_one c.args.published end.0, end.1),
       lines_behind both _ _ _ _ _ c.tell_next-missed.ensures.stays before behind,
       λ works. so_far.2 (c.tell_next-missed.ensures.stays works),
-      (end.0 ∷ ends.0, omega (arith, ends.1), ap (λ n. n + more) ends.2 ∙ ap (λ n. missed_of c.args.published ends.0 + n) end.1),
+      (
+        end.0 ∷ ends.0,
+        omega (arith, ends.1),
+        ap (λ n. n + more) ends.2 ∙ ap (λ n. missed_of c.args.published ends.0 + n) end.1,
+        ends_more _ _ c.tell_next-missed.ensures.stays end.0 ends.0 _ _ _ ends.3 end.2,
+      ),
     )
