@@ -1,6 +1,6 @@
 -- A document that is alone, and its source.
 use Rattle.std.proofs.Common.{◌≡◌, ◌∙◌, ◌<◌, ◌+◌, ◌++◌, ◌||◌, ℕ, zero, suc, Bool, true, false, cond, if◌then◌else◌, List, [], ◌∷◌, Option, Some, None, Result, Ok, Err, Vec, Global, ap, append-nil, arith, decimal, length, map, refl, slice_get, subst, sym, inl, inr}
-use Rattle.std.specs.Prelude.{MatchBool, nat_lt, slice_set}
+use Rattle.std.specs.Prelude.{IfErr, IfOk, MatchBool, nat_lt, slice_set}
 use Rattle.std.specs.Str.{bytes_eq, is_utf8}
 use Rattle.std.proofs.lemmas.List.{length-map, length-set}
 use Rattle.std.proofs.lemmas.Option.{slice_get_within}
@@ -17,7 +17,7 @@ use Rattle.flag_defs.specs.declared.fault.DefFault.{DefFault}
 use Rattle.flag_defs.specs.declared.fault.DefFault.TheVariants as def
 use Rattle.flag_defs.specs.declared.flags.Flags.{Flags}
 use Rattle.source_merge.specs.Merge.{HaveRisingKeys, Rise, flags_or_fault, merge, merged_of}
-use Rattle.source_merge.specs.Sources.{SetsWithFloats, SourceList, is_source, with_read}
+use Rattle.source_merge.specs.Sources.{SetsAs, SetsWithFloats, SourceList, is_source, with_read}
 use Rattle.source_merge.specs.View.{sources_view}
 use Rattle.source_merge.specs.declared.fault.SourceFault.{SourceFault}
 use Rattle.source_merge.specs.declared.fault.SourceFault.TheVariants.{Unknown}
@@ -25,8 +25,9 @@ use Rattle.source_merge.specs.declared.sources.Sources.{Sources}
 use Rattle.source_merge.proofs.Limits.{rising}
 use Rattle.source_merge.proofs.Merged.{by_key-rising}
 use Rattle.flagops_shell.specs.Files.{Holding}
-use Rattle.flagops_streams.specs.Documents.{texts_of}
-use Rattle.flagops_service.specs.Merging.{AreMerged, AreRead}
+use Rattle.flagops_streams.specs.Documents.{MayRefuse, texts_of}
+use Rattle.flagops_streams.specs.declared.refusal.Refusal.{Refusal}
+use Rattle.flagops_service.specs.Merging.{AreMerged, AreRead, GivesMore}
 use Rattle.flagops_service.specs.Rereading.{Kept, ReadsFrom, ReadsOne, Takes}
 use Rattle.flagops_service.specs.declared.asked.OnBroken.{OnBroken}
 use Rattle.flagops_service.specs.declared.taking.Taken.{Taken}
@@ -110,6 +111,23 @@ pub reads_alone : (holding : Option Holding) (mode : OnBroken) (paths : List (Li
 reads_alone holding mode [] place old new same read = subst (λ (k : Kept). AreRead (texts_of k.accepted) k.sources) (sym same) read
 reads_alone holding mode (path ∷ paths) place old new (mid, taken, one, rest) read =
     reads_alone holding mode paths (place + 1) mid new rest (one_alone holding mode path place old mid taken one read)
+
+-- ---- a document that is merged alone
+
+module _ (sources next : SourceList) (text : List ℕ) where
+  -- it was set, and this is the merge
+  abbrev pub IsMergedAlone : Result Flags Refusal → Type 0
+  IsMergedAlone r = IfOk r (λ flags. SetsAs true sources (decimal 1) text (Ok next) × (merged_of next ≡ Ok (flags_view flags)))
+
+  pub one_gives : (r : Result Flags Refusal) → IsMergedAlone r → IfErr r (λ refusal. MayRefuse true 1 sources text refusal) → GivesMore sources next (text ∷ []) [] r
+  one_gives (Ok flags) merges may = ([], inr (next, flags_view flags, merges, refl), merges.1)
+  one_gives (Err refusal) merges may = inl (refusal, refl, may)
+
+  pub one_read : (r : Result Flags Refusal) → sources ≡ (decimal 1, None) ∷ [] → IsMergedAlone r → IfOk r (λ _. AreRead (text ∷ []) next)
+  one_read (Ok flags) alone merges = λ t is.
+      let set = set_alone (decimal 1) None text next (subst (λ (s : SourceList). SetsWithFloats s (decimal 1) text (Ok next)) alone merges.0) in
+      (set.0, set.1, subst (λ (bytes : List ℕ). MeansWithFloats bytes (Ok set.0)) cc set.2)
+  one_read (Err refusal) alone merges = tt
 
 -- ---- a document is a text
 

@@ -52,6 +52,17 @@ numbered_all at paths d loaded =
     let b = loaded_behind at d (record { sources = []; texts = [] }) paths loaded in
     subst (λ (texts : List (List ℕ)). numbered texts ≡ Ok d) (sym b.1) b.2
 
+-- ---- document by document
+
+module _ (d : Loaded) (text : List ℕ) (texts : List (List ℕ)) (all : Result Loaded Refusal) (so_far : numbered_from d (text ∷ texts) ≡ all) where
+  -- one more has its source
+  pub next_numbered : (sources : SourceList) → source_added d.sources (length d.texts + 1) ≡ Ok sources → numbered_from (behind d text sources) texts ≡ all
+  next_numbered sources is = sym (ap (λ (r : Result SourceList Refusal). r >>= λ more. numbered_from (behind d text more) texts) is) ∙ so_far
+
+  -- or it is refused
+  pub next_refused : (refusal : Refusal) → source_added d.sources (length d.texts + 1) ≡ Err refusal → all ≡ Err refusal
+  next_refused refusal is = sym so_far ∙ ap (λ (r : Result SourceList Refusal). r >>= λ more. numbered_from (behind d text more) texts) is
+
 -- ---- one that is alone
 
 pub numbered_alone : (text : List ℕ) (d : Loaded) → numbered (text ∷ []) ≡ Ok d → d.sources ≡ (decimal 1, None) ∷ []

@@ -1,13 +1,14 @@
 -- What desks are shown of what was published last.
-use Rattle.std.proofs.Common.{◌≡◌, ◌∙◌, Bool, true, false, ℕ, List, [], ◌∷◌, ◌++◌, Option, Some, None, Ok, refl, string_bytes, subst, sym}
+use Rattle.std.proofs.Common.{◌≡◌, ◌∙◌, Bool, true, false, ℕ, List, [], ◌∷◌, ◌++◌, Option, Some, None, Ok, append-nil, append_assoc, refl, string_bytes, subst, sym}
 use Rattle.std.specs.Prelude.{IfSome}
 use Rattle.control_desk.specs.Sources.{IsDocumentOf, Source}
+use Rattle.file_diagnostics.specs.Broken.{TellsBroken}
 use Rattle.flag_defs.specs.Flags.{flags_view}
 use Rattle.flag_defs.specs.Floats.{MeansWithFloats}
 use Rattle.flag_defs.specs.declared.flags.Flags.{Flags}
 use Rattle.snap_share.specs.Known.{last_of}
 use Rattle.snap_share.proofs.Numbers.{last_of_snoc}
-use Rattle.flagops_service.specs.Shown.{ArePrepared, AreShown, shown_of}
+use Rattle.flagops_service.specs.Shown.{ArePrepared, AreRemarks, AreShown, shown_of}
 use Rattle.flagops_service.specs.declared.document_texts.DocumentTexts.{DocumentTexts}
 
 module _ (desks : Bool) (texts : List (List ℕ)) (flags : Flags) (published : List Flags) where
@@ -33,3 +34,16 @@ module _ (desks : Bool) (texts : List (List ℕ)) (flags : Flags) (published : L
 -- the flags behind others are the last
 pub last_behind : (front published : List Flags) (flags : Flags) → published ≡ front ++ flags ∷ [] → last_of published ≡ Some flags
 last_behind front published flags is = subst (λ (fs : List Flags). last_of fs ≡ Some flags) (sym is) (last_of_snoc front flags)
+
+-- ---- remarks
+
+-- the lines of one more document
+pub one_more : (all texts : List (List ℕ)) (text remarks lines : List ℕ) → ((more : List ℕ) → AreRemarks (text ∷ texts) more → AreRemarks all (remarks ++ more)) → TellsBroken true text lines
+    → (more : List ℕ) → AreRemarks texts more → AreRemarks all ((remarks ++ lines) ++ more)
+one_more all texts text remarks lines so_far told more rest =
+    subst (AreRemarks all) (sym (append_assoc remarks lines more)) (so_far (lines ++ more) (lines, more, refl, told, rest))
+
+-- those of all
+pub all_told : (all texts : List (List ℕ)) (remarks : List ℕ) → ((more : List ℕ) → AreRemarks texts more → AreRemarks all (remarks ++ more)) → texts ≡ [] → AreRemarks all remarks
+all_told all texts remarks so_far none =
+    subst (AreRemarks all) (append-nil remarks) (so_far [] (subst (λ (ts : List (List ℕ)). AreRemarks ts []) (sym none) refl))

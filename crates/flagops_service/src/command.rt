@@ -447,9 +447,7 @@ where
     requires clients { HasKeys (F.holding files.old) (answering_view answering.now).keys (option_map (λ ring. ring.first) board.now.keys) }
 {
     let alloc = rt.alloc();
-    let mut watched = watched;
-    let mut clients = WatchedKeys::new(alloc, answering.keys);
-    let mut shown = shown;
+    let clients = WatchedKeys::new(alloc, answering.keys);
     let mut others = others;
     let threads = operators_of(answering) / 2;
     let Ok(operations) = seated(&mut others, streams.len(), threads, admin, sources) else {
@@ -465,7 +463,12 @@ where
         others,
         streams,
         operations,
-        || {
+        move ||
+            requires { AreRead (texts_of watched.accepted.items) (sources_view watched.sources) }
+        {
+            let mut watched = watched;
+            let mut clients = clients;
+            let mut shown = shown;
             watch(
                 rt,
                 &mut watched,

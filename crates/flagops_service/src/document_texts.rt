@@ -1,5 +1,5 @@
 //! What desks are told of documents beside their flags.
-ghost use Rattle.std.specs.Prelude.{◌≡◌, ◌∷◌, [], IfOk, IfSome, List, Ok, false, is_some, length, string_bytes, ℕ};
+ghost use Rattle.std.specs.Prelude.{◌≡◌, ◌∷◌, [], IfOk, IfSome, List, Ok, is_some, string_bytes, ℕ};
 ghost use Rattle.control_desk.specs.Sources.{IsDocumentOf};
 ghost use Rattle.flag_defs.specs.Flags.{flags_view};
 ghost use Rattle.flag_defs.specs.Floats.{MeansWithFloats};
