@@ -1,7 +1,8 @@
 use Rattle.std.proofs.Common.{true, false, rules, sum_by, sym, ◌∙◌}
 use Rattle.std.proofs.Math.Logic.{∥∥₁_map}
 use Rattle.log_file.specs.Line.{lines_in}
-use Rattle.note_log.specs.Sound.{earlier_in, handed_in}
+use Rattle.note_memory.specs.Handed.{handed_in}
+use Rattle.note_log.specs.Sound.{earlier_in}
 use Rattle.note_log.proofs.Moved.{joined, unmoved}
 use Rattle.note_log.proofs.Recorded.{nothing, none_recorded, sound_moved, batch_recorded, sound_batch, sound_after}
 use Rattle.note_log.proofs.log.NoteLog.take.Goals as goal

@@ -1,0 +1,6 @@
+pub mod Line
+pub mod Handed
+pub mod Files
+pub mod Shown
+pub mod Memory
+pub mod Recalled

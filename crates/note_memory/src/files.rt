@@ -1,0 +1,101 @@
+//! The files of the logs of a process.
+ghost use Rattle.std.specs.Prelude.{◌≡◌, ◌++◌, ◌∷◌, [], IfSome, ◌<◌, filter, is_none, nat_eq, not, true};
+ghost use Rattle.std.specs.Bool.{MatchBool};
+ghost use Rattle.note_memory.specs.Files.{AreBelow, IsFresh, is_among};
+
+use bytes::BytesMut;
+use http_server::Log;
+use std::alloc::Global;
+
+/// The number of a log's file among those that the logs of a process have opened. No two have the same.
+#[derive(Clone, Copy, Debug, PartialEq, Eq)]
+pub struct FileNumber {
+    number: u64,
+}
+
+/// The files that the logs of a process have open, and what each was handed.
+#[derive(Drop)]
+pub struct Files {
+    /// The numbers of those that are open, and the next one.
+    numbers: Vec<u64>,
+    next: u64,
+    /// What each was handed when lines of it were remembered, and its number, which only proofs read.
+    history: Log<Log<BytesMut, usize>, u64>,
+    ghost below: { ∥ AreBelow next numbers.items history.items ∥₁ },
+}
+
+impl FileNumber {
+    pub(crate) fn number(self) -> u64
+        ensures { result ≡ self.number }
+    {
+        self.number
+    }
+}
+
+impl Files {
+    /// No file was opened yet.
+    pub(crate) fn none(alloc: Global) -> Files
+        ensures numbers { result.numbers.items ≡ [] }
+        ensures history { result.history.items ≡ [] }
+    {
+        Files {
+            numbers: Vec::new(alloc),
+            next: 0,
+            history: Log::new(),
+        }
+    }
+
+    /// Opens a file, of which nothing was kept yet. None where memory runs out, or where all 2^64 - 1 numbers were given.
+    pub(crate) fn add(&mut self) -> Option<FileNumber>
+        ensures number { IfSome result (λ file. file.number ≡ self.old.next) }
+        ensures numbers { IfSome result (λ file. self.new.numbers.items ≡ self.old.numbers.items ++ file.number ∷ []) }
+        ensures fresh { IfSome result (λ file. ∥ IsFresh file.number self.old.numbers.items self.old.history.items ∥₁) }
+        ensures unopened { is_none result ≡ true → self.new.numbers.items ≡ self.old.numbers.items }
+        ensures history { self.new.history ≡ self.old.history }
+    {
+        let number = self.next;
+        let next = number.checked_add(1)?;
+        if self.numbers.push(number).is_err() {
+            return None;
+        }
+        self.next = next;
+        Some(FileNumber { number })
+    }
+
+    /// Closes a file, and says whether it was open.
+    pub(crate) fn remove(&mut self, file: FileNumber) -> bool
+        ensures was_open { result ≡ is_among file.number self.old.numbers.items }
+        ensures below { result ≡ true → file.number < self.old.next }
+        ensures numbers { self.new.numbers.items ≡ filter (λ n. not (nat_eq n file.number)) self.old.numbers.items }
+        ensures next { self.new.next ≡ self.old.next }
+        ensures history { self.new.history ≡ self.old.history }
+    {
+        let was_open = self.is_open(file.number);
+        self.numbers.retain(
+            |number: &u64| -> bool
+                ensures { result ≡ not (nat_eq number.now file.number) }
+            { *number != file.number },
+        );
+        was_open
+    }
+
+    /// Whether the file of a number is open.
+    pub(crate) fn is_open(&self, number: u64) -> bool
+        ensures { result ≡ is_among number self.now.numbers.items }
+    {
+        self.numbers.contains(&number)
+    }
+
+    /// Keeps what a file was handed, where it is open, and says whether it is.
+    pub(crate) fn keep(&mut self, file: FileNumber, handed: &Log<BytesMut, usize>) -> bool
+        ensures is_open { result ≡ is_among file.number self.old.numbers.items }
+        ensures history { MatchBool result (self.new.history.items ≡ self.old.history.items ++ (handed.now, file.number) ∷ []) (self.new.history ≡ self.old.history) }
+        ensures numbers { self.new.numbers ≡ self.old.numbers }
+    {
+        if !self.is_open(file.number) {
+            return false;
+        }
+        self.history = self.history.and(handed, &file.number);
+        true
+    }
+}
