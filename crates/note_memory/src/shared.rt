@@ -72,6 +72,9 @@ impl SharedMemory {
     pub fn unknown(&self, alloc: Global, lines: Vec<Vec<u8>>) -> Result<Unknown, AllocError>
         ensures { IfOk result (λ unknown. ∥ AreLeft lines.items unknown.lines.items (shown_in unknown.shown.items) ∥₁) }
     {
+        if lines.is_empty() {
+            return Ok(Unknown::all(lines));
+        }
         let Some(memory) = self.taken() else {
             return Ok(Unknown::all(lines));
         };
@@ -83,6 +86,9 @@ impl SharedMemory {
     pub fn remember(&self, file: FileNumber, handed: &Log<BytesMut, usize>, lines: Vec<Vec<u8>>)
         requires { StandAll (handed_in handed.now.items) lines.items }
     {
+        if lines.is_empty() {
+            return;
+        }
         if let Some(memory) = self.taken() {
             let mut memory = memory;
             memory.remember(file, handed, lines);
