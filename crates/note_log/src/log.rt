@@ -74,7 +74,9 @@ impl<'a, F: LogFile> NoteLog<'a, F> {
 impl<F: LogFile> NoteLog<'_, F> {
     ghost use Rattle.log_file.specs.Journal.{Looked, lost_after};
     ghost use Rattle.note_log.specs.Batch.{IsBatch};
-    ghost use Rattle.note_log.specs.Log.{Records, begun_anew, lines_of, logged, logged_after, trouble_of};
+    ghost use Rattle.note_memory.specs.Memory.{StandAll};
+    ghost use Rattle.note_memory.specs.Numbers.{IsRenewed};
+    ghost use Rattle.note_log.specs.Log.{Records, RenewedAfter, begun_anew, lines_of, logged, logged_after, trouble_of};
 
     /// Records notes, and says whether the line of each, in the form of the log, stands in the file that is open now, or in one that
     /// another log of the process has open. One whose input has more than 1,024 bytes has no line. What waits of earlier lines is
@@ -131,10 +133,17 @@ impl<F: LogFile> NoteLog<'_, F> {
             return false;
         }
         self.relied = self.relied.and(&shown, &0);
+        self.remember(lines);
+        true
+    }
+
+    /// Has the memory remember lines that the file was handed, where that has a number.
+    fn remember(&self, lines: Vec<Vec<u8>>)
+        requires { ∥ StandAll (handed_in self.now.handed.items) lines.items ∥₁ }
+    {
         if let Some(number) = self.number {
             self.memory.remember(number, &self.handed, lines);
         }
-        true
     }
 
     /// Looks whether the file stands at its path, and is as long as it was left. Where it is not, the path is opened anew, and no line
@@ -142,6 +151,7 @@ impl<F: LogFile> NoteLog<'_, F> {
     pub fn look<P: LogPaths + Wait>(&mut self, alloc: Global, paths: &P) -> Look
         ensures looked { Looked result (F.bytes self.old.journal.file) (F.bytes self.new.journal.file) (F.stands self.new.journal.file) }
         ensures logged { logged self.new ≡ logged_after result (logged self.old) }
+        ensures renewed { RenewedAfter result self.old.number self.new.number }
         ensures lost { self.new.journal.lost ≡ lost_after result }
         ensures looks { F.looks self.old.journal.file < F.looks self.new.journal.file }
     {
@@ -157,6 +167,7 @@ impl<F: LogFile> NoteLog<'_, F> {
     #[tactic(auto, using(crate::proofs::Anew::one_lost, crate::proofs::Anew::begins_whole, crate::proofs::Counted::counted_anew))]
     fn begin_anew<R: Wait>(&mut self, rt: &R)
         ensures logged { logged self.new ≡ begun_anew (logged self.old) }
+        ensures renewed { IsRenewed self.old.number self.new.number }
         ensures journal { self.new.journal ≡ self.old.journal }
     {
         self.number = self.memory.begin_anew(rt, self.number);

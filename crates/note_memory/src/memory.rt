@@ -4,6 +4,7 @@ ghost use Rattle.std.specs.NonZero.{non_zero_usize_get};
 ghost use Rattle.log_file.specs.Line.{EndsLine, lines_in};
 ghost use Rattle.note_memory.specs.Files.{StandsIn, is_among};
 ghost use Rattle.note_memory.specs.Memory.{AllStand, AreLeft, StandAll, is_known};
+ghost use Rattle.note_memory.specs.Numbers.{IsRenewed};
 ghost use Rattle.note_memory.specs.Recalled.{Recalls};
 ghost use Rattle.note_memory.specs.Shown.{open_in, shown_in};
 ghost use Rattle.note_memory.specs.Handed.{handed_in};
@@ -51,7 +52,7 @@ impl NoteMemory {
     /// can be opened.
     pub(crate) fn begin(&mut self, old: Option<FileNumber>) -> Option<FileNumber>
         ensures closed { IfSome old (λ file. is_among file.number self.new.files.numbers.items ≡ false) }
-        ensures rises { IfSome old (λ file. IfSome result (λ new. file.number < new.number)) }
+        ensures renewed { IsRenewed old result }
         ensures table { self.new.table ≡ self.old.table }
         ensures history { self.new.files.history ≡ self.old.files.history }
     {
@@ -111,7 +112,7 @@ impl NoteMemory {
         handed: &Log<BytesMut, usize>,
         lines: Vec<Vec<u8>>,
     )
-        requires { StandAll (handed_in handed.now.items) lines.items }
+        requires { ∥ StandAll (handed_in handed.now.items) lines.items ∥₁ }
         ensures numbers { self.new.files.numbers ≡ self.old.files.numbers }
         ensures most { self.new.table.cap ≡ self.old.table.cap }
     {

@@ -1,6 +1,7 @@
 //! The memory of all logs of a process.
 ghost use Rattle.std.specs.Prelude.{◌≡◌, IfOk, is_some};
 ghost use Rattle.note_memory.specs.Memory.{AreLeft, StandAll};
+ghost use Rattle.note_memory.specs.Numbers.{IsRenewed};
 ghost use Rattle.note_memory.specs.Shown.{shown_in};
 ghost use Rattle.note_memory.specs.Handed.{handed_in};
 
@@ -60,7 +61,9 @@ impl SharedMemory {
     }
 
     /// Opens the file of a log anew, in place of the one that was lost, of which no line counts as remembered from then on.
-    pub fn begin_anew<R: Wait>(&self, rt: &R, lost: Option<FileNumber>) -> Option<FileNumber> {
+    pub fn begin_anew<R: Wait>(&self, rt: &R, lost: Option<FileNumber>) -> Option<FileNumber>
+        ensures { IsRenewed lost result }
+    {
         let Some(memory) = &self.memory else {
             return None;
         };
@@ -84,7 +87,7 @@ impl SharedMemory {
 
     /// Remembers lines that stand in what the file of a log was handed. Where the memory can't be had they are not remembered.
     pub fn remember(&self, file: FileNumber, handed: &Log<BytesMut, usize>, lines: Vec<Vec<u8>>)
-        requires { StandAll (handed_in handed.now.items) lines.items }
+        requires { ∥ StandAll (handed_in handed.now.items) lines.items ∥₁ }
     {
         if lines.is_empty() {
             return;
