@@ -158,19 +158,19 @@ impl<F: LogFile> NoteLog<'_, F> {
         let look = self.journal.look(alloc, paths);
         match look {
             Look::Stands => {}
-            Look::Reopened(_) | Look::Lost(_, _) => self.begin_anew(paths),
+            Look::Reopened(_) | Look::Lost(_, _) => self.begin_anew(alloc, paths),
         }
         look
     }
 
     /// Forgets what the file that was open was handed.
     #[tactic(auto, using(crate::proofs::Anew::one_lost, crate::proofs::Anew::begins_whole, crate::proofs::Counted::counted_anew))]
-    fn begin_anew<R: Wait>(&mut self, rt: &R)
+    fn begin_anew<R: Wait>(&mut self, alloc: Global, rt: &R)
         ensures logged { logged self.new ≡ begun_anew (logged self.old) }
         ensures renewed { IsRenewed self.old.number self.new.number }
         ensures journal { self.new.journal ≡ self.old.journal }
     {
-        self.number = self.memory.begin_anew(rt, self.number);
+        self.number = self.memory.begin_anew(rt, alloc, self.number);
         self.earlier = self.earlier.and(&self.handed, &0);
         self.handed = Log::new();
         self.waiting.clear();

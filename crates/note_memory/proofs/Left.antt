@@ -18,13 +18,13 @@ all_left lines shown = ∣ (λ line c. c, λ line c. inl c) ∣₁
 pub record LeavesOf (lines rest left : List Line) (shown : List (List ℕ)) : Type 0 where
   pub before : List Line
   pub parts : before ++ rest ≡ lines
-  pub left : AreLeft before left shown
+  pub asked : AreLeft before left shown
 
 pub none_left : (lines left : List Line) (shown : List (List ℕ)) → left ≡ [] → ∥ LeavesOf lines lines left shown ∥₁
 none_left lines left shown none = ∣ record {
   before = [];
   parts = refl;
-  left = (λ line c. absurd (not_in line (subst (λ (l : List Line). Contains l line) none c)), λ line c. absurd (not_in line c));
+  asked = (λ line c. absurd (not_in line (subst (λ (l : List Line). Contains l line) none c)), λ line c. absurd (not_in line c));
 } ∣₁
 
 module _ (lines rest left : List Line) (shown : List (List ℕ)) (line : Line) where
@@ -33,10 +33,10 @@ module _ (lines rest left : List Line) (shown : List (List ℕ)) (line : Line) w
   known l s = record {
     before = l.before ++ line ∷ [];
     parts = append_assoc l.before (line ∷ []) rest ∙ l.parts;
-    left = (
-      λ other c. Contains-append_left l.before (line ∷ []) other (l.left.0 other c),
+    asked = (
+      λ other c. Contains-append_left l.before (line ∷ []) other (l.asked.0 other c),
       λ other c. elim (Contains-push_cases l.before line other c) [
-        | inl d ↦ l.left.1 other d
+        | inl d ↦ l.asked.1 other d
         | inr same ↦ inr (subst (λ (k : Line). StandsIn k.items shown) same s)
       ],
     );
@@ -47,13 +47,13 @@ module _ (lines rest left : List Line) (shown : List (List ℕ)) (line : Line) w
   kept l = record {
     before = l.before ++ line ∷ [];
     parts = append_assoc l.before (line ∷ []) rest ∙ l.parts;
-    left = (
+    asked = (
       λ other c. elim (Contains-push_cases left line other c) [
-        | inl d ↦ Contains-append_left l.before (line ∷ []) other (l.left.0 other d)
+        | inl d ↦ Contains-append_left l.before (line ∷ []) other (l.asked.0 other d)
         | inr same ↦ subst (Contains (l.before ++ line ∷ [])) same (Contains-push l.before line)
       ],
       λ other c. elim (Contains-push_cases l.before line other c) [
-        | inl d ↦ elim (l.left.1 other d) [
+        | inl d ↦ elim (l.asked.1 other d) [
           | inl k ↦ inl (Contains-append_left left (line ∷ []) other k)
           | inr s ↦ inr s
         ]
@@ -70,7 +70,7 @@ module _ (lines rest left : List Line) (shown : List (List ℕ)) (line : Line) w
 
 -- no line is left out
 whole : (lines left : List Line) (shown : List (List ℕ)) → LeavesOf lines [] left shown → AreLeft lines left shown
-whole lines left shown l = subst (λ (ls : List Line). AreLeft ls left shown) (sym (append-nil l.before) ∙ l.parts) l.left
+whole lines left shown l = subst (λ (ls : List Line). AreLeft ls left shown) (sym (append-nil l.before) ∙ l.parts) l.asked
 
 pub all_asked : (lines rest left : List Line) (shown : List (List ℕ)) → rest ≡ [] → ∥ LeavesOf lines rest left shown ∥₁ → ∥ AreLeft lines left shown ∥₁
 all_asked lines rest left shown none l = ∥∥₁_map l (λ (h : LeavesOf lines rest left shown). whole lines left shown (subst (λ (r : List Line). LeavesOf lines r left shown) none h))

@@ -9,7 +9,7 @@ use Rattle.std.proofs.lemmas.List.Folds.{list_any-append}
 use Rattle.std.proofs.lemmas.Map.Views.{any-filter_same}
 use Rattle.bytes.specs.declared.unique.BytesMut.{BytesMut}
 use Rattle.http_server.specs.declared.log.Log.{Log}
-use Rattle.note_memory.specs.Files.{AreBelow, History, IsFresh, is_among}
+use Rattle.note_memory.specs.Files.{AreBelow, AreOthers, History, IsFresh, is_among}
 use Rattle.note_memory.proofs.Lists.{at_head, not_in}
 use Rattle.note_memory.proofs.Standing.{Kept}
 
@@ -44,24 +44,32 @@ from_filter p (y ∷ xs) x c = (elim (p y) as (λ b. p y ≡ b → Contains (y �
   | false ↦ λ e. Contains-append_right (y ∷ []) xs x (from_filter p xs x (rw e at c))
 ]) refl
 
-pub taken_below : (p : ℕ → Bool) (next : ℕ) (opened opened' : List ℕ) (history : History) → opened' ≡ filter p opened → ∥ AreBelow next opened history ∥₁ → ∥ AreBelow next opened' history ∥₁
+taken_below : (p : ℕ → Bool) (next : ℕ) (opened opened' : List ℕ) (history : History) → opened' ≡ filter p opened → ∥ AreBelow next opened history ∥₁ → ∥ AreBelow next opened' history ∥₁
 taken_below p next opened opened' history is b = ∥∥₁_map b (λ (h : AreBelow next opened history). (
   λ n c. h.0 n (from_filter p opened n (subst (λ (l : List ℕ). Contains l n) is c)),
   h.1,
 ))
 
-pub among : (n : ℕ) (xs : List ℕ) → is_among n xs ≡ true → Contains xs n
+among : (n : ℕ) (xs : List ℕ) → is_among n xs ≡ true → Contains xs n
 among n [] h = cc
 among n (x ∷ xs) h = (elim (nat_eq x n) as (λ b. nat_eq x n ≡ b → Contains (x ∷ xs) n) [
   | true ↦ λ e. subst (Contains (x ∷ xs)) (eqb-true x n e) (at_head x xs)
   | false ↦ λ e. Contains-append_right (x ∷ []) xs n (among n xs (rw e at h))
 ]) refl
 
-pub among_below : (n next : ℕ) (opened : List ℕ) (history : History) → is_among n opened ≡ true → AreBelow next opened history → n < next
+among_below : (n next : ℕ) (opened : List ℕ) (history : History) → is_among n opened ≡ true → AreBelow next opened history → n < next
 among_below n next opened history h b = b.0 n (among n opened h)
 
-pub gone : (n : ℕ) (xs : List ℕ) → is_among n (filter (λ m. not (nat_eq m n)) xs) ≡ false
+pub others_below : (n next : ℕ) (opened others : List ℕ) (history : History) → AreOthers n opened others → ∥ AreBelow next opened history ∥₁ → ∥ AreBelow next others history ∥₁
+others_below n next opened others history (inl is) b = taken_below (λ (m : ℕ). not (nat_eq m n)) next opened others history is b
+others_below n next opened others history (inr none) b = ∥∥₁_map b (λ (h : AreBelow next opened history). (λ m c. absurd (not_in m (subst (λ (l : List ℕ). Contains l m) none c)), h.1))
+
+gone : (n : ℕ) (xs : List ℕ) → is_among n (filter (λ m. not (nat_eq m n)) xs) ≡ false
 gone n xs = any-filter_same (λ (m : ℕ). nat_eq m n) (λ (m : ℕ). not (nat_eq m n)) false (λ m e. ap not e) xs
+
+pub others_gone : (n : ℕ) (opened others : List ℕ) → AreOthers n opened others → is_among n others ≡ false
+others_gone n opened others (inl is) = ap (is_among n) is ∙ gone n opened
+others_gone n opened others (inr none) = ap (is_among n) none
 
 pub still_gone : (n next : ℕ) (xs after : List ℕ) → n < next → is_among n xs ≡ false → after ≡ xs ++ next ∷ [] → is_among n after ≡ false
 still_gone n next xs after less none is =

@@ -1,5 +1,5 @@
 -- Where remembered lines stand.
-use Rattle.std.proofs.Common.{◌≡◌, ℕ, Bool, true, false, List, [], ◌∷◌, ◌++◌, Vec, Option, Some, None, nat_eq, refl, sym, ap, ◌∙◌, subst, inl, inr}
+use Rattle.std.proofs.Common.{◌≡◌, ℕ, Bool, true, false, List, [], ◌∷◌, ◌++◌, Vec, Option, Some, None, Result, Ok, Err, OnOk, OnErr, nat_eq, refl, sym, ap, ◌∙◌, subst, inl, inr}
 use Rattle.std.specs.Cmp.Lexicographic.{pointwise, same_text}
 use Rattle.std.specs.List.{Contains}
 use Rattle.std.specs.Map.{lookup}
@@ -7,7 +7,7 @@ use Rattle.std.specs.declared.alloc.Global.{Global}
 use Rattle.std.proofs.lemmas.List.Elements.{Contains-append_left, Contains-append_right, Contains-push, Contains-push_cases, Contains-append_cases}
 use Rattle.bytes.specs.declared.unique.BytesMut.{BytesMut}
 use Rattle.http_server.specs.declared.log.Log.{Log}
-use Rattle.lru.specs.LruCache.{LruCache, put_entries, promoted}
+use Rattle.lru.specs.LruCache.{LruCache, lru_cache, put_entries, promoted}
 use Rattle.lru.proofs.CallerLemmas.{Contains-lookup, Contains-promoted, Contains-put_entries}
 use Rattle.note_memory.specs.Files.{History, StandsIn, handed_by, is_among}
 use Rattle.note_memory.specs.Line.{HasLine}
@@ -58,6 +58,16 @@ stand_put history old line number s has e c = elim (Contains-put_entries eq old 
 
 pub stand_promoted : (history : History) (test : Vec ℕ Global → Bool) (old : Remembered) → AllStand history old → AllStand history (promoted test old)
 stand_promoted history test old s e c = s e (Contains-promoted test old e c)
+
+-- one was put, or memory ran out
+pub put_stands : {T E : Type 0} (r : Result T E) (history : History) (old new : LruCache (Vec ℕ Global) ℕ) (line : Vec ℕ Global) (number : ℕ)
+    → OnOk r (new ≡ lru_cache (put_entries eq old line number) old.cap) → OnErr r (new ≡ old) → AllStand history old.entries → StandsAt history number line.items → AllStand history new.entries
+put_stands (Ok x) history old new line number ok err s has = subst (λ (c : LruCache (Vec ℕ Global) ℕ). AllStand history c.entries) (sym ok) (stand_put history old line number s has)
+put_stands (Err x) history old new line number ok err s has = subst (λ (c : LruCache (Vec ℕ Global) ℕ). AllStand history c.entries) (sym err) s
+
+pub put_cap : {T E : Type 0} (r : Result T E) (old new : LruCache (Vec ℕ Global) ℕ) (entries : Remembered) → OnOk r (new ≡ lru_cache entries old.cap) → OnErr r (new ≡ old) → new.cap ≡ old.cap
+put_cap (Ok x) old new entries ok err = ap (λ (c : LruCache (Vec ℕ Global) ℕ). c.cap) ok
+put_cap (Err x) old new entries ok err = ap (λ (c : LruCache (Vec ℕ Global) ℕ). c.cap) err
 
 -- ---- a line that is known
 

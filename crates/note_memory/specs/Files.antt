@@ -1,5 +1,5 @@
 -- The files that the logs of a process have open, each by a number of its own, and what they were handed.
-use Rattle.std.specs.Prelude.{◌≡◌, ◌≢◌, ◌<◌, ℕ, Bool, List, map, filter, nat_eq, Contains}
+use Rattle.std.specs.Prelude.{◌≡◌, ◌≢◌, ◌<◌, ◌⊎◌, ℕ, Bool, not, List, [], map, filter, nat_eq, Contains}
 use Rattle.std.specs.List.{flat_map, list_any}
 use Rattle.std.specs.declared.alloc.Global.{Global}
 use Rattle.bytes.specs.declared.unique.BytesMut.{BytesMut}
@@ -22,6 +22,10 @@ AreBelow next opened history = ((n : ℕ) → Contains opened n → n < next) ×
 -- no file that is open has the number, and nothing was kept of one
 abbrev pub IsFresh : ℕ → List ℕ → History → Type 0
 IsFresh n opened history = ((m : ℕ) → Contains opened m → m ≢ n) × ((h : Log (BytesMut Global) ℕ × ℕ) → Contains history h → h.1 ≢ n)
+
+-- all of the numbers but n, or none
+abbrev pub AreOthers : ℕ → List ℕ → List ℕ → Type 0
+AreOthers n numbers others = (others ≡ filter (λ m. not (nat_eq m n)) numbers) ⊎ (others ≡ [])
 
 -- what the files of these numbers were handed
 abbrev pub handed_by : List ℕ → History → List (List ℕ)

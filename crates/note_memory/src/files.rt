@@ -1,11 +1,11 @@
 //! The files of the logs of a process.
-ghost use Rattle.std.specs.Prelude.{◌≡◌, ◌++◌, ◌∷◌, [], IfSome, ◌<◌, filter, is_none, nat_eq, not, true};
+ghost use Rattle.std.specs.Prelude.{◌≡◌, ◌++◌, ◌∷◌, [], IfOk, IfSome, ◌<◌, false, filter, is_none, nat_eq, not, true};
 ghost use Rattle.std.specs.Bool.{MatchBool};
-ghost use Rattle.note_memory.specs.Files.{AreBelow, IsFresh, is_among};
+ghost use Rattle.note_memory.specs.Files.{AreBelow, AreOthers, IsFresh, is_among};
 
 use bytes::BytesMut;
 use http_server::Log;
-use std::alloc::Global;
+use std::alloc::{AllocError, Global};
 
 /// The number of a log's file among those that the logs of a process have opened. No two have the same.
 #[derive(Clone, Copy, Debug, PartialEq, Eq)]
@@ -62,21 +62,27 @@ impl Files {
         Some(FileNumber { number })
     }
 
-    /// Closes a file, and says whether it was open.
-    pub(crate) fn remove(&mut self, file: FileNumber) -> bool
-        ensures was_open { result ≡ is_among file.number self.old.numbers.items }
-        ensures below { result ≡ true → file.number < self.old.next }
-        ensures numbers { self.new.numbers.items ≡ filter (λ n. not (nat_eq n file.number)) self.old.numbers.items }
+    /// Closes a file, and opens another in its place, of which nothing was kept yet. None where no more can be opened. Where memory runs
+    /// out all files are closed.
+    pub(crate) fn replace(&mut self, alloc: Global, old: FileNumber) -> Option<FileNumber>
+        ensures closed { is_among old.number self.new.numbers.items ≡ false }
+        ensures renewed { IfSome result (λ new. old.number < new.number) }
+        ensures history { self.new.history ≡ self.old.history }
+    {
+        self.close(alloc, old);
+        if old.number >= self.next {
+            return None;
+        }
+        self.add()
+    }
+
+    /// Closes a file, or all where memory runs out.
+    fn close(&mut self, alloc: Global, old: FileNumber)
+        ensures left { AreOthers old.number self.old.numbers.items self.new.numbers.items }
         ensures next { self.new.next ≡ self.old.next }
         ensures history { self.new.history ≡ self.old.history }
     {
-        let was_open = self.is_open(file.number);
-        self.numbers.retain(
-            |number: &u64| -> bool
-                ensures { result ≡ not (nat_eq number.now file.number) }
-            { *number != file.number },
-        );
-        was_open
+        self.numbers = others_or_none(alloc, self.numbers.as_slice(), old.number);
     }
 
     /// Whether the file of a number is open.
@@ -98,4 +104,27 @@ impl Files {
         self.history = self.history.and(handed, &file.number);
         true
     }
+}
+
+/// The numbers but one, or none where memory runs out.
+fn others_or_none(alloc: Global, numbers: &[u64], number: u64) -> Vec<u64>
+    ensures { AreOthers number numbers.now result.items }
+{
+    match others(alloc, numbers, number) {
+        Ok(others) => others,
+        Err(AllocError) => Vec::new(alloc),
+    }
+}
+
+/// The numbers but one.
+fn others(alloc: Global, numbers: &[u64], number: u64) -> Result<Vec<u64>, AllocError>
+    ensures { IfOk result (λ others. others.items ≡ filter (λ n. not (nat_eq n number)) numbers.now) }
+{
+    let mut others = Vec::new(alloc);
+    for other in numbers {
+        if *other != number {
+            others.push(*other)?;
+        }
+    }
+    Ok(others)
 }

@@ -50,18 +50,16 @@ impl NoteMemory {
 
     /// Opens a file in place of another, where there is one: no line of that counts as remembered from then on. None where no more
     /// can be opened.
-    pub(crate) fn begin(&mut self, old: Option<FileNumber>) -> Option<FileNumber>
+    pub(crate) fn begin(&mut self, alloc: Global, old: Option<FileNumber>) -> Option<FileNumber>
         ensures closed { IfSome old (λ file. is_among file.number self.new.files.numbers.items ≡ false) }
         ensures renewed { IsRenewed old result }
         ensures table { self.new.table ≡ self.old.table }
         ensures history { self.new.files.history ≡ self.old.files.history }
     {
-        if let Some(file) = old {
-            if !self.files.remove(file) {
-                return None;
-            }
+        match old {
+            Some(file) => self.files.replace(alloc, file),
+            None => self.files.add(),
         }
-        self.files.add()
     }
 
     /// Whether a line is remembered of a file that is open. One that is becomes the most recently used.
@@ -71,14 +69,21 @@ impl NoteMemory {
         ensures files { self.new.files ≡ self.old.files }
         ensures most { self.new.table.cap ≡ self.old.table.cap }
     {
-        let is_known = match self.table.peek(line) {
-            Some(number) => self.files.is_open(*number),
-            None => false,
-        };
+        let is_known = self.has(line);
         if is_known {
             let _ = self.table.promote(line);
         }
         is_known
+    }
+
+    /// Whether a line is remembered of a file that is open.
+    fn has(&self, line: &[u8]) -> bool
+        ensures known { result ≡ is_known self.now.files.numbers.items self.now.table.entries line.now }
+    {
+        match self.table.peek(line) {
+            Some(number) => self.files.is_open(*number),
+            None => false,
+        }
     }
 
     /// The lines that are not remembered of a file that is open. Those that are become the most recently used.

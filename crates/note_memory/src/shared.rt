@@ -54,20 +54,25 @@ impl SharedMemory {
             return None;
         };
         let mut held = memory.lock(rt);
-        let file = held.begin(None)?;
+        let file = held.begin(alloc, None)?;
         let handed = Log::new().and(&last, &last.len());
         let _ = held.recall(alloc, file, &handed, last.as_slice());
         Some(file)
     }
 
     /// Opens the file of a log anew, in place of the one that was lost, of which no line counts as remembered from then on.
-    pub fn begin_anew<R: Wait>(&self, rt: &R, lost: Option<FileNumber>) -> Option<FileNumber>
+    pub fn begin_anew<R: Wait>(
+        &self,
+        rt: &R,
+        alloc: Global,
+        lost: Option<FileNumber>,
+    ) -> Option<FileNumber>
         ensures { IsRenewed lost result }
     {
         let Some(memory) = &self.memory else {
             return None;
         };
-        memory.lock(rt).begin(lost)
+        memory.lock(rt).begin(alloc, lost)
     }
 
     /// The lines that are not remembered of a file that is open. Those that are become the most recently used. Where the memory can't
