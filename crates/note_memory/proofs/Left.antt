@@ -6,6 +6,8 @@ use Rattle.std.proofs.Math.Logic.{∥∥₁_map, ∥∥₁_map₂}
 use Rattle.std.proofs.lemmas.List.Elements.{Contains-append_left, Contains-push, Contains-push_cases}
 use Rattle.note_memory.specs.Files.{StandsIn}
 use Rattle.note_memory.specs.Memory.{AreLeft}
+use Rattle.note_memory.specs.Shown.{open_in, shown_in}
+use Rattle.note_memory.specs.declared.files.Files.{Files}
 use Rattle.note_memory.proofs.Lists.{not_in}
 
 abbrev pub Line : Type 0
@@ -74,3 +76,8 @@ whole lines left shown l = subst (λ (ls : List Line). AreLeft ls left shown) (s
 
 pub all_asked : (lines rest left : List Line) (shown : List (List ℕ)) → rest ≡ [] → ∥ LeavesOf lines rest left shown ∥₁ → ∥ AreLeft lines left shown ∥₁
 all_asked lines rest left shown none l = ∥∥₁_map l (λ (h : LeavesOf lines rest left shown). whole lines left shown (subst (λ (r : List Line). LeavesOf lines r left shown) none h))
+
+-- what was shown at one moment
+pub shown_once : (before moments : List (Files × ℕ)) (seen files : Files) (n : ℕ) → before ≡ [] → moments ≡ before ++ (seen, n) ∷ [] → seen ≡ files → shown_in moments ≡ open_in files
+shown_once before moments seen files n none is same =
+    ap shown_in is ∙ ap (λ (ms : List (Files × ℕ)). shown_in (ms ++ (seen, n) ∷ [])) none ∙ append-nil (open_in seen) ∙ ap open_in same

@@ -1,5 +1,5 @@
 -- Numbers of files.
-use Rattle.std.proofs.Common.{◌≡◌, ◌≢◌, ◌<◌, ◌+◌, ℕ, Bool, true, false, not, List, [], ◌∷◌, ◌++◌, filter, nat_eq, refl, sym, ap, ◌∙◌, subst, inl, inr, arith}
+use Rattle.std.proofs.Common.{◌≡◌, ◌≢◌, ◌<◌, ◌+◌, ℕ, Bool, true, false, not, List, [], ◌∷◌, ◌++◌, Option, Some, None, IfSome, is_none, filter, nat_eq, refl, sym, ap, ◌∙◌, subst, inl, inr, arith}
 use Rattle.std.specs.List.{Contains, list_any}
 use Rattle.std.specs.declared.alloc.Global.{Global}
 use Rattle.std.proofs.Math.Logic.{∥∥₁_map}
@@ -10,6 +10,7 @@ use Rattle.std.proofs.lemmas.Map.Views.{any-filter_same}
 use Rattle.bytes.specs.declared.unique.BytesMut.{BytesMut}
 use Rattle.http_server.specs.declared.log.Log.{Log}
 use Rattle.note_memory.specs.Files.{AreBelow, AreOthers, History, IsFresh, is_among}
+use Rattle.note_memory.specs.declared.files.FileNumber.{FileNumber}
 use Rattle.note_memory.proofs.Lists.{at_head, not_in}
 use Rattle.note_memory.proofs.Standing.{Kept}
 
@@ -71,9 +72,14 @@ pub others_gone : (n : ℕ) (opened others : List ℕ) → AreOthers n opened ot
 others_gone n opened others (inl is) = ap (is_among n) is ∙ gone n opened
 others_gone n opened others (inr none) = ap (is_among n) none
 
-pub still_gone : (n next : ℕ) (xs after : List ℕ) → n < next → is_among n xs ≡ false → after ≡ xs ++ next ∷ [] → is_among n after ≡ false
+still_gone : (n next : ℕ) (xs after : List ℕ) → n < next → is_among n xs ≡ false → after ≡ xs ++ next ∷ [] → is_among n after ≡ false
 still_gone n next xs after less none is =
     ap (is_among n) is ∙ list_any-append (λ (m : ℕ). nat_eq m n) xs (next ∷ []) ∙ rw (none, ne_eqb next n (λ e. omega (arith, less, e))) refl
+
+pub add_gone : (n next : ℕ) (r : Option FileNumber) (xs after : List ℕ) → n < next → is_among n xs ≡ false → IfSome r (λ file. after ≡ xs ++ file.number ∷ []) → IfSome r (λ file. file.number ≡ next)
+    → (is_none r ≡ true → after ≡ xs) → is_among n after ≡ false
+add_gone n next None xs after less none more is same = ap (is_among n) (same refl) ∙ none
+add_gone n next (Some file) xs after less none more is same = still_gone n next xs after less none (more ∙ ap (λ (m : ℕ). xs ++ m ∷ []) is)
 
 -- ---- more is kept
 

@@ -64,6 +64,7 @@ impl Files {
 
     /// Closes a file, and opens another in its place, of which nothing was kept yet. None where no more can be opened. Where memory runs
     /// out all files are closed.
+    #[tactic(auto, using(crate::proofs::Numbers::others_gone))]
     pub(crate) fn replace(&mut self, alloc: Global, old: FileNumber) -> Option<FileNumber>
         ensures closed { is_among old.number self.new.numbers.items ≡ false }
         ensures renewed { IfSome result (λ new. old.number < new.number) }

@@ -42,3 +42,30 @@ pub returns-then-is_lost-clause-records : goal.returns-then-is_lost-clause-recor
 returns-then-is_lost-clause-records g c =
     let self = c.args.self.now in
     ∣ none_recorded self.form (earlier_in self.earlier.items) _ _ _ _ _ _ (relied_in self.relied.items) c.args.notes.now (unmoved (g.F.LogFile.bytes self.journal.file) (handed_in self.handed.items) self.waiting.items) ∣₁
+
+pub invariant_of-self-2 : goal.invariant_of-self-2
+invariant_of-self-2 g c =
+    let self = c.args.self.now in
+    let none = nothing c.hand_over.new.waiting.items (sym c.hand_over.ensures.all ∙ search rules) in
+    let moves = joined _ _ _ _ _ _ _ _ _ c.args.batch.bytes.items c.hand_over.ensures.moves none c.hand_over-2.ensures.moves in
+    record {
+      whole = ∥∥₁_map₂ self.whole c.requires (λ e b. whole_batch self.form (earlier_in self.earlier.items) _ _ _ _ _ _ (relied_in self.relied.items) c.args.notes.now c.args.batch e b moves);
+      counted = c.hand_over-2.ensures.written _ (c.hand_over.ensures.written (sum_by lines_in (earlier_in self.earlier.items)) self.counted);
+    }
+
+pub remember-requires : goal.remember-requires
+remember-requires g c =
+    let self = c.args.self.now in
+    let none = nothing c.hand_over.new.waiting.items (sym c.hand_over.ensures.all ∙ search rules) in
+    let last = nothing c.hand_over-2.new.waiting.items (sym c.hand_over-2.ensures.all ∙ search rules) in
+    let moves = joined _ _ _ _ _ _ _ _ _ c.args.batch.bytes.items c.hand_over.ensures.moves none c.hand_over-2.ensures.moves in
+    ∥∥₁_map₂ self.whole c.requires (λ e b. lines_stand self.form (earlier_in self.earlier.items) _ _ _ _ _ _ (relied_in self.relied.items) c.args.notes.now c.args.batch e b moves last)
+
+pub returns-clause-records : goal.returns-clause-records
+returns-clause-records g c =
+    let self = c.args.self.now in
+    let none = nothing c.hand_over.new.waiting.items (sym c.hand_over.ensures.all ∙ search rules) in
+    let last = nothing c.hand_over-2.new.waiting.items (sym c.hand_over-2.ensures.all ∙ search rules) in
+    let moves = joined _ _ _ _ _ _ _ _ _ c.args.batch.bytes.items c.hand_over.ensures.moves none c.hand_over-2.ensures.moves in
+    let relied = relied_more self.relied.items c.and-self.result.items c.args.batch.shown 0 c.and-self.ensures in
+    ∥∥₁_map₂ self.whole c.requires (λ e b. batch_recorded self.form (earlier_in self.earlier.items) _ _ _ _ _ _ (relied_in self.relied.items) c.args.notes.now c.args.batch e b moves (relied_in c.and-self.result.items) relied last)

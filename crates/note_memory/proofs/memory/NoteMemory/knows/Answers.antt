@@ -19,4 +19,4 @@ invariant_of-self c =
 pub returns-then-is_known-clause-stands : goal.returns-then-is_known-clause-stands
 returns-then-is_known-clause-stands c t =
     let self = c.args.self.now in
-    ∥∥₁_map self.sound (λ s. known_stands self.files.numbers.items self.files.history.items self.table.entries c.args.line.now s (sym c.has-is_known.ensures ∙ t))
+    ∥∥₁_map self.sound (λ s. known_stands self.files.numbers.items self.files.history.items self.table.entries c.args.line.now s (sym c.has-is_known.ensures.known ∙ t))
