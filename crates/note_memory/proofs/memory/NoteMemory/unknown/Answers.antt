@@ -4,6 +4,7 @@ use Rattle.note_memory.specs.Memory.{AreLeft}
 use Rattle.note_memory.specs.Shown.{open_in, shown_in}
 use Rattle.note_memory.specs.declared.files.Files.{Files}
 use Rattle.note_memory.proofs.Left.{all_asked, line_known, line_left, shown_once}
+use Rattle.note_memory.proofs.Lists.{nothing_left}
 use Rattle.note_memory.proofs.memory.NoteMemory.unknown.Goals as goal
 
 -- a line that is not known is left
@@ -36,7 +37,9 @@ loop-line-preserved c =
 pub returns-clause-left : goal.returns-clause-left
 returns-clause-left c =
     let i = c.loop-line.invariant in
-    let none : c.loop-line.line-iterator.rest.items ≡ [] = search rules in
+    let rest = c.loop-line.line-iterator.rest in
+    let ended : rest.len ≡ 0 = search rules in
+    let none : rest.items ≡ [] = nothing_left rest.items rest.len rest.ok.0 ended in
     let shown : shown_in c.and.result.items ≡ open_in c.args.self.now.files = shown_once c.new.result.items c.and.result.items c.loop-line.self.files c.args.self.now.files 0 (search rules) c.and.ensures i.1 in
     subst (λ (fs : List (List ℕ)). ∥ AreLeft c.args.lines.items c.loop-line.left.items fs ∥₁) (sym shown)
     (all_asked c.args.lines.items c.loop-line.line-iterator.rest.items c.loop-line.left.items (open_in c.args.self.now.files) none i.0)
