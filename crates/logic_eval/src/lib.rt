@@ -30,6 +30,7 @@ mod apply;
 mod choice;
 mod context;
 mod evaluation;
+mod exact;
 mod find;
 mod fractional;
 mod hashed;
@@ -47,7 +48,7 @@ pub use context::Context;
 pub use evaluation::eval;
 pub use laws::{
     a_branch_not_taken_is_not_evaluated, a_literal_site_chooses,
-    a_rule_that_chooses_alike_changes_nothing_else,
+    a_rule_that_chooses_alike_changes_nothing_else, decimals_change_nothing_else,
 };
 pub use logic_values::{EvalFault, Value};
 pub use meter::Reached;

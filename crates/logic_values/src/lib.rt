@@ -12,6 +12,7 @@
 
 pub mod arithmetic;
 pub mod comparison;
+pub mod decimals;
 mod fault;
 pub mod lists;
 pub mod number;
