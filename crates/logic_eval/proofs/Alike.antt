@@ -22,7 +22,7 @@ use Rattle.logic_eval.specs.Evaluation.{part_of, pairs, input, meaning, meanings
 use Rattle.logic_eval.specs.Fractional.{buckets_of, chosen, reached, by_input, by_buckets, decided, given_input, made_input}
 use Rattle.logic_eval.specs.Laws.{with_total, paid_for}
 use Rattle.logic_values.specs.Lists.{items_in}
-use Rattle.logic_eval.specs.Operators.{Meaning, values, variable_run, strict, conditional, first_of_truth, mapped, kept, occurs, is_empty, reduced, over_items, over, start, over_from_start, operand, compares, with_tests, with_early_tests, asked, operated, applied_exactly}
+use Rattle.logic_eval.specs.Operators.{Meaning, values, variable_run, strict, conditional, first_of_truth, mapped, kept, occurs, is_empty, reduced, over_items, over, start, over_from_start, found_decimal, compares, with_tests, with_early_tests, asked, operated, applied_exactly}
 use Rattle.logic_values.specs.Objects.{reduce_scope}
 use Rattle.logic_eval.specs.Run.{Reach, Entry, Run, cost, reach, ends, gives, after, after_trace, continues, ◌>>=◌, reached_of, units_of}
 use Rattle.logic_eval.specs.Scope.{size, variable}
@@ -282,8 +282,9 @@ module _ (n : ℕ) (old new : Entries) where
       same-bind _ _ _ _ (same-values ms ps ks scope) (λ vs. same-bind _ _ _ _ (same-cost (size (variable scope vs)) _ _ (same-gives (variable scope vs))) (λ v. same-ends _))
 
   -- a `var` that is compared or tested
-  same-operand : (ms ps : List Meaning) (m p : Meaning) → AllSame ms ps → (scope : Shape) → Same n old new (operand true ms m scope) (operand true ps p scope)
-  same-operand ms ps m p ks scope =
+  same-operand : (ms ps : List Meaning) → AllSame ms ps → (scope : Shape)
+      → Same n old new (after (cost 1) (values ms scope >>= λ vs. found_decimal (variable scope vs))) (after (cost 1) (values ps scope >>= λ vs. found_decimal (variable scope vs)))
+  same-operand ms ps ks scope =
       same-cost 1 _ _ (same-bind _ _ _ _ (same-values ms ps ks scope) (λ vs. same-bind _ _ _ _ (same-cost (size (variable scope vs)) _ _ (same-gives (variable scope vs))) (λ v. same-ends _)))
 
   same-operated : (o : Operator) (ms ps : List Meaning) → AllSame ms ps → (scope : Shape) → Same n old new (operated o ms scope) (operated o ps scope)
@@ -458,7 +459,7 @@ module _ (n : ℕ) (old new : Entries) where
             → (scope : Shape) → Same n old new (operand_meaning d e scope) (operand_meaning d (with_entries n new e) scope)
         operand-alike d k (literal t) h a one scope = one scope
         operand-alike d k (ast.list es) h a one scope = one scope
-        operand-alike d k (operation op.Var es) h a one scope = same-operand _ _ _ _ (meanings-alike d es (all-alike d k es (right (takes op.Var (expression_count es)) _ h) a)) scope
+        operand-alike d k (operation op.Var es) h a one scope = same-operand (meanings d es) (meanings d (all_with_entries n new es)) (meanings-alike d es (all-alike d k es (right (takes op.Var (expression_count es)) _ h) a)) scope
         operand-alike d k (operation o es) h a one scope = one scope
         operand-alike d k (fractional m b bs) h a one scope = site-operand d m b bs (m == n) scope (one scope)
 

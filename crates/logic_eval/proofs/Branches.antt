@@ -16,11 +16,12 @@ use Rattle.logic_values.specs.declared.fault.EvalFault.{EvalFault}
 use Rattle.logic_values.specs.declared.fault.EvalFault.TheVariants.{Arithmetic}
 use Rattle.logic_eval.specs.Budget.{Progress, paid}
 use Rattle.logic_values.specs.Comparison.{bool_eq}
-use Rattle.logic_eval.specs.Evaluated.{tested_meaning, tested_meanings, conditional_meanings, truth_meanings}
+use Rattle.logic_ast.proofs.Views.{node_view-fractional}
+use Rattle.logic_eval.specs.Evaluated.{tested_meaning, tested_meanings, tested_operation, conditional_meanings, truth_meanings}
 use Rattle.logic_eval.specs.Evaluation.{meaning, meanings, operands, operand_meaning, is_variable}
-use Rattle.logic_eval.specs.Operators.{Meaning, values, applied_exactly, asked, compares, operated, strict, conditional, first_of_truth, found, found_decimal, read, is_unreadable, read_decimal}
+use Rattle.logic_eval.specs.Operators.{Meaning, values, applied_exactly, asked, compares, operated, strict, conditional, first_of_truth, found, read, is_unreadable, read_decimal}
 use Rattle.logic_eval.specs.Run.{cost, spends, ends, gives, after, ◌>>=◌}
-use Rattle.logic_eval.specs.Scope.{size, variable}
+use Rattle.logic_eval.specs.Scope.{size}
 use Rattle.logic_values.specs.Truth.{is_true}
 use Rattle.logic_eval.proofs.Budgets.{bind_ok, bind_err, cost_ok, cost_err, ends_ok, ends_err, paid-gives}
 use Rattle.logic_values.proofs.Items.{drop_at}
@@ -37,6 +38,10 @@ node_view-operation o v = simp the_lemmas refl
 -- a node is paid for as the expression that it is
 pub as_seen : (d : Option (List ℕ)) (scope : Shape) (p : Progress) (n : Node) (e : Expression) → node_view n ≡ e → paid p (meaning d (node_view n) scope) ≡ paid p (meaning d e scope)
 as_seen d scope p n e is = ap (λ x. paid p (meaning d x scope)) is
+
+-- the same where it is compared or tested
+pub operand_seen : (d : Option (List ℕ)) (scope : Shape) (p : Progress) (n : Node) (e : Expression) → node_view n ≡ e → paid p (operand_meaning d (node_view n) scope) ≡ paid p (operand_meaning d e scope)
+operand_seen d scope p n e is = ap (λ x. paid p (operand_meaning d x scope)) is
 
 -- a value that can be read, and one that can't
 pub read_ok : (p : Progress) (v : Shape) → has_other v ≡ false → paid p (read v) ≡ Ok (v, p)
@@ -84,13 +89,24 @@ pub strict-asked : (o : Operator) (d : Option (List ℕ)) (es : Expressions) (sc
     → strict o (asked o (meanings d es) (operands d es)) scope ≡ (values (tested_meanings tested d es) scope >>= λ vs. ends (applied_exactly o scope vs))
 strict-asked o d es scope tested is a b = ap (λ ms. strict o ms scope) (asked-other o (meanings d es) (operands d es) a b ∙ ap (λ t. tested_meanings t d es) (sym is))
 
--- an expression that is compared or tested, by whether it is a `var`
-pub operand-var : (d : Option (List ℕ)) (e : Expression) (es : Expressions) (scope : Shape) (p : Progress) → e ≡ operation op.Var es
-    → paid p (operand_meaning d e scope) ≡ paid p (after (cost 1) (values (meanings d es) scope >>= λ vs. found_decimal (variable scope vs)))
-operand-var d e es scope p is = ap (λ x. paid p (operand_meaning d x scope)) is
+-- an operation that is compared or tested
+pub operand-operation : (d : Option (List ℕ)) (o : Operator) (es : Expressions) → operand_meaning d (operation o es) ≡ (λ scope. after (cost 1) (tested_operation o d es scope))
+operand-operation d op.Var es = refl
+operand-operation d o es = refl
 
-pub operand-other : (d : Option (List ℕ)) (e : Expression) → is_variable e ≡ false → operand_meaning d e ≡ meaning d e
+pub tested-other : (o : Operator) (d : Option (List ℕ)) (es : Expressions) → o ≢ op.Var → tested_operation o d es ≡ operated o (asked o (meanings d es) (operands d es))
+tested-other op.Var d es a = absurd (a refl)
+tested-other _ d es a = refl
+
+operand-other : (d : Option (List ℕ)) (e : Expression) → is_variable e ≡ false → operand_meaning d e ≡ meaning d e
 operand-other d e f = rw f refl
+
+-- a node that is compared or tested, and is no operation
+pub operand-node : (d : Option (List ℕ)) (n : Node) → ((o : Operator) (v : Vec Node Global) → n ≡ node.Operation o v → ⊥) → operand_meaning d (node_view n) ≡ meaning d (node_view n)
+operand-node d (node.Literal t) h = operand-other d (node_view (node.Literal t)) (ap is_variable (node_view-literal t))
+operand-node d (node.List v) h = operand-other d (node_view (node.List v)) (ap is_variable (node_view-list v))
+operand-node d (node.Operation o v) h = absurd (h o v refl)
+operand-node d (node.Fractional site b bs) h = operand-other d (node_view (node.Fractional site b bs)) (ap is_variable (node_view-fractional site b bs))
 
 -- `if`, where a pair is left
 two_at : (xs : List Node) (i : ℕ) (x y : Node) → i + 1 < length xs → x ≡ get_or xs i x → y ≡ get_or xs (i + 1) y → drop i xs ≡ x ∷ y ∷ drop (i + 2) xs

@@ -8,7 +8,7 @@ use Rattle.logic_ast.specs.Expression.{Expression, literal, operation, fractiona
 use Rattle.logic_ast.specs.Sites.{entries_of}
 use Rattle.logic_values.specs.declared.fault.EvalFault.{EvalFault}
 use Rattle.logic_ast.specs.declared.operator.Operator.TheVariants as op
-use Rattle.logic_values.specs.Decimals.{is_readable}
+use Rattle.decimal_values.specs.Decimals.{is_readable}
 use Rattle.logic_values.specs.declared.fault.EvalFault.TheVariants.{Arithmetic}
 use Rattle.logic_eval.specs.Evaluation.{pairs, bucket_meanings, meaning, meanings, operand_meaning}
 use Rattle.logic_eval.specs.Fractional as buckets
@@ -73,17 +73,20 @@ operand_as_ever d (fractional n b bs) scope v e = refl
 pub without_decimals : WithoutDecimalsAsEver
 without_decimals o scope vs e = rw e refl
 
+bind_alike : {A B : Type 0} (r s : Run A) (f : A → Run B) → r ≡ s → (r >>= f) ≡ (s >>= f)
+bind_alike r s f e = ap (λ x. x >>= f) e
+
 pub true_test : TrueTestSkipsTheRest
-true_test default test result rest scope v e t = ap (after (cost 1)) (ap (λ r. r >>= _) (operand_as_ever default test scope v e) ∙ same_after _ _ _ v e (rw t refl))
+true_test default test result rest scope v e t = ap (after (cost 1)) (bind_alike _ _ _ (operand_as_ever default test scope v e) ∙ same_after _ _ _ v e (rw t refl))
 
 pub false_test : FalseTestSkipsItsResult
 false_test default test result other rest scope v e t =
     let as_ever = operand_as_ever default test scope v e in
-    ap (after (cost 1)) (ap (λ r. r >>= _) as_ever ∙ (same_after _ _ _ v e (rw t refl) ∙ sym (ap (λ r. r >>= _) as_ever)))
+    ap (after (cost 1)) (bind_alike _ _ _ as_ever ∙ (same_after _ _ _ v e (rw t refl) ∙ sym (bind_alike _ _ _ as_ever)))
 
 pub false_argument : FalseEndsAnd
 false_argument default first no_expressions scope v e t = refl
-false_argument default first (expression next rest) scope v e t = ap (after (cost 1)) (ap (λ r. r >>= _) (operand_as_ever default first scope v e) ∙ nothing_after _ _ v e (rw t refl))
+false_argument default first (expression next rest) scope v e t = ap (after (cost 1)) (bind_alike _ _ _ (operand_as_ever default first scope v e) ∙ nothing_after _ _ v e (rw t refl))
 
 pub true_argument : TrueEndsOr
 true_argument default first no_expressions scope v e t = refl

@@ -339,7 +339,8 @@ module _ (Q : Reach → Type 0) where
     keeps-operand : (default : Option (List ℕ)) (k : ℕ) (e : Expression) → is_formed k e ≡ true → Allows (preorder e) → Keeps (meaning default e) → KeepsOperand (operand_meaning default e)
     keeps-operand default k (literal t) h a one scope w = as-operand (one scope w)
     keeps-operand default k (ast.list es) h a one scope w = as-operand (one scope w)
-    keeps-operand default k (operation op.Var es) h a one = keeps-operand_variable (meanings default es) (meaning default (operation op.Var es)) (keep-meanings default k es (right (takes op.Var (expression_count es)) _ h) a)
+    keeps-operand default k (operation op.Var es) h a one scope w =
+        keeps-operand_variable (meanings default es) (meaning default (operation op.Var es)) (keep-meanings default k es (right (takes op.Var (expression_count es)) _ h) a) scope w
     keeps-operand default k (operation o es) h a one scope w = as-operand (one scope w)
     keeps-operand default k (fractional n b bs) h a one scope w = as-operand (one scope w)
 

@@ -4,12 +4,15 @@ use Rattle.std.specs.Prelude.{ℕ, Bool, List, Option, Result, Box, if◌then◌
 use Rattle.std.specs.declared.alloc.Global.{Global}
 use Rattle.logic_ast.specs.Expression.{Expression, Expressions}
 use Rattle.logic_ast.specs.View.{node_view, nodes_view, boxed_view, buckets_view}
+use Rattle.logic_ast.specs.declared.operator.Operator.{Operator}
+use Rattle.logic_ast.specs.declared.operator.Operator.TheVariants.{Var}
 use Rattle.logic_ast.specs.declared.node.Bucket.{Bucket}
 use Rattle.logic_ast.specs.declared.node.Node.{Node}
 use Rattle.logic_eval.specs.Budget.{Follows}
 use Rattle.logic_eval.specs.Evaluation.{meaning, meanings, operands, operand_meaning, by_meaning, bucket_meanings}
-use Rattle.logic_eval.specs.Operators.{Meaning, with_tests, with_early_tests}
-use Rattle.logic_eval.specs.Run.{Run}
+use Rattle.logic_eval.specs.Operators.{Meaning, values, found_decimal, with_tests, with_early_tests, asked, operated}
+use Rattle.logic_eval.specs.Run.{Run, ◌>>=◌}
+use Rattle.logic_eval.specs.Scope.{variable}
 use Rattle.logic_eval.specs.Views.{progress, default_view}
 use Rattle.logic_values.specs.declared.fault.EvalFault.{EvalFault}
 use Rattle.logic_eval.specs.declared.meter.Meter.{Meter}
@@ -31,6 +34,11 @@ tested_meaning tested default e = if tested then operand_meaning default e else 
 
 abbrev pub tested_meanings : Bool → Option (List ℕ) → Expressions → List Meaning
 tested_meanings tested default es = if tested then operands default es else meanings default es
+
+-- an operation that is compared or tested, once it is charged for
+abbrev pub tested_operation : Operator → Option (List ℕ) → Expressions → Meaning
+tested_operation Var default es = λ scope. values (meanings default es) scope >>= λ vs. found_decimal (variable scope vs)
+tested_operation o default es = operated o (asked o (meanings default es) (operands default es))
 
 -- the arguments of `if`
 abbrev pub conditional_meanings : Option (List ℕ) → Expressions → List Meaning

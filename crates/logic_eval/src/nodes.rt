@@ -1,11 +1,9 @@
 //! The walk over an expression, node by node.
-ghost use Rattle.std.specs.Prelude.{◌≡◌, IfOk, MatchOption, false, map, drop};
+ghost use Rattle.std.specs.Prelude.{◌≡◌, IfOk, map, drop};
 ghost use Rattle.logic_ast.specs.Sites.{preorder, preorder_in, preorder_in_by, preorder_in_buckets};
 ghost use Rattle.logic_ast.specs.View.{node_view, nodes_view, boxed_view, buckets_view};
-ghost use Rattle.logic_ast.specs.Expression.{operation};
-ghost use Rattle.logic_ast.specs.declared.operator.Operator.TheVariants.{Var};
-ghost use Rattle.logic_eval.specs.Evaluated.{Evaluates, by_meaning_of, bucket_meanings_of, conditional_meanings_of, meaning_of, meanings_of, operand_of, operands_of, tested_meaning_of, tested_meanings_of, truth_meanings_of};
-ghost use Rattle.logic_eval.specs.Evaluation.{input, is_variable, pairs, part_of};
+ghost use Rattle.logic_eval.specs.Evaluated.{Evaluates, by_meaning_of, bucket_meanings_of, conditional_meanings_of, meaning_of, meanings_of, operand_of, operands_of, tested_meaning_of, tested_meanings_of, tested_operation, truth_meanings_of};
+ghost use Rattle.logic_eval.specs.Evaluation.{input, pairs, part_of};
 ghost use Rattle.logic_eval.specs.Literal.{AreSummed};
 ghost use Rattle.logic_eval.specs.Operators.{values, asked, compares, operated, conditional, first_of_truth, strict, over, over_items, over_from_start, start, mapped, kept, occurs, reduced};
 ghost use Rattle.logic_values.specs.Views.{value_view};
@@ -68,6 +66,7 @@ pub(crate) fn evaluate_node<'s, 'a>(
 
 // The value of a node that is compared or tested: `var` may give a decimal there.
 #[cycle(evaluate)]
+#[tactic(auto, using(crate::proofs::Within::in_operation))]
 fn evaluate_operand<'s, 'a>(
     meter: &mut Meter,
     node: &'a Node,
@@ -77,26 +76,33 @@ fn evaluate_operand<'s, 'a>(
     requires { AreSummed subject (preorder (node_view node.now)) }
     ensures exact { Evaluates value_view meter.old meter.new result (operand_of subject.entry node.now (scope_view scope.entry)) }
 {
-    match variable_arguments(node) {
-        Some(arguments) => {
+    match node {
+        Node::Operation(operator, arguments) => {
             meter.pay(1)?;
-            let values = evaluate_all(meter, arguments, false, scope, subject)?;
-            variable_or_decimal(meter, scope, values)
+            operate_tested(meter, arguments, *operator, scope, subject)
         }
-        None => evaluate_node(meter, node, scope, subject),
+        _ => evaluate_node(meter, node, scope, subject),
     }
 }
 
-// The arguments of a node that is a `var`.
-fn variable_arguments(node: &Node) -> Option<&Vec<Node>>
-    ensures { MatchOption result (is_variable (node_view node.now) ≡ false) (λ ns. node_view node.now ≡ operation Var (nodes_view ns.now.items)) }
+// An operator on its arguments, whose value is compared or tested.
+#[cycle(evaluate)]
+fn operate_tested<'s, 'a>(
+    meter: &mut Meter,
+    arguments: &'a Vec<Node>,
+    operator: Operator,
+    scope: Scope<'s, 'a>,
+    subject: Subject<'a>,
+) -> Result<Value<'a>, EvalFault>
+    requires { AreSummed subject (preorder_in (nodes_view arguments.now.items)) }
+    ensures exact { Evaluates value_view meter.old meter.new result (tested_operation operator (default_view subject.entry) (nodes_view arguments.now.items) (scope_view scope.entry)) }
 {
-    match node {
-        Node::Operation(operator, arguments) => match operator {
-            Operator::Var => Some(arguments),
-            _ => None,
-        },
-        _ => None,
+    match operator {
+        Operator::Var => {
+            let values = evaluate_all(meter, arguments, false, scope, subject)?;
+            variable_or_decimal(meter, scope, values)
+        }
+        _ => operate(meter, arguments, operator, scope, subject),
     }
 }
 

@@ -1,6 +1,5 @@
 pub mod Arithmetic
 pub mod Comparison
-pub mod Decimals
 pub mod Fault
 pub mod Lists
 pub mod Number

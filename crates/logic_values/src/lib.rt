@@ -12,7 +12,6 @@
 
 pub mod arithmetic;
 pub mod comparison;
-pub mod decimals;
 mod fault;
 pub mod lists;
 pub mod number;

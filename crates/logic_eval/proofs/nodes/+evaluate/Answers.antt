@@ -2,13 +2,13 @@ use Rattle.std.proofs.Common.{◌≡◌, ℕ, ◌+◌, ◌*◌, ◌<◌, ◌≤�
 use Rattle.std.proofs.lemmas.List.{drop_all}
 use Rattle.flag_text.specs.Shape.{Shape, list, text, whole}
 use Rattle.flag_text.specs.View.{items_of}
-use Rattle.logic_ast.specs.Sites.{preorder, preorder_in, preorder_in_buckets}
+use Rattle.logic_ast.specs.Sites.{preorder_in, preorder_in_buckets}
 use Rattle.logic_ast.specs.declared.node.Node.{the_lemmas}
 use Rattle.logic_ast.specs.View.{node_view, nodes_view, boxed_view, buckets_view}
 use Rattle.logic_ast.proofs.Views.{node_view-fractional}
 use Rattle.logic_eval.specs.Budget.{paid}
 use Rattle.logic_values.specs.Comparison.{bool_eq}
-use Rattle.logic_eval.specs.Evaluated.{tested_meanings}
+use Rattle.logic_eval.specs.Evaluated.{tested_meanings, tested_operation}
 use Rattle.logic_eval.specs.Evaluation.{meaning, meanings, operands, by_meaning, bucket_meanings, input, pairs, part_of}
 use Rattle.logic_eval.specs.Fractional.{decided}
 use Rattle.logic_eval.specs.Literal.{AreSummed}
@@ -17,7 +17,7 @@ use Rattle.logic_values.specs.Truth.{is_true}
 use Rattle.logic_eval.specs.Views.{progress, scope_view, default_view, input_view, weighted_variant_view}
 use Rattle.logic_values.specs.Views.{value_view}
 use Rattle.logic_eval.proofs.Branching.{literal_site}
-use Rattle.logic_eval.proofs.Branches.{node_view-literal, node_view-list, node_view-operation, as_seen, operated-other, strict-asked, operand-var, operand-other, conditional_err, conditional_true, conditional_false, conditional_end, first_of_truth_err, first_of_truth_found, first_of_truth_next, first_of_truth_none}
+use Rattle.logic_eval.proofs.Branches.{node_view-literal, node_view-list, node_view-operation, as_seen, operand_seen, operated-other, strict-asked, operand-operation, operand-node, tested-other, conditional_err, conditional_true, conditional_false, conditional_end, first_of_truth_err, first_of_truth_found, first_of_truth_next, first_of_truth_none}
 use Rattle.logic_eval.proofs.Budgets.{bind_ok, bind_err, cost_ok, cost_err, paid-gives}
 use Rattle.logic_eval.proofs.Exits.{exits, gives_same, ended}
 use Rattle.logic_values.proofs.Items.{pushed}
@@ -131,31 +131,38 @@ evaluate_node-returns-then-not-is_empty t c =
 pub evaluate_node-shares-requires : goal.evaluate_node-shares-requires
 evaluate_node-shares-requires t c = (search (rules, the_lemmas), in_buckets c.args.subject c.args.node.now c.in-Fractional.site c.in-Fractional.by c.in-Fractional.buckets c.in-Fractional.is c.requires)
 
-pub evaluate_operand-returns-in_err-pay-in-Some : goal.evaluate_operand-returns-in_err-pay-in-Some
-evaluate_operand-returns-in_err-pay-in-Some t c = record {
+pub evaluate_operand-returns-in_err-pay-in-Operation : goal.evaluate_operand-returns-in_err-pay-in-Operation
+evaluate_operand-returns-in_err-pay-in-Operation t c = record {
   exact = exits _ _ _ _ c.from_residual.ensures.1
-      (λ n. operand-var (default_view c.args.subject) _ _ (scope_view c.args.scope) _ c.in-Some.ensures ∙ cost_err _ _ _ _ (c.in_err-pay-in-Some.ensures.exact n));
+      (λ n. operand_seen _ _ _ _ _ (ap node_view c.in-Operation.is ∙ node_view-operation _ _) ∙ (ap (λ m. paid (progress c.args.meter.now) (m (scope_view c.args.scope))) (operand-operation _ _ _) ∙ cost_err _ _ _ _ (c.in_err-pay-in-Operation.ensures.exact n)));
 }
 
-pub evaluate_operand-returns-in_err-values-in-Some : goal.evaluate_operand-returns-in_err-values-in-Some
-evaluate_operand-returns-in_err-values-in-Some t c = record {
-  exact = exits _ _ _ _ c.from_residual-in_err-values-in-Some.ensures.1
-      (λ n. operand-var (default_view c.args.subject) _ _ (scope_view c.args.scope) _ c.in-Some.ensures ∙ (cost_ok _ _ _ _ _ c.in_ok-pay-in-Some.ensures.exact ∙ bind_err _ _ _ _ (c.in_err-values-in-Some.ensures.exact n)));
+pub evaluate_operand-returns-in_ok-pay-in-Operation : goal.evaluate_operand-returns-in_ok-pay-in-Operation
+evaluate_operand-returns-in_ok-pay-in-Operation t c = record {
+  exact = gives_same _ _ _ _ (operand_seen _ _ _ _ _ (ap node_view c.in-Operation.is ∙ node_view-operation _ _)
+      ∙ (ap (λ m. paid (progress c.args.meter.now) (m (scope_view c.args.scope))) (operand-operation _ _ _) ∙ cost_ok _ _ _ _ _ c.in_ok-pay-in-Operation.ensures.exact)) c.operate_tested.ensures.exact;
 }
 
-pub evaluate_operand-returns-in_ok-values-in-Some : goal.evaluate_operand-returns-in_ok-values-in-Some
-evaluate_operand-returns-in_ok-values-in-Some t c = record {
-  exact = gives_same _ _ _ _ (operand-var (default_view c.args.subject) _ _ (scope_view c.args.scope) _ c.in-Some.ensures ∙ (cost_ok _ _ _ _ _ c.in_ok-pay-in-Some.ensures.exact ∙ bind_ok _ _ _ _ _ c.in_ok-values-in-Some.ensures.exact)) c.variable_or_decimal.ensures.exact;
+pub evaluate_operand-returns-in_default : goal.evaluate_operand-returns-in_default
+evaluate_operand-returns-in_default t c = record {
+  exact = gives_same _ _ _ _ (ap (λ m. paid (progress c.args.meter.now) (m (scope_view c.args.scope))) (operand-node (default_view c.args.subject) c.args.node.now c.in_default.not-Operation)) c.evaluate_node.ensures.exact;
 }
 
-pub evaluate_operand-returns-in-None : goal.evaluate_operand-returns-in-None
-evaluate_operand-returns-in-None t c = record {
-  exact = gives_same _ _ _ _ (ap (λ m. paid (progress c.args.meter.now) (m (scope_view c.args.scope))) (operand-other (default_view c.args.subject) _ c.in-None.ensures)) c.evaluate_node.ensures.exact;
+pub operate_tested-returns-in_err-values-in-Var : goal.operate_tested-returns-in_err-values-in-Var
+operate_tested-returns-in_err-values-in-Var t c = record {
+  exact = exits _ _ _ _ c.from_residual.ensures.1
+      (λ n. ap (λ o. paid (progress c.args.meter.now) (tested_operation o (default_view c.args.subject) (nodes_view c.args.arguments.now.items) (scope_view c.args.scope))) c.in-Var.is ∙ bind_err _ _ _ _ (c.in_err-values-in-Var.ensures.exact n));
 }
 
-pub evaluate_operand-evaluate_all-requires : goal.evaluate_operand-evaluate_all-requires
-evaluate_operand-evaluate_all-requires t c =
-    (search (rules, the_lemmas), subst (λ e. AreSummed c.args.subject (preorder e)) c.in-Some.ensures c.requires)
+pub operate_tested-returns-in_ok-values-in-Var : goal.operate_tested-returns-in_ok-values-in-Var
+operate_tested-returns-in_ok-values-in-Var t c = record {
+  exact = gives_same _ _ _ _ (ap (λ o. paid (progress c.args.meter.now) (tested_operation o (default_view c.args.subject) (nodes_view c.args.arguments.now.items) (scope_view c.args.scope))) c.in-Var.is ∙ bind_ok _ _ _ _ _ c.in_ok-values-in-Var.ensures.exact) c.variable_or_decimal.ensures.exact;
+}
+
+pub operate_tested-returns-in_default : goal.operate_tested-returns-in_default
+operate_tested-returns-in_default t c = record {
+  exact = gives_same _ _ _ _ (ap (λ r. paid (progress c.args.meter.now) (r (scope_view c.args.scope))) (tested-other c.args.operator (default_view c.args.subject) (nodes_view c.args.arguments.now.items) c.in_default.not-Var)) c.operate.ensures.exact;
+}
 
 -- what is known of the sites below a node
 

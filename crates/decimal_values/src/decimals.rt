@@ -4,15 +4,14 @@ ghost use Rattle.exact_decimals.specs.View.{gives, seen};
 ghost use Rattle.flag_text.specs.Outcome.{seen_as};
 ghost use Rattle.flag_text.specs.Shape.{member, no_members};
 ghost use Rattle.flag_text.specs.View.{view, members_view};
-ghost use Rattle.logic_values.specs.Decimals.{at_most, behind_point, equal, exact_value, if_exact, is_before, is_decimal, is_level, is_not_behind, is_readable, less, order_of, same, spelled_value, spelling_in, spelling_of, whole_value};
+ghost use Rattle.decimal_values.specs.Decimals.{at_most, behind_point, equal, exact_value, if_exact, is_before, is_decimal, is_level, is_not_behind, is_readable, less, order_of, same, spelled_value, spelling_in, spelling_of, whole_value};
 ghost use Rattle.logic_values.specs.Views.{seen_view};
 
-use crate::comparison::{is_at_most, is_equal, is_less, is_same};
-use crate::fault::EvalFault;
-use crate::seen::Seen;
 use exact_decimals::{Decimal, DecimalFault, order, read, read_text};
 use flag_text::Tree;
 use itoa::Buffer;
+use logic_values::comparison::{is_at_most, is_equal, is_less, is_same};
+use logic_values::{EvalFault, Seen};
 use std::cmp::Ordering;
 
 /// Whether the value is a decimal: an object as a context has it for a number that is not whole.
@@ -143,6 +142,7 @@ fn if_exact(read: Result<Decimal, DecimalFault>) -> Result<Option<Decimal>, Eval
 }
 
 /// The spelling of a decimal.
+#[tactic(auto, using(crate::proofs::Objects::no_context, crate::proofs::Objects::no_fold))]
 fn spelling_of<'a>(value: Seen<'_, 'a>) -> Option<&'a [u8]>
     ensures { option_map (λ s. s.now) result ≡ spelling_of (seen_view value.entry) }
 {
@@ -152,12 +152,13 @@ fn spelling_of<'a>(value: Seen<'_, 'a>) -> Option<&'a [u8]>
     }
 }
 
+#[tactic(auto, using(crate::proofs::Objects::two_members))]
 fn spelling_in(members: &[(String, Tree)]) -> Option<&[u8]>
     ensures { option_map (λ s. s.now) result ≡ spelling_in (members_view members.now) }
 {
     match members {
         [] => None,
-        [(name, number)] => spelling_at(name.as_str(), number),
+        [member] => spelling_at(member.0.as_str(), &member.1),
         [_, _, ..] => None,
     }
 }
