@@ -81,7 +81,11 @@ fn is_before(order: Option<Ordering>) -> bool
 fn is_not_behind(order: Option<Ordering>) -> bool
     ensures { result ≡ is_not_behind order }
 {
-    matches!(order, Some(Ordering::Less | Ordering::Equal))
+    match order {
+        Some(Ordering::Less) => true,
+        Some(Ordering::Equal) => true,
+        _ => false,
+    }
 }
 
 fn is_level(order: Option<Ordering>) -> bool
@@ -131,10 +135,10 @@ fn spelled_value(value: Seen) -> Result<Option<Decimal>, EvalFault>
     }
 }
 
-fn if_exact(read: Result<Decimal, DecimalFault>) -> Result<Option<Decimal>, EvalFault>
-    ensures { seen_as (option_map seen) result ≡ if_exact (gives read) }
+fn if_exact(number: Result<Decimal, DecimalFault>) -> Result<Option<Decimal>, EvalFault>
+    ensures { seen_as (option_map seen) result ≡ if_exact (gives number) }
 {
-    match read {
+    match number {
         Ok(number) => Ok(Some(number)),
         Err(DecimalFault::NotDecimal) => Ok(None),
         Err(DecimalFault::OutOfRange) => Err(EvalFault::Arithmetic),
