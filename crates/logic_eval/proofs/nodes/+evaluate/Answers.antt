@@ -42,7 +42,7 @@ conditional-returns-then-is_true t c = let xs = c.args.nodes.now.items in
     let i : ℕ = 2 * c.loop-pair.pair in
     let h : i + 1 < length xs = omega arith in
     let t : is_true (value_view c.in_ok-value.value) ≡ true = sym (ap is_true c.seen.ensures) ∙ (sym c.is_true.ensures ∙ c.if-is_true.true) in record {
-      exact = gives_same _ _ _ _ (c.loop-pair.invariant ∙ conditional_true (default_view c.args.subject) (scope_view c.args.scope) xs i c.index.result.now c.index-then-is_true.result.now (progress c.loop-pair.meter) (progress c.evaluate_operand.new.meter) _ h c.index.ensures c.index-then-is_true.ensures c.in_ok-value.ensures.exact t) c.evaluate_node-then-is_true.ensures.exact;
+      exact = gives_same _ _ _ _ (c.loop-pair.invariant ∙ conditional_true (default_view c.args.subject) (scope_view c.args.scope) xs i c.index.result.now c.index-then-is_true.result.now (progress c.loop-pair.meter) (progress c.evaluate_operand.new.meter) _ h c.index.ensures c.index-then-is_true.ensures c.in_ok-value.ensures.exact t) c.evaluate_node.ensures.exact;
     }
 
 pub conditional-loop-pair-preserved : goal.conditional-loop-pair-preserved
@@ -175,8 +175,8 @@ evaluate_all-evaluate_operand_if-requires t c =
 pub conditional-evaluate_operand-requires : goal.conditional-evaluate_operand-requires
 conditional-evaluate_operand-requires t c = (search (rules, the_lemmas), in_nodes c.args.subject c.args.nodes.now.items (2 * c.loop-pair.pair) c.index.result.now (omega arith) c.index.ensures c.requires)
 
-pub conditional-evaluate_node-requires-then-is_true : goal.conditional-evaluate_node-requires-then-is_true
-conditional-evaluate_node-requires-then-is_true t c = (search (rules, the_lemmas), in_nodes c.args.subject c.args.nodes.now.items (2 * c.loop-pair.pair + 1) c.index-then-is_true.result.now (omega arith) c.index-then-is_true.ensures c.requires)
+pub conditional-evaluate_node-requires : goal.conditional-evaluate_node-requires
+conditional-evaluate_node-requires t c = (search (rules, the_lemmas), in_nodes c.args.subject c.args.nodes.now.items (2 * c.loop-pair.pair + 1) c.index-then-is_true.result.now (omega arith) c.index-then-is_true.ensures c.requires)
 
 pub conditional-evaluate_node-requires-then-len-eq1 : goal.conditional-evaluate_node-requires-then-len-eq1
 conditional-evaluate_node-requires-then-len-eq1 t c = (search (rules, the_lemmas), in_nodes c.args.subject c.args.nodes.now.items _ c.index-then-len-eq1.result.now (omega arith) c.index-then-len-eq1.ensures c.requires)
