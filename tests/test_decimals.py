@@ -145,10 +145,13 @@ def of(rule, context, is_tested=False):
     if not isinstance(rule, dict):
         return rule
     ((name, given),) = rule.items()
+    given = given if isinstance(given, list) else [given]
     if name == "var":
         value = context
         for part in given[0].split("."):
             value = value.get(part) if isinstance(value, dict) else None
+        if value is None and len(given) > 1:
+            value = of(given[1], context)
         if has_other(value) and not (is_tested and isinstance(value, Other) and value.value is not None):
             raise Fault
         return value
