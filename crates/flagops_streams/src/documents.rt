@@ -74,6 +74,7 @@ impl Documents {
         ensures sources { self.new.sources ≡ self.old.sources }
         ensures want { IfErr result (λ refusal. refusal ≡ Refusal.WantOfMemory) }
         ensures loads { IfErr result (λ refusal. is_unreadable refusal ≡ false) }
+        ensures unread { IfErr result (λ refusal. refused_document refusal ≡ None) }
     {
         self.texts.push(text)?;
         Ok(())

@@ -67,13 +67,7 @@ where
 }
 
 /// Tells of each document behind the first that will be refused once its turn comes, and why.
-fn forewarn<E: Outlet>(
-    alloc: Global,
-    paths: &[&str],
-    floats: bool,
-    texts: &[Vec<u8>],
-    err: &mut E,
-)
+fn forewarn<E: Outlet>(alloc: Global, paths: &[&str], floats: bool, texts: &[Vec<u8>], err: &mut E)
     ensures told { MayForewarnEach (map (λ path. path.now) paths.now) (length texts.now - 1) (E.bytes err.old) (E.bytes err.new) (E.is_broken err.new) }
     ensures stays { E.is_broken err.new ≡ false → E.is_broken err.old ≡ false }
 {

@@ -13,7 +13,9 @@ loop-subscriber-preserved g c =
       omega (arith, so_far.0, at_most_one c.args.published end.0, end.1),
       λ works. so_far.1 (c.tell_next-missed.ensures.stays works),
       (
-          end.0 ∷ ends.0, omega (arith, ends.1), ap (λ n. n + more) ends.2 ∙ ap (λ n. missed_of c.args.published ends.0 + n) end.1,
-          ends_more _ _ c.tell_next-missed.ensures.stays end.0 ends.0 _ _ _ ends.3 end.2,
+        end.0 ∷ ends.0,
+        omega (arith, ends.1),
+        ap (λ n. n + more) ends.2 ∙ ap (λ n. missed_of c.args.published ends.0 + n) end.1,
+        ends_more _ _ c.tell_next-missed.ensures.stays end.0 ends.0 _ _ _ ends.3 end.2,
       ),
     )

@@ -10,4 +10,4 @@ invariant-loop-subscriber g l =
     (l.missed ≤ l._subscriber)
     × (g.E.Outlet.is_broken l.err ≡ false → g.E.Outlet.is_broken l.fn.err ≡ false)
     × ((ends : List (Option Disconnected)) × (length ends ≡ l._subscriber) × (l.missed ≡ missed_of l.published ends)
-          × TellsEnds ends (g.E.Outlet.bytes l.fn.err) (g.E.Outlet.bytes l.err) (g.E.Outlet.is_broken l.err))
+    × TellsEnds ends (g.E.Outlet.bytes l.fn.err) (g.E.Outlet.bytes l.err) (g.E.Outlet.is_broken l.err))
