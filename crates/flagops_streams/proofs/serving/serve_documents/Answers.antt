@@ -1,4 +1,4 @@
-use Rattle.std.proofs.Common.{◌≡◌, ◌∙◌, ◌-◌, ℕ, Bool, Bor, List, [], Option, Result, Vec, Global, ap, arith, false, length, map, subst}
+use Rattle.std.proofs.Common.{◌≡◌, ◌∙◌, ◌-◌, ℕ, Bool, Bor, List, [], Option, Result, Vec, Global, ap, arith, false, length, map, subst, sym}
 use Rattle.std.proofs.lemmas.List.{length-map}
 use Rattle.source_merge.specs.View.{sources_view}
 use Rattle.flagops_streams.specs.Documents.{ServesTo, documents_in, texts_of}
@@ -16,7 +16,7 @@ returns-clause-documents g c =
     let Tells = TellsServing paths (documents_in d) c.args.port c.args.subscribers in
     let still = λ (b : Bool) (old new : Option (List ℕ)) (before after : Bool) (stays : after ≡ false → before ≡ false). still_served before after stays paths (documents_in d) c.args.port c.args.subscribers b old new in
     let published = c.publish_in_turn-answer.ensures in
-    let count : length c.as_slice-texts.result.now ≡ documents_in d = ap length c.as_slice-texts.ensures.value ∙ d.texts.ok.0 in
+    let count : length c.as_slice-texts.result.now ≡ documents_in d = ap length c.as_slice-texts.ensures.value ∙ sym d.texts.ok.0 in
     let warned = subst (λ (n : ℕ). MayForewarnEach paths (n - 1) (g.E.Outlet.bytes c.args.err.now) (g.E.Outlet.bytes c.forewarn.new.err) (g.E.Outlet.is_broken c.forewarn.new.err)) count c.forewarn.ensures.told in
     let told = (g.E.Outlet.bytes c.forewarn.new.err, still_each _ _ published.stays paths (documents_in d - 1) _ _ warned, published.told) in
     let answer = published.serves.0 in
