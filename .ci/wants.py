@@ -5,7 +5,7 @@ proved. That none does is read here, off the sources of all crates but those of 
 - an `AllocError`, an `AllocFailed` with its value, an `OutOfMemory` of std, a fault's `WantOfMemory`, the `Unloaded` of a
   refusal, the `Short` of a run of events or of a remark,
 - a call of `want`, which writes the line of one, or of `out_of_memory`, which makes the refusal of one, and a field `wants` that is set, which has one written later,
-- a text with the words of one, or `MEMORY`, which is such a text,
+- a text with the words of one,
 - a request for memory that none can meet, as `Vec::with_capacity(alloc, usize::MAX)`,
 - a `None` of `Outcome::refused`, for which the line of one is written,
 - another name for one of these, by `use .. as ..`.
@@ -32,7 +32,6 @@ TAKEN = {
     ("crates/sync_server/src/read.rt", "None => (collected.snapshots, ReadEnd::WantOfMemory),"): (1, "the sink there is a list, which takes a snapshot unless memory ran out"),
     ("crates/flagops_streams/src/following.rt", "None if wants => finish(out, ReadEnd::WantOfMemory),"): (1, "the printer sets `wants` only where there was no memory for a line"),
     ("crates/flagops_streams/src/report.rt", 'write_three(out, b"refused ", call.as_bytes(), b" 0 WantOfMemory\\n");'): (1, "`want` writes the line; its calls are looked for"),
-    ("crates/flagops_streams/src/remark.rt", 'pub(crate) const MEMORY: &str = "error: out of memory\\n";'): (1, "a name for the words; its uses are looked for"),
     ("crates/flagops_shell/src/reports.rt", 'write_three(out, b"refused ", call.as_bytes(), b" 0 WantOfMemory\\n");'): (1, "`want` writes the line; its calls are looked for"),
     ("crates/flagops_shell/src/reports.rt", "tell(&mut console.err, Remark::Short.text());"): (1, "`want` tells it; its calls are looked for"),
     ("crates/flagops_shell/src/running.rt", "None => want(console, call),"): (1, "`Outcome::refused` gives none only where memory ran out"),
@@ -69,7 +68,6 @@ NAMES = r"AllocError|AllocFailed|WantOfMemory|OutOfMemory|Unloaded|Short"
 MADE = re.compile(
     r"\b(?:AllocError|WantOfMemory|OutOfMemory|" + WORDS + r")\b|\bAllocFailed(?=\s*\{)"
     r"|(?<!struct )\bShort(?=\s*\{)|\bRemark::Short\b|(?<!struct )(?<!&)\bUnloaded\b(?!\s*[<{])"
-    r"|\bMEMORY\b(?!\s*:)"
     r"|(?<![\w.])(?<!fn )(?:want|want_of|out_of_memory)(?=\s*\()|\bwants\b(?=\s*(?:\|?=(?!=)|:)(?!\s*(?:false|bool)\b))"
 )
 NAMED = re.compile(r"\b(?:AllocError|AllocFailed|WantOfMemory|OutOfMemory)\b|\b(?:Refusal::Unloaded|Remark::Short)\b|\.is_memory\(\)|\.is_want\(\)")
@@ -307,7 +305,6 @@ PLANTED = [
     ("nothing where there is a line", "pub fn refused<R: CommandRefusal>(alloc: Global, it: Refused<R>) -> Option<Outcome>\n    ensures { IfSome result (\u03bb o. o) }\n{\n    if it.is_want() {\n        return None;\n    }\n    if it.is_late() {\n        return None;\n    }\n    match it.line(alloc) {\n        Ok(text) => Some(Outcome::of(text)),\n        Err(AllocError) => None,\n    }\n}\n", [8]),
     ("another name", "use std::alloc::AllocError as Full;\nfn f() -> Result<u8, Full> {\n    Err(Full)\n}\n", [1]),
     ("the value of a failed request", "fn f(n: u8) -> Result<u8, AllocFailed<u8>> {\n    Err(AllocFailed { value: n })\n}\n", [2]),
-    ("the name of its words", "fn f(err: &mut E, text: Result<String, AllocError>) {\n    match text {\n        Ok(text) => say(err, MEMORY),\n        Err(AllocError) => say(err, MEMORY),\n    }\n}\n", [3]),
     ("its words", "fn f(out: &mut O) -> u8 {\n    if write_three(out, b\"refused \", b\"publish\", b\" 0 WantOfMemory\\n\") {\n        tell(out, \"error: out of memory\\n\");\n    }\n    1\n}\n", [2, 3]),
     ("its words, as a remark", "fn f() -> Remark {\n    match g() {\n        Ok(n) => Remark::of(n),\n        Err(_) => Remark::Short,\n    }\n}\n", [4]),
     ("after an arm that passes one on", "fn f() -> R {\n    match g() {\n        Err(AllocError) => return Err(Fault::WantOfMemory),\n        Ok(n) => h(n),\n    }\n    Err(Fault::WantOfMemory)\n}\n", [6]),

@@ -2,6 +2,7 @@ pub mod Bounded
 pub mod Crossings
 pub mod Full
 pub mod Made
+pub mod NoAsks
 pub mod Pages
 pub mod Reaching
 pub mod Telling

@@ -1,10 +1,10 @@
 -- What holds of each ask that was answered, in the turns of one worker and then of all.
-use Rattle.std.proofs.Common.{◌≡◌, ℕ, zero, suc, ◌+◌, ◌*◌, ◌/◌, ◌%◌, ◌<◌, ◌≤◌, true, false, nat_lt, List, ◌∷◌, Result, ⊎_elim, sym, ap, ◌∙◌, subst, arith}
+use Rattle.std.proofs.Common.{◌≡◌, ℕ, zero, suc, ◌+◌, ◌*◌, ◌/◌, ◌%◌, ◌<◌, ◌≤◌, true, false, nat_lt, List, ◌∷◌, Result, Ok, Err, ⊎_elim, sym, ap, ◌∙◌, subst, arith}
 use Rattle.std.specs.Prelude.{IfOk, IfSome, slice_get}
 use Rattle.std.proofs.Math.Nat.{mod-add-div, mod-lt, mul-suc, mul-le-mul_left}
 use Rattle.std.proofs.lemmas.Bool.{cases_Bool}
 use borrow.Author.Tests.{ltb-true, ltb-false}
-use Rattle.book_share.specs.Gated.{EachAsk, EachTurn}
+use Rattle.book_share.specs.Gated.{EachAsk, EachTurn, FailsAfter, SomeTurn}
 use Rattle.book_share.specs.declared.drive_fault.DriveFault.{DriveFault}
 
 -- it holds of each ask of a worker before this one
@@ -44,6 +44,15 @@ told_done P step first ask n past so_far turn within =
     let is = so_far.is in
     absurd (omega (arith, later, is, past, within)))
     (cases_Bool (nat_lt turn so_far.turns))
+
+-- the ask that comes next is one of the worker's
+pub begun_at : (P Q : ℕ → Type 0) (step first ask n : ℕ) → ask < n → Q ask → IsToldSoFar P step first ask → SomeTurn Q step first n
+begun_at P Q step first ask n within here so_far = (so_far.turns, subst (λ a. a < n) so_far.is within, subst Q so_far.is here)
+
+-- and where one was begun, a worker may be refused
+pub fails_begun : {X : Type 0} (P : ℕ → Type 0) (step first n : ℕ) (r : Result X DriveFault) → SomeTurn P step first n → FailsAfter P step first n r
+fails_begun P step first n (Ok x) turn = tt
+fails_begun P step first n (Err e) turn = λ _. turn
 
 -- ---- several workers
 

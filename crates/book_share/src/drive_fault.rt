@@ -1,7 +1,8 @@
 ghost use Rattle.std.specs.Prelude.{◌≡◌};
 ghost use Rattle.book_share.specs.declared.drive_fault.DriveFault.TheVariants.{WantOfMemory};
-ghost use Rattle.book_share.specs.DriveFault.{name_of, number_of};
+ghost use Rattle.book_share.specs.DriveFault.{name_of, number_of, workers_fault};
 
+use limits::SEATS;
 use std::alloc::{AllocError, AllocFailed};
 use thiserror::Error;
 
@@ -23,6 +24,19 @@ pub enum DriveFault {
 }
 
 impl DriveFault {
+    /// Why so many workers drive nothing, whatever is asked.
+    pub fn of_workers(workers: usize) -> Option<DriveFault>
+        ensures { result ≡ workers_fault workers }
+    {
+        if workers == 0 {
+            Some(DriveFault::NoWorkers)
+        } else if workers > SEATS {
+            Some(DriveFault::TooManyWorkers)
+        } else {
+            None
+        }
+    }
+
     /// The number that a refusal is printed with, from 0 for want of memory.
     pub fn number(&self) -> u32
         ensures { result ≡ number_of self.now }

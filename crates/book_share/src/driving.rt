@@ -1,5 +1,5 @@
 //! Asks, answered by workers that share a book.
-ghost use Rattle.std.specs.Prelude.{◌≡◌, ◌≢◌, ◌<◌, ◌≤◌, ◌*◌, ◌^◌, ℕ, Some, None, List, length, map, count_by, sum_by, true, false, Ok, Err, IfErr, IfOk};
+ghost use Rattle.std.specs.Prelude.{◌≡◌, ◌≢◌, ◌<◌, ◌≤◌, ◌*◌, ◌^◌, ℕ, Some, None, List, [], IsOk, length, map, count_by, sum_by, true, false, Ok, Err, IfErr, IfOk};
 ghost use Rattle.logic_eval.specs.Views.{reach_view};
 ghost use Rattle.flag_defs.specs.Flags.{flags_view};
 ghost use Rattle.flag_resolve.specs.Views.{resolution_view};
@@ -46,13 +46,34 @@ pub struct Driven {
     pub long: u128,
 }
 
+impl Driven {
+    /// What no asks come to. It takes no memory.
+    fn of_no_asks(alloc: Global) -> Driven
+        ensures answers { result.answers.items ≡ [] }
+        ensures book { result.book ≡ [] }
+        ensures counts { (result.calls ≡ 0) × (result.news ≡ 0) × (result.full ≡ 0) }
+        ensures long { result.long ≡ 0 }
+    {
+        Driven {
+            answers: Vec::new(alloc),
+            book: Book::new(alloc),
+            calls: 0,
+            news: 0,
+            full: 0,
+            long: 0,
+        }
+    }
+}
+
 /// Answers the asks, in their order, by so many workers, and notes each hash input that a `fractional` operation got on
 /// its page of a book. Worker w takes the asks w, w + workers and so on, each once the gate lets it start. An input that
 /// is too long or that a full page refuses is counted, and the ask is answered all the same.
 ///
 /// It is refused with NoWorkers and TooManyWorkers (more than 64), then with Stalled where the gate refuses an ask
 /// 1000000 times. A refusal comes after all workers have ended, and drops the book. The gate is told of each ask that was
-/// answered. The condition is fewer than 2^32 asks.
+/// answered. Where there are no asks it takes no memory, and so is refused for the number of workers alone. The condition is
+/// fewer than 2^32 asks.
+#[tactic(auto, using(crate::proofs::NoAsks::no_answers, crate::proofs::NoAsks::none_long, crate::proofs::NoAsks::of_none))]
 pub fn drive<'x, G: Gate, R: Threads + Wait + Sync>(
     rt: &R,
     alloc: Global,
@@ -69,7 +90,14 @@ pub fn drive<'x, G: Gate, R: Threads + Wait + Sync>(
     ensures refused { IfErr result (λ e. is_of_workers e ≡ true → workers_fault workers ≡ Some e) }
     ensures gated { IfOk result (λ _. EachAsk (λ ask. G.started gate.now ask × G.told gate.now ask) (length asks.now)) }
     ensures stalled { StallsOf (G.refused gate.now) (length asks.now) result }
+    ensures none { length asks.now ≡ 0 → workers_fault workers ≡ None → IsOk result }
 {
+    if asks.is_empty() {
+        return match DriveFault::of_workers(workers) {
+            Some(fault) => Err(fault),
+            None => Ok(Driven::of_no_asks(alloc)),
+        };
+    }
     let blanks = blanks_of(alloc, workers)?;
     driven_by::<Brand, G, R>(rt, alloc, blanks, workers, flags, asks, gate)
 }

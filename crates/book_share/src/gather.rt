@@ -5,7 +5,7 @@ ghost use Rattle.flag_defs.specs.Flags.{flags_view};
 ghost use Rattle.book_lock.specs.Counts.{own};
 ghost use Rattle.book_lock.specs.Seen.{unseen};
 ghost use Rattle.book_share.specs.Driven.{AreParts, AreWorkerResults, HasStarted, IsPart};
-ghost use Rattle.book_share.specs.Gated.{EachPart, EachTurn, StallsOf};
+ghost use Rattle.book_share.specs.Gated.{EachFailsAfter, EachPart, EachTurn, FailsAfter, StallsOf};
 ghost use Rattle.book_share.specs.declared.ask.Ask.{Ask};
 
 use crate::drive_fault::DriveFault;
@@ -27,15 +27,16 @@ pub(crate) struct WorkerResults<L: BookName> {
     pub(crate) refused: u128,
 }
 
-/// A job for each seat, numbered from 0.
+/// A job for each seat, numbered from 0, with room for so many answers.
 fn jobs_of<L: BookName>(
     alloc: Global,
     seats: Vec<Seat<L>>,
     workers: usize,
+    room: usize,
 ) -> Result<Vec<Job<L>>, AllocError>
     requires fresh { All (λ seat. own seat ≡ []) seats.items }
     requires workers { length seats.items ≡ workers }
-    ensures fresh { IfOk result (λ jobs. All (λ job. (own job.seat ≡ []) × (job.first < workers)) jobs.items) }
+    ensures fresh { IfOk result (λ jobs. All (λ job. (own job.seat ≡ []) × (job.first < workers) × (job.answers.items ≡ [])) jobs.items) }
     ensures first { IfOk result (λ jobs. (i : ℕ) → IfSome (slice_get jobs.items i) (λ job. job.first ≡ i)) }
     ensures len { IfOk result (λ jobs. length jobs.items ≡ workers) }
 {
@@ -44,7 +45,12 @@ fn jobs_of<L: BookName>(
     let mut jobs = Vec::with_capacity(alloc, seats.len())?;
     for seat in seats {
         let first = jobs.len();
-        jobs.push(Job { seat, first })?;
+        let answers = VecDeque::with_capacity(alloc, room)?;
+        jobs.push(Job {
+            seat,
+            first,
+            answers,
+        })?;
     }
     Ok(jobs)
 }
@@ -62,17 +68,20 @@ pub(crate) fn parts_of<L: BookName + Send + Sync, G: Gate, R: Threads + Wait + S
     ensures work { IfOk result (λ parts. AreParts (flags_view round.now.flags.now) round.now.step round.now.asks.now parts.items) }
     ensures gated { IfOk result (λ parts. EachPart (λ n. G.started round.now.gate.now n × G.told round.now.gate.now n) round.now.step (length round.now.asks.now) parts.items) }
     ensures stalled { IfOk result (λ parts. All (λ r. StallsOf (G.refused round.now.gate.now) (length round.now.asks.now) r) parts.items) }
+    ensures begun { IfOk result (λ parts. EachFailsAfter (G.started round.now.gate.now) round.now.step (length round.now.asks.now) parts.items) }
     ensures started { IfOk result (λ parts. All (λ r. HasStarted r) parts.items) }
 {
-    let jobs = jobs_of(alloc, seats, round.step)?;
+    let room = round.asks.len() / round.step + 1;
+    let jobs = jobs_of(alloc, seats, round.step, room)?;
     map_vec(
         rt,
         jobs,
         &|job: Job<L>| -> Result<Part<L>, DriveFault>
-            requires { (own job.seat ≡ []) × (job.first < round.now.step) }
+            requires { (own job.seat ≡ []) × (job.first < round.now.step) × (job.answers.items ≡ []) }
             ensures { IfOk result (λ p. IsPart (flags_view round.entry.now.flags.now) round.entry.now.step round.entry.now.asks.now job.first p)
                 × StallsOf (G.refused round.entry.now.gate.now) (length round.entry.now.asks.now) result × HasStarted result
-                × IfOk result (λ _. EachTurn (λ n. G.started round.entry.now.gate.now n × G.told round.entry.now.gate.now n) round.entry.now.step job.first (length round.entry.now.asks.now)) }
+                × IfOk result (λ _. EachTurn (λ n. G.started round.entry.now.gate.now n × G.told round.entry.now.gate.now n) round.entry.now.step job.first (length round.entry.now.asks.now))
+                × FailsAfter (G.started round.entry.now.gate.now) round.entry.now.step job.first (length round.entry.now.asks.now) result }
         { work(rt, alloc, round, job) },
     )
 }

@@ -8,7 +8,7 @@ ghost use Rattle.book_lock.specs.Limits.{most_seats};
 ghost use Rattle.book_share.specs.Asked.{asks_of, mentions_of, resolved as resolution_of_ask};
 ghost use Rattle.book_share.specs.DriveFault.{is_of_workers};
 ghost use Rattle.book_share.specs.Driven.{IsAnswer, IsWork, Notes, NotesAsk};
-ghost use Rattle.book_share.specs.Gated.{EachTurn, IsClosed, StallsOf, most_attempts};
+ghost use Rattle.book_share.specs.Gated.{EachTurn, FailsAfter, IsClosed, StallsOf, most_attempts};
 ghost use Rattle.book_share.specs.Known.{AreKnown};
 
 use crate::ask::Ask;
@@ -41,11 +41,12 @@ pub(crate) struct Round<'a, 'b, L: BookName, G: Gate> {
     pub(crate) ghost pages: { AreKnown (flags_view flags.now) known.now.entries },
 }
 
-/// What a worker begins with: a seat, and the number of its first ask.
+/// What a worker begins with: a seat, the number of its first ask, and room for its answers.
 #[derive(Drop)]
 pub(crate) struct Job<L: BookName> {
     pub(crate) seat: Seat<L>,
     pub(crate) first: usize,
+    pub(crate) answers: VecDeque<Resolution>,
 }
 
 /// What a worker ends with: its seat, its answers in the order of its asks, and how many inputs full pages refused.
@@ -56,7 +57,8 @@ pub(crate) struct Part<L: BookName> {
     pub(crate) refused: u64,
 }
 
-/// Answers the first ask of the job, then each that comes a step after.
+/// Answers the first ask of the job, then each that comes a step after. Unless the gate refuses an ask for good, it is refused
+/// only once the gate let one of its asks start.
 pub(crate) fn work<L: BookName, G: Gate, R: Wait>(
     rt: &R,
     alloc: Global,
@@ -65,13 +67,18 @@ pub(crate) fn work<L: BookName, G: Gate, R: Wait>(
 ) -> Result<Part<L>, DriveFault>
     requires fresh { own job.seat ≡ [] }
     requires first { job.first < round.now.step }
+    requires room { job.answers.items ≡ [] }
     ensures work { IfOk result (λ p. IsWork (flags_view round.now.flags.now) (asks_of round.now.step job.first round.now.asks.now) p.seat p.answers.items p.refused) }
     ensures gated { IfOk result (λ _. EachTurn (λ n. G.started round.now.gate.now n × G.told round.now.gate.now n) round.now.step job.first (length round.now.asks.now)) }
     ensures stalled { StallsOf (G.refused round.now.gate.now) (length round.now.asks.now) result }
+    ensures begun { FailsAfter (G.started round.now.gate.now) round.now.step job.first (length round.now.asks.now) result }
     ensures started { IfErr result (λ e. is_of_workers e ≡ false) }
 {
-    let Job { mut seat, first } = job;
-    let mut answers = VecDeque::with_capacity(alloc, round.asks.len() / round.step + 1)?;
+    let Job {
+        mut seat,
+        first,
+        mut answers,
+    } = job;
     let mut refused = 0;
     let mut ask = first;
     while ask < round.asks.len() {

@@ -23,7 +23,6 @@ use book_core::{Book, print_book};
 use book_share::{Ask, DriveFault, Driven, drive};
 use flag_defs::Flags;
 use flag_resolve::Resolution;
-use limits::SEATS;
 use progress::Meter;
 use std::alloc::Global;
 use std::sync::Wait;
@@ -59,7 +58,7 @@ pub fn refusal_of(asks: &AsksFile<'_>, workers: usize) -> Option<DriveRefusal>
     if ask_items(asks).is_none() {
         return Some(DriveRefusal::BadAsks);
     }
-    match fault_of(workers) {
+    match DriveFault::of_workers(workers) {
         Some(fault) => Some(DriveRefusal::Drive(fault)),
         None => None,
     }
@@ -94,7 +93,7 @@ pub fn drive_asks<R: Threads + Wait + Sync>(
     let Some(items) = ask_items(asks) else {
         return Err(DriveRefusal::BadAsks);
     };
-    if let Some(fault) = fault_of(workers) {
+    if let Some(fault) = DriveFault::of_workers(workers) {
         return Err(DriveRefusal::Drive(fault));
     }
     drive_items(rt, alloc, flags, items, workers, before, json, meter)
@@ -124,19 +123,6 @@ fn drive_items<R: Threads + Wait + Sync>(
     match drive(rt, alloc, flags, asked, workers, &gate) {
         Ok(driven) => output_of(alloc, flags, asked, driven, before, json),
         Err(fault) => Err(DriveRefusal::Drive(fault)),
-    }
-}
-
-/// Why so many workers drive nothing.
-fn fault_of(workers: usize) -> Option<DriveFault>
-    ensures { result ≡ workers_fault workers }
-{
-    if workers == 0 {
-        Some(DriveFault::NoWorkers)
-    } else if workers > SEATS {
-        Some(DriveFault::TooManyWorkers)
-    } else {
-        None
     }
 }
 

@@ -1,7 +1,6 @@
 pub mod Ending
 mod FilesJoined
 mod Joins
-mod Kept
 mod Loaded
 pub mod Matched
 pub mod Naming

@@ -20,12 +20,6 @@ use Rattle.ramp_steps.specs.Steps.{steps_of}
 use Rattle.ramp_steps.specs.declared.fault.RampFileFault.{RampFileFault}
 use Rattle.ramp_steps.specs.declared.fault.RampFileFault.TheVariants.{TooLarge}
 use Rattle.ramp_steps.specs.declared.fault.StepsFault.{StepsFault}
-use Rattle.rollout_checks.specs.VerifyFault as verdicts
-use Rattle.rollout_checks.specs.declared.fault.RolloutFault.TheVariants as rollout
-use Rattle.rollout_checks.specs.declared.verify_fault.VerifyFault.{VerifyFault}
-use Rattle.rollout_checks.specs.declared.verify_fault.VerifyFault.TheVariants as verdict
-use Rattle.transport_instance.specs.declared.fault.CheckFault.TheVariants as check
-use Rattle.flagops_rollouts.specs.Refusal.{is_want_of_verify}
 use Rattle.flagops_rollouts.specs.Valid.{IsOfInputs}
 use Rattle.flagops_ramps.specs.Judging.{Answered, Found, IsFoundOf, IsFoundOver, answers_at, found_as, if_loaded}
 use Rattle.flagops_ramps.specs.Ramp.{Holds, IsRampOf, IsRampOver, recorded}
@@ -48,33 +42,10 @@ saved at path text answers is holds =
 
 -- ---- what is told of it
 
--- the fault of number 0 is want of memory
-zero_wants : (e : VerifyFault) → verdicts.number_of e ≡ 0 → is_want_of_verify e ≡ true
-zero_wants (verdict.Request rollout.WantOfMemory) is = refl
-zero_wants (verdict.Request (rollout.Request f)) is = cc
-zero_wants (verdict.Request rollout.UnknownFlag) is = cc
-zero_wants (verdict.Request rollout.NoSite) is = cc
-zero_wants (verdict.Request rollout.Computed) is = cc
-zero_wants (verdict.Request rollout.UnknownVariant) is = cc
-zero_wants (verdict.Request rollout.TotalsSum) is = cc
-zero_wants (verdict.Request rollout.TotalTooLarge) is = cc
-zero_wants (verdict.Request rollout.NoWeight) is = cc
-zero_wants (verdict.Request rollout.TooLarge) is = cc
-zero_wants (verdict.Request rollout.OtherTally) is = cc
-zero_wants (verdict.Check check.WantOfMemory) is = refl
-zero_wants (verdict.Check check.Weight) is = cc
-zero_wants (verdict.Check check.Totals) is = cc
-zero_wants (verdict.Check (check.Forbidden p)) is = cc
-zero_wants (verdict.Check (check.Slack name count variant)) is = cc
-zero_wants (verdict.Check check.Sum) is = cc
-zero_wants (verdict.Check check.Cost) is = cc
-zero_wants (verdict.Check check.NotDeficient) is = cc
-zero_wants (verdict.Check check.Groups) is = cc
-
 told_valid : (a : Answered) (told : Result (Unit {0}) RampFault) → laws.IsValid told → IsValid a.answers (report_found false (found_as a told))
 told_valid a (Ok u) valid = (refl, refl)
 told_valid a (Err Lines) valid = absurd valid
-told_valid a (Err (Step n e)) valid = zero_wants e valid
+told_valid a (Err (Step n e)) valid = valid
 
 -- the same of what the steps are planned on
 of_inputs : (e : Evidence) → IsOfInputs e → laws.IsOfInputs (recorded e)

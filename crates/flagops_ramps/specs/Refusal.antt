@@ -5,7 +5,7 @@ use Rattle.flagops_files.specs.Refusal as files
 use Rattle.flagops_files.specs.Refusal.{line_with}
 use Rattle.flagops_rollouts.specs.Payload.{verify_items}
 use Rattle.flagops_rollouts.specs.Refusal as rolling
-use Rattle.flagops_rollouts.specs.Refusal.{doubt_name, doubt_number, is_want_of_verify}
+use Rattle.flagops_rollouts.specs.Refusal.{doubt_name, doubt_number}
 use Rattle.plan_text.specs.Fault as plan_files
 use Rattle.plan_text.specs.declared.fault.PlanFileFault.TheVariants as plan
 use Rattle.ramp_steps.specs.Fault as ramp_files
@@ -32,7 +32,7 @@ is_want (Rollout e) = rolling.is_want e
 is_want (Ramp rollout.WantOfMemory) = true
 is_want (Print plan.WantOfMemory) = true
 is_want (Read ramp_file.WantOfMemory) = true
-is_want (Verify e) = is_want_of_verify e
+is_want (Verify e) = verdicts.is_want e
 is_want r = false
 
 -- a file could not be read

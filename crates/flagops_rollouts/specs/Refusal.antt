@@ -8,8 +8,6 @@ use Rattle.rollout_checks.specs.VerifyFault as verdicts
 use Rattle.rollout_checks.specs.declared.fault.RolloutFault.{RolloutFault}
 use Rattle.rollout_checks.specs.declared.fault.RolloutFault.TheVariants as rollout
 use Rattle.rollout_checks.specs.declared.verify_fault.VerifyFault.{VerifyFault}
-use Rattle.rollout_checks.specs.declared.verify_fault.VerifyFault.TheVariants as verdict
-use Rattle.transport_instance.specs.declared.fault.CheckFault.TheVariants as check
 use Rattle.flagops_shell.specs.Diagnostic.{RemarksOf}
 use Rattle.flagops_shell.specs.Ending as shell
 use Rattle.flagops_shell.specs.Given as given
@@ -50,19 +48,13 @@ call_of (Plan e) = call.Plan
 call_of (PrintPlanned e) = call.PrintPlanned
 call_of (Doubted c d) = c
 
--- memory ran out while an answer was verified
-abbrev pub is_want_of_verify : VerifyFault → Bool
-is_want_of_verify (verdict.Request rollout.WantOfMemory) = true
-is_want_of_verify (verdict.Check check.WantOfMemory) = true
-is_want_of_verify e = false
-
 -- memory ran out
 abbrev pub is_want : RolloutRefusal → Bool
 is_want (Load e) = files.is_want e
 is_want (WantOfMemory c) = true
-is_want (Verify e) = is_want_of_verify e
+is_want (Verify e) = verdicts.is_want e
 is_want (Apply rollout.WantOfMemory) = true
-is_want (Keep (keeping.Verify e)) = is_want_of_verify e
+is_want (Keep (keeping.Verify e)) = verdicts.is_want e
 is_want (Keep (keeping.Document document.WantOfMemory)) = true
 is_want (Plan rollout.WantOfMemory) = true
 is_want (PrintPlanned plan.WantOfMemory) = true

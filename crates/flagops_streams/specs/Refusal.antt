@@ -1,8 +1,10 @@
 -- The line that a refusal of a command of streams is written as.
-use Rattle.std.specs.Prelude.{◌≡◌, ℕ, Bool, true, false, List, [], ◌++◌, codes, decimal, nat_eq, Result, Ok, Err}
+use Rattle.std.specs.Prelude.{◌≡◌, ℕ, Bool, true, false, List, [], ◌++◌, codes, decimal, Result, Ok, Err}
 use Rattle.flag_defs.specs.Fault as documents
 use Rattle.snap_share.specs.Fault as shares
+use Rattle.snap_share.specs.declared.fault.ShareFault.TheVariants as share
 use Rattle.source_merge.specs.Fault as sources
+use Rattle.source_merge.specs.declared.fault.SourceFault.TheVariants as source
 use Rattle.source_merge.specs.declared.fault.SourceFault.TheVariants.{Refused}
 use Rattle.flagops_streams.specs.declared.refusal.Refusal.{Refusal}
 use Rattle.flagops_streams.specs.declared.refusal.Refusal.TheVariants.{Add, Unreadable, Unloaded, Set, Merged, Share, Publish, Unbound, NoConnection, NoThread, Unreachable, Unserved, WantOfMemory}
@@ -67,9 +69,16 @@ abbrev pub is_unreadable : Refusal → Bool
 is_unreadable Unreadable = true
 is_unreadable r = false
 
--- memory ran out: each fault has this as its number 0
+-- memory ran out, for the command or in a call that it makes
 abbrev pub is_want : Refusal → Bool
-is_want r = nat_eq (number_of r) 0
+is_want WantOfMemory = true
+is_want Unloaded = true
+is_want (Add source.WantOfMemory) = true
+is_want (Set source.WantOfMemory place) = true
+is_want (Merged source.WantOfMemory) = true
+is_want (Share share.WantOfMemory) = true
+is_want (Publish share.WantOfMemory) = true
+is_want r = false
 
 -- What was returned, seen by `seen`, is what the definition gives, unless memory ran out.
 abbrev pub GivesUnlessWant : {X Y : Type 0} → (X → Y) → Result X Refusal → Result Y Refusal → Type 0

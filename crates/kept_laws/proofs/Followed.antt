@@ -1,5 +1,5 @@
 -- Where a way that is followed through a document leads, by paths of its tree.
-use Rattle.std.proofs.Common.{◌≡◌, ◌<◌, ◌-◌, ℕ, zero, suc, Bool, true, false, nat_lt, List, [], ◌∷◌, ◌++◌, Option, Some, None, option_and_then, refl, sym, ap, ◌∙◌, subst, append-nil, append_assoc, arith}
+use Rattle.std.proofs.Common.{◌≡◌, ◌<◌, ◌-◌, ℕ, zero, suc, Bool, true, false, nat_lt, List, [], ◌∷◌, ◌++◌, Option, Some, None, option_and_then, refl, sym, ap, ◌∙◌, subst, append-nil, append_assoc}
 use Rattle.std.proofs.lemmas.Bool.{ltb-true}
 use Rattle.std.specs.Prelude.{codes, if◌then◌else◌}
 use Rattle.flag_text.specs.Readers.{find_member, member_of}
@@ -10,7 +10,7 @@ use Rattle.logic_ast.specs.FirstFault.{item_count}
 use Rattle.part_texts.specs.Part.{item_at, part_at, step_into}
 use Rattle.site_places.specs.Following as following
 use Rattle.site_places.specs.Following.{Inside, nothing, itself, inner, Spot, part, referred, lost, followed, going_on, led, or_nothing, unless_reference}
-use Rattle.site_places.specs.Place.{SitePlace, buckets, shared, nowhere, at_spot, in_list, from_targeting, site_place, targeting_at, targeting_path}
+use Rattle.site_places.specs.Place.{SitePlace, buckets, shared, nowhere, at_spot, from_targeting, site_place, targeting_at, targeting_path}
 use Rattle.site_places.specs.Seeking.{Sought, later, here, find_site}
 use Rattle.text_spans.specs.Path.{Step, name, index}
 
@@ -183,3 +183,32 @@ module _ (document : Shape) (key : List ℕ) (path : List Step) (first last : �
   -- the buckets of a site are items of a list of the document
   pub place_listed : (form : Shape) (n : ℕ) → site_place document key form n ≡ buckets path first last → IsListed document path first last
   place_listed form n e = from (targeting_at document key) (find_site n form) refl e
+
+  -- ---- they stand within the targeting
+
+  abbrev pub IsWithin : Type 0
+  IsWithin = (steps : List Step) × (path ≡ targeting_path key ++ steps)
+
+  within_list : (u : Shape) (p : List Step) (ts : Items) (front : ℕ) (b : Bool) → Reaches (targeting_path key) u p (shape.list ts) → (if b then buckets p front (item_count ts - 1) else nowhere) ≡ buckets path first last → IsWithin
+  unfolding place_path
+  within_list u p ts front false reaches e = cc
+  within_list u p ts front true (steps, same, there) e = let paths : p ≡ path = ap (λ place. place_path place p) e in (steps, sym paths ∙ same)
+
+  within_spot : (u : Shape) (front : ℕ) (spot : Spot) → ((p : List Step) (v : Shape) → spot ≡ part p v → Reaches (targeting_path key) u p v) → at_spot front spot ≡ buckets path first last → IsWithin
+  within_spot u front (part p (shape.list ts)) reaches e = within_list u p ts front (nat_lt front (item_count ts)) (reaches p (shape.list ts) refl) e
+  within_spot u front (part p null) reaches e = cc
+  within_spot u front (part p (boolean b)) reaches e = cc
+  within_spot u front (part p (whole z)) reaches e = cc
+  within_spot u front (part p other) reaches e = cc
+  within_spot u front (part p (text s)) reaches e = cc
+  within_spot u front (part p (object ms)) reaches e = cc
+  within_spot u front (referred evaluator) reaches e = cc
+  within_spot u front lost reaches e = cc
+
+  within : (o : Option Shape) (s : Sought) → from_targeting key o s ≡ buckets path first last → IsWithin
+  within None s e = cc
+  within (Some u) (later n) e = cc
+  within (Some u) (here way front) e = within_spot u front (followed (targeting_path key) u way) (λ p v. followed_part way (targeting_path key) u p v) e
+
+  pub place_within : (form : Shape) (n : ℕ) → site_place document key form n ≡ buckets path first last → IsWithin
+  place_within form n e = within (targeting_at document key) (find_site n form) e

@@ -1,2 +1,3 @@
 mod Followed
 mod Replaced
+mod WithFloats

@@ -1,8 +1,9 @@
 -- What a rule takes the place of, by the tree of the document.
-use Rattle.std.specs.Prelude.{◌≡◌, ◌<◌, ℕ, ◌-◌, List, ◌++◌, Option, Some, Ok, false}
+use Rattle.std.specs.Prelude.{◌≡◌, ◌<◌, ℕ, ◌-◌, List, ◌++◌, Option, Some, Ok, false, true}
 use Rattle.bucket_core.specs.Rule.{Entries}
 use Rattle.flag_defs.specs.Document.{Definitions, max_bytes}
 use Rattle.flag_text.specs.Reading.{doc_of}
+use Rattle.float_variants.specs.Reading.{doc_with_floats}
 use Rattle.flag_text.specs.Shape.{Shape, list, Items}
 use Rattle.kept_document.specs.Kept.{KeptAt, entries_text, place_in}
 use Rattle.logic_ast.specs.FirstFault.{item_count}
@@ -40,3 +41,10 @@ ReplacedIsRead =
     (document : List ℕ) (t : Shape) (flags : Definitions) (key : List ℕ) (n : ℕ) (rule : Entries) (kept : List ℕ)
     → doc_of document max_bytes ≡ Ok t → KeptAt document (place_in false document flags key n) rule kept
     → (path : List Step) × (first : ℕ) × (last : ℕ) × (place_in false document flags key n ≡ buckets path first last) × IsPutInto document t path first last rule kept
+
+-- The same of a document that may have floats: its tree has the values of the variants with floats as texts.
+abbrev pub ReplacedWithFloatsIsRead : Type 0
+ReplacedWithFloatsIsRead =
+    (document : List ℕ) (t : Shape) (flags : Definitions) (key : List ℕ) (n : ℕ) (rule : Entries) (kept : List ℕ)
+    → doc_with_floats document max_bytes ≡ Ok t → KeptAt document (place_in true document flags key n) rule kept
+    → (path : List Step) × (first : ℕ) × (last : ℕ) × (place_in true document flags key n ≡ buckets path first last) × IsPutInto document t path first last rule kept

@@ -1,5 +1,5 @@
 //! What holds of the definitions of a kept document and of trees.
-ghost use Rattle.kept_laws.specs.Replaced.{ReplacedIsRead};
+ghost use Rattle.kept_laws.specs.Replaced.{ReplacedIsRead, ReplacedWithFloatsIsRead};
 
 use part_texts::the_bytes_of_a_part_read_as_it;
 
@@ -10,3 +10,9 @@ pub fn what_is_replaced_is_read()
 {
     the_bytes_of_a_part_read_as_it();
 }
+
+/// The same of a document that may have floats: its tree has the values of the variants with floats as texts, and the bytes of
+/// items read as these items, since no targeting is changed by that. A law: it computes nothing.
+pub fn what_is_replaced_with_floats_is_read()
+    ensures { ReplacedWithFloatsIsRead }
+{}

@@ -1,8 +1,8 @@
 mod Cut
 mod Marks
-mod Parts
-mod Places
+pub mod Parts
+pub mod Places
 mod Steps
 mod Strings
-mod Trees
-mod Words
+pub mod Trees
+pub mod Words

@@ -120,25 +120,29 @@ utf8_part front old back u low first =
 
 -- ---- the whole
 
-pub bytes_read : (text : List ℕ) (limit : ℕ) (path : List Step) (front old back : List ℕ) (t : Shape) → doc_of text limit ≡ Ok t → Stands text path front old back
-    → (part : Shape) × (part_at path t ≡ Some part) × (doc_of old limit ≡ Ok part)
-bytes_read text limit path front old back t e stands = go (place path v.json text) (part_stands path v.json 127 [] fresh text v.shallow (v.tokens ∙ sym (append-nil (json_tokens v.json)))) (sym (place_in text path v.json v.tokens v.shallow) ∙ stands.there)
+-- The bytes at the place of a part of a text's value are a text whose tree is that of the part.
+pub part_bytes : (text : List ℕ) (limit : ℕ) (path : List Step) (front old back : List ℕ) (j : json.Json) → length text ≤ limit → IsUtf8 text → tokens text ≡ json_tokens j → depth j ≤ 127 → Stands text path front old back
+    → (i : json.Json) × (json_part path j ≡ Some i) × ((v : Shape) → tree_from i ≡ Some v → doc_of old limit ≡ Ok v)
+part_bytes text limit path front old back j short_text utf8_text tokens_are shallow stands =
+    go (place path j text) (part_stands path j 127 [] fresh text shallow (tokens_are ∙ sym (append-nil (json_tokens j)))) (sym (place_in text path j tokens_are shallow) ∙ stands.there)
   where
-    r : IsRead text limit t
-    r = read_of text limit t e
-
-    v : IsValue text t
-    v = value_of text t r.value
-
-    go : (o : Option Place) → IsPart 127 o (json_part path v.json) → o ≡ Some (old ++ back, back) → (part : Shape) × (part_at path t ≡ Some part) × (doc_of old limit ≡ Ok part)
+    go : (o : Option Place) → IsPart 127 o (json_part path j) → o ≡ Some (old ++ back, back) → (i : json.Json) × (json_part path j ≡ Some i) × ((v : Shape) → tree_from i ≡ Some v → doc_of old limit ≡ Ok v)
     go None h is = cc
     go (Some q) h is =
         let from : q.0 ≡ old ++ back = cc in
         let behind : q.1 ≡ back = cc in
         let same : h.1 ≡ old = append_cancel_right h.1 old back (ap (λ l. h.1 ++ l) (sym behind) ∙ sym h.3 ∙ from) in
-        let part = part_read path v.json t h.0 v.tree h.2 in
         let low : EndsLow old = subst (λ (l : List ℕ). EndsLow l) same h.5 in
         let first : get_or (old ++ back) 0 0 < 128 = subst (λ (l : List ℕ). get_or l 0 0 < 128) from h.6 in
-        let utf8 : IsUtf8 old = utf8_part front old back (subst (λ (l : List ℕ). IsUtf8 l) stands.whole r.utf8) low first in
-        let short : length old ≤ limit = omega (arith, ap length stands.whole, length-append front (old ++ back), length-append old back, r.short) in
-        (part.0, part.2, doc_of-utf8 old limit short utf8 ∙ tree_back old h.0 part.0 (ap tokens (sym same) ∙ h.4) h.7 part.1)
+        let utf8 : IsUtf8 old = utf8_part front old back (subst (λ (l : List ℕ). IsUtf8 l) stands.whole utf8_text) low first in
+        let short : length old ≤ limit = omega (arith, ap length stands.whole, length-append front (old ++ back), length-append old back, short_text) in
+        (h.0, h.2, λ v tree. doc_of-utf8 old limit short utf8 ∙ tree_back old h.0 v (ap tokens (sym same) ∙ h.4) h.7 tree)
+
+pub bytes_read : (text : List ℕ) (limit : ℕ) (path : List Step) (front old back : List ℕ) (t : Shape) → doc_of text limit ≡ Ok t → Stands text path front old back
+    → (part : Shape) × (part_at path t ≡ Some part) × (doc_of old limit ≡ Ok part)
+bytes_read text limit path front old back t e stands =
+    let r : IsRead text limit t = read_of text limit t e in
+    let v : IsValue text t = value_of text t r.value in
+    let p = part_bytes text limit path front old back v.json r.short r.utf8 v.tokens v.shallow stands in
+    let part = part_read path v.json t p.0 v.tree p.1 in
+    (part.0, part.2, p.2 part.0 part.1)

@@ -1,5 +1,5 @@
 -- What is answered on the tally of some inputs is answered on a book that has them.
-use Rattle.std.proofs.Common.{◌≡◌, ◌≢◌, ◌∙◌, ◌*◌, ◌==◌, ◌&&◌, ◌<◌, ℕ, zero, suc, List, [], ◌∷◌, length, Bool, true, false, cond, unwrap_or, Option, None, Some, Ordering, Result, Ok, Err, refl, sym, ap, subst}
+use Rattle.std.proofs.Common.{◌≡◌, ◌≢◌, ◌∙◌, ◌*◌, ◌==◌, ◌&&◌, ◌<◌, ℕ, zero, suc, List, [], ◌∷◌, length, Bool, true, false, true≢false, cond, unwrap_or, Option, None, Some, Ordering, Result, Ok, Err, refl, sym, ap, subst}
 use Rattle.std.specs.Ordering.{is_eq, ordering_reverse}
 use Rattle.std.specs.declared.cmp.Ordering.TheVariants.{Less, Equal, Greater}
 use Rattle.std.proofs.Math.Nat.{mul-div_cancel_left, mul-mod_right}
@@ -19,7 +19,7 @@ use Rattle.rollout_checks.specs.Lawful.{Place, Problem, and_then, by_price, fact
 use Rattle.rollout_checks.specs.Refined.{refining_checked}
 use Rattle.rollout_checks.specs.Tallied.{AreTallied, IsTallyOutcome, IsTallyShown, TallyProblem, tally_problem_at, tally_problem_of, with_counts, with_inputs}
 use Rattle.rollout_checks.specs.Verified.{IsOutcome, IsShown}
-use Rattle.rollout_checks.specs.VerifyFault.{number_of}
+use Rattle.rollout_checks.specs.VerifyFault.{is_want}
 use Rattle.rollout_checks.specs.declared.fault.RolloutFault.{RolloutFault}
 use Rattle.rollout_checks.specs.declared.fault.RolloutFault.TheVariants.{OtherTally}
 use Rattle.rollout_checks.specs.declared.refining.Refining.{Refining}
@@ -148,9 +148,9 @@ module _ (asks : TalliesAskAsBooks) (book : Contents) (t : PageTally) (counts : 
         let both = alike refining flags r p is in
         subst (λ (x : Result Problem RolloutFault). IsShown x a) (sym both.0) (shown (inputs_on book t.page) both.1)
 
-    wrong_to : (e : VerifyFault) → number_of e ≢ 0 → e ≢ Request OtherTally → (p : Result TallyProblem RolloutFault) → tally_problem_of refining flags r t ≡ p → IsTallyOutcome p a (Err e) → IsOutcome (problem_of refining flags r book) a (Err e)
+    wrong_to : (e : VerifyFault) → is_want e ≡ false → e ≢ Request OtherTally → (p : Result TallyProblem RolloutFault) → tally_problem_of refining flags r t ≡ p → IsTallyOutcome p a (Err e) → IsOutcome (problem_of refining flags r book) a (Err e)
     wrong_to (Request e) wants other (Err f) is told =
-        let same : e ≡ f = told (λ want. wants (ap (λ x. number_of (Request x)) want)) in
+        let same : e ≡ f = told (λ want. true≢false (sym (ap (λ x. is_want (Request x)) want) ∙ wants)) in
         let none = refused_alike refining flags book t f (λ of. other (ap (λ x. Request x) (same ∙ of))) r is in
         subst (λ (x : Result Problem RolloutFault). IsOutcome x a (Err (Request e))) (sym none) told
     wrong_to (Check e) wants other (Err f) is told = absurd told
@@ -158,7 +158,7 @@ module _ (asks : TalliesAskAsBooks) (book : Contents) (t : PageTally) (counts : 
         let both = alike refining flags r p is in
         subst (λ (x : Result Problem RolloutFault). IsOutcome x a (Err e)) (sym both.0) (outcome_over p (inputs_on book t.page) a (Err e) both.1 told)
 
-  told_there : (s : Standing) (f : Option ℕ) (r : List ℕ) (a : Answer) (e : VerifyFault) → number_of e ≢ 0 → e ≢ Request OtherTally → IsStepTold s f r (in_tally t) a (Err e) → IsStepTold s f r (in_book book) a (Err e)
+  told_there : (s : Standing) (f : Option ℕ) (r : List ℕ) (a : Answer) (e : VerifyFault) → is_want e ≡ false → e ≢ Request OtherTally → IsStepTold s f r (in_tally t) a (Err e) → IsStepTold s f r (in_book book) a (Err e)
   told_there (Ok flags) f r a e wants other told = wrong_to (refining_checked f a) flags r a e wants other (tally_problem_of (refining_checked f a) flags r t) refl told
   told_there (Err f') f r a (Request e) wants other told = told
   told_there (Err f') f r a (Check e) wants other told = told
@@ -182,7 +182,7 @@ module _ (asks : TalliesAskAsBooks) (book : Contents) (t : PageTally) (counts : 
   miscounted_there s f (r ∷ rs) [] h = tt
   miscounted_there s f (r ∷ rs) (a ∷ answers) h = (right_there s f r a h.0, miscounted_there (left_by s r a) (Some 1) (still a rs) answers h.1)
 
-  wrong_there : (s : Standing) (f : Option ℕ) (rs : List (List ℕ)) (answers : List Answer) (n : ℕ) (e : VerifyFault) → number_of e ≢ 0 → e ≢ Request OtherTally → IsWrongAfter s f rs (in_tally t) answers n e → IsWrongAfter s f rs (in_book book) answers n e
+  wrong_there : (s : Standing) (f : Option ℕ) (rs : List (List ℕ)) (answers : List Answer) (n : ℕ) (e : VerifyFault) → is_want e ≡ false → e ≢ Request OtherTally → IsWrongAfter s f rs (in_tally t) answers n e → IsWrongAfter s f rs (in_book book) answers n e
   wrong_there s f [] answers n e wants other h = absurd h
   wrong_there s f (r ∷ rs) [] n e wants other h = absurd h
   wrong_there s f (r ∷ rs) (a ∷ answers) zero e wants other h = told_there s f r a e wants other h

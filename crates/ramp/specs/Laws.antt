@@ -10,7 +10,7 @@ use Rattle.plan_text.specs.Answer.{Answer, emit, none_exists}
 use Rattle.price_core.specs.Pricing.{is_forbidden}
 use Rattle.price_core.specs.Request.{asked_of}
 use Rattle.rollout_checks.specs.Lawful.{Place, place_of}
-use Rattle.rollout_checks.specs.VerifyFault as verify
+use Rattle.rollout_checks.specs.VerifyFault.{is_want}
 use Rattle.transport_instance.specs.Certificate.{DualPrices}
 use Rattle.rollout_checks.specs.declared.fault.RolloutFault.TheVariants.{OtherTally}
 use Rattle.rollout_checks.specs.declared.verify_fault.VerifyFault.TheVariants.{Request}
@@ -70,7 +70,7 @@ OneTotal =
 abbrev pub IsValid : Result (Unit {0}) RampFault → Type 0
 IsValid (Ok u) = Unit {0}
 IsValid (Err Lines) = ⊥
-IsValid (Err (Step n e)) = verify.number_of e ≡ 0
+IsValid (Err (Step n e)) = is_want e ≡ true
 
 -- Answers that were planned by a factor are told as valid by the same; where none is given, the first is planned on the rule itself.
 abbrev pub RampsAreValid : Type 0

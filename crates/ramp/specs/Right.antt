@@ -1,12 +1,12 @@
 -- Whether the answers to a rollout in steps are right, whoever made them.
-use Rattle.std.specs.Prelude.{◌≡◌, ◌≢◌, ◌<◌, ◌≤◌, ℕ, zero, suc, ◌+◌, List, [], ◌∷◌, Option, Some, Result, Ok, Err}
+use Rattle.std.specs.Prelude.{◌≡◌, ◌<◌, ◌≤◌, ℕ, zero, suc, ◌+◌, false, List, [], ◌∷◌, Option, Some, Result, Ok, Err}
 use Rattle.book_core.specs.Book.{Contents}
 use Rattle.plan_text.specs.Answer.{Answer}
 use Rattle.rollout_checks.specs.Lawful.{Problem, and_then}
 use Rattle.rollout_checks.specs.Refined.{problem_checked, refining_checked}
 use Rattle.rollout_checks.specs.Tallied.{IsTallyOutcome, IsTallyShown, TallyProblem, tally_problem_of}
 use Rattle.rollout_checks.specs.Verified.{IsOutcome, IsShown}
-use Rattle.rollout_checks.specs.VerifyFault as verify
+use Rattle.rollout_checks.specs.VerifyFault.{is_want}
 use Rattle.rollout_checks.specs.declared.fault.RolloutFault.{RolloutFault}
 use Rattle.rollout_checks.specs.declared.verify_fault.VerifyFault.{VerifyFault}
 use Rattle.tally_core.specs.Tally.{PageTally}
@@ -40,7 +40,7 @@ pub record IsRight (standing : Standing) (refine : Option ℕ) (request : List �
 -- what is told of the answer to a step: that it is right, or the first refusal, unless memory ran out
 abbrev pub TellsStep : Standing → Option ℕ → List ℕ → Recorded → Answer → Result (Unit {0}) VerifyFault → Type 0
 TellsStep standing refine request recorded answer (Ok u) = IsRight standing refine request recorded answer
-TellsStep standing refine request recorded answer (Err e) = verify.number_of e ≢ 0 → IsStepTold standing refine request recorded answer (Err e)
+TellsStep standing refine request recorded answer (Err e) = is_want e ≡ false → IsStepTold standing refine request recorded answer (Err e)
 
 -- The answers are right in turn: the first on these flags, by the factor that is given or else as it tells, and each other on what the one before leaves, on the rule itself.
 abbrev pub AreRight : Standing → Option ℕ → List (List ℕ) → Recorded → List Answer → Type 0
@@ -71,7 +71,7 @@ abbrev pub IsTold : Standing → Option ℕ → List (List ℕ) → Recorded →
 IsTold standing refine requests recorded answers (Ok u) = AreRight standing refine requests recorded answers
 IsTold standing refine requests recorded answers (Err Lines) = AreMiscounted standing refine requests recorded answers
 IsTold standing refine requests recorded answers (Err (Step n e)) =
-    verify.number_of e ≢ 0 → (before : ℕ) × (n ≡ before + 1) × IsWrongAfter standing refine requests recorded answers before e
+    is_want e ≡ false → (before : ℕ) × (n ≡ before + 1) × IsWrongAfter standing refine requests recorded answers before e
 
 -- A step that is told is one of those that have an answer: where the next one is lacking, nothing is told in its place.
 abbrev pub IsOfAnswered : ℕ → Result (Unit {0}) RampFault → Type 0

@@ -1,5 +1,5 @@
 -- What is planned is told as valid.
-use Rattle.std.proofs.Common.{◌≡◌, ◌≢◌, ℕ, zero, suc, Some, None, ◌*◌, ◌==◌, ◌<◌, List, cond, Result, Ok, Err, refl, sym, ap, ◌∙◌, subst, arith}
+use Rattle.std.proofs.Common.{◌≡◌, ◌≢◌, ℕ, zero, suc, true, Some, None, ◌*◌, ◌==◌, ◌<◌, List, cond, Result, Ok, Err, refl, sym, ap, ◌∙◌, subst, arith}
 use Rattle.std.proofs.Math.Nat.{mul-div_cancel_left, mul-mod_right}
 use Rattle.bucket_core.specs.Rule.{Entries, total_weight, refinement}
 use Rattle.bucket_core.proofs.Refined.{total_weight-refinement}
@@ -15,6 +15,7 @@ use Rattle.rollout_checks.specs.Lawful.{Problem, Place, and_then, by_price, plac
 use Rattle.rollout.specs.Planned.{IsPlan}
 use Rattle.rollout_checks.specs.Refined.{problem_refined, problem_checked}
 use Rattle.rollout_checks.specs.Verified.{Proves, IsOutcome, IsValid}
+use Rattle.rollout_checks.specs.VerifyFault.{is_want}
 use Rattle.rollout_checks.specs.declared.fault.RolloutFault.{RolloutFault}
 use Rattle.rollout_checks.specs.declared.fault.RolloutFault.TheVariants as rollout
 use Rattle.rollout_checks.specs.declared.refining.Refining.{Refining}
@@ -22,12 +23,10 @@ use Rattle.rollout_checks.specs.declared.refining.Refining.TheVariants.{Times, T
 use Rattle.rollout_checks.specs.declared.verify_fault.VerifyFault.{VerifyFault}
 use Rattle.rollout_checks.specs.declared.verify_fault.VerifyFault.TheVariants.{Request, Check}
 use Rattle.rollout_checks.proofs.Bounded.{came}
-use Rattle.transport_instance.specs.Fault as check_numbers
-use Rattle.rollout_checks.specs.Fault as rollout_numbers
 
 -- ---- an answer that proves itself is told as valid
 
-want_or : (e : CheckFault) → (e ≢ check.WantOfMemory → ⊥) → check_numbers.number_of e ≡ 0
+want_or : (e : CheckFault) → (e ≢ check.WantOfMemory → ⊥) → is_want (Check e) ≡ true
 want_or check.WantOfMemory h = refl
 want_or check.Weight h = absurd (h (λ q. cc))
 want_or check.Totals h = absurd (h (λ q. cc))
@@ -40,7 +39,7 @@ want_or check.Groups h = absurd (h (λ q. cc))
 
 told_valid : (p : Problem) (answer : Answer) (result : Result (Unit {0}) VerifyFault) → Proves p answer → IsOutcome (Ok p) answer result → IsValid result
 told_valid p answer (Ok u) proves outcome = tt
-told_valid p answer (Err (Request e)) proves outcome = ap rollout_numbers.number_of outcome
+told_valid p answer (Err (Request e)) proves outcome = ap (λ x. is_want (Request x)) outcome
 told_valid p answer (Err (Check e)) proves outcome = want_or e (λ other. outcome.wrong other proves)
 
 valid_of : (r : Result Problem RolloutFault) (p : Problem) (answer : Answer) (result : Result (Unit {0}) VerifyFault) → r ≡ Ok p → Proves p answer → IsOutcome r answer result → IsValid result

@@ -1,5 +1,5 @@
 -- When an answer to a rollout request is right, and what is told where it is not.
-use Rattle.std.specs.Prelude.{◌≡◌, ◌≢◌, Result, Ok, Err}
+use Rattle.std.specs.Prelude.{◌≡◌, ◌≢◌, true, Result, Ok, Err}
 use Rattle.bucket_core.specs.Rule.{Entries, total_weight}
 use Rattle.transport_instance.specs.Certificate.{IsCertified}
 use Rattle.transport_instance.specs.Deficient.{IsDeficient}
@@ -13,7 +13,7 @@ use Rattle.rollout_checks.specs.declared.fault.RolloutFault.{RolloutFault}
 use Rattle.rollout_checks.specs.declared.fault.RolloutFault.TheVariants.{WantOfMemory}
 use Rattle.rollout_checks.specs.declared.refining.Refining.{Refining}
 use Rattle.rollout_checks.specs.declared.refining.Refining.TheVariants.{Times, ToTotal}
-use Rattle.rollout_checks.specs.VerifyFault.{number_of}
+use Rattle.rollout_checks.specs.VerifyFault.{is_want}
 use Rattle.rollout_checks.specs.declared.verify_fault.VerifyFault.{VerifyFault}
 use Rattle.rollout_checks.specs.declared.verify_fault.VerifyFault.TheVariants.{Request, Check}
 
@@ -58,7 +58,7 @@ Told = Result (Unit {0}) VerifyFault
 -- valid, unless memory ran out
 abbrev pub IsValid : Told → Type 0
 IsValid (Ok u) = Unit {0}
-IsValid (Err fault) = number_of fault ≡ 0
+IsValid (Err fault) = is_want fault ≡ true
 
 -- the request is lawful, so that the laws of weak duality and of deficient sets hold of it, and so does what an accepted answer shows
 abbrev pub IsShown : Result Problem RolloutFault → Answer → Type 0

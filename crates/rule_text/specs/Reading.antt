@@ -1,13 +1,13 @@
 -- Which rule the bytes of a text stand for: that of its tree.
-use Rattle.std.specs.Prelude.{◌≡◌, ℕ, Bool, false, nat_eq, List, Result, Ok, Err}
+use Rattle.std.specs.Prelude.{◌≡◌, ℕ, Bool, true, false, List, Result, Ok, Err}
 use Rattle.flag_text.specs.Shape.{Shape}
 use Rattle.flag_text.specs.Reading.{tree_of}
-use Rattle.flag_text.specs.Fault as texts
 use Rattle.flag_text.specs.declared.fault.TextFault.{TextFault}
-use Rattle.bucket_core.specs.Fault as rules
+use Rattle.flag_text.specs.declared.fault.TextFault.TheVariants as texts
 use Rattle.bucket_core.specs.Reading.{rule_of}
 use Rattle.bucket_core.specs.Rule.{Entries}
 use Rattle.bucket_core.specs.declared.fault.RuleFault.{RuleFault}
+use Rattle.bucket_core.specs.declared.fault.RuleFault.TheVariants as rules
 use Rattle.rule_text.specs.declared.fault.RuleTextFault.{RuleTextFault}
 use Rattle.rule_text.specs.declared.fault.RuleTextFault.TheVariants.{Text, Rule}
 
@@ -25,10 +25,11 @@ of_tree (Err e) = Err (Text e)
 abbrev pub rule_of_text : List ℕ → ℕ → Result Entries RuleTextFault
 rule_of_text bytes limit = of_tree (tree_of bytes limit)
 
--- memory ran out
+-- memory ran out, for the text or for the rule
 abbrev pub is_want : RuleTextFault → Bool
-is_want (Text e) = nat_eq (texts.number_of e) 0
-is_want (Rule e) = nat_eq (rules.number_of e) 0
+is_want (Text texts.WantOfMemory) = true
+is_want (Rule rules.WantOfMemory) = true
+is_want e = false
 
 -- What was returned is what the definition gives, unless memory ran out.
 abbrev pub GivesUnlessShort : Result Entries RuleTextFault → Result Entries RuleTextFault → Type 0

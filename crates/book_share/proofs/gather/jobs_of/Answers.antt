@@ -12,7 +12,7 @@ pub loop-seat-init : goal.loop-seat-init
 loop-seat-init g c =
     let none = c.in_ok-jobs.ensures.items in (
       subst (All (λ (s : Sight). own s ≡ [])) (sym c.into_iter-seat-iterator.ensures.into_iter_gives.0) c.requires.fresh,
-      jobs_none (λ (j : Job g.row.L.Denot). (own j.seat ≡ []) × (j.first < c.args.workers)) c.in_ok-jobs.jobs.items none,
+      jobs_none (λ (j : Job g.row.L.Denot). (own j.seat ≡ []) × (j.first < c.args.workers) × (j.answers.items ≡ [])) c.in_ok-jobs.jobs.items none,
       numbered_none (λ i (j : Job g.row.L.Denot). j.first ≡ i) c.in_ok-jobs.jobs.items none,
       (let a = ap length none in let b = ap length c.into_iter-seat-iterator.ensures.into_iter_gives.0 in let w = c.requires.workers in omega (arith, a, b, w)),
     )
@@ -25,8 +25,8 @@ loop-seat-preserved g c =
     let pushed = c.in_ok-push.ensures.items in
     let rest : All P (c.in-Some.seat ∷ c.next.new.self.rest.items) = subst (All P) steps i.0 in (
       All-tail P c.in-Some.seat c.next.new.self.rest.items rest,
-      jobs_more (λ (j : Job g.row.L.Denot). (own j.seat ≡ []) × (j.first < c.args.workers)) c.loop-seat.jobs.items c.push.new.self.items _ pushed i.1
-          (All-head P c.in-Some.seat c.next.new.self.rest.items rest, (let b = ap length steps in let d = i.3 in let n : c.len-first.result ≡ length c.loop-seat.jobs.items = search rules in omega (arith, b, d, n))),
+      jobs_more (λ (j : Job g.row.L.Denot). (own j.seat ≡ []) × (j.first < c.args.workers) × (j.answers.items ≡ [])) c.loop-seat.jobs.items c.push.new.self.items _ pushed i.1
+          (All-head P c.in-Some.seat c.next.new.self.rest.items rest, (let b = ap length steps in let d = i.3 in let n : c.len-first.result ≡ length c.loop-seat.jobs.items = search rules in omega (arith, b, d, n)), c.in_ok-answers.ensures.items),
       numbered_more (λ i (j : Job g.row.L.Denot). j.first ≡ i) c.loop-seat.jobs.items c.push.new.self.items _ pushed i.2 (search rules),
       (let a = ap length pushed ∙ length-append c.loop-seat.jobs.items _ in let b = ap length steps in let d = i.3 in omega (arith, a, b, d)),
     )

@@ -4,5 +4,5 @@ use Rattle.book_share.proofs.gather.jobs_of.Given as goal
 
 abbrev pub invariant-loop-seat : goal.invariant-loop-seat
 invariant-loop-seat g l =
-    All (λ seat. own seat ≡ []) l.seat-iterator.rest.items × All (λ job. (own job.seat ≡ []) × (job.first < l.workers)) l.jobs.items × ((i : ℕ) → IfSome (slice_get l.jobs.items i) (λ job. job.first ≡ i))
+    All (λ seat. own seat ≡ []) l.seat-iterator.rest.items × All (λ job. (own job.seat ≡ []) × (job.first < l.workers) × (job.answers.items ≡ [])) l.jobs.items × ((i : ℕ) → IfSome (slice_get l.jobs.items i) (λ job. job.first ≡ i))
     × (length l.jobs.items + length l.seat-iterator.rest.items ≡ l.workers)

@@ -5,7 +5,7 @@ use base.Fml.{Lft}
 use Rattle.flag_defs.specs.Flags.{flags_view}
 use Rattle.book_share.specs.Asked.{asks_of}
 use Rattle.book_share.specs.Driven.{IsWork}
-use Rattle.book_share.specs.Gated.{EachTurn}
+use Rattle.book_share.specs.Gated.{EachTurn, FailsAfter}
 use Rattle.book_share.proofs.Crossings.{worker_sync}
 use Rattle.std.proofs.Common.{[], ◌≡◌, ◌<◌, length, subst, ap, ◌∙◌, rules}
 use Rattle.std.specs.Prelude.{IfOk}
@@ -47,6 +47,12 @@ returns-clause-gated g c =
     both_ok c.map_vec.result _ _ _ c.map_vec.ensures.len c.map_vec.ensures.each (λ v len gives.
     at_each c.in_ok-jobs.jobs.items v.items (λ j. j.first) (λ w r. IfOk r (λ _. EachTurn (λ n. g.G.Gate.started c.args.round.now.gate.now n × g.G.Gate.told c.args.round.now.gate.now n) c.args.round.now.step w (length c.args.round.now.asks.now))) (search (rules, len)) c.in_ok-jobs.ensures.first
     (λ i d lt. let job = (gives i d lt).1 in (job.job, job.job_read, job.call.met.3)))
+
+pub returns-clause-begun : goal.returns-clause-begun
+returns-clause-begun g c =
+    both_ok c.map_vec.result _ _ _ c.map_vec.ensures.len c.map_vec.ensures.each (λ v len gives.
+    at_each c.in_ok-jobs.jobs.items v.items (λ j. j.first) (λ w r. FailsAfter (g.G.Gate.started c.args.round.now.gate.now) c.args.round.now.step w (length c.args.round.now.asks.now) r) (search (rules, len)) c.in_ok-jobs.ensures.first
+    (λ i d lt. let job = (gives i d lt).1 in (job.job, job.job_read, job.call.met.4)))
 
 pub returns-clause-stalled : goal.returns-clause-stalled
 returns-clause-stalled g c =

@@ -1,0 +1,3 @@
+mod Applied
+mod Read
+mod Rollouts

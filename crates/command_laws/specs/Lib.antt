@@ -1,0 +1,2 @@
+pub mod Rollouts
+pub mod Whole

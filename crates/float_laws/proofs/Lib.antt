@@ -1,0 +1,6 @@
+mod Framed
+mod KeptNumbers
+mod Marked
+mod Read
+mod Spliced
+mod TokenNumbers

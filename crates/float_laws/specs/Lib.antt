@@ -1,0 +1,4 @@
+pub mod Documents
+pub mod Frames
+pub mod Kept
+pub mod Whole
