@@ -1,5 +1,5 @@
 -- What is told, one text after the other.
-use Rattle.std.proofs.Common.{◌≡◌, ◌+◌, ◌-◌, ◌≤◌, ◌∙◌, ℕ, zero, suc, List, [], ◌∷◌, ◌++◌, Bool, true, false, not, ◌||◌, is_ok, nat_eq, Option, Some, None, Result, Ok, Err, IfOk, IfErr, inl, inr, refl, sym, subst, length, replicate, arith}
+use Rattle.std.proofs.Common.{◌≡◌, ◌+◌, ◌-◌, ◌≤◌, ◌∙◌, ℕ, zero, suc, List, [], ◌∷◌, ◌++◌, Bool, true, false, not, ◌||◌, is_ok, nat_eq, Option, Some, None, Result, Ok, Err, IfOk, IfErr, inl, inr, refl, slice_get, sym, subst, length, replicate, arith}
 use Rattle.std.proofs.lemmas.Bool.{true≢false}
 use Rattle.std.proofs.lemmas.Bool.Decides.{nat_tests}
 use Rattle.std.proofs.lemmas.List.{length-replicate, take_all}
@@ -7,7 +7,10 @@ use Rattle.std.specs.Bool.{OnTrue}
 use Rattle.std.specs.Io.KnownBytes.{Appends}
 use Rattle.flag_text.specs.Outlet.{AppendsPart}
 use Rattle.file_diagnostics.specs.Named.{Names}
-use Rattle.flagops_streams.specs.Report.{RefusesBeside, Reports}
+use Rattle.flag_defs.specs.Floats.{MeansAs}
+use Rattle.flag_defs.specs.declared.fault.DefFault.{DefFault}
+use Rattle.flagops_streams.specs.Documents.{IsRefusedAt}
+use Rattle.flagops_streams.specs.Report.{RefusesBeside, Reports, Serves}
 use Rattle.flagops_streams.specs.Told.{MayForewarn, MayForewarnAt, MayForewarnEach, MayTell, MayTellEach, Says, TellsArrivals, TellsDepartures, TellsEnds, TellsGone, TellsLate, TellsOfSubscribers, TellsServing, came_line, forewarning, gone_line, late_line, listening_line}
 use Rattle.flagops_streams.specs.declared.disconnected.Disconnected.{Disconnected}
 use Rattle.flagops_streams.specs.declared.refusal.Refusal.{Refusal}
@@ -79,30 +82,32 @@ module _ (before after : Bool) (stays : after ≡ false → before ≡ false) wh
       (between, still_may (listening_line port subscribers) old between first, subst (λ (k : ℕ). MayTellEach line k between new after) next more)
 
   -- one more document behind the first
-  still_warned : (paths : List (List ℕ)) (place : ℕ) (old new : Option (List ℕ)) → MayForewarnAt paths place old new before → MayForewarnAt paths place old new after
-  still_warned paths place old new (inl same) = inl same
-  still_warned paths place old new (inr (path, at, inl same)) = inr (path, at, inl same)
-  still_warned paths place old new (inr (path, at, inr (why, names, said))) = inr (path, at, inr (why, names, still_said old new before after (forewarning place why) stays said))
+  still_warned : (paths : List (List ℕ)) (IsRefused : ℕ → Type 0) (place : ℕ) (old new : Option (List ℕ)) → MayForewarnAt paths IsRefused place old new before → MayForewarnAt paths IsRefused place old new after
+  still_warned paths IsRefused place old new (inl same) = inl same
+  still_warned paths IsRefused place old new (inr (path, at, refused, inl same)) = inr (path, at, refused, inl same)
+  still_warned paths IsRefused place old new (inr (path, at, refused, inr (why, names, said))) =
+      inr (path, at, refused, inr (why, names, still_said old new before after (forewarning place why) stays said))
 
-  pub still_each : (paths : List (List ℕ)) (n : ℕ) (old new : Option (List ℕ)) → MayForewarnEach paths n old new before → MayForewarnEach paths n old new after
-  still_each paths zero old new same = same
-  still_each paths (suc n) old new (between, warned, last) = (between, still_each paths n old between warned, still_warned paths (n + 2) between new last)
+  pub still_each : (paths : List (List ℕ)) (IsRefused : ℕ → Type 0) (n : ℕ) (old new : Option (List ℕ)) → MayForewarnEach paths IsRefused n old new before → MayForewarnEach paths IsRefused n old new after
+  still_each paths IsRefused zero old new same = same
+  still_each paths IsRefused (suc n) old new (between, warned, last) = (between, still_each paths IsRefused n old between warned, still_warned paths IsRefused (n + 2) between new last)
 
-  pub warned_more : (paths : List (List ℕ)) (n place : ℕ) (old mid new : Option (List ℕ)) → place ≡ n + 2
-      → MayForewarnEach paths n old mid before → MayForewarnAt paths place mid new after → MayForewarnEach paths (n + 1) old new after
-  warned_more paths n place old mid new is warned last =
+  pub warned_more : (paths : List (List ℕ)) (IsRefused : ℕ → Type 0) (n place : ℕ) (old mid new : Option (List ℕ)) → place ≡ n + 2
+      → MayForewarnEach paths IsRefused n old mid before → MayForewarnAt paths IsRefused place mid new after → MayForewarnEach paths IsRefused (n + 1) old new after
+  warned_more paths IsRefused n place old mid new is warned last =
       let next : suc n ≡ n + 1 = omega arith in
-      subst (λ (k : ℕ). MayForewarnEach paths k old new after) next
-      (mid, still_each paths n old mid warned, subst (λ (k : ℕ). MayForewarnAt paths k mid new after) is last)
+      subst (λ (k : ℕ). MayForewarnEach paths IsRefused k old new after) next
+      (mid, still_each paths IsRefused n old mid warned, subst (λ (k : ℕ). MayForewarnAt paths IsRefused k mid new after) is last)
 
   pub still_arrivals : (port subscribers came : ℕ) (old new : Option (List ℕ)) → TellsArrivals port subscribers came old new before → TellsArrivals port subscribers came old new after
   still_arrivals port subscribers came old new (between, first, told) =
       (between, still_may (listening_line port subscribers) old between first, still_in_turn (λ number. came_line number subscribers) came between new told)
 
-  pub still_served : (paths : List (List ℕ)) (documents port subscribers : ℕ) (b : Bool) (old new : Option (List ℕ))
-      → TellsServing paths documents port subscribers b old new before → TellsServing paths documents port subscribers b old new after
-  still_served paths documents port subscribers b old new (warned_to, warned, (came, absent, all, (came_to, arrived, (ends, count, served, gone)))) =
-      (warned_to, still_each paths (documents - 1) old warned_to warned, (came, absent, all, (came_to, still_arrivals port subscribers came warned_to came_to arrived, (ends, count, served, still_ends ends came_to new gone))))
+  pub still_served : (paths : List (List ℕ)) (IsRefused : ℕ → Type 0) (documents port subscribers : ℕ) (b : Bool) (old new : Option (List ℕ))
+      → TellsServing paths IsRefused documents port subscribers b old new before → TellsServing paths IsRefused documents port subscribers b old new after
+  still_served paths IsRefused documents port subscribers b old new (warned_to, warned, (came, absent, all, (came_to, arrived, (ends, count, served, gone)))) =
+      (warned_to, still_each paths IsRefused (documents - 1) old warned_to warned,
+          (came, absent, all, (came_to, still_arrivals port subscribers came warned_to came_to arrived, (ends, count, served, still_ends ends came_to new gone))))
 
 -- nobody has come yet
 pub no_arrivals : (port subscribers : ℕ) (old new : Option (List ℕ)) (is_mute : Bool) → MayTell (listening_line port subscribers) old new is_mute → TellsArrivals port subscribers 0 old new is_mute
@@ -115,10 +120,27 @@ pub forewarned_by : (path why : List ℕ) (place : ℕ) (old new : Option (List 
 forewarned_by path why place old new is_mute names (inl same) = inl same
 forewarned_by path why place old new is_mute names (inr said) = inr (why, names, said)
 
+-- the document of some bytes is at a place
+pub refused_at : (paths : List (List ℕ)) (floats : Bool) (texts : List (List ℕ)) (text : List ℕ) (place : ℕ) (old new : Option (List ℕ)) (is_mute : Bool) → slice_get texts (place - 1) ≡ Some text
+    → MayForewarnAt paths (λ _. (fault : DefFault) × MeansAs floats text (Err fault)) place old new is_mute → MayForewarnAt paths (IsRefusedAt floats texts) place old new is_mute
+refused_at paths floats texts text place old new is_mute there (inl same) = inl same
+refused_at paths floats texts text place old new is_mute there (inr (path, at, (fault, means), told)) = inr (path, at, (text, fault, there, means), told)
+
+-- documents that are refused in one sense are so in another
+warned_as : (paths : List (List ℕ)) (Is As : ℕ → Type 0) → ((place : ℕ) → Is place → As place) → (n : ℕ) (old new : Option (List ℕ)) (is_mute : Bool) → MayForewarnEach paths Is n old new is_mute → MayForewarnEach paths As n old new is_mute
+warned_as paths Is As more zero old new is_mute same = same
+warned_as paths Is As more (suc n) old new is_mute (between, warned, inl same) = (between, warned_as paths Is As more n old between is_mute warned, inl same)
+warned_as paths Is As more (suc n) old new is_mute (between, warned, inr (path, at, refused, told)) =
+    (between, warned_as paths Is As more n old between is_mute warned, inr (path, at, more (n + 2) refused, told))
+
+pub served_as : (paths : List (List ℕ)) (Is As : ℕ → Type 0) → ((place : ℕ) → Is place → As place) → (documents port subscribers : ℕ) (b : Bool) (old new : Option (List ℕ)) (is_mute : Bool)
+    → TellsServing paths Is documents port subscribers b old new is_mute → TellsServing paths As documents port subscribers b old new is_mute
+served_as paths Is As more documents port subscribers b old new is_mute (between, warned, told) = (between, warned_as paths Is As more (documents - 1) old between is_mute warned, told)
+
 -- nothing is told of documents, nor of subscribers of whom nothing is known
-pub none_warned : (paths : List (List ℕ)) (n : ℕ) (old : Option (List ℕ)) (is_mute : Bool) → MayForewarnEach paths n old old is_mute
-none_warned paths zero old is_mute = refl
-none_warned paths (suc n) old is_mute = (old, none_warned paths n old is_mute, inl refl)
+none_warned : (paths : List (List ℕ)) (IsRefused : ℕ → Type 0) (n : ℕ) (old : Option (List ℕ)) (is_mute : Bool) → MayForewarnEach paths IsRefused n old old is_mute
+none_warned paths IsRefused zero old is_mute = refl
+none_warned paths IsRefused (suc n) old is_mute = (old, none_warned paths IsRefused n old is_mute, inl refl)
 
 unknown_ends : (n : ℕ) (old : Option (List ℕ)) (is_mute : Bool) → TellsEnds (replicate n None) old old is_mute
 unknown_ends zero old is_mute = refl
@@ -140,13 +162,13 @@ nobody_came port subscribers are_served old new is_mute refused same =
     some_came port subscribers 0 are_served old new is_mute refused (omega arith) (no_arrivals port subscribers old new is_mute (inl same))
 
 -- nothing was told at all
-pub nothing_served : (paths : List (List ℕ)) (documents port subscribers : ℕ) (old : Option (List ℕ)) (is_mute : Bool) → TellsServing paths documents port subscribers false old old is_mute
-nothing_served paths documents port subscribers old is_mute = (old, none_warned paths (documents - 1) old is_mute, nobody_came port subscribers false old old is_mute refl refl)
+pub nothing_served : (paths : List (List ℕ)) (IsRefused : ℕ → Type 0) (documents port subscribers : ℕ) (old : Option (List ℕ)) (is_mute : Bool) → TellsServing paths IsRefused documents port subscribers false old old is_mute
+nothing_served paths IsRefused documents port subscribers old is_mute = (old, none_warned paths IsRefused (documents - 1) old is_mute, nobody_came port subscribers false old old is_mute refl refl)
 
 -- what is told where all were served may be told where some were not
-pub serving_as : (paths : List (List ℕ)) (documents port subscribers : ℕ) (old new : Option (List ℕ)) (is_mute : Bool)
-    → TellsServing paths documents port subscribers true old new is_mute → TellsServing paths documents port subscribers false old new is_mute
-serving_as paths documents port subscribers old new is_mute (warned_to, warned, (came, absent, all, (came_to, arrived, (ends, count, served, gone)))) =
+pub serving_as : (paths : List (List ℕ)) (IsRefused : ℕ → Type 0) (documents port subscribers : ℕ) (old new : Option (List ℕ)) (is_mute : Bool)
+    → TellsServing paths IsRefused documents port subscribers true old new is_mute → TellsServing paths IsRefused documents port subscribers false old new is_mute
+serving_as paths IsRefused documents port subscribers old new is_mute (warned_to, warned, (came, absent, all, (came_to, arrived, (ends, count, served, gone)))) =
     (warned_to, warned, (came, absent, all, (came_to, arrived, (ends, count, λ never. absurd (true≢false (sym never)), gone))))
 
 -- where all were served, none was missed, and nobody was absent
@@ -167,3 +189,19 @@ module _ (paths : List (List ℕ)) (Tells : Bool → Option (List ℕ) → Optio
   reported_behind (Ok n) told (inl (line, same)) = inl (line, subst (λ (o : Option (List ℕ)). Tells true err o is_mute) (sym same) (still true err mid before is_mute stays told))
   reported_behind (Ok n) told (inr want) = inr (refused_behind WantOfMemory (weaker err mid before told) want)
   reported_behind (Err refusal) told refuses = refused_behind refusal told refuses
+
+-- ---- a report of what is told in another sense
+
+module _ (paths : List (List ℕ)) (Tells As : Bool → Option (List ℕ) → Option (List ℕ) → Bool → Type 0) (more : (b : Bool) (old new : Option (List ℕ)) (is_mute : Bool) → Tells b old new is_mute → As b old new is_mute)
+    (old new : Option (List ℕ)) (broken : Bool) (err err_after : Option (List ℕ)) (is_mute : Bool) (status : ℕ) where
+  refused_as : (refusal : Refusal) → RefusesBeside paths (Tells false) refusal old new broken err err_after is_mute status → RefusesBeside paths (As false) refusal old new broken err err_after is_mute status
+  refused_as refusal (by, (between, told, why)) = (by, (between, more false err between is_mute told, why))
+
+  pub reports_as : (answer : Result ℕ Refusal) → Reports paths Tells answer old new broken err err_after is_mute status → Reports paths As answer old new broken err err_after is_mute status
+  reports_as (Ok n) (inl (line, told)) = inl (line, more true err err_after is_mute told)
+  reports_as (Ok n) (inr want) = inr (refused_as WantOfMemory want)
+  reports_as (Err refusal) refuses = refused_as refusal refuses
+
+  pub serves_as : (n : ℕ) → Serves paths Tells n old new broken err err_after is_mute status → Serves paths As n old new broken err err_after is_mute status
+  serves_as n (inl (line, told)) = inl (line, more true err err_after is_mute told)
+  serves_as n (inr (refusal, refuses)) = inr (refusal, refused_as refusal refuses)

@@ -124,16 +124,16 @@ TellsOfSubscribers port subscribers are_served old new is_mute =
 abbrev pub MayForewarn : List ℕ → ℕ → Option (List ℕ) → Option (List ℕ) → Bool → Type 0
 MayForewarn path place old new is_mute = (new ≡ old) ⊎ ((why : List ℕ) × Names path why × Says old new is_mute (forewarning place why))
 
--- the same of the one at a place
-abbrev pub MayForewarnAt : List (List ℕ) → ℕ → Option (List ℕ) → Option (List ℕ) → Bool → Type 0
-MayForewarnAt paths place old new is_mute = (new ≡ old) ⊎ ((path : List ℕ) × IsPathAt paths place path × MayForewarn path place old new is_mute)
+-- the same of the one at a place, where that is refused
+abbrev pub MayForewarnAt : List (List ℕ) → (ℕ → Type 0) → ℕ → Option (List ℕ) → Option (List ℕ) → Bool → Type 0
+MayForewarnAt paths IsRefused place old new is_mute = (new ≡ old) ⊎ ((path : List ℕ) × IsPathAt paths place path × IsRefused place × MayForewarn path place old new is_mute)
 
 -- of each of so many documents behind the first, in their order
-abbrev pub MayForewarnEach : List (List ℕ) → ℕ → Option (List ℕ) → Option (List ℕ) → Bool → Type 0
-MayForewarnEach paths zero old new is_mute = new ≡ old
-MayForewarnEach paths (suc n) old new is_mute = (between : Option (List ℕ)) × MayForewarnEach paths n old between is_mute × MayForewarnAt paths (n + 2) between new is_mute
+abbrev pub MayForewarnEach : List (List ℕ) → (ℕ → Type 0) → ℕ → Option (List ℕ) → Option (List ℕ) → Bool → Type 0
+MayForewarnEach paths IsRefused zero old new is_mute = new ≡ old
+MayForewarnEach paths IsRefused (suc n) old new is_mute = (between : Option (List ℕ)) × MayForewarnEach paths IsRefused n old between is_mute × MayForewarnAt paths IsRefused (n + 2) between new is_mute
 
--- what `serve` tells of so many documents, and then of its subscribers
-abbrev pub TellsServing : List (List ℕ) → ℕ → ℕ → ℕ → Bool → Option (List ℕ) → Option (List ℕ) → Bool → Type 0
-TellsServing paths documents port subscribers are_served old new is_mute =
-    (between : Option (List ℕ)) × MayForewarnEach paths (documents - 1) old between is_mute × TellsOfSubscribers port subscribers are_served between new is_mute
+-- what `serve` tells of so many documents, at the places where they are refused, and then of its subscribers
+abbrev pub TellsServing : List (List ℕ) → (ℕ → Type 0) → ℕ → ℕ → ℕ → Bool → Option (List ℕ) → Option (List ℕ) → Bool → Type 0
+TellsServing paths IsRefused documents port subscribers are_served old new is_mute =
+    (between : Option (List ℕ)) × MayForewarnEach paths IsRefused (documents - 1) old between is_mute × TellsOfSubscribers port subscribers are_served between new is_mute

@@ -2,8 +2,9 @@
 ghost use Rattle.std.specs.Prelude.{◌≡◌, ◌⊎◌, ◌+◌, ◌-◌, ◌^◌, ◌<◌, ◌≤◌, ◌∷◌, [], List, Option, Err, false, if◌then◌else◌, is_ok, length, map, vec_len, IfOk};
 ghost use denote.Param.Send.{IsSend, IsSync};
 ghost use Rattle.flag_defs.specs.Flags.{flags_view};
+ghost use Rattle.flag_defs.specs.Floats.{MeansAs};
 ghost use Rattle.source_merge.specs.View.{sources_view};
-ghost use Rattle.flagops_streams.specs.Documents.{Answer, Counts, Gives, GivesSome, ServesAll, ServesTo, count_of, documents_in, is_served, less_missed, missed_of, published_in, texts_of, told_view};
+ghost use Rattle.flagops_streams.specs.Documents.{Answer, Counts, Gives, GivesSome, IsRefusedAt, ServesAll, ServesTo, count_of, documents_in, is_served, less_missed, missed_of, published_in, texts_of, told_view};
 ghost use Rattle.flagops_streams.specs.Report.{Reports, Serves};
 ghost use Rattle.flagops_streams.specs.Told.{MayForewarnAt, MayForewarnEach, TellsDepartures, TellsEnds, TellsGone, TellsOfSubscribers, TellsServing};
 
@@ -55,8 +56,8 @@ where
     E: Outlet + Drop,
     requires whole { O.is_broken out.old ≡ false }
     requires some { 0 < documents_in documents }
-    ensures serves { Serves (map (λ path. path.now) paths.now) (TellsServing (map (λ path. path.now) paths.now) (documents_in documents) port subscribers) (documents_in documents) (O.bytes out.old) (O.bytes out.new) (O.is_broken out.new) (E.bytes err.old) (E.bytes err.new) (E.is_broken err.new) result }
-    ensures documents { (answer : Answer) × ServesAll floats subscribers documents answer × Reports (map (λ path. path.now) paths.now) (TellsServing (map (λ path. path.now) paths.now) (documents_in documents) port subscribers) (count_of answer) (O.bytes out.old) (O.bytes out.new) (O.is_broken out.new) (E.bytes err.old) (E.bytes err.new) (E.is_broken err.new) result }
+    ensures serves { Serves (map (λ path. path.now) paths.now) (TellsServing (map (λ path. path.now) paths.now) (IsRefusedAt floats (texts_of documents.texts.items)) (documents_in documents) port subscribers) (documents_in documents) (O.bytes out.old) (O.bytes out.new) (O.is_broken out.new) (E.bytes err.old) (E.bytes err.new) (E.is_broken err.new) result }
+    ensures documents { (answer : Answer) × ServesAll floats subscribers documents answer × Reports (map (λ path. path.now) paths.now) (TellsServing (map (λ path. path.now) paths.now) (IsRefusedAt floats (texts_of documents.texts.items)) (documents_in documents) port subscribers) (count_of answer) (O.bytes out.old) (O.bytes out.new) (O.is_broken out.new) (E.bytes err.old) (E.bytes err.new) (E.is_broken err.new) result }
 {
     let alloc = rt.alloc();
     let Documents { sources, texts } = documents;
@@ -68,7 +69,7 @@ where
 
 /// Tells of each document behind the first that will be refused once its turn comes, and why.
 fn forewarn<E: Outlet>(alloc: Global, paths: &[&str], floats: bool, texts: &[Vec<u8>], err: &mut E)
-    ensures told { MayForewarnEach (map (λ path. path.now) paths.now) (length texts.now - 1) (E.bytes err.old) (E.bytes err.new) (E.is_broken err.new) }
+    ensures told { MayForewarnEach (map (λ path. path.now) paths.now) (IsRefusedAt floats (texts_of texts.now)) (length texts.now - 1) (E.bytes err.old) (E.bytes err.new) (E.is_broken err.new) }
     ensures stays { E.is_broken err.new ≡ false → E.is_broken err.old ≡ false }
 {
     for behind in 0..texts.len().saturating_sub(1) {
@@ -93,7 +94,7 @@ fn forewarn_of<E: Outlet>(
     text: &[u8],
     err: &mut E,
 )
-    ensures told { MayForewarnAt (map (λ path. path.now) paths.now) place (E.bytes err.old) (E.bytes err.new) (E.is_broken err.new) }
+    ensures told { MayForewarnAt (map (λ path. path.now) paths.now) (λ _. (fault : DefFault) × MeansAs floats text.now (Err fault)) place (E.bytes err.old) (E.bytes err.new) (E.is_broken err.new) }
     ensures stays { E.is_broken err.new ≡ false → E.is_broken err.old ≡ false }
 {
     let Some(path) = path_at(paths, place) else {
