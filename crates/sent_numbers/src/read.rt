@@ -14,8 +14,9 @@ use json::Scratch;
 use simdutf8::basic;
 use std::alloc::Global;
 
-/// The tree that the bytes of a JSON text stand for, with `Other` for each number that is not whole. A number whose decimal value
-/// is whole and from -(2^53-1) to 2^53-1 is that whole number however it is spelled. `max` is the most bytes that are read.
+/// The tree that the bytes of a JSON text stand for. A number whose decimal value is whole and from -(2^53-1) to 2^53-1 is that whole
+/// number however it is spelled; any other is an object of one member, `Other`, whose name is a point and the spelling. `max` is the most
+/// bytes that are read.
 ///
 /// Refusals, in this order: `TooLarge`, before anything is read; `NotJson`. The first, and the second of bytes that are not UTF-8,
 /// take no memory.
