@@ -145,9 +145,9 @@ fn if_exact(number: Result<Decimal, DecimalFault>) -> Result<Option<Decimal>, Ev
     }
 }
 
-/// The spelling of a decimal.
+/// The spelling of a decimal, as the context had it; none of any other value.
 #[tactic(auto, using(crate::proofs::Objects::no_context, crate::proofs::Objects::no_fold))]
-fn spelling_of<'a>(value: Seen<'_, 'a>) -> Option<&'a [u8]>
+pub fn spelling_of<'a>(value: Seen<'_, 'a>) -> Option<&'a [u8]>
     ensures { option_map (λ s. s.now) result ≡ spelling_of (seen_view value.entry) }
 {
     match value {

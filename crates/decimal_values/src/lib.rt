@@ -11,4 +11,4 @@
 
 mod decimals;
 
-pub use decimals::{at_most, equal, is_decimal, is_readable, less, same};
+pub use decimals::{at_most, equal, is_decimal, is_readable, less, same, spelling_of};

@@ -191,8 +191,8 @@ fn operate<'s, 'a>(
     }
 }
 
-// Whether the operator compares or tests all its arguments.
-fn compares(operator: Operator) -> bool
+/// Whether the operator compares or tests all its arguments.
+pub fn compares(operator: Operator) -> bool
     ensures { result ≡ compares operator }
 {
     matches!(
