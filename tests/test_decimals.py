@@ -300,6 +300,32 @@ class Served(ServiceTest):
                     faults += value is None
         self.assertGreater(faults, 0)
 
+    def test_details(self):
+        """An answer names the first number that the targeting reads in another way, by its path and as it is spelled."""
+        other = "the flag's definition breaks a rule, or its targeting can't be evaluated"
+        rows = [
+            ({"<": [{"+": [{"var": "cart"}, 1]}, 60]}, "cart", "52.1"),
+            ({"<": [{"+": [{"var": "list.0"}, 1]}, 60]}, "list.0", "0.5"),
+            ({"or": [{"var": ["old", 1]}, False]}, "old", "52.10"),
+            ({"==": [{"var": "far"}, 1]}, "far", "1e401"),
+            ({"and": [{"<": [{"var": "cart"}, 60]}, {"<": [{"+": [{"var": "id"}, 1]}, 60]}]}, "id", "12345678901234567890"),
+            ({"==": [{"fractional": [{"var": "cart"}, ["yes", 1]]}, "yes"]}, "cart", "52.1"),
+            ({"==": [{"var": "list"}, 1]}, None, None),
+            ({"+": ["a", {"var": "whole"}]}, None, None),
+        ]
+        document = {"flags": {f"f{n}": flag_of(condition) for n, (condition, _, _) in enumerate(rows)}}
+        self.put("d", json.dumps(document))
+        self.start("--workers", "1", "--poll", "0", "--broken", "serve")
+        body = f'{{"context":{CONTEXT}}}'.encode()
+        every = {it["key"]: it for it in json.loads(self.ask("POST", FLAGS, body)[2])["flags"]}
+        for n, (condition, path, spelling) in enumerate(rows):
+            with self.subTest(json.dumps(condition)):
+                status, _, told = self.ask("POST", f"{FLAGS}/f{n}", body)
+                details = f"the targeting reads `{path}`, which is {spelling}: a number that is not whole can be compared and tested, and not used otherwise"
+                wanted = {"errorCode": "PARSE_ERROR", "errorDetails": details if path else other, "key": f"f{n}"}
+                self.assertEqual((status, json.loads(told)), (400, wanted))
+                self.assertEqual(every[f"f{n}"], wanted)
+
     def test_levels(self):
         """Such a number counts as a level, since it is kept as an object of its own."""
         for levels, status in ((118, 200), (119, 400)):
