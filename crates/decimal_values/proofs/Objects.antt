@@ -1,17 +1,17 @@
 -- Objects that are no decimals: those with more than one member, and those that an evaluation makes.
-use Rattle.std.proofs.Common.{◌≡◌, ℕ, List, [], ◌∷◌, None, refl}
+use Rattle.std.proofs.Common.{◌≡◌, ◌<◌, ◌≤◌, ℕ, List, [], ◌∷◌, length, get_or, None, refl, sym, ap, arith}
 use Rattle.std.specs.Borrow.{Bor}
 use Rattle.std.specs.Cmp.Lexicographic.{slice_cmp}
 use Rattle.std.specs.Ordering.{nat_cmp, match_ordering}
-use Rattle.std.specs.Prelude.{codes, String}
+use Rattle.std.specs.Prelude.{codes, String, string_bytes}
 use Rattle.std.specs.declared.alloc.Global.{Global}
 use Rattle.std.specs.declared.cmp.Ordering.{Ordering}
 use Rattle.std.specs.declared.cmp.Ordering.TheVariants.{Less, Equal, Greater}
 use Rattle.flag_text.specs.Shape.{Shape, null, boolean, whole, other, text, list, object, Members, no_members, member}
 use Rattle.flag_text.specs.View.{view, members_view}
 use Rattle.flag_text.specs.declared.tree.Tree.{Tree}
-use Rattle.logic_values.specs.Objects.{reduce_scope, with_flagd, with_member}
-use Rattle.logic_values.specs.Views.{root_view, seen_view, value_view}
+use Rattle.logic_values.specs.Objects.{with_member}
+use Rattle.logic_values.specs.Views.{seen_view, value_view}
 use Rattle.logic_values.specs.declared.root.Root.{Root}
 use Rattle.logic_values.specs.declared.seen.Seen.TheVariants as seen
 use Rattle.logic_values.specs.declared.value.Value.{Value}
@@ -26,8 +26,19 @@ two k l (text s) u ms = refl
 two k l (list ts) u ms = refl
 two k l (object ns) u ms = refl
 
-pub two_members : (a b : String Global × Tree) (rest : List (String Global × Tree)) → spelling_in (members_view (a ∷ b ∷ rest)) ≡ None
-two_members a b rest = two _ _ (view a.1) (view b.1) (members_view rest)
+pub no_member : (ms : List (String Global × Tree)) → length ms < 1 → spelling_in (members_view ms) ≡ None
+no_member [] h = refl
+no_member (a ∷ ms) h = absurd (omega (arith, h))
+
+pub one_member : (ms : List (String Global × Tree)) (a : String Global × Tree) → 1 ≤ length ms → length ms < 2 → a ≡ get_or ms 0 a → spelling_in (members_view ms) ≡ spelling_in (member (string_bytes a.0) (view a.1) no_members)
+one_member [] a low high is = absurd (omega (arith, low))
+one_member (b ∷ []) a low high is = ap (λ m. spelling_in (member (string_bytes m.0) (view m.1) no_members)) (sym is)
+one_member (b ∷ c ∷ ms) a low high is = absurd (omega (arith, high))
+
+pub two_members : (ms : List (String Global × Tree)) → 2 ≤ length ms → spelling_in (members_view ms) ≡ None
+two_members [] h = absurd (omega (arith, h))
+two_members (a ∷ []) h = absurd (omega (arith, h))
+two_members (a ∷ b ∷ ms) h = two (string_bytes a.0) (string_bytes b.0) (view a.1) (view b.1) (members_view ms)
 
 -- ---- the context with `$flagd`, which begins with no point
 

@@ -156,7 +156,6 @@ pub fn spelling_of<'a>(value: Seen<'_, 'a>) -> Option<&'a [u8]>
     }
 }
 
-#[tactic(auto, using(crate::proofs::Objects::two_members))]
 fn spelling_in(members: &[(String, Tree)]) -> Option<&[u8]>
     ensures { option_map (λ s. s.now) result ≡ spelling_in (members_view members.now) }
 {
