@@ -5,18 +5,18 @@ use Rattle.std.proofs.lemmas.List.{drop_all, get_or_default}
 use Rattle.flag_text.specs.declared.tree.Tree.{Tree}
 use Rattle.flag_text.specs.Shape.{Shape, null, has_other}
 use Rattle.flag_text.specs.View.{view}
-use Rattle.logic_ast.specs.declared.node.Node.{Node, the_lemmas}
+use Rattle.logic_ast.specs.declared.node.Node.{Node, fold-roll-Node, ind-Node, roll-Node, the_lemmas}
+use Rattle.logic_ast.specs.declared.node.Node.TheOpen.{Node-F}
 use Rattle.logic_ast.specs.declared.node.Node.TheVariants as node
 use Rattle.logic_ast.specs.declared.operator.Operator.{Operator}
 use Rattle.logic_ast.specs.declared.operator.Operator.TheVariants as op
 use Rattle.logic_ast.specs.Expression.{Expression, Expressions, literal, operation}
 use Rattle.logic_ast.specs.Expression as ast
-use Rattle.logic_ast.specs.View.{node_view, nodes_view}
+use Rattle.logic_ast.specs.View.{node_view, nodes_view, view_step}
 use Rattle.logic_values.specs.declared.fault.EvalFault.{EvalFault}
 use Rattle.logic_values.specs.declared.fault.EvalFault.TheVariants.{Arithmetic}
 use Rattle.logic_eval.specs.Budget.{Progress, paid}
 use Rattle.logic_values.specs.Comparison.{bool_eq}
-use Rattle.logic_ast.proofs.Views.{node_view-fractional}
 use Rattle.logic_eval.specs.Evaluated.{tested_meaning, tested_meanings, tested_operation, conditional_meanings, truth_meanings}
 use Rattle.logic_eval.specs.Evaluation.{meaning, meanings, operands, operand_meaning, is_variable}
 use Rattle.logic_eval.specs.Operators.{Meaning, values, applied_exactly, asked, compares, operated, strict, conditional, first_of_truth, found, read, is_unreadable, read_decimal}
@@ -102,11 +102,14 @@ operand-other : (d : Option (List ℕ)) (e : Expression) → is_variable e ≡ f
 operand-other d e f = rw f refl
 
 -- a node that is compared or tested, and is no operation
+operand-layer : (d : Option (List ℕ)) (x : Node-F Node) → ((o : Operator) (v : Vec Node Global) → roll-Node x ≡ node.Operation o v → ⊥) → operand_meaning d (node_view (roll-Node x)) ≡ meaning d (node_view (roll-Node x))
+operand-layer d (Node-F.Literal t) h = operand-other d (node_view (roll-Node (Node-F.Literal t))) (ap is_variable (fold-roll-Node Expression view_step (Node-F.Literal t)))
+operand-layer d (Node-F.List v) h = operand-other d (node_view (roll-Node (Node-F.List v))) (ap is_variable (fold-roll-Node Expression view_step (Node-F.List v)))
+operand-layer d (Node-F.Operation o v) h = absurd (h o v (node.rolls-Operation o v))
+operand-layer d (Node-F.Fractional site b bs) h = operand-other d (node_view (roll-Node (Node-F.Fractional site b bs))) (ap is_variable (fold-roll-Node Expression view_step (Node-F.Fractional site b bs)))
+
 pub operand-node : (d : Option (List ℕ)) (n : Node) → ((o : Operator) (v : Vec Node Global) → n ≡ node.Operation o v → ⊥) → operand_meaning d (node_view n) ≡ meaning d (node_view n)
-operand-node d (node.Literal t) h = operand-other d (node_view (node.Literal t)) (ap is_variable (node_view-literal t))
-operand-node d (node.List v) h = operand-other d (node_view (node.List v)) (ap is_variable (node_view-list v))
-operand-node d (node.Operation o v) h = absurd (h o v refl)
-operand-node d (node.Fractional site b bs) h = operand-other d (node_view (node.Fractional site b bs)) (ap is_variable (node_view-fractional site b bs))
+operand-node d = ind-Node (λ n. ((o : Operator) (v : Vec Node Global) → n ≡ node.Operation o v → ⊥) → operand_meaning d (node_view n) ≡ meaning d (node_view n)) (λ x y is. operand-layer d x)
 
 -- `if`, where a pair is left
 two_at : (xs : List Node) (i : ℕ) (x y : Node) → i + 1 < length xs → x ≡ get_or xs i x → y ≡ get_or xs (i + 1) y → drop i xs ≡ x ∷ y ∷ drop (i + 2) xs

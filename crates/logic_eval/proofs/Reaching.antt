@@ -152,14 +152,16 @@ module _ (Q : Reach → Type 0) where
   early-keep (m ∷ next ∷ rest) (t ∷ []) ks js = (js.0, as-early (next ∷ rest) ks.1)
   early-keep (m ∷ next ∷ rest) (t ∷ u ∷ operands) ks js = (js.0, early-keep (next ∷ rest) (u ∷ operands) ks.1 js.1)
 
+  -- a value that counts as false ends it, and is whole
+  keeps-and_next : (v : Shape) (rest : Run Shape) (b : Bool) → is_operand v ≡ true → is_true v ≡ b → Runs IsWhole Q rest → Runs IsWhole Q (cond (bool_eq false b) (gives v) rest)
+  keeps-and_next v rest true p e k = k
+  keeps-and_next v rest false p e k = runs-gives Q IsWhole v (false-whole v p e)
+
   keeps-and : (ms : List Meaning) → EarlyKeep ms → Keeps (first_of_truth false ms)
   keeps-and [] ks scope w = runs-gives Q IsWhole null refl
   keeps-and (last ∷ []) ks scope w = ks scope w
-  keeps-and (m ∷ next ∷ rest) ks scope w = runs-bind Q IsOperand IsWhole _ _ (ks.0 scope w) (λ v p. go v p (is_true v) refl)
-    where
-      go : (v : Shape) → is_operand v ≡ true → (b : Bool) → is_true v ≡ b → Runs IsWhole Q (cond (bool_eq false b) (gives v) (first_of_truth false (next ∷ rest) scope))
-      go v p true e = keeps-and (next ∷ rest) ks.1 scope w
-      go v p false e = runs-gives Q IsWhole v (false-whole v p e)
+  keeps-and (m ∷ next ∷ rest) ks scope w =
+      runs-bind Q IsOperand IsWhole _ _ (ks.0 scope w) (λ v p. keeps-and_next v _ (is_true v) p refl (keeps-and (next ∷ rest) ks.1 scope w))
 
   module _ (body : Meaning) (k : Keeps body) where
     keeps-mapped : (ts : List Shape) → AreWhole ts → Runs AreWhole Q (mapped body ts)
