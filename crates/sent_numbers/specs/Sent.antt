@@ -6,9 +6,10 @@ use Rattle.std.specs.Str.{is_utf8, bytes_eq}
 use Rattle.std.specs.Str.Parse.{digits_value}
 use Rattle.fast_float.specs.Text.{Parts, scan, point_at, whole_of, with_sign}
 use Rattle.flag_text.specs.Reading.{if_json, json_of, max_levels}
-use Rattle.flag_text.specs.Shape.{Shape, is_in_range, levels}
+use Rattle.flag_text.specs.Shape.{Shape, is_in_range}
 use Rattle.flag_text.specs.declared.fault.TextFault.{TextFault}
 use Rattle.flag_text.specs.declared.fault.TextFault.TheVariants.{NotJson, TooDeep, TooLarge}
+use Rattle.sent_numbers.specs.Levels.{sent_levels, without_spelling}
 
 -- ---- one number
 
@@ -141,9 +142,9 @@ are_spelled_whole text = are_whole_from between text
 abbrev pub sent_of : List ℕ → ℕ → Result Shape TextFault
 sent_of bytes limit = if nat_lt limit (length bytes) then Err TooLarge else (if is_utf8 bytes then if_json (json_of (respelled bytes)) else Err NotJson)
 
--- the same where it is no deeper than a context may be
+-- the same where it is no deeper than a context may be; a number that is not whole is no object there
 abbrev pub if_shallow : Result Shape TextFault → Result Shape TextFault
-if_shallow (Ok t) = if nat_lt max_levels (levels t) then Err TooDeep else Ok t
+if_shallow (Ok t) = if nat_lt max_levels (sent_levels t) then Err TooDeep else Ok (without_spelling t)
 if_shallow (Err e) = Err e
 
 abbrev pub sent_tree_of : List ℕ → ℕ → Result Shape TextFault

@@ -20,10 +20,12 @@
 #![tactic(auto)]
 
 mod laws;
+mod levels;
 mod number;
 mod read;
 mod respelling;
 mod walk;
 
 pub use laws::whole_numbers_stay;
+pub use levels::{stands_for_number, without_spelling};
 pub use read::{read_sent, read_sent_tree, read_sent_with, shallow};
