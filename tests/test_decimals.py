@@ -327,13 +327,18 @@ class Served(ServiceTest):
                 self.assertEqual(every[f"f{n}"], wanted)
 
     def test_levels(self):
-        """Such a number counts as a level, since it is kept as an object of its own."""
-        for levels, status in ((118, 200), (119, 400)):
-            body = b'{"context":{"a":' + b"[" * levels + b"0.5" + b"]" * levels + b"}}"
-            self.put("d", json.dumps({"flags": {"f": flag_of(True)}}))
-            child = self.start("--workers", "1", "--poll", "0", "--broken", "serve")
-            self.assertEqual(self.ask("POST", FLAGS + "/f", body)[0], status)
-            child.kill()
+        """Such a number is no level, and no object: it is neither a body nor a context."""
+        self.put("d", json.dumps({"flags": {"f": flag_of(True)}}))
+        child = self.start("--workers", "1", "--poll", "0", "--broken", "serve")
+        for body, status in (
+            (b'{"context":{"a":' + b"[" * 119 + b"0.5" + b"]" * 119 + b"}}", 200),
+            (b'{"context":{"a":' + b"[" * 120 + b"0.5" + b"]" * 120 + b"}}", 400),
+            (b'{"context":0.5}', 400),
+            (b"0.5", 400),
+        ):
+            with self.subTest(body):
+                self.assertEqual(self.ask("POST", FLAGS + "/f", body)[0], status)
+        child.kill()
 
 
 class Recorded(ProgramTest):
