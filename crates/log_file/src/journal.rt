@@ -5,7 +5,7 @@ ghost use Rattle.flag_text.specs.Outlet.{is_fault};
 ghost use Rattle.log_file.specs.File.{GrowsByTaken, IsLength, count_of};
 ghost use Rattle.log_file.specs.Journal.{IsOpenedAnew, LeavesLines, Looked, last_after, lost_after};
 ghost use Rattle.log_file.specs.Last.{AreLastLines};
-ghost use Rattle.log_file.specs.Line.{EndsLine};
+ghost use Rattle.log_file.specs.Line.{EndsLine, lines_in};
 
 use crate::fault::{LogFault, fault_of};
 use crate::file::LogFile;
@@ -13,6 +13,7 @@ use crate::last::last_lines;
 use crate::loss::Loss;
 use crate::paths::LogPaths;
 use crate::torn::cut_torn_line;
+use crate::whole::lines_in;
 use std::alloc::Global;
 use std::io::{self, ErrorKind};
 use std::mem;
@@ -76,6 +77,13 @@ impl<F: LogFile> Journal<F> {
         ensures lost { self.new.lost ≡ self.old.lost }
     {
         mem::replace(&mut self.last, Vec::new(alloc))
+    }
+
+    /// How many last lines of the file are read, and not taken yet.
+    pub fn lines_read(&self) -> u64
+        ensures { result ≡ lines_in self.now.last.items }
+    {
+        lines_in(self.last.as_slice())
     }
 
     /// Whether the file is lost, and its path not opened anew yet.

@@ -6,7 +6,7 @@ use Rattle.std.proofs.lemmas.Grind.{flat_map-append}
 use Rattle.std.proofs.lemmas.List.{take-append-drop}
 use Rattle.bytes.specs.declared.unique.BytesMut.{BytesMut}
 use Rattle.note_log.specs.Handing.{Moves}
-use Rattle.note_log.specs.Sound.{handed_in}
+use Rattle.note_memory.specs.Handed.{handed_in}
 
 pub known_nil : (b : Option (List ℕ)) → b ≡ append_known b []
 known_nil None = refl

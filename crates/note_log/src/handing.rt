@@ -1,7 +1,8 @@
 //! Bytes handed to a log.
 ghost use Rattle.std.specs.Prelude.{◌≡◌, ◌<◌, ◌≤◌, ◌==◌, ℕ, None, false, true, length, take};
 ghost use Rattle.std.specs.Io.KnownBytes.{append_known};
-ghost use Rattle.note_log.specs.Sound.{IsCounted, handed_in};
+ghost use Rattle.note_memory.specs.Handed.{handed_in};
+ghost use Rattle.note_log.specs.Sound.{IsCounted};
 ghost use Rattle.note_log.specs.Handing.{Moves};
 
 use bytes::{Buf, BytesMut};
@@ -17,7 +18,7 @@ pub(crate) fn hand_over<F: LogFile>(
     written: &mut u64,
 ) -> bool
     ensures moves { Moves (F.bytes journal.old.file) (F.bytes journal.new.file) (handed_in handed.old.items) (handed_in handed.new.items) waiting.old.items waiting.new.items }
-    ensures written { (read before : ℕ) → IsCounted read before (handed_in handed.old.items) written.old → IsCounted read before (handed_in handed.new.items) written.new }
+    ensures written { (before : ℕ) → IsCounted before (handed_in handed.old.items) written.old → IsCounted before (handed_in handed.new.items) written.new }
     ensures all { result ≡ (length waiting.new.items == 0) }
     ensures lost { journal.new.lost ≡ journal.old.lost }
     ensures looks { F.looks journal.new.file ≡ F.looks journal.old.file }

@@ -17,7 +17,8 @@ const FILE_MODE: u32 = 0o600;
 pub type Journal = log_file::Journal<SystemLog>;
 
 /// Opens the logs of so many workers in a folder, which is made where it is missing: one for each worker, or none where no folder is
-/// named. So many of the last lines of each are read. No other process may have one of them open.
+/// named. So many of their last lines are read: all of them where they have no more, and else of each its share at least. No other
+/// process may have one of them open.
 pub fn open_logs<P: LogPaths>(
     paths: &P,
     alloc: Global,
@@ -31,12 +32,23 @@ pub fn open_logs<P: LogPaths>(
     if let Some(folder) = folder {
         make_folder(paths, folder)?;
     }
+    let share = lines / (workers as u64).max(1);
+    let mut left = lines;
     let mut logs = Vec::new(alloc);
     for worker in 0..workers {
-        let log = open_log(paths, alloc, folder, worker + 1, lines)?;
+        let log = open_log(paths, alloc, folder, worker + 1, left.max(share))?;
+        left = left.saturating_sub(lines_read(&log));
         logs.push(log)?;
     }
     Ok(logs)
+}
+
+/// How many last lines of a log are read, where one is kept.
+fn lines_read(log: &Option<Journal>) -> u64 {
+    match log {
+        Some(journal) => journal.lines_read(),
+        None => 0,
+    }
 }
 
 /// Opens the log of a worker, by its number from 1, where a folder is named.

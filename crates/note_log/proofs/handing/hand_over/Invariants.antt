@@ -1,12 +1,13 @@
 use Rattle.std.proofs.Common.{◌≡◌, ℕ, None, length}
 use Rattle.note_log.specs.Handing.{Moves}
-use Rattle.note_log.specs.Sound.{IsCounted, handed_in}
+use Rattle.note_memory.specs.Handed.{handed_in}
+use Rattle.note_log.specs.Sound.{IsCounted}
 use Rattle.note_log.proofs.handing.hand_over.Given as goal
 
 abbrev pub invariant-loop-journal : goal.invariant-loop-journal
 invariant-loop-journal g l =
     Moves (g.F.LogFile.bytes l.initial.journal.file) (g.F.LogFile.bytes l.journal.file) (handed_in l.initial.handed.items) (handed_in l.handed.items) l.initial.waiting.items l.waiting.items
-    × ((read before : ℕ) → IsCounted read before (handed_in l.initial.handed.items) l.initial.written → IsCounted read before (handed_in l.handed.items) l.written)
+    × ((before : ℕ) → IsCounted before (handed_in l.initial.handed.items) l.initial.written → IsCounted before (handed_in l.handed.items) l.written)
     × (l.journal.lost ≡ l.initial.journal.lost)
     × (g.F.LogFile.looks l.journal.file ≡ g.F.LogFile.looks l.initial.journal.file)
     × (l.initial.journal.lost ≡ None → g.F.LogFile.faults l.journal.file ≡ g.F.LogFile.faults l.initial.journal.file)

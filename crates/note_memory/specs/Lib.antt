@@ -1,0 +1,7 @@
+pub mod Line
+pub mod Handed
+pub mod Files
+pub mod Numbers
+pub mod Shown
+pub mod Memory
+pub mod Recalled
