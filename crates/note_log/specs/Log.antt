@@ -11,10 +11,8 @@ use Rattle.note_lines.specs.declared.form.NoteForm.{NoteForm}
 use Rattle.log_file.specs.Line.{lines_in}
 use Rattle.note_memory.specs.Line.{HasLine}
 use Rattle.note_memory.specs.Files.{StandsIn}
-use Rattle.note_memory.specs.Numbers.{IsRenewed}
-use Rattle.note_memory.specs.declared.files.FileNumber.{FileNumber}
 use Rattle.note_memory.specs.Shown.{relied_in}
-use Rattle.note_memory.specs.Handed.{handed_in}
+use Rattle.log_file.specs.Handed.{handed_in}
 use Rattle.note_log.specs.Sound.{earlier_in}
 use Rattle.note_log.specs.declared.log.NoteLog.{NoteLog}
 use Rattle.note_log.specs.declared.trouble.Trouble.{Trouble}
@@ -29,7 +27,7 @@ pub record Logged : Type 0 where
   pub relied : List (List ℕ)
 
 abbrev pub logged : {F : Type 0} {g : Ghosts F} → NoteLog F g → Logged
-logged log = record { form = log.form; earlier = earlier_in log.earlier.items; handed = handed_in log.handed.items; waiting = log.waiting.items; relied = relied_in log.relied.items }
+logged log = record { form = log.form; earlier = earlier_in log.earlier.items; handed = handed_in log.journal.journal.handed.writes.items; waiting = log.waiting.items; relied = relied_in log.relied.items }
 
 -- what all its files were handed, the one that is open last
 abbrev pub files_of : Logged → List (List ℕ)
@@ -53,12 +51,6 @@ abbrev pub logged_after : Look → Logged → Logged
 logged_after Stands l = l
 logged_after (Reopened loss) l = begun_anew l
 logged_after (Lost loss fault) l = begun_anew l
-
--- a file that was found lost has another number than the one that is open then
-abbrev pub RenewedAfter : Look → Option FileNumber → Option FileNumber → Type 0
-RenewedAfter Stands old new = new ≡ old
-RenewedAfter (Reopened loss) old new = IsRenewed old new
-RenewedAfter (Lost loss fault) old new = IsRenewed old new
 
 -- a note that is to be recorded: one of these, and not too long
 abbrev pub Wants : List Noted → Noted → Type 0

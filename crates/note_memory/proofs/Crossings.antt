@@ -8,6 +8,7 @@ use Rattle.std.specs.contracts.alloc.Global as Global
 use Rattle.std.specs.contracts.impls.GlobalAllocator.TheImpl.{ghosts}
 use Rattle.std.specs.contracts.vec.Vec as Vec
 use Rattle.http_server.proofs.log.Log.TheSendSync as log
+use Rattle.log_file.specs.contracts.handed.Handed as Handed
 use Rattle.lru.proofs.Crosses.{Deed-send, KeyRef-send, List-send}
 use Rattle.lru.specs.contracts.entry.Deed as Deed
 use Rattle.lru.specs.contracts.key_ref.KeyRef as KeyRef
@@ -16,8 +17,11 @@ use Rattle.note_memory.specs.contracts.files.Files as Files
 use Rattle.note_memory.specs.contracts.memory.NoteMemory as NoteMemory
 use Rattle.note_memory.specs.contracts.shared.SharedMemory as SharedMemory
 
+pub Handed-send : IsSend Handed.the_row
+Handed-send = declared_send Handed.the_type (search (sendable, crosses, log.the_send) depth 80, tt)
+
 Files-send : IsSend Files.the_row
-Files-send = declared_send Files.the_type (search (sendable, crosses) depth 40, (search (sendable, crosses) depth 40, (search (sendable, crosses, log.the_send) depth 80, tt)))
+Files-send = declared_send Files.the_type (search (sendable, crosses) depth 40, (search (sendable, crosses) depth 40, (search (sendable, crosses, log.the_send, Handed-send) depth 80, tt)))
 
 -- the keys of the table, and what it has of them and of the numbers
 line_send : IsSend (Vec.the_row u8 Global.the_row ghosts)

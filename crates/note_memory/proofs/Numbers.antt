@@ -1,14 +1,12 @@
 -- Numbers of files.
-use Rattle.std.proofs.Common.{◌≡◌, ◌≢◌, ◌<◌, ◌+◌, ℕ, Bool, true, false, not, List, [], ◌∷◌, ◌++◌, Option, Some, None, IfSome, is_none, filter, nat_eq, refl, sym, ap, ◌∙◌, subst, inl, inr, arith}
-use Rattle.std.specs.List.{Contains, list_any}
-use Rattle.std.specs.declared.alloc.Global.{Global}
+use Rattle.std.proofs.Common.{◌≡◌, ◌<◌, ◌+◌, ℕ, Bool, true, false, not, List, [], ◌∷◌, ◌++◌, Option, Some, None, IfSome, is_none, filter, nat_eq, refl, ap, ◌∙◌, subst, inl, inr, arith}
+use Rattle.std.specs.List.{Contains}
 use Rattle.std.proofs.Math.Logic.{∥∥₁_map}
 use Rattle.std.proofs.lemmas.Bool.{eqb-true, ne_eqb}
 use Rattle.std.proofs.lemmas.List.Elements.{Contains-append_left, Contains-append_right, Contains-append_cases, Contains-push_cases}
 use Rattle.std.proofs.lemmas.List.Folds.{list_any-append}
 use Rattle.std.proofs.lemmas.Map.Views.{any-filter_same}
-use Rattle.bytes.specs.declared.unique.BytesMut.{BytesMut}
-use Rattle.http_server.specs.declared.log.Log.{Log}
+use Rattle.log_file.specs.declared.handed.Handed.{Handed}
 use Rattle.note_memory.specs.Files.{AreBelow, AreOthers, History, IsFresh, is_among}
 use Rattle.note_memory.specs.declared.files.FileNumber.{FileNumber}
 use Rattle.note_memory.proofs.Lists.{at_head, not_in}
@@ -83,7 +81,7 @@ add_gone n next (Some file) xs after less none more is same = still_gone n next 
 
 -- ---- more is kept
 
-pub kept_below : (next n : ℕ) (opened : List ℕ) (history after : History) (handed : Log (BytesMut Global) ℕ) → is_among n opened ≡ true → after ≡ history ++ (handed, n) ∷ [] → ∥ AreBelow next opened history ∥₁
+pub kept_below : (next n : ℕ) (opened : List ℕ) (history after : History) (handed : Handed) → is_among n opened ≡ true → after ≡ history ++ (handed, n) ∷ [] → ∥ AreBelow next opened history ∥₁
     → ∥ AreBelow next opened after ∥₁
 kept_below next n opened history after handed h is b = ∥∥₁_map b (λ (k : AreBelow next opened history). (
   k.0,

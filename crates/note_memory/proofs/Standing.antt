@@ -1,25 +1,24 @@
 -- Where remembered lines stand.
-use Rattle.std.proofs.Common.{◌≡◌, ℕ, Bool, true, false, List, [], ◌∷◌, ◌++◌, Vec, Option, Some, None, Result, Ok, Err, OnOk, OnErr, nat_eq, refl, sym, ap, ◌∙◌, subst, inl, inr}
+use Rattle.std.proofs.Common.{◌≡◌, ℕ, Bool, true, false, List, [], ◌∷◌, ◌++◌, Vec, Option, Some, None, Result, Ok, Err, OnOk, OnErr, nat_eq, refl, sym, ap, subst, inl, inr}
 use Rattle.std.specs.Cmp.Lexicographic.{pointwise, same_text}
 use Rattle.std.specs.List.{Contains}
 use Rattle.std.specs.Map.{lookup}
 use Rattle.std.specs.declared.alloc.Global.{Global}
 use Rattle.std.proofs.lemmas.List.Elements.{Contains-append_left, Contains-append_right, Contains-push, Contains-push_cases, Contains-append_cases}
-use Rattle.bytes.specs.declared.unique.BytesMut.{BytesMut}
-use Rattle.http_server.specs.declared.log.Log.{Log}
+use Rattle.log_file.specs.declared.handed.Handed.{Handed}
 use Rattle.lru.specs.LruCache.{LruCache, lru_cache, put_entries, promoted}
 use Rattle.lru.proofs.CallerLemmas.{Contains-lookup, Contains-promoted, Contains-put_entries}
 use Rattle.note_memory.specs.Files.{History, StandsIn, handed_by, is_among}
 use Rattle.note_memory.specs.Line.{HasLine}
 use Rattle.note_memory.specs.Memory.{AllStand, AllStandAt, Remembered, StandAll, StandsAt, is_known, is_line, is_of_open}
-use Rattle.note_memory.specs.Handed.{handed_in}
+use Rattle.log_file.specs.Handed.{handed_in}
 use Rattle.note_memory.proofs.Lists.{at_head, not_in}
 
 abbrev pub Entry : Type 0
 Entry = Vec ℕ Global × ℕ
 
 abbrev pub Kept : Type 0
-Kept = Log (BytesMut Global) ℕ × ℕ
+Kept = Handed × ℕ
 
 -- nothing is remembered
 pub none_stand : (history : History) (remembered : Remembered) → remembered ≡ [] → ∥ AllStand history remembered ∥₁
@@ -33,10 +32,10 @@ stands_more history last number line s = (s.0, Contains-append_left history (las
 pub all_stand_more : (history : History) (last : Kept) (remembered : Remembered) → AllStand history remembered → AllStand (history ++ last ∷ []) remembered
 all_stand_more history last remembered s e c = stands_more history last e.1 e.0.items (s e c)
 
-pub stands_last : (history : History) (handed : Log (BytesMut Global) ℕ) (number : ℕ) (line : List ℕ) → HasLine line (handed_in handed.items) → StandsAt (history ++ (handed, number) ∷ []) number line
+pub stands_last : (history : History) (handed : Handed) (number : ℕ) (line : List ℕ) → HasLine line (handed_in handed.writes.items) → StandsAt (history ++ (handed, number) ∷ []) number line
 stands_last history handed number line h = ((handed, number), Contains-push history (handed, number), refl, h)
 
-pub lines_stand_last : (history : History) (handed : Log (BytesMut Global) ℕ) (number : ℕ) (lines : List (Vec ℕ Global)) → StandAll (handed_in handed.items) lines
+pub lines_stand_last : (history : History) (handed : Handed) (number : ℕ) (lines : List (Vec ℕ Global)) → StandAll (handed_in handed.writes.items) lines
     → AllStandAt (history ++ (handed, number) ∷ []) number lines
 lines_stand_last history handed number lines s line c = stands_last history handed number line.items (s line c)
 
@@ -72,15 +71,15 @@ put_cap (Err x) old new entries ok err = ap (λ (c : LruCache (Vec ℕ Global) �
 -- ---- a line that is known
 
 -- what a file that is open was handed is among what such files were handed
-handed_among : (opened : List ℕ) (history : History) (h : Kept) → Contains history h → is_among h.1 opened ≡ true → Contains (handed_by opened history) (handed_in h.0.items)
+handed_among : (opened : List ℕ) (history : History) (h : Kept) → Contains history h → is_among h.1 opened ≡ true → Contains (handed_by opened history) (handed_in h.0.writes.items)
 handed_among opened [] h c t = absurd (not_in h c)
-handed_among opened (x ∷ history) h c t = (elim (is_among x.1 opened) as (λ y. is_among x.1 opened ≡ y → Contains (handed_by opened (x ∷ history)) (handed_in h.0.items)) [
+handed_among opened (x ∷ history) h c t = (elim (is_among x.1 opened) as (λ y. is_among x.1 opened ≡ y → Contains (handed_by opened (x ∷ history)) (handed_in h.0.writes.items)) [
   | true ↦ λ y. elim (Contains-append_cases (x ∷ []) history h c) [
     | inl d ↦ elim (Contains-push_cases [] x h d) [
       | inl none ↦ absurd (not_in h none)
-      | inr same ↦ rw y (subst (λ (k : Kept). Contains (handed_in x.0.items ∷ handed_by opened history) (handed_in k.0.items)) same (at_head (handed_in x.0.items) (handed_by opened history)))
+      | inr same ↦ rw y (subst (λ (k : Kept). Contains (handed_in x.0.writes.items ∷ handed_by opened history) (handed_in k.0.writes.items)) same (at_head (handed_in x.0.writes.items) (handed_by opened history)))
     ]
-    | inr d ↦ rw y (Contains-append_right (handed_in x.0.items ∷ []) (handed_by opened history) (handed_in h.0.items) (handed_among opened history h d t))
+    | inr d ↦ rw y (Contains-append_right (handed_in x.0.writes.items ∷ []) (handed_by opened history) (handed_in h.0.writes.items) (handed_among opened history h d t))
   ]
   | false ↦ λ y. elim (Contains-append_cases (x ∷ []) history h c) [
     | inl d ↦ elim (Contains-push_cases [] x h d) [
@@ -99,7 +98,7 @@ known_at opened history remembered line (Some number) h t s =
     let there : StandsAt history number e.0.items = s (e.0, number) e.1 in
     let same : line ≡ e.0.items = same_text line e.0.items (sym e.2) in
     let open_still : is_among there.0.1 opened ≡ true = subst (λ (n : ℕ). is_among n opened ≡ true) (sym there.2) t in
-    (handed_in there.0.0.items, handed_among opened history there.0 there.1 open_still, subst (λ (t : List ℕ). HasLine t (handed_in there.0.0.items)) (sym same) there.3)
+    (handed_in there.0.0.writes.items, handed_among opened history there.0 there.1 open_still, subst (λ (t : List ℕ). HasLine t (handed_in there.0.0.writes.items)) (sym same) there.3)
 
 pub known_stands : (opened : List ℕ) (history : History) (remembered : Remembered) (line : List ℕ) → AllStand history remembered → is_known opened remembered line ≡ true → StandsIn line (handed_by opened history)
 known_stands opened history remembered line s t = known_at opened history remembered line (lookup (is_line line) remembered) refl t s

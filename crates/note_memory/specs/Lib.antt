@@ -1,5 +1,4 @@
 pub mod Line
-pub mod Handed
 pub mod Files
 pub mod Numbers
 pub mod Shown

@@ -1,20 +1,19 @@
 -- The lines that are remembered, each with the number of the file that it was handed to.
-use Rattle.std.specs.Prelude.{◌≡◌, ℕ, Bool, false, List, [], ◌++◌, ◌∷◌, Contains, Vec, nat_eq, ◌⊎◌, Option, Some, None}
+use Rattle.std.specs.Prelude.{◌≡◌, ℕ, Bool, false, List, Contains, Vec, nat_eq, ◌⊎◌, Option, Some, None}
 use Rattle.std.specs.Cmp.Lexicographic.{pointwise}
 use Rattle.std.specs.Map.{lookup}
 use Rattle.std.specs.declared.alloc.Global.{Global}
-use Rattle.bytes.specs.declared.unique.BytesMut.{BytesMut}
-use Rattle.http_server.specs.declared.log.Log.{Log}
+use Rattle.log_file.specs.declared.handed.Handed.{Handed}
 use Rattle.note_memory.specs.Files.{History, StandsIn, is_among}
 use Rattle.note_memory.specs.Line.{HasLine}
-use Rattle.note_memory.specs.Handed.{handed_in}
+use Rattle.log_file.specs.Handed.{handed_in}
 
 abbrev pub Remembered : Type 0
 Remembered = List (Vec ℕ Global × ℕ)
 
 -- the line stands in what the file of this number was handed
 abbrev pub StandsAt : History → ℕ → List ℕ → Type 0
-StandsAt history number line = (h : Log (BytesMut Global) ℕ × ℕ) × Contains history h × (h.1 ≡ number) × HasLine line (handed_in h.0.items)
+StandsAt history number line = (h : Handed × ℕ) × Contains history h × (h.1 ≡ number) × HasLine line (handed_in h.0.writes.items)
 
 -- each remembered line stands in what the file of its number was handed
 abbrev pub AllStand : History → Remembered → Type 0

@@ -3,8 +3,8 @@ ghost use Rattle.std.specs.Prelude.{◌≡◌, ◌++◌, ◌∷◌, [], IfOk, If
 ghost use Rattle.std.specs.Bool.{MatchBool};
 ghost use Rattle.note_memory.specs.Files.{AreBelow, AreOthers, IsFresh, is_among};
 
-use bytes::BytesMut;
 use http_server::Log;
+use log_file::Handed;
 use std::alloc::{AllocError, Global};
 
 /// The number of a log's file among those that the logs of a process have opened. No two have the same.
@@ -19,8 +19,8 @@ pub struct Files {
     /// The numbers of those that are open, and the next one.
     numbers: Vec<u64>,
     next: u64,
-    /// What each was handed when lines of it were remembered, and its number, which only proofs read.
-    history: Log<Log<BytesMut, usize>, u64>,
+    /// What stood in each when lines of it were remembered, and its number, which only proofs read.
+    history: Log<Handed, u64>,
     ghost below: { ∥ AreBelow next numbers.items history.items ∥₁ },
 }
 
@@ -93,8 +93,8 @@ impl Files {
         self.numbers.contains(&number)
     }
 
-    /// Keeps what a file was handed, where it is open, and says whether it is.
-    pub(crate) fn keep(&mut self, file: FileNumber, handed: &Log<BytesMut, usize>) -> bool
+    /// Keeps what stands in a file, where it is open, and says whether it is.
+    pub(crate) fn keep(&mut self, file: FileNumber, handed: &Handed) -> bool
         ensures is_open { result ≡ is_among file.number self.old.numbers.items }
         ensures history { MatchBool result (self.new.history.items ≡ self.old.history.items ++ (handed.now, file.number) ∷ []) (self.new.history ≡ self.old.history) }
         ensures numbers { self.new.numbers ≡ self.old.numbers }

@@ -7,14 +7,14 @@ ghost use Rattle.note_memory.specs.Memory.{AllStand, AreLeft, StandAll, is_known
 ghost use Rattle.note_memory.specs.Numbers.{IsRenewed};
 ghost use Rattle.note_memory.specs.Recalled.{Recalls};
 ghost use Rattle.note_memory.specs.Shown.{open_in, shown_in};
-ghost use Rattle.note_memory.specs.Handed.{handed_in};
+ghost use Rattle.log_file.specs.Handed.{handed_in};
 
 use crate::files::{FileNumber, Files};
 use crate::recalled::recall_lines;
 use crate::table::{put_lines, table_of};
 use crate::unknown::Unknown;
-use bytes::BytesMut;
 use http_server::Log;
+use log_file::Handed;
 use lru::LruCache;
 use std::alloc::{AllocError, Global};
 use std::hash::RandomState;
@@ -111,13 +111,8 @@ impl NoteMemory {
 
     /// Remembers lines, which stand in what a file was handed, where that is open. The least recently used are forgotten where there
     /// are too many. Where memory runs out a line is not remembered.
-    pub(crate) fn remember(
-        &mut self,
-        file: FileNumber,
-        handed: &Log<BytesMut, usize>,
-        lines: Vec<Vec<u8>>,
-    )
-        requires { ∥ StandAll (handed_in handed.now.items) lines.items ∥₁ }
+    pub(crate) fn remember(&mut self, file: FileNumber, handed: &Handed, lines: Vec<Vec<u8>>)
+        requires { ∥ StandAll (handed_in handed.now.writes.items) lines.items ∥₁ }
         ensures numbers { self.new.files.numbers ≡ self.old.files.numbers }
         ensures most { self.new.table.cap ≡ self.old.table.cap }
     {
@@ -131,10 +126,10 @@ impl NoteMemory {
         &mut self,
         alloc: Global,
         file: FileNumber,
-        handed: &Log<BytesMut, usize>,
+        handed: &Handed,
         lines: &[u8],
     ) -> Result<(), AllocError>
-        requires handed { handed_in handed.now.items ≡ lines.now }
+        requires handed { handed_in handed.now.writes.items ≡ lines.now }
         requires ends { ∥ EndsLine lines.now ∥₁ }
         ensures numbers { self.new.files.numbers ≡ self.old.files.numbers }
         ensures most { self.new.table.cap ≡ self.old.table.cap }

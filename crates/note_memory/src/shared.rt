@@ -1,16 +1,15 @@
 //! The memory of all logs of a process.
 ghost use Rattle.std.specs.Prelude.{◌≡◌, IfOk, is_some};
+ghost use Rattle.log_file.specs.Handed.{handed_in};
+ghost use Rattle.log_file.specs.Line.{EndsLine};
 ghost use Rattle.note_memory.specs.Memory.{AreLeft, StandAll};
 ghost use Rattle.note_memory.specs.Numbers.{IsRenewed};
 ghost use Rattle.note_memory.specs.Shown.{shown_in};
-ghost use Rattle.note_memory.specs.Handed.{handed_in};
 
 use crate::files::FileNumber;
 use crate::memory::NoteMemory;
 use crate::unknown::Unknown;
-use bytes::BytesMut;
-use http_server::Log;
-use log_file::{Journal, LogFile};
+use log_file::Handed;
 use std::alloc::{AllocError, Global};
 use std::sync::{Mutex, MutexGuard, Wait};
 use std::thread::yield_now;
@@ -38,30 +37,31 @@ impl SharedMemory {
         }
     }
 
-    /// Opens the file of a log, and remembers the last lines that the log has read of it. None where nothing that it is handed is
+    /// Opens a file, in place of another where there is one, and remembers lines that stand in it. None where nothing of it is
     /// remembered.
-    pub fn recall<R: Wait, F: LogFile>(
+    pub(crate) fn recall<R: Wait>(
         &self,
         rt: &R,
         alloc: Global,
-        journal: &mut Journal<F>,
+        old: Option<FileNumber>,
+        lines: &[u8],
+        handed: &Handed,
     ) -> Option<FileNumber>
-        ensures file { journal.new.file ≡ journal.old.file }
-        ensures lost { journal.new.lost ≡ journal.old.lost }
+        requires handed { handed_in handed.now.writes.items ≡ lines.now }
+        requires ends { ∥ EndsLine lines.now ∥₁ }
+        ensures { IsRenewed old result }
     {
-        let last = BytesMut::from_vec(journal.take_last(alloc));
         let Some(memory) = &self.memory else {
             return None;
         };
         let mut held = memory.lock(rt);
-        let file = held.begin(alloc, None)?;
-        let handed = Log::new().and(&last, &last.len());
-        let _ = held.recall(alloc, file, &handed, last.as_slice());
+        let file = held.begin(alloc, old)?;
+        let _ = held.recall(alloc, file, handed, lines);
         Some(file)
     }
 
-    /// Opens the file of a log anew, in place of the one that was lost, of which no line counts as remembered from then on.
-    pub fn begin_anew<R: Wait>(
+    /// Opens a file in place of one that was lost, of which no line counts as remembered from then on.
+    pub(crate) fn begin_anew<R: Wait>(
         &self,
         rt: &R,
         alloc: Global,
@@ -91,8 +91,8 @@ impl SharedMemory {
     }
 
     /// Remembers lines that stand in what the file of a log was handed. Where the memory can't be had they are not remembered.
-    pub fn remember(&self, file: FileNumber, handed: &Log<BytesMut, usize>, lines: Vec<Vec<u8>>)
-        requires { ∥ StandAll (handed_in handed.now.items) lines.items ∥₁ }
+    pub fn remember(&self, file: FileNumber, handed: &Handed, lines: Vec<Vec<u8>>)
+        requires { ∥ StandAll (handed_in handed.now.writes.items) lines.items ∥₁ }
     {
         if lines.is_empty() {
             return;

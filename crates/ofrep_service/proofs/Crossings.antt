@@ -19,7 +19,7 @@ use Rattle.snap_share.proofs.Crossings.{ReadSeat-send}
 use Rattle.ofrep_connections.specs.contracts.load.Load as Load
 use Rattle.access_lines.proofs.Crossings.{AccessLines-sync}
 use Rattle.control_desk.proofs.Crossings.{DeskPost-sync}
-use Rattle.note_memory.proofs.Crossings.{SharedMemory-sync}
+use Rattle.note_memory.proofs.Crossings.{Handed-send, SharedMemory-sync}
 use Rattle.ofrep_guards.proofs.Crossings.{KeyRing-sync}
 use Rattle.ofrep_worker.proofs.Crossings.{Counts-sync}
 use Rattle.ofrep_service.specs.contracts.admin.AdminPost as AdminPost
@@ -66,7 +66,7 @@ SystemLog-send : IsSend SystemLog.the_row
 SystemLog-send = search (sendable, crosses, log.the_send) depth 80
 
 Post-send : IsSend Post.the_row
-Post-send = search (sendable, crosses, SystemLog-send) depth 120
+Post-send = search (sendable, crosses, SystemLog-send, Handed-send) depth 120
 
 AdminPost-send : IsSend AdminPost.the_row
 AdminPost-send = search (sendable, crosses) depth 120

@@ -176,7 +176,7 @@ fn answer_operations<J: ShareName, R: Net + LogPaths + DeskPaths + Clock + Wait>
     desk: ReadSeat<J>,
     post: AdminPost,
 ) -> io::Result<()> {
-    let worker = worker_of(rt, alloc, board, seat, None, None);
+    let worker = worker_of(rt, alloc, board, seat, None);
     let desk = desk_of(rt, alloc, board, desk, worker)?;
     let rules = AdminRules::new(&post.hosts, post.may_stop);
     let guard = AdminGuard::new(rules, &board.is_stopping, desk);

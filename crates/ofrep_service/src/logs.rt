@@ -4,6 +4,7 @@ ghost use Rattle.log_file.specs.declared.fault.LogFault.TheVariants.{WantOfMemor
 ghost use Rattle.ofrep_service.specs.Logs.{path_at, path_in, path_of, paths_of};
 
 use log_file::{LogFault, LogPaths, SystemLog, make_folder};
+use note_memory::NumberedJournal;
 use std::alloc::{AllocError, Global};
 use std::io;
 
@@ -14,7 +15,7 @@ const FOLDER_MODE: u32 = 0o700;
 const FILE_MODE: u32 = 0o600;
 
 /// The log of a worker: its notes are kept at the end of a file of the system.
-pub type Journal = log_file::Journal<SystemLog>;
+pub type Journal = NumberedJournal<SystemLog>;
 
 /// Opens the logs of so many workers in a folder, which is made where it is missing: one for each worker, or none where no folder is
 /// named. So many of their last lines are read: all of them where they have no more, and else of each its share at least. No other
@@ -76,11 +77,11 @@ fn open_in<P: LogPaths>(
     worker: usize,
     lines: u64,
 ) -> Result<Journal, LogFault>
-    ensures { IfOk result (λ log. string_bytes log.file.path ≡ path_of folder.now worker) }
+    ensures { IfOk result (λ log. string_bytes log.journal.file.path ≡ path_of folder.now worker) }
 {
     let path = log_path(alloc, folder, worker)?;
     let file = SystemLog::open(paths, path)?;
-    Journal::open(alloc, file, lines)
+    Ok(Journal::new(log_file::Journal::open(alloc, file, lines)?))
 }
 
 /// The path of the log of a worker.

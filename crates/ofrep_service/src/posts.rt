@@ -2,17 +2,15 @@
 ghost use Rattle.std.specs.Prelude.{◌≡◌, IfOk, map};
 
 use crate::logs::Journal;
-use note_memory::FileNumber;
 use std::alloc::Global;
 use std::io;
 use std::net::{Net, SocketAddr, TcpListener, TcpStream};
 
-/// Where a worker takes connections, its log, where it keeps one, and the number of that's file, where lines of it are remembered.
+/// Where a worker takes connections, and its log, where it keeps one.
 #[derive(Drop)]
 pub struct Post {
     pub listener: TcpListener,
     pub journal: Option<Journal>,
-    pub number: Option<FileNumber>,
 }
 
 /// Listens on an address, once for each worker, of which these are the logs.
@@ -29,11 +27,7 @@ pub fn bind<R: Net<Listener = TcpListener, Stream = TcpStream>>(
     let mut posts = Vec::with_capacity(alloc, journals.len())?;
     for journal in journals {
         let listener = listener.try_clone()?;
-        posts.push(Post {
-            listener,
-            journal,
-            number: None,
-        })?;
+        posts.push(Post { listener, journal })?;
     }
     Ok(posts)
 }

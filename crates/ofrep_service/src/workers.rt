@@ -19,7 +19,6 @@ use http_server::{Config, Service};
 use limits::STACK_BYTES;
 use log_file::{LogPaths, SystemLog};
 use note_log::NoteLog;
-use note_memory::FileNumber;
 use ofrep_connections::{Patience, Served, answer_connections_with};
 use ofrep_guards::{CountsStatus, Guard, Rules};
 use ofrep_worker::OfrepWorker;
@@ -175,12 +174,8 @@ fn answer<J: ShareName, R: Net + LogPaths + Clock + Wait>(
     seat: ReadSeat<J>,
     post: Post,
 ) -> io::Result<()> {
-    let Post {
-        listener,
-        journal,
-        number,
-    } = post;
-    let worker = worker_of(rt, alloc, board, seat, journal, number);
+    let Post { listener, journal } = post;
+    let worker = worker_of(rt, alloc, board, seat, journal);
     let rules = Rules::new(
         alloc,
         board.origins.as_slice(),
@@ -250,7 +245,7 @@ fn serve_recorded<S: Recording, R: Net + Clock>(
 
 /// Has the board's memory remember the last lines that were read of the logs of all posts, before a worker answers.
 pub(crate) fn recall<R: Wait>(rt: &R, alloc: Global, board: &Board, posts: &mut [Post])
-    ensures { map (λ p. option_map (λ j. j.file) p.journal) posts.new ≡ map (λ p. option_map (λ j. j.file) p.journal) posts.old }
+    ensures { map (λ p. option_map (λ j. j.journal.file) p.journal) posts.new ≡ map (λ p. option_map (λ j. j.journal.file) p.journal) posts.old }
 {
     for post in posts.iter_mut() {
         recall_one(rt, alloc, board, post);
@@ -259,32 +254,31 @@ pub(crate) fn recall<R: Wait>(rt: &R, alloc: Global, board: &Board, posts: &mut 
 
 /// The same of one post.
 fn recall_one<R: Wait>(rt: &R, alloc: Global, board: &Board, post: &mut Post)
-    ensures { option_map (λ j. j.file) post.new.journal ≡ option_map (λ j. j.file) post.old.journal }
+    ensures { option_map (λ j. j.journal.file) post.new.journal ≡ option_map (λ j. j.journal.file) post.old.journal }
 {
     if let Some(journal) = &mut post.journal {
-        post.number = board.memory.recall(rt, alloc, journal);
+        journal.recall(rt, alloc, &board.memory);
     }
 }
 
-/// The worker of a post: it answers from the snapshots of a seat, and records in the post's log, where it has one, whose file has this
-/// number in the board's memory.
+/// The worker of a post: it answers from the snapshots of a seat, and records in the post's log, where it has one, which shares the
+/// board's memory.
 pub(crate) fn worker_of<'a, J: ShareName, R: Clock>(
     rt: &'a R,
     alloc: Global,
     board: &'a Board,
     seat: ReadSeat<J>,
     journal: Option<Journal>,
-    number: Option<FileNumber>,
 ) -> OfrepWorker<'a, J, R, SystemLog>
     ensures seat { result.seat ≡ seat }
-    ensures log { option_map (λ l. l.journal.file) result.log ≡ option_map (λ j. j.file) journal }
+    ensures log { option_map (λ l. l.journal.journal.file) result.log ≡ option_map (λ j. j.journal.file) journal }
     ensures without { result.without_record ≡ board.now.without_record }
     ensures memory { IfSome result.log (λ l. l.memory.now ≡ board.now.memory) }
-    ensures number { IfSome result.log (λ l. l.number ≡ number) }
+    ensures number { option_map (λ l. l.journal.number) result.log ≡ option_map (λ j. j.number) journal }
     ensures form { IfSome result.log (λ l. l.form ≡ board.now.form) }
 {
     let log = match journal {
-        Some(journal) => Some(NoteLog::new(alloc, board.form, journal, &board.memory, number)),
+        Some(journal) => Some(NoteLog::new(alloc, board.form, journal, &board.memory)),
         None => None,
     };
     OfrepWorker::new(rt, alloc, seat, log, &board.counts, board.without_record)

@@ -37,10 +37,10 @@ pub record Kept : Type 0 where
 abbrev pub kept_of : {F : Type 0} {g : Ghosts F} → NoteLog F g → Kept
 kept_of {F} {g} l = record {
   logged = logged l;
-  bytes = g.bytes l.journal.file;
-  stands = g.stands l.journal.file;
-  is_lost = is_some l.journal.lost;
-  faults = g.faults l.journal.file;
+  bytes = g.bytes l.journal.journal.file;
+  stands = g.stands l.journal.journal.file;
+  is_lost = is_some l.journal.journal.lost;
+  faults = g.faults l.journal.journal.file;
 }
 
 -- of the log of a worker that keeps one
@@ -117,7 +117,7 @@ LooksIn _ _ = ⊥
 
 -- how often the path of a log that is kept was looked for
 abbrev pub looks_in : {F : Type 0} {g : Ghosts F} → Option (NoteLog F g) → Option ℕ
-looks_in {F} {g} log = option_map (λ l. g.looks l.journal.file) log
+looks_in {F} {g} log = option_map (λ l. g.looks l.journal.journal.file) log
 
 -- where a log is kept its path was looked for
 abbrev pub Rises : Option ℕ → Option ℕ → Type 0

@@ -14,7 +14,8 @@ use note_log::{NoteLog, Trouble};
 use ofrep_answers::Answer;
 use std::alloc::{AllocError, Global};
 
-/// Records the notes of an answer, and says whether all of them stand in the log, or in another of the process. Where no log is kept there is nothing to do.
+/// Records the notes of an answer, and says whether all of them stand in the log, or in another of the process. Where no log is kept
+/// there is nothing to do.
 pub(crate) fn record_answer<F: LogFile>(
     alloc: Global,
     log: &mut Option<NoteLog<'_, F>>,
@@ -52,7 +53,7 @@ fn record_first<F: LogFile>(
 #[tactic(auto, using(crate::proofs::Recorded::handed_over))]
 pub(crate) fn record_waiting<F: LogFile>(alloc: Global, log: &mut NoteLog<'_, F>)
     ensures handed { ∥ HandsOver (logged log.old) (logged log.new) ∥₁ }
-    ensures looks { F.looks log.new.journal.file ≡ F.looks log.old.journal.file }
+    ensures looks { F.looks log.new.journal.journal.file ≡ F.looks log.old.journal.journal.file }
 {
     let _ = log.record(alloc, &[]);
 }

@@ -1,4 +1,4 @@
-use Rattle.std.proofs.Common.{◌≡◌, ℕ, List, length}
+use Rattle.std.proofs.Common.{◌≡◌, length}
 use Rattle.note_memory.specs.Files.{History}
 use Rattle.note_memory.specs.Memory.{AllStand, AllStandAt}
 use Rattle.note_memory.proofs.table.put_lines.Given as goal

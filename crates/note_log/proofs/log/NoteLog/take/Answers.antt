@@ -1,7 +1,7 @@
 use Rattle.std.proofs.Common.{true, false, rules, sum_by, sym, ◌∙◌}
 use Rattle.std.proofs.Math.Logic.{∥∥₁_map, ∥∥₁_map₂}
 use Rattle.log_file.specs.Line.{lines_in}
-use Rattle.note_memory.specs.Handed.{handed_in}
+use Rattle.log_file.specs.Handed.{handed_in}
 use Rattle.note_memory.specs.Shown.{relied_in}
 use Rattle.note_log.specs.Sound.{earlier_in}
 use Rattle.note_log.proofs.Moved.{joined, unmoved}
@@ -41,7 +41,7 @@ returns-then-not-hand_over-2-clause-records g c =
 pub returns-then-is_lost-clause-records : goal.returns-then-is_lost-clause-records
 returns-then-is_lost-clause-records g c =
     let self = c.args.self.now in
-    ∣ none_recorded self.form (earlier_in self.earlier.items) _ _ _ _ _ _ (relied_in self.relied.items) c.args.notes.now (unmoved (g.F.LogFile.bytes self.journal.file) (handed_in self.handed.items) self.waiting.items) ∣₁
+    ∣ none_recorded self.form (earlier_in self.earlier.items) _ _ _ _ _ _ (relied_in self.relied.items) c.args.notes.now (unmoved (g.F.LogFile.bytes self.journal.journal.file) (handed_in self.journal.journal.handed.writes.items) self.waiting.items) ∣₁
 
 pub invariant_of-self-2 : goal.invariant_of-self-2
 invariant_of-self-2 g c =

@@ -1,6 +1,5 @@
 use Rattle.std.proofs.Common.{ℕ, subst, sym}
-use Rattle.std.specs.declared.alloc.Global.{Global}
-use Rattle.bytes.specs.declared.unique.BytesMut.{BytesMut}
+use Rattle.log_file.specs.declared.handed.Handed.{Handed}
 use Rattle.http_server.specs.declared.log.Log.{Log}
 use Rattle.note_memory.specs.Memory.{AllStand}
 use Rattle.note_memory.proofs.memory.NoteMemory.begin.Goals as goal
@@ -8,9 +7,9 @@ use Rattle.note_memory.proofs.memory.NoteMemory.begin.Goals as goal
 pub invariant_of-self : goal.invariant_of-self
 invariant_of-self c =
     let self = c.args.self.now in
-    record { sound = subst (λ (h : Log (Log (BytesMut Global) ℕ) ℕ). ∥ AllStand h.items self.table.entries ∥₁) (sym c.replace.ensures.history) self.sound }
+    record { sound = subst (λ (h : Log Handed ℕ). ∥ AllStand h.items self.table.entries ∥₁) (sym c.replace.ensures.history) self.sound }
 
 pub invariant_of-self-in-None : goal.invariant_of-self-in-None
 invariant_of-self-in-None c =
     let self = c.args.self.now in
-    record { sound = subst (λ (h : Log (Log (BytesMut Global) ℕ) ℕ). ∥ AllStand h.items self.table.entries ∥₁) (sym c.add.ensures.history) self.sound }
+    record { sound = subst (λ (h : Log Handed ℕ). ∥ AllStand h.items self.table.entries ∥₁) (sym c.add.ensures.history) self.sound }

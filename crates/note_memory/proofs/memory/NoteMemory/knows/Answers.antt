@@ -1,4 +1,4 @@
-use Rattle.std.proofs.Common.{◌≡◌, ◌∙◌, ℕ, Vec, sym, subst, true}
+use Rattle.std.proofs.Common.{◌∙◌, ℕ, Vec, sym, subst}
 use Rattle.std.specs.declared.alloc.Global.{Global}
 use Rattle.std.proofs.Math.Logic.{∥∥₁_map}
 use Rattle.lru.specs.LruCache.{LruCache}

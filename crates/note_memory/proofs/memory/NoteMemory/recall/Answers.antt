@@ -1,8 +1,7 @@
-use Rattle.std.proofs.Common.{◌≡◌, ◌++◌, ◌∷◌, ℕ, Bool, List, [], Vec, ap, sym, subst, true, false}
+use Rattle.std.proofs.Common.{◌≡◌, ◌++◌, ◌∷◌, ℕ, Bool, [], sym, subst}
 use Rattle.std.specs.Bool.{MatchBool}
-use Rattle.std.specs.declared.alloc.Global.{Global}
-use Rattle.std.proofs.Math.Logic.{∥∥₁_map, ∥∥₁_map₂}
-use Rattle.bytes.specs.declared.unique.BytesMut.{BytesMut}
+use Rattle.std.proofs.Math.Logic.{∥∥₁_map}
+use Rattle.log_file.specs.declared.handed.Handed.{Handed}
 use Rattle.http_server.specs.declared.log.Log.{Log}
 use Rattle.note_memory.specs.Files.{History}
 use Rattle.note_memory.specs.Line.{HasLine}
@@ -32,4 +31,4 @@ invariant_of-self-else-keep c =
     let self = c.args.self.now in
     let same : c.keep.new.self.history ≡ self.files.history =
     subst (λ (b : Bool). MatchBool b (c.keep.new.self.history.items ≡ self.files.history.items ++ (c.args.handed.now, c.args.file.number) ∷ []) (c.keep.new.self.history ≡ self.files.history)) c.if-keep.false c.keep.ensures.history in
-    record { sound = subst (λ (h : Log (Log (BytesMut Global) ℕ) ℕ). ∥ AllStand h.items self.table.entries ∥₁) (sym same) self.sound }
+    record { sound = subst (λ (h : Log Handed ℕ). ∥ AllStand h.items self.table.entries ∥₁) (sym same) self.sound }
