@@ -197,6 +197,10 @@ abbrev pub answer_by : Shape → Form → Option Answer
 answer_by t Rule = emit_in t
 answer_by t (Set kind) = set_in kind t
 
+-- the names of the members that are looked at
+abbrev pub read_names : List (List ℕ)
+read_names = codes "alpha" ∷ codes "beta" ∷ codes "cost" ∷ codes "none" ∷ codes "plan" ∷ codes "rule" ∷ codes "side" ∷ []
+
 -- The answer that a tree stands for. Members of other names are passed over.
 abbrev pub planned_of : Shape → Option Answer
 planned_of t = option_and_then (answer_by t) (form_in t)
