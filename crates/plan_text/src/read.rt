@@ -6,7 +6,7 @@ ghost use Rattle.flag_text.specs.View.{view, items_view};
 ghost use Rattle.bucket_core.specs.Rule.{entries_view, names_view};
 ghost use Rattle.transport_instance.specs.Certificate.{alpha_view, beta_view};
 ghost use Rattle.plan_text.specs.Answer.{planned_view};
-ghost use Rattle.plan_text.specs.PlanFile.{max_plan, read_names, canonical_rule, items_in, alpha_in, beta_in, cost_in, rule_in, names_in, emit_in, set_in, planned_of, IsWhole, if_plan, answer_of};
+ghost use Rattle.plan_text.specs.PlanFile.{max_plan, plan_members, canonical_rule, items_in, alpha_in, beta_in, cost_in, rule_in, names_in, emit_in, set_in, planned_of, IsWhole, if_plan, answer_of};
 
 use crate::fault::PlanFileFault;
 use crate::form::{Form, form_in, has_rule_member};
@@ -21,7 +21,7 @@ use named_members::read_named;
 use std::alloc::Global;
 use transport_instance::{Certificate, Cut, CutKind};
 
-const READ_NAMES: &[&str] = &["alpha", "beta", "cost", "none", "plan", "rule", "side"];
+const PLAN_MEMBERS: &[&str] = &["alpha", "beta", "cost", "none", "plan", "rule", "side"];
 
 /// The answer that the bytes of a plan file hold: a canonical rule with its certificate, whose groups and names rise
 /// strictly, or a set of names that rise strictly. What is read may be printed. It takes time linear in the bytes; a file
@@ -38,15 +38,15 @@ pub fn read_planned(alloc: Global, bytes: &[u8]) -> Result<Planned, PlanFileFaul
     if let Some(planned) = plain_of(alloc, bytes)? {
         return Ok(planned);
     }
-    let tree = read_named(alloc, bytes, FILE_BYTES, read_names())?;
+    let tree = read_named(alloc, bytes, FILE_BYTES, plan_members())?;
     planned_of(alloc, &tree)
 }
 
 /// The names of the members that are looked at.
-fn read_names() -> &'static [&'static str]
-    ensures { map (λ n. n.now) result.now ≡ read_names }
+fn plan_members() -> &'static [&'static str]
+    ensures { map (λ n. n.now) result.now ≡ plan_members }
 {
-    READ_NAMES
+    PLAN_MEMBERS
 }
 
 fn planned_of(alloc: Global, tree: &Tree) -> Result<Planned, PlanFileFault>
