@@ -1,5 +1,5 @@
 -- There is a way to what a context is refused for.
-use Rattle.std.proofs.Common.{◌≡◌, ◌<◌, ◌==◌, ◌-◌, ◌+◌, ◌||◌, ℕ, zero, suc, max, Bool, true, false, if◌then◌else◌, nat_lt, List, [], ◌∷◌, codes, length, Option, Some, None, option_map, is_some, Result, Ok, Err, refl, subst, arith}
+use Rattle.std.proofs.Common.{◌≡◌, ◌<◌, ◌==◌, ◌-◌, ◌+◌, ℕ, zero, suc, max, Bool, true, false, if◌then◌else◌, nat_lt, List, [], ◌∷◌, codes, length, Option, Some, None, option_map, is_some, Result, Ok, Err, refl, arith}
 use Rattle.std.proofs.lemmas.Bool.{ltb-true, ltb-false}
 use Rattle.std.specs.Str.{is_utf8}
 use Rattle.flag_text.specs.Reading.{if_json, json_of, max_levels, shape_of}
