@@ -20,13 +20,13 @@ returns-clause-documents g c =
     let count : length c.as_slice-texts.result.now ≡ documents_in d = ap length c.as_slice-texts.ensures.value ∙ sym d.texts.ok.0 in
     let warned = subst (λ (n : ℕ). MayForewarnEach paths Is (n - 1) (g.E.Outlet.bytes c.args.err.now) (g.E.Outlet.bytes c.forewarn.new.err) (g.E.Outlet.is_broken c.forewarn.new.err)) count
     (subst (λ (ts : List (Vec ℕ Global)). MayForewarnEach paths (IsRefusedAt c.args.floats (texts_of ts)) (length c.as_slice-texts.result.now - 1) (g.E.Outlet.bytes c.args.err.now) (g.E.Outlet.bytes c.forewarn.new.err) (g.E.Outlet.is_broken c.forewarn.new.err)) c.as_slice-texts.ensures.value c.forewarn.ensures.told) in
-    let told = (g.E.Outlet.bytes c.forewarn.new.err, still_each _ _ published.stays paths Is (documents_in d - 1) _ _ warned, published.told) in
     let answer = published.serves.0 in
     let served =
     subst (λ (ts : List (Vec ℕ Global)). ServesTo c.args.floats c.args.subscribers (sources_view d.sources) (texts_of ts) [] answer) c.as_slice-texts.ensures.value published.serves.1 in
     let report =
     reported_behind paths Tells still (serving_as paths Is (documents_in d) c.args.port c.args.subscribers) (g.O.Outlet.bytes c.args.out.now) (g.O.Outlet.bytes c.report_answer.new.out) (g.O.Outlet.is_broken c.report_answer.new.out) (g.E.Outlet.bytes c.args.err.now) (g.E.Outlet.bytes c.publish_in_turn-answer.new.err) (g.E.Outlet.bytes c.report_answer.new.err)
-    (g.E.Outlet.is_broken c.publish_in_turn-answer.new.err) (g.E.Outlet.is_broken c.report_answer.new.err) c.report_answer.ensures.stays c.report_answer.result c.publish_in_turn-answer.result told c.report_answer.ensures.reports in
+    (g.E.Outlet.is_broken c.publish_in_turn-answer.new.err) (g.E.Outlet.is_broken c.report_answer.new.err) c.report_answer.ensures.stays c.report_answer.result c.publish_in_turn-answer.result
+    (g.E.Outlet.bytes c.forewarn.new.err, still_each _ _ published.stays paths Is (documents_in d - 1) _ _ warned, published.told) c.report_answer.ensures.reports in
     (answer, served, subst (λ (r : Result ℕ Refusal). Reports paths Tells r (g.O.Outlet.bytes c.args.out.now) (g.O.Outlet.bytes c.report_answer.new.out) (g.O.Outlet.is_broken c.report_answer.new.out) (g.E.Outlet.bytes c.args.err.now) (g.E.Outlet.bytes c.report_answer.new.err) (g.E.Outlet.is_broken c.report_answer.new.err) c.report_answer.result) published.serves.2 report)
 
 pub returns-clause-serves : goal.returns-clause-serves
