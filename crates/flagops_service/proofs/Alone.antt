@@ -1,5 +1,5 @@
 -- A document that is alone, and its source.
-use Rattle.std.proofs.Common.{◌≡◌, ◌∙◌, ◌<◌, ◌+◌, ◌++◌, ◌||◌, ℕ, zero, suc, Bool, true, false, cond, if◌then◌else◌, List, [], ◌∷◌, Option, Some, None, Result, Ok, Err, Vec, Global, ap, append-nil, arith, decimal, length, map, refl, slice_get, subst, sym, inl, inr}
+use Rattle.std.proofs.Common.{◌≡◌, ◌∙◌, ◌<◌, ◌+◌, ◌++◌, ◌||◌, ℕ, zero, suc, Bool, true, false, cond, if◌then◌else◌, List, [], ◌∷◌, Option, Some, None, Result, Ok, Err, Vec, Global, ap, append-nil, arith, decimal, get_or, length, map, refl, slice_get, subst, sym, inl, inr}
 use Rattle.std.specs.Prelude.{IfErr, IfOk, MatchBool, nat_lt, slice_set}
 use Rattle.std.specs.Str.{bytes_eq, is_utf8}
 use Rattle.std.proofs.lemmas.List.{length-map, length-set}
@@ -74,6 +74,18 @@ means_merged s flags texts read merged text alone =
     let rise : HaveRisingKeys ((decimal 1, Some a.0) ∷ []) = subst HaveRisingKeys a.1 (rising s.documents.entries) in
     let all : merged_of ((decimal 1, Some a.0) ∷ []) ≡ Ok (flags_view flags) = subst (λ (ss : SourceList). merged_of ss ≡ Ok (flags_view flags)) a.1 merged in
     subst (λ (fs : Definitions). MeansWithFloats text (Ok fs)) (merged_alone (decimal 1) a.0 (flags_view flags) rise.0 all) a.2
+
+-- ---- a document that is the only one of a list
+
+pub only_item : {X : Type 0} (xs : List X) (x : X) → length xs ≡ 1 → x ≡ get_or xs 0 x → xs ≡ x ∷ []
+only_item [] x one is = absurd (omega (arith, one))
+only_item (y ∷ []) x one is = ap (λ z. z ∷ []) (sym is)
+only_item (y ∷ z ∷ zs) x one is = absurd (omega (arith, one))
+
+-- of several none is alone
+pub several_read : {E : Type 0} (texts : List (Vec ℕ Global)) (sources : SourceList) (r : Result Flags E) → 1 < length texts → IfOk r (λ _. AreRead (texts_of texts) sources)
+several_read texts sources (Ok flags) many = λ text alone. absurd (omega (arith, many, ap length alone, length-map texts (λ (v : Vec ℕ Global). v.items)))
+several_read texts sources (Err e) many = tt
 
 -- ---- a document that is read again
 

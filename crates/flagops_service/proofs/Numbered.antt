@@ -1,5 +1,5 @@
 -- Documents that have sources under their numbers.
-use Rattle.std.proofs.Common.{◌≡◌, ◌∙◌, ◌+◌, ℕ, List, [], ◌∷◌, ◌++◌, None, Result, Ok, Err, ap, append-nil, append_assoc, decimal, length, refl, subst, sym}
+use Rattle.std.proofs.Common.{◌≡◌, ◌∙◌, ◌+◌, ℕ, List, [], ◌∷◌, ◌++◌, None, Result, Ok, Err, ap, ap₂, append-nil, append_assoc, decimal, length, refl, subst, sym}
 use Rattle.source_merge.specs.Sources.{SourceList}
 use Rattle.flagops_shell.specs.Files.{Holding, load_of}
 use Rattle.flagops_shell.specs.Outcomes.{◌>>=◌}
@@ -10,8 +10,12 @@ use Rattle.flagops_service.specs.Starting.{numbered, numbered_from}
 use Rattle.limits.specs.Limits.{text_bytes}
 
 -- documents behind others, with these sources and one more text
-abbrev behind : Loaded → List ℕ → SourceList → Loaded
+abbrev pub behind : Loaded → List ℕ → SourceList → Loaded
 behind d text sources = record { sources = sources; texts = d.texts ++ text ∷ [] }
+
+-- documents with these sources and texts
+pub documents_as : (d : Loaded) (sources : SourceList) (texts : List (List ℕ)) → d.sources ≡ sources → d.texts ≡ texts → d ≡ record { sources = sources; texts = texts }
+documents_as d sources texts s t = ap₂ (λ (ss : SourceList) (ts : List (List ℕ)). (let l : Loaded = record { sources = ss; texts = ts } in l)) s t
 
 -- ---- what is numbered has the texts
 

@@ -1,9 +1,11 @@
 use Rattle.std.proofs.Common.{◌≡◌, ◌∙◌, List, [], ◌∷◌, ◌++◌, ℕ, true, Vec, Global, Err, Ok, ap, inr, subst, sym}
 use Rattle.std.proofs.lemmas.List.{length-map}
 use Rattle.flag_defs.specs.Flags.{flags_view}
+use Rattle.source_merge.specs.View.{sources_view}
 use Rattle.flagops_streams.specs.Loading.{documents_view}
 use Rattle.flagops_streams.specs.Documents.{Answer, Gives, texts_of}
 use Rattle.flagops_service.specs.Ended.{Reports}
+use Rattle.flagops_service.specs.Merging.{AreRead}
 use Rattle.flagops_service.specs.Words.{answering_view, seats_of}
 use Rattle.flagops_service.specs.Starting.{numbered}
 use Rattle.flagops_service.proofs.Numbered.{numbered_alone}
@@ -34,3 +36,7 @@ merge_documents-requires-clause-alone g c = λ text alone.
     let d = documents_view c.args.documents in
     let same : texts_of c.as_slice.result.now ≡ d.texts = ap texts_of c.as_slice.ensures.value in
     numbered_alone text d (subst (λ (ts : List (List ℕ)). numbered ts ≡ Ok d) (sym same ∙ alone) c.requires.numbered)
+
+-- what was merged has the sources of these texts
+pub answer_merged-requires-clause-read : goal.answer_merged-requires-clause-read
+answer_merged-requires-clause-read g c = subst (λ (ts : List (Vec ℕ Global)). AreRead (texts_of ts) (sources_view c.merge_documents.new.sources)) c.as_slice.ensures.value c.in-Ok.ensures.read
