@@ -1,4 +1,4 @@
-use Rattle.std.proofs.Common.{◌≡◌, ◌≤◌, ◌<◌, ◌∙◌, ⊥, Ok, ap, arith, inr, sym}
+use Rattle.std.proofs.Common.{◌≡◌, ◌≤◌, ◌<◌, ◌∙◌, Ok, ap, arith, inr, sym}
 use Rattle.flagops_streams.specs.declared.refusal.Refusal.TheVariants.{Share}
 use Rattle.flagops_streams.proofs.Gives.{not_shared}
 use Rattle.flagops_service.specs.Words.{answering_view, seats_of}
