@@ -20,6 +20,7 @@ use Rattle.ofrep_connections.specs.contracts.load.Load as Load
 use Rattle.access_lines.proofs.Crossings.{AccessLines-sync}
 use Rattle.control_desk.specs.contracts.sources.PublishedSources as PublishedSources
 use Rattle.control_desk.proofs.Crossings.{DeskPost-sync, PublishedSources-sync}
+use Rattle.note_memory.proofs.Crossings.{Handed-send, SharedMemory-sync}
 use Rattle.ofrep_guards.proofs.Crossings.{KeyRing-sync}
 use Rattle.ofrep_worker.proofs.Crossings.{Counts-sync}
 use Rattle.ofrep_service.specs.contracts.admin.AdminPost as AdminPost
@@ -57,7 +58,7 @@ Load-sync = search (sendable, crosses) depth 40
 
 Board-sync : IsSync Board.the_row
 Board-sync =
-    declared_sync Board.the_type (Counts-sync, (Load-sync, (search (sendable, crosses) depth 40, (search (sendable, crosses) depth 40, (search (sendable, crosses) depth 40, (search (sendable, crosses) depth 40, (search (sendable, crosses) depth 40, (search (sendable, crosses) depth 40, (search (sendable, crosses) depth 40, (search (sendable, crosses, KeyRing-sync) depth 40, (search (sendable, crosses) depth 40, (search (sendable, crosses, AccessLines-sync) depth 40, (search (sendable, crosses) depth 40, (DeskPost-sync, (Load-sync, tt)))))))))))))))
+    declared_sync Board.the_type (Counts-sync, (Load-sync, (search (sendable, crosses) depth 40, (search (sendable, crosses) depth 40, (search (sendable, crosses) depth 40, (search (sendable, crosses) depth 40, (SharedMemory-sync, (search (sendable, crosses) depth 40, (search (sendable, crosses) depth 40, (search (sendable, crosses, KeyRing-sync) depth 40, (search (sendable, crosses) depth 40, (search (sendable, crosses, AccessLines-sync) depth 40, (search (sendable, crosses) depth 40, (DeskPost-sync, (Load-sync, tt)))))))))))))))
 
 TcpListener-send : IsSend TcpListener.the_row
 TcpListener-send = search (sendable, crosses) depth 40
@@ -66,7 +67,7 @@ SystemLog-send : IsSend SystemLog.the_row
 SystemLog-send = search (sendable, crosses, log.the_send) depth 80
 
 Post-send : IsSend Post.the_row
-Post-send = search (sendable, crosses, SystemLog-send) depth 120
+Post-send = search (sendable, crosses, SystemLog-send, Handed-send) depth 120
 
 AdminPost-send : IsSend AdminPost.the_row
 AdminPost-send = search (sendable, crosses) depth 120
