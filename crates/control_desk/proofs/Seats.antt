@@ -1,7 +1,7 @@
 -- What is told on logs tells nothing of how often a seat was read, and of what hindered it before no more than that the system had not failed more often.
 use Rattle.std.proofs.Common.{◌≤◌, ◌<◌, ℕ, List, Option, Some, None, Result, Ok, Err, arith, inl, inr}
 use Rattle.control_calls.specs.declared.place.ControlPlace.{ControlPlace}
-use Rattle.control_calls.specs.declared.place.ControlPlace.TheVariants.{Console, Flags, Snapshot, Record, Plan, Check, Apply, History, Elsewhere}
+use Rattle.control_calls.specs.declared.place.ControlPlace.TheVariants as place
 use Rattle.flagops_shell.specs.Files.{Holding}
 use Rattle.http_server.specs.declared.response.Response.{Response}
 use Rattle.snap_share.specs.Known.{Seat}
@@ -44,15 +44,15 @@ module _ (naming naming' : Option Naming) (before after : Option Holding) (had h
   responds_aside (Some path) folder s files h = applied_aside folder path asked.asker s before after had.faults has.faults had'.faults has'.faults response first last asked.body files h
   responds_aside None folder s files h = h
 
-  pub aside : (place : ControlPlace) (folder : List ℕ) (s : Numbered) (document : List ℕ) (files passed : List (List ℕ))
-      → RespondsOn naming before after had has rules page seat seat' asked response place folder s document files passed
-      → RespondsOn naming' before after had' has' rules page other other' asked response place folder s document files passed
-  aside Console folder s document files passed h = h
-  aside Flags folder s document files passed h = h
-  aside Snapshot folder s document files passed h = h
-  aside Record folder s document files passed h = h
-  aside Plan folder s document files passed h = h
-  aside Check folder s document files passed h = h
-  aside Apply folder s document files passed h = responds_aside rules.applied_to folder (with_document s document) files h
-  aside History folder s document files passed h = h
-  aside Elsewhere folder s document files passed h = h
+  pub aside : (called : ControlPlace) (folder : List ℕ) (s : Numbered) (document : List ℕ) (files passed : List (List ℕ))
+      → RespondsOn naming before after had has rules page seat seat' asked response called folder s document files passed
+      → RespondsOn naming' before after had' has' rules page other other' asked response called folder s document files passed
+  aside place.Console folder s document files passed h = h
+  aside place.Flags folder s document files passed h = h
+  aside place.Snapshot folder s document files passed h = h
+  aside place.Record folder s document files passed h = h
+  aside place.Plan folder s document files passed h = h
+  aside place.Check folder s document files passed h = h
+  aside place.Apply folder s document files passed h = responds_aside rules.applied_to folder (with_document s document) files h
+  aside place.History folder s document files passed h = h
+  aside place.Elsewhere folder s document files passed h = h
