@@ -24,9 +24,9 @@ module _ (folder path asker : List ℕ) (s : Snapshot) (before after : Option Ho
   applied : (a : Applied) → AppliesOr folder path asker s a before after f f' response → AppliesOr folder path asker s a before after g g' response
   applied a (inl is) = inl record { same = is.same; line = is.line; row = is.row; writes = is.writes; response_is = is.response_is }
   applied a (inr (inl other)) = inr (inl other)
-  applied a (inr (inr (inl (inl failed, told)))) = inr (inr (inl (inl (more failed), told)))
-  applied a (inr (inr (inl (inr nothing, told)))) = inr (inr (inl (inr nothing, told)))
-  applied a (inr (inr (inr (failed, told)))) = inr (inr (inr (more failed, told)))
+  applied a (inr (inr (inl (inl failed, told, same)))) = inr (inr (inl (inl (more failed), told, same)))
+  applied a (inr (inr (inl (inr nothing, told, same)))) = inr (inr (inl (inr nothing, told, same)))
+  applied a (inr (inr (inr (failed, told, others)))) = inr (inr (inr (more failed, told, others)))
 
   applied_if : (r : Result Applied ControlRefusal) → AppliesIf folder path asker s before after f f' response r → AppliesIf folder path asker s before after g g' response r
   applied_if (Ok a) h = applied a h
