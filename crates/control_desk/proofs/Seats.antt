@@ -11,7 +11,7 @@ use Rattle.control_answers.specs.Apply.{Applied}
 use Rattle.control_answers.specs.Snapshot.{Snapshot}
 use Rattle.control_answers.specs.declared.refusal.ControlRefusal.{ControlRefusal}
 use Rattle.control_desk.specs.Apply.{AppliesIf, AppliesOr, TellsApply}
-use Rattle.control_desk.specs.Desk.{Hindered, Page, RespondsApplied, RespondsOn, RespondsRecorded}
+use Rattle.control_desk.specs.Desk.{Hindered, Page, RespondsApplied, RespondsOn}
 use Rattle.control_desk.specs.Files.{Naming}
 use Rattle.control_desk.specs.Held.{with_document}
 use Rattle.control_desk.specs.Rules.{Rules}

@@ -1,4 +1,4 @@
-use Rattle.std.proofs.Common.{◌≡◌, ◌∙◌, ℕ, List, string_bytes, subst, sym}
+use Rattle.std.proofs.Common.{◌≡◌, ◌∙◌, List, string_bytes, subst, sym}
 use Rattle.flag_defs.specs.declared.flags.Flags.{Flags}
 use Rattle.control_desk.specs.Sources.{IsDocumentOf}
 use Rattle.control_desk.proofs.sources.SourceText.copied.Goals as goal
