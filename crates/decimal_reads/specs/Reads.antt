@@ -58,11 +58,8 @@ abbrev mutual
   pub read_in : Bool → Shape → Expression → Option Reading
   read_in tested context (literal t) = None
   read_in tested context (list es) = read_in_each None (expression_count es) 0 context es
-  read_in tested context (operation o es) = read_in_operation o tested context es
+  read_in tested context (operation o es) = first (read_by o tested context es) (read_in_each (Some o) (expression_count es) 0 context es)
   read_in tested context (fractional site b bs) = first (read_in_by context b) (read_in_buckets context bs)
-
-  pub read_in_operation : Operator → Bool → Shape → Expressions → Option Reading
-  read_in_operation o tested context es = first (read_by o tested context es) (read_in_each (Some o) (expression_count es) 0 context es)
 
   pub read_in_each : Option Operator → ℕ → ℕ → Shape → Expressions → Option Reading
   read_in_each o n place context no_expressions = None
@@ -79,6 +76,10 @@ abbrev mutual
   pub read_in_bucket : Shape → Bucket → Option Reading
   read_in_bucket context (literal_bucket name weight) = None
   read_in_bucket context (computed_bucket name weight) = first (read_in false context name) (read_in false context weight)
+
+-- an operation
+abbrev pub read_in_operation : Operator → Bool → Shape → Expressions → Option Reading
+read_in_operation o tested context es = first (read_by o tested context es) (read_in_each (Some o) (expression_count es) 0 context es)
 
 abbrev pub first_read : Shape → Expression → Option Reading
 first_read context e = read_in false context e

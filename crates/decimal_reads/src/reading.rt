@@ -1,11 +1,11 @@
 //! The variables of a targeting that give numbers which are not whole.
 ghost use Rattle.std.specs.Prelude.{◌≡◌, ◌<◌, true, length, option_copied, option_map};
-ghost use Rattle.decimal_reads.specs.Reads.{is_tested, path_of, read_at, read_by, read_in, read_in_bucket, read_in_buckets, read_in_by, read_in_each, read_in_operation, read_view, unless_compared};
+ghost use Rattle.decimal_reads.specs.Reads.{is_tested, path_of, read_at, read_by, read_in, read_in_buckets, read_in_by, read_in_each, read_in_operation, read_view, unless_compared};
 ghost use Rattle.decimal_reads.specs.Reads as spec;
 ghost use Rattle.flag_text.specs.Shape.{is_tidy};
 ghost use Rattle.flag_text.specs.View.{view};
 ghost use Rattle.logic_ast.specs.Expr.{view as expr_view};
-ghost use Rattle.logic_ast.specs.View.{boxed_view, bucket_view, buckets_view, node_view, nodes_view};
+ghost use Rattle.logic_ast.specs.View.{boxed_view, buckets_view, node_view, nodes_view};
 ghost use Rattle.logic_values.specs.Views.{seen_view};
 
 use decimal_values::{is_readable, spelling_of};
@@ -33,7 +33,6 @@ pub fn first_read<'a>(expr: &'a Expr, context: &'a Tree) -> Option<DecimalRead<'
 }
 
 #[cycle(read)]
-#[tactic(auto, using(crate::proofs::Counts::count_nodes))]
 fn read_in<'a>(node: &'a Node, tested: bool, context: Part<'a>) -> Option<DecimalRead<'a>>
     ensures { option_map read_view result ≡ read_in tested (view context.entry.tree.now) (node_view node.entry.now) }
 {
@@ -51,7 +50,7 @@ fn read_in<'a>(node: &'a Node, tested: bool, context: Part<'a>) -> Option<Decima
 }
 
 #[cycle(read)]
-#[tactic(auto, using(crate::proofs::Counts::count_nodes))]
+#[tactic(auto, using(crate::proofs::Nodes::count_nodes))]
 fn read_in_operation<'a>(
     operator: Operator,
     arguments: &'a Vec<Node>,
@@ -98,24 +97,16 @@ fn read_in_buckets<'a>(buckets: &'a Vec<Bucket<Node>>, context: Part<'a>) -> Opt
     ensures { option_map read_view result ≡ read_in_buckets (view context.entry.tree.now) (buckets_view buckets.entry.now.items) }
 {
     for bucket in buckets {
-        if let Some(read) = read_in_bucket(bucket, context) {
-            return Some(read);
+        if let Bucket::Computed(name, weight) = bucket {
+            if let Some(read) = read_in(name, false, context) {
+                return Some(read);
+            }
+            if let Some(read) = read_in(weight, false, context) {
+                return Some(read);
+            }
         }
     }
     None
-}
-
-#[cycle(read)]
-fn read_in_bucket<'a>(bucket: &'a Bucket<Node>, context: Part<'a>) -> Option<DecimalRead<'a>>
-    ensures { option_map read_view result ≡ read_in_bucket (view context.entry.tree.now) (bucket_view bucket.entry.now) }
-{
-    match bucket {
-        Bucket::Literal(..) => None,
-        Bucket::Computed(name, weight) => match read_in(name, false, context) {
-            Some(read) => Some(read),
-            None => read_in(weight, false, context),
-        },
-    }
 }
 
 /// Whether an operator compares or tests its argument at a place; nothing else does.

@@ -1,5 +1,5 @@
 -- A log that begins, and one that begins anew.
-use Rattle.std.proofs.Common.{◌≡◌, ℕ, List, [], ◌∷◌, ◌++◌, map, ap, ◌∙◌, inl}
+use Rattle.std.proofs.Common.{◌≡◌, ℕ, List, [], ◌∷◌, ◌++◌, ap, ◌∙◌, inl}
 use Rattle.std.proofs.lemmas.List.{map-append}
 use Rattle.log_file.specs.declared.handed.Handed.{Handed}
 use Rattle.log_file.specs.Line.{EndsLine}

@@ -1,5 +1,5 @@
 -- The lines of notes, and those that are left of them.
-use Rattle.std.proofs.Common.{◌≡◌, ◌≤◌, ◌<◌, ℕ, List, [], ◌∷◌, ◌++◌, length, map, Vec, refl, sym, ap, ap₂, ◌∙◌, subst, append-nil, inl, inr, ◌⊎◌, arith}
+use Rattle.std.proofs.Common.{◌≡◌, ◌≤◌, ◌<◌, ℕ, List, [], ◌∷◌, ◌++◌, length, map, Vec, refl, sym, ap, ap₂, ◌∙◌, subst, append-nil, inl, inr, arith}
 use Rattle.std.specs.List.{flat_map, Contains}
 use Rattle.std.specs.declared.alloc.Global.{Global}
 use Rattle.std.proofs.Math.Logic.{∥∥₁_map}
@@ -9,7 +9,7 @@ use Rattle.std.proofs.lemmas.List.Elements.{Contains-append_left, Contains-appen
 use Rattle.note_lines.specs.Hashed.{line_as}
 use Rattle.note_lines.specs.Note.{Noted, most_noted}
 use Rattle.note_lines.specs.declared.form.NoteForm.{NoteForm}
-use Rattle.note_log.specs.Batch.{Adds, ArePrinted, IsBatch, IsOneOf, items_of}
+use Rattle.note_log.specs.Batch.{Adds, ArePrinted, IsBatch, items_of}
 use Rattle.note_memory.specs.Files.{StandsIn}
 use Rattle.note_log.specs.Log.{Wants}
 use Rattle.note_memory.specs.Memory.{AreLeft}

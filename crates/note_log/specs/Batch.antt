@@ -20,10 +20,10 @@ Adds form note old new =
     ⊎ ((length note.input ≤ most_noted) × (items_of new ≡ items_of old ++ line_as form note ∷ []))
 
 -- the lines of all notes that are to be recorded, and of no other
-pub record ArePrinted (form : NoteForm) (notes : List Noted) (lines : List (Vec ℕ Global)) : Type 0 where
+pub record ArePrinted (form : NoteForm) (notes : List Noted) (printed : List (Vec ℕ Global)) : Type 0 where
   pub recorded : List Noted
   pub wanted : (note : Noted) → Contains recorded note → Wants notes note
-  pub lines : items_of lines ≡ map (line_as form) recorded
+  pub lines : items_of printed ≡ map (line_as form) recorded
   pub all : (note : Noted) → Wants notes note → Contains recorded note
 
 -- one of the notes has this line

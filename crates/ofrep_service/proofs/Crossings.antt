@@ -13,6 +13,7 @@ use Rattle.std.specs.contracts.random_state.RandomState as RandomState
 use Rattle.std.specs.contracts.net.tcp.TcpListener as TcpListener
 use Rattle.http_server.proofs.log.Log.TheSendSync as log
 use Rattle.log_file.specs.contracts.system.SystemLog as SystemLog
+use Rattle.note_memory.proofs.Crossings.{Handed-send, SharedMemory-sync}
 use Rattle.snap_share.specs.declared.history.ShareName as ShareName
 use Rattle.snap_share.specs.contracts.seat.ReadSeat as ReadSeat
 use Rattle.snap_share.proofs.Crossings.{ReadSeat-send}
@@ -20,7 +21,6 @@ use Rattle.ofrep_connections.specs.contracts.load.Load as Load
 use Rattle.access_lines.proofs.Crossings.{AccessLines-sync}
 use Rattle.control_desk.specs.contracts.sources.PublishedSources as PublishedSources
 use Rattle.control_desk.proofs.Crossings.{DeskPost-sync, PublishedSources-sync}
-use Rattle.note_memory.proofs.Crossings.{Handed-send, SharedMemory-sync}
 use Rattle.ofrep_guards.proofs.Crossings.{KeyRing-sync}
 use Rattle.ofrep_worker.proofs.Crossings.{Counts-sync}
 use Rattle.ofrep_service.specs.contracts.admin.AdminPost as AdminPost

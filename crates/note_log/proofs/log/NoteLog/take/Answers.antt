@@ -1,4 +1,4 @@
-use Rattle.std.proofs.Common.{true, false, rules, sum_by, sym, ◌∙◌}
+use Rattle.std.proofs.Common.{rules, sum_by, sym, ◌∙◌}
 use Rattle.std.proofs.Math.Logic.{∥∥₁_map, ∥∥₁_map₂}
 use Rattle.log_file.specs.Line.{lines_in}
 use Rattle.log_file.specs.Handed.{handed_in}
