@@ -1,4 +1,5 @@
 pub mod Crossings
+mod Documents
 mod Fields
 mod Filled
 pub mod Items
@@ -7,3 +8,4 @@ mod Outcomes
 mod Routes
 mod Seen
 mod Seats
+mod Since

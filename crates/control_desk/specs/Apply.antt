@@ -1,5 +1,5 @@
 -- What comes of a token: its plan is checked, noted in the history, and then in the document's file.
-use Rattle.std.specs.Prelude.{◌≡◌, ◌⊎◌, ℕ, Bool, true, false, List, [], ◌++◌, codes, decimal, length, Option, Some, None, option_and_then, unwrap_or, Result, Ok, Err}
+use Rattle.std.specs.Prelude.{◌≡◌, ◌⊎◌, ◌<◌, ℕ, Bool, true, false, List, [], ◌++◌, codes, decimal, length, Option, Some, None, option_and_then, unwrap_or, Result, Ok, Err}
 use Rattle.bucket_core.specs.Rule.{Entries}
 use Rattle.control_answers.specs.Apply.{Applied, IsApplyAnswer}
 use Rattle.control_answers.specs.History.{row_text}
@@ -15,6 +15,7 @@ use Rattle.http_server.specs.Response.{IsResponse}
 use Rattle.http_server.specs.declared.response.Response.{Response}
 use Rattle.plan_text.specs.Answer.{Answer, emit, none_exists}
 use Rattle.price_core.specs.Request.{Asked, asked_of}
+use Rattle.price_core.specs.declared.fault.PriceFault.{PriceFault}
 use Rattle.std.specs.Str.{bytes_eq}
 use Rattle.control_desk.specs.Asked.{IsTextOf}
 use Rattle.control_desk.specs.Files.{Appends, path_in}
@@ -77,7 +78,8 @@ pub record Writes (before after : Option Holding) (history line path document : 
 unfoldable pub written_text : ℕ → List ℕ
 written_text n = codes "{\"written\":" ++ (decimal n ++ codes "}\n")
 
-module _ (folder path asker : List ℕ) (s : Snapshot) (a : Applied) (before after : Option Holding) (response : Response) where
+-- by how often the system had failed before and after
+module _ (folder path asker : List ℕ) (s : Snapshot) (a : Applied) (before after : Option Holding) (faults faults' : ℕ) (response : Response) where
   abbrev pub history : List ℕ
   history = path_in folder (codes "applied.log")
 
@@ -93,15 +95,23 @@ module _ (folder path asker : List ℕ) (s : Snapshot) (a : Applied) (before aft
   abbrev pub IsOther : Type 0
   IsOther = HoldsText false before path s.document × IsRefusal (codes "apply") OtherDocument response × (after ≡ before)
 
+  -- the system failed as the file was read; or what is applied asks for nothing, which it does not
+  abbrev pub IsUnread : Type 0
+  IsUnread = ((faults < faults') ⊎ ((e : PriceFault) × (asked_of a.request ≡ Err e))) × Replies Unreadable response × (after ≡ before)
+
+  -- the system failed as it was noted, or written
+  abbrev pub IsUnwritten : Type 0
+  IsUnwritten = (faults < faults') × Replies Unwritten response × KeepsOthers before after history
+
   -- so it is applied; or the document is not replaced, and that is told
   abbrev pub AppliesOr : Type 0
-  AppliesOr = Applies ⊎ (IsOther ⊎ ((Replies Unreadable response × (after ≡ before)) ⊎ (Replies Unwritten response × KeepsOthers before after history)))
+  AppliesOr = Applies ⊎ (IsOther ⊎ (IsUnread ⊎ IsUnwritten))
 
 -- What comes of a token is applied, or the call is refused and nothing is written.
-abbrev pub AppliesIf : List ℕ → List ℕ → List ℕ → Snapshot → Option Holding → Option Holding → Response → Result Applied ControlRefusal → Type 0
-AppliesIf folder path asker s before after response (Ok a) = AppliesOr folder path asker s a before after response
-AppliesIf folder path asker s before after response (Err e) = IsRefusal (codes "apply") e response × (after ≡ before)
+abbrev pub AppliesIf : List ℕ → List ℕ → List ℕ → Snapshot → Option Holding → Option Holding → ℕ → ℕ → Response → Result Applied ControlRefusal → Type 0
+AppliesIf folder path asker s before after faults faults' response (Ok a) = AppliesOr folder path asker s a before after faults faults' response
+AppliesIf folder path asker s before after faults faults' response (Err e) = IsRefusal (codes "apply") e response × (after ≡ before)
 
-abbrev pub TellsApply : List ℕ → List ℕ → List ℕ → List ℕ → Snapshot → List (List ℕ) → Option Holding → Option Holding → Response → Type 0
-TellsApply folder path asker token s files before after response =
-    (r : Result Applied ControlRefusal) × IsApplyAnswer s token files r × AppliesIf folder path asker s before after response r
+abbrev pub TellsApply : List ℕ → List ℕ → List ℕ → List ℕ → Snapshot → List (List ℕ) → Option Holding → Option Holding → ℕ → ℕ → Response → Type 0
+TellsApply folder path asker token s files before after faults faults' response =
+    (r : Result Applied ControlRefusal) × IsApplyAnswer s token files r × AppliesIf folder path asker s before after faults faults' response r

@@ -1,5 +1,5 @@
 -- What a desk answers, and what its answers rest on.
-use Rattle.std.proofs.Common.{◌≡◌, ◌⊎◌, ℕ, Bool, List, [], codes, Option, Some, None, is_some, option_map, unwrap_or, string_bytes}
+use Rattle.std.proofs.Common.{◌≡◌, ◌⊎◌, ◌<◌, ℕ, Bool, List, [], codes, Option, Some, None, is_some, option_map, unwrap_or, string_bytes}
 use Rattle.control_answers.specs.Snapshot.{Snapshot}
 use Rattle.control_answers.specs.declared.refusal.ControlRefusal.TheVariants.{NoRecord}
 use Rattle.control_calls.specs.Calls.{record_of}
@@ -12,13 +12,14 @@ use Rattle.http_server.specs.declared.response.Response.{Response}
 use Rattle.ofrep_guards.specs.Asked.{asked_of, is_admitted}
 use Rattle.ofrep_guards.specs.Key.{keys_view}
 use Rattle.ofrep_guards.specs.declared.held.HeldKeys.{HeldKeys}
-use Rattle.snap_share.specs.Known.{Seat, WasRead}
+use Rattle.snap_share.specs.Known.{Seat}
 use Rattle.sync_frames.specs.Snapshots.{Numbered}
 use Rattle.control_desk.specs.Apply.{TellsApply}
 use Rattle.control_desk.specs.Asked.{CallAsked, call_asked}
 use Rattle.control_desk.specs.Files.{Naming, path_in}
-use Rattle.control_desk.specs.Held.{with_document}
+use Rattle.control_desk.specs.Held.{IsOfSnapshot, ReadsLast, with_document}
 use Rattle.control_desk.specs.Logs.{AreLogs}
+use Rattle.control_desk.specs.Obstacles.{AreGone, IsKept, IsUnknown, Met, met_by}
 use Rattle.control_desk.specs.Reply.{Replies}
 use Rattle.control_desk.specs.Route.{route_of}
 use Rattle.control_desk.specs.Rules.{Rules}
@@ -26,7 +27,7 @@ use Rattle.control_desk.specs.Sent.{IsPage}
 use Rattle.control_desk.specs.Bodies.{IsRefusal, TellsCheck, TellsDocument, TellsFlags, TellsFlagsOn, TellsHistory, TellsPlan, TellsRecord}
 use Rattle.control_desk.specs.declared.page.ConsolePage as program
 use Rattle.control_desk.specs.declared.reply.Reply.TheVariants.{Busy, Leaves, Unreadable, Unserved}
-use Rattle.control_desk.specs.declared.sources.SourceText.{SourceText}
+use Rattle.control_desk.specs.declared.obstacles.Obstacles.{Obstacles}
 use Rattle.control_desk.specs.declared.route.Route.{Route}
 use Rattle.control_desk.specs.declared.route.Route.TheVariants.{Forwarded, Replied, Called}
 
@@ -68,11 +69,20 @@ abbrev pub HoldsHistory : Option Holding → List ℕ → List ℕ → Type 0
 HoldsHistory None path history = Unit {0}
 HoldsHistory (Some at) path history = history ≡ unwrap_or (at path) []
 
--- what the files hold before and after a call, what the desk goes by, its page, its seat before and after, what is asked, and the response
-module _ (naming : Option Naming) (before after : Option Holding) (rules : Rules) (page : Page) (seat seat' : Seat) (asked : CallAsked) (response : Response) where
-  -- of the newest snapshot that the seat then knows, with the text that was set for its number
+-- what has kept a desk from answering so far: how often the system failed its files, and what else it met
+pub record Hindered : Type 0 where
+  pub faults : ℕ
+  pub met : Met
+
+abbrev pub hindered : ℕ → Obstacles → Hindered
+hindered faults met = record { faults = faults; met = met_by met }
+
+-- What the files hold before and after a call, what has kept the desk from answering before and after, what it goes by, its page, its seat before
+-- and after, what is asked, and the response.
+module _ (naming : Option Naming) (before after : Option Holding) (had has : Hindered) (rules : Rules) (page : Page) (seat seat' : Seat) (asked : CallAsked) (response : Response) where
+  -- of the newest snapshot that the seat then knew, with a document that means its flags
   abbrev pub OfSnapshot : (Numbered → List ℕ → Type 0) → Type 0
-  OfSnapshot Next = (s : Numbered) × WasRead seat (Some s) seat' × ((text : SourceText) × (text.number ≡ s.number) × Next s (string_bytes text.document))
+  OfSnapshot Next = (s : Numbered) × ReadsLast seat s seat' × ((document : List ℕ) × IsOfSnapshot s document × Next s document)
 
   -- of such a snapshot, of all logs of the folder, and of the names of those that are compressed
   abbrev pub OfLogs : List ℕ → (Numbered → List ℕ → List (List ℕ) → List (List ℕ) → Type 0) → Type 0
@@ -80,7 +90,7 @@ module _ (naming : Option Naming) (before after : Option Holding) (rules : Rules
 
   -- where plans may be applied to a document
   abbrev pub RespondsApplied : Option (List ℕ) → List ℕ → Snapshot → List (List ℕ) → Type 0
-  RespondsApplied (Some path) folder s files = TellsApply folder path asked.asker asked.body s files before after response
+  RespondsApplied (Some path) folder s files = TellsApply folder path asked.asker asked.body s files before after had.faults has.faults response
   RespondsApplied None folder s files = Replies Unserved response × (after ≡ before)
 
   abbrev pub RespondsOn : ControlPlace → List ℕ → Numbered → List ℕ → List (List ℕ) → List (List ℕ) → Type 0
@@ -101,7 +111,7 @@ module _ (naming : Option Naming) (before after : Option Holding) (rules : Rules
 
   -- the flags, and what is recorded of their sites where logs are kept
   abbrev pub RespondsFlags : Option (List ℕ) → Type 0
-  RespondsFlags None = ((s : Numbered) × WasRead seat (Some s) seat' × TellsFlags rules s [] response) × (after ≡ before)
+  RespondsFlags None = ((s : Numbered) × ReadsLast seat s seat' × TellsFlags rules s [] response) × (after ≡ before)
   RespondsFlags (Some folder) = OfLogs folder (RespondsOn place.Flags folder)
 
   abbrev pub RespondsHistory : Option (List ℕ) → Type 0
@@ -120,9 +130,9 @@ module _ (naming : Option Naming) (before after : Option Holding) (rules : Rules
   Responds place.Apply = RespondsRecorded place.Apply rules.folder
   Responds place.Elsewhere = ⊥
 
-  -- it is not the desk's turn, or files can't be read
+  -- it did not come to be the desk's turn, or nothing is known of the snapshot's documents yet; or files can't be read
   abbrev pub IsPutOff : Type 0
-  IsPutOff = (Replies Busy response ⊎ Replies Unreadable response) × (after ≡ before)
+  IsPutOff = ((IsKept had.met has.met × Replies Busy response) ⊎ (((had.faults < has.faults) ⊎ AreGone had.met has.met) × Replies Unreadable response)) × (after ≡ before)
 
   abbrev pub Answered : ControlPlace → Type 0
   Answered called = IsPutOff ⊎ Responds called
@@ -132,8 +142,8 @@ module _ (naming : Option Naming) (before after : Option Holding) (rules : Rules
   Answers called = Answered called ⊎ (IsResponse 500 [] [] response × (after ≡ before))
 
 -- the flags of the newest snapshot that the seat then knows, with nothing of what is recorded; or another one is published meanwhile
-abbrev pub TellsAlone : Rules → Seat → Seat → Response → Type 0
-TellsAlone rules seat seat' response = Replies Busy response ⊎ ((s : Numbered) × WasRead seat (Some s) seat' × TellsFlags rules s [] response)
+abbrev pub TellsAlone : Met → Met → Rules → Seat → Seat → Response → Type 0
+TellsAlone met met' rules seat seat' response = (IsUnknown met met' × Replies Busy response) ⊎ ((s : Numbered) × ReadsLast seat s seat' × TellsFlags rules s [] response)
 
 -- ---- the desk as a service before another
 
@@ -153,15 +163,15 @@ module _ {S : Type 0} (answers : S → Request (List ℕ) → Response → S →
   Passes old request response new = answers old request response new ⊎ (IsLeaving request response × (new ≡ old))
 
   -- What becomes of a request by where it leads. What the desk answers itself leaves the service behind it as it was.
-  abbrev pub DesksBy : Route → Option Naming → Option Holding → Option Holding → Rules → Page → Seat → Seat → S → Request (List ℕ) → Response → S → Type 0
-  DesksBy Forwarded naming before after rules page seat seat' old request response new = (seat' ≡ seat) × (after ≡ before) × Passes old request response new
-  DesksBy (Replied reply) naming before after rules page seat seat' old request response new = (seat' ≡ seat) × (after ≡ before) × (new ≡ old) × Replies reply response
-  DesksBy (Called called) naming before after rules page seat seat' old request response new =
-      (new ≡ old) × Answers naming before after rules page seat seat' (call_asked request) response called
+  abbrev pub DesksBy : Route → Option Naming → Option Holding → Option Holding → Hindered → Hindered → Rules → Page → Seat → Seat → S → Request (List ℕ) → Response → S → Type 0
+  DesksBy Forwarded naming before after had has rules page seat seat' old request response new = (seat' ≡ seat) × (after ≡ before) × Passes old request response new
+  DesksBy (Replied reply) naming before after had has rules page seat seat' old request response new = (seat' ≡ seat) × (after ≡ before) × (new ≡ old) × Replies reply response
+  DesksBy (Called called) naming before after had has rules page seat seat' old request response new =
+      (new ≡ old) × Answers naming before after had has rules page seat seat' (call_asked request) response called
 
-  abbrev pub Desks : Option (List (List ℕ)) → Option Naming → Option Holding → Option Holding → Rules → Page → Seat → Seat → S → Request (List ℕ) → Response → S → Type 0
-  Desks keys naming before after rules page seat seat' old request response new =
-      DesksBy (route_of (is_some rules.applied_to) (is_admitted keys (asked_of request)) (call_asked request).method (call_asked request).path) naming before after rules page seat seat' old request response new
+  abbrev pub Desks : Option (List (List ℕ)) → Option Naming → Option Holding → Option Holding → Hindered → Hindered → Rules → Page → Seat → Seat → S → Request (List ℕ) → Response → S → Type 0
+  Desks keys naming before after had has rules page seat seat' old request response new =
+      DesksBy (route_of (is_some rules.applied_to) (is_admitted keys (asked_of request)) (call_asked request).method (call_asked request).path) naming before after had has rules page seat seat' old request response new
 
 -- ---- what its answers rest on
 

@@ -3,12 +3,14 @@ pub use Rattle.control_answers.specs.Snapshot
 pub use Rattle.control_calls.specs.Calls
 pub mod Names
 pub mod Files
+pub mod Obstacles
 pub mod Logs
 pub mod Asked
 pub mod Sent
 pub mod Reply
 pub mod Route
 pub mod Rules
+pub mod Sources
 pub mod Held
 pub mod Bodies
 pub mod Apply

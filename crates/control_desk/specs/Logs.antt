@@ -1,9 +1,12 @@
 -- The logs of a folder.
-use Rattle.std.specs.Prelude.{◌≡◌, ℕ, true, false, List, filter, map, Option, Some, None, string_bytes}
+use Rattle.std.specs.Prelude.{◌≡◌, ◌⊎◌, ◌<◌, ℕ, true, false, List, filter, map, Option, Some, None, string_bytes}
 use Rattle.flagops_shell.specs.Files.{Holding}
 use Rattle.control_desk.specs.Files.{Naming, path_in}
 use Rattle.control_desk.specs.Names.{is_chosen}
+use Rattle.control_desk.specs.Obstacles.{AreGone, Met}
 use Rattle.control_desk.specs.declared.logs.Logs as program
+use Rattle.control_desk.specs.declared.logs.Unread.{Unread}
+use Rattle.control_desk.specs.declared.logs.Unread.TheVariants.{WantOfMemory, Failed}
 
 -- the bytes of the files of these names in a folder, where they are known
 abbrev pub AreAt : Option Holding → List ℕ → List (List ℕ) → List (List ℕ) → Type 0
@@ -19,6 +22,16 @@ pub record AreListed (holding : Option Holding) (folder : List ℕ) (names files
 abbrev pub AreLogs : Option Naming → Option Holding → List ℕ → List (List ℕ) → List (List ℕ) → Type 0
 AreLogs None holding folder files passed = Unit {0}
 AreLogs (Some named) holding folder files passed = AreListed holding folder (named folder) files passed
+
+-- why logs are not read, by how often the system had failed before and after: it failed
+abbrev pub IsUnreadOf : ℕ → ℕ → Unread → Type 0
+IsUnreadOf faults faults' WantOfMemory = Unit {0}
+IsUnreadOf faults faults' Failed = faults < faults'
+
+-- the same, or ten times one was gone
+abbrev pub IsUnread : ℕ → ℕ → Met → Met → Unread → Type 0
+IsUnread faults faults' met met' WantOfMemory = Unit {0}
+IsUnread faults faults' met met' Failed = (faults < faults') ⊎ AreGone met met'
 
 -- ---- of the program
 

@@ -1,5 +1,5 @@
 //! A plan that is applied to the document of the service.
-ghost use Rattle.std.specs.Prelude.{◌≡◌, IfOk, Ok, OnErr, OnOk, string_bytes};
+ghost use Rattle.std.specs.Prelude.{◌≡◌, ◌<◌, ◌≤◌, IfOk, Ok, OnErr, OnOk, string_bytes};
 ghost use Rattle.bucket_core.specs.Rule.{entries_view};
 ghost use Rattle.control_answers.specs.Apply.{applied_view};
 ghost use Rattle.flag_defs.specs.Flags.{flags_view};
@@ -58,8 +58,9 @@ pub(crate) fn apply<F: DeskFiles>(
     response: &mut Response,
 ) -> Result<(), AllocError>
     requires { IsBlank response.old }
-    ensures ok { OnOk result (TellsApply applying.entry.folder.now applying.entry.path.now applying.entry.asker.now token.now (held_view held.now) (files_view logs.now) (F.holding files.old) (F.holding files.new) response.new) }
+    ensures ok { OnOk result (TellsApply applying.entry.folder.now applying.entry.path.now applying.entry.asker.now token.now (held_view held.now) (files_view logs.now) (F.holding files.old) (F.holding files.new) (F.faults files.old) (F.faults files.new) response.new) }
     ensures err { OnErr result (F.holding files.new ≡ F.holding files.old) }
+    ensures counted { F.faults files.old ≤ F.faults files.new }
 {
     match apply_answer(applying.alloc, &held.snapshot(), token, logs) {
         Ok(applied) => write(files, applying, held, &applied, response),
@@ -76,11 +77,12 @@ fn write<F: DeskFiles>(
     response: &mut Response,
 ) -> Result<(), AllocError>
     requires { IsBlank response.old }
-    ensures ok { OnOk result (AppliesOr applying.entry.folder.now applying.entry.path.now applying.entry.asker.now (held_view held.now) (applied_view applied.now) (F.holding files.old) (F.holding files.new) response.new) }
+    ensures ok { OnOk result (AppliesOr applying.entry.folder.now applying.entry.path.now applying.entry.asker.now (held_view held.now) (applied_view applied.now) (F.holding files.old) (F.holding files.new) (F.faults files.old) (F.faults files.new) response.new) }
     ensures err { OnErr result (F.holding files.new ≡ F.holding files.old) }
+    ensures counted { F.faults files.old ≤ F.faults files.new }
 {
     let alloc = applying.alloc;
-    let Ok(is_same) = holds(files, alloc, applying.path, held.text.document.as_str()) else {
+    let Ok(is_same) = holds(files, alloc, applying.path, held.document.as_str()) else {
         respond(Reply::Unreadable, response);
         return Ok(());
     };
@@ -111,8 +113,11 @@ fn write<F: DeskFiles>(
 }
 
 /// Whether the file at a path holds this text.
-fn holds<F: DeskFiles>(files: &F, alloc: Global, path: &str, text: &str) -> io::Result<bool>
-    ensures { IfOk result (λ same. HoldsText same (F.holding files.now) path.now text.now) }
+fn holds<F: DeskFiles>(files: &mut F, alloc: Global, path: &str, text: &str) -> io::Result<bool>
+    ensures same { IfOk result (λ same. HoldsText same (F.holding files.old) path.now text.now) }
+    ensures failed { OnErr result (F.faults files.old < F.faults files.new) }
+    ensures counted { F.faults files.old ≤ F.faults files.new }
+    ensures holding { F.holding files.new ≡ F.holding files.old }
 {
     match files.read_whole(alloc, path)? {
         Some(bytes) => Ok(bytes.as_slice() == text.as_bytes()),
@@ -130,6 +135,8 @@ fn note_and_replace<F: DeskFiles>(
 ) -> io::Result<()>
     ensures ok { OnOk result (Writes (F.holding files.old) (F.holding files.new) paths.entry.0.now row.now paths.entry.1.now document.now) }
     ensures err { OnErr result (KeepsOthers (F.holding files.old) (F.holding files.new) paths.entry.0.now) }
+    ensures failed { OnErr result (F.faults files.old < F.faults files.new) }
+    ensures counted { F.faults files.old ≤ F.faults files.new }
 {
     files.append(alloc, paths.0, row)?;
     files.replace(alloc, paths.1, document)

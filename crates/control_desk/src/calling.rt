@@ -1,11 +1,12 @@
 //! The calls of a desk.
-ghost use Rattle.std.specs.Prelude.{◌≡◌, ◌≢◌, ◌⊎◌, OnErr, OnOk, Some, string_bytes};
+ghost use Rattle.std.specs.Prelude.{◌≡◌, ◌≢◌, ◌≤◌, ◌⊎◌, OnErr, OnOk, Some, string_bytes};
 ghost use Rattle.http_server.specs.Response.{IsBlank};
 ghost use Rattle.log_tallies.specs.Lines.{files_view};
 ghost use Rattle.control_desk.specs.Asked.{CallAsked, call_asked};
-ghost use Rattle.control_desk.specs.Desk.{Answered, Answers, IsOnRecord, IsPutOff, RespondsApplied, RespondsOn, RespondsRecorded, TellsAlone, name_of, page_view};
+ghost use Rattle.control_desk.specs.Desk.{Answered, Answers, IsOnRecord, IsPutOff, RespondsApplied, RespondsOn, RespondsRecorded, TellsAlone, hindered, name_of, page_view};
 ghost use Rattle.control_desk.specs.Held.{held_view, numbered_of};
 ghost use Rattle.control_desk.specs.Logs.{bytes_of, passed_by};
+ghost use Rattle.control_desk.specs.Obstacles.{met_by};
 ghost use Rattle.control_desk.specs.Rules.{rules_view};
 
 use crate::applying::{Applying, HISTORY, apply};
@@ -14,7 +15,7 @@ use crate::desk::ControlDesk;
 use crate::files::DeskFiles;
 use crate::giving::{give_page, leave_empty, respond};
 use crate::held::HeldSnapshot;
-use crate::logs::{Logs, handed, path_in, read_logs};
+use crate::logs::{Logs, Unread, handed, path_in, read_logs};
 use crate::refusing::tell_refusal;
 use crate::reply::Reply;
 use crate::telling::{
@@ -42,7 +43,7 @@ impl<J: ShareName, R: Clock, F: DeskFiles, S> ControlDesk<'_, J, R, F, S> {
     )
         requires blank { IsBlank response.old }
         requires place { place ≢ ControlPlace.Elsewhere }
-        ensures answers { Answers (F.naming self.old.files) (F.holding self.old.files) (F.holding self.new.files) (rules_view self.old.post.now.rules) (page_view self.old.page) self.old.seat self.new.seat (call_asked request.now) response.new place }
+        ensures answers { Answers (F.naming self.old.files) (F.holding self.old.files) (F.holding self.new.files) (hindered (F.faults self.old.files) self.old.met) (hindered (F.faults self.new.files) self.new.met) (rules_view self.old.post.now.rules) (page_view self.old.page) self.old.seat self.new.seat (call_asked request.now) response.new place }
         ensures post { self.new.post ≡ self.old.post }
         ensures page { self.new.page ≡ self.old.page }
         ensures keys { self.new.keys ≡ self.old.keys }
@@ -62,7 +63,7 @@ impl<J: ShareName, R: Clock, F: DeskFiles, S> ControlDesk<'_, J, R, F, S> {
     ) -> Result<(), ShareFault>
         requires blank { IsBlank response.old }
         requires place { place ≢ ControlPlace.Elsewhere }
-        ensures ok { OnOk result (Answered (F.naming self.old.files) (F.holding self.old.files) (F.holding self.new.files) (rules_view self.old.post.now.rules) (page_view self.old.page) self.old.seat self.new.seat (call_asked request.now) response.new place) }
+        ensures ok { OnOk result (Answered (F.naming self.old.files) (F.holding self.old.files) (F.holding self.new.files) (hindered (F.faults self.old.files) self.old.met) (hindered (F.faults self.new.files) self.new.met) (rules_view self.old.post.now.rules) (page_view self.old.page) self.old.seat self.new.seat (call_asked request.now) response.new place) }
         ensures err { OnErr result (F.holding self.new.files ≡ F.holding self.old.files) }
         ensures post { self.new.post ≡ self.old.post }
         ensures page { self.new.page ≡ self.old.page }
@@ -89,7 +90,7 @@ impl<J: ShareName, R: Clock, F: DeskFiles, S> ControlDesk<'_, J, R, F, S> {
         response: &mut Response,
     ) -> Result<(), ShareFault>
         requires { IsBlank response.old }
-        ensures ok { OnOk result (Answered (F.naming self.old.files) (F.holding self.old.files) (F.holding self.new.files) (rules_view self.old.post.now.rules) (page_view self.old.page) self.old.seat self.new.seat (call_asked request.now) response.new ControlPlace.Flags) }
+        ensures ok { OnOk result (Answered (F.naming self.old.files) (F.holding self.old.files) (F.holding self.new.files) (hindered (F.faults self.old.files) self.old.met) (hindered (F.faults self.new.files) self.new.met) (rules_view self.old.post.now.rules) (page_view self.old.page) self.old.seat self.new.seat (call_asked request.now) response.new ControlPlace.Flags) }
         ensures err { OnErr result (F.holding self.new.files ≡ F.holding self.old.files) }
         ensures post { self.new.post ≡ self.old.post }
         ensures page { self.new.page ≡ self.old.page }
@@ -108,7 +109,7 @@ impl<J: ShareName, R: Clock, F: DeskFiles, S> ControlDesk<'_, J, R, F, S> {
     /// Tells the flags of the snapshot, where no logs are kept.
     fn tell_flags_alone(&mut self, response: &mut Response) -> Result<(), ShareFault>
         requires { IsBlank response.old }
-        ensures ok { OnOk result (TellsAlone (rules_view self.old.post.now.rules) self.old.seat self.new.seat response.new) }
+        ensures ok { OnOk result (TellsAlone (met_by self.old.met) (met_by self.new.met) (rules_view self.old.post.now.rules) self.old.seat self.new.seat response.new) }
         ensures files { self.new.files ≡ self.old.files }
         ensures post { self.new.post ≡ self.old.post }
         ensures page { self.new.page ≡ self.old.page }
@@ -130,7 +131,7 @@ impl<J: ShareName, R: Clock, F: DeskFiles, S> ControlDesk<'_, J, R, F, S> {
         response: &mut Response,
     ) -> Result<(), ShareFault>
         requires { IsBlank response.old }
-        ensures ok { OnOk result (Answered (F.naming self.old.files) (F.holding self.old.files) (F.holding self.new.files) (rules_view self.old.post.now.rules) (page_view self.old.page) self.old.seat self.new.seat (call_asked request.now) response.new ControlPlace.Snapshot) }
+        ensures ok { OnOk result (Answered (F.naming self.old.files) (F.holding self.old.files) (F.holding self.new.files) (hindered (F.faults self.old.files) self.old.met) (hindered (F.faults self.new.files) self.new.met) (rules_view self.old.post.now.rules) (page_view self.old.page) self.old.seat self.new.seat (call_asked request.now) response.new ControlPlace.Snapshot) }
         ensures err { OnErr result (F.holding self.new.files ≡ F.holding self.old.files) }
         ensures post { self.new.post ≡ self.old.post }
         ensures page { self.new.page ≡ self.old.page }
@@ -147,11 +148,17 @@ impl<J: ShareName, R: Clock, F: DeskFiles, S> ControlDesk<'_, J, R, F, S> {
     }
 
     /// Tells what was applied.
-    fn tell_history(&self, response: &mut Response) -> Result<(), AllocError>
+    fn tell_history(&mut self, response: &mut Response) -> Result<(), AllocError>
         requires { IsBlank response.old }
-        ensures { OnOk result ((asked : CallAsked) → Answered (F.naming self.now.files) (F.holding self.now.files) (F.holding self.now.files) (rules_view self.now.post.now.rules) (page_view self.now.page) self.now.seat self.now.seat asked response.new ControlPlace.History) }
+        ensures ok { OnOk result ((asked : CallAsked) → Answered (F.naming self.old.files) (F.holding self.old.files) (F.holding self.new.files) (hindered (F.faults self.old.files) self.old.met) (hindered (F.faults self.new.files) self.new.met) (rules_view self.old.post.now.rules) (page_view self.old.page) self.old.seat self.new.seat asked response.new ControlPlace.History) }
+        ensures err { OnErr result (F.holding self.new.files ≡ F.holding self.old.files) }
+        ensures post { self.new.post ≡ self.old.post }
+        ensures page { self.new.page ≡ self.old.page }
+        ensures keys { self.new.keys ≡ self.old.keys }
+        ensures service { self.new.service ≡ self.old.service }
     {
-        let Some(folder) = &self.post.rules.folder else {
+        let post = self.post;
+        let Some(folder) = &post.rules.folder else {
             let none = ControlRefusal::NoRecord;
             return tell_refusal(self.alloc, "history", &none, &[], response);
         };
@@ -175,7 +182,7 @@ impl<J: ShareName, R: Clock, F: DeskFiles, S> ControlDesk<'_, J, R, F, S> {
     ) -> Result<(), ShareFault>
         requires blank { IsBlank response.old }
         requires place { IsOnRecord place }
-        ensures ok { OnOk result (IsPutOff (F.naming self.old.files) (F.holding self.old.files) (F.holding self.new.files) (rules_view self.old.post.now.rules) (page_view self.old.page) self.old.seat self.new.seat (call_asked request.now) response.new ⊎ RespondsRecorded (F.naming self.old.files) (F.holding self.old.files) (F.holding self.new.files) (rules_view self.old.post.now.rules) (page_view self.old.page) self.old.seat self.new.seat (call_asked request.now) response.new place (rules_view self.old.post.now.rules).folder) }
+        ensures ok { OnOk result (IsPutOff (F.naming self.old.files) (F.holding self.old.files) (F.holding self.new.files) (hindered (F.faults self.old.files) self.old.met) (hindered (F.faults self.new.files) self.new.met) (rules_view self.old.post.now.rules) (page_view self.old.page) self.old.seat self.new.seat (call_asked request.now) response.new ⊎ RespondsRecorded (F.naming self.old.files) (F.holding self.old.files) (F.holding self.new.files) (hindered (F.faults self.old.files) self.old.met) (hindered (F.faults self.new.files) self.new.met) (rules_view self.old.post.now.rules) (page_view self.old.page) self.old.seat self.new.seat (call_asked request.now) response.new place (rules_view self.old.post.now.rules).folder) }
         ensures err { OnErr result (F.holding self.new.files ≡ F.holding self.old.files) }
         ensures post { self.new.post ≡ self.old.post }
         ensures page { self.new.page ≡ self.old.page }
@@ -201,7 +208,7 @@ impl<J: ShareName, R: Clock, F: DeskFiles, S> ControlDesk<'_, J, R, F, S> {
     ) -> Result<(), ShareFault>
         requires blank { IsBlank response.old }
         requires place { IsOnRecord place }
-        ensures ok { OnOk result (IsPutOff (F.naming self.old.files) (F.holding self.old.files) (F.holding self.new.files) (rules_view self.old.post.now.rules) (page_view self.old.page) self.old.seat self.new.seat (call_asked request.now) response.new ⊎ RespondsRecorded (F.naming self.old.files) (F.holding self.old.files) (F.holding self.new.files) (rules_view self.old.post.now.rules) (page_view self.old.page) self.old.seat self.new.seat (call_asked request.now) response.new place (Some folder.now)) }
+        ensures ok { OnOk result (IsPutOff (F.naming self.old.files) (F.holding self.old.files) (F.holding self.new.files) (hindered (F.faults self.old.files) self.old.met) (hindered (F.faults self.new.files) self.new.met) (rules_view self.old.post.now.rules) (page_view self.old.page) self.old.seat self.new.seat (call_asked request.now) response.new ⊎ RespondsRecorded (F.naming self.old.files) (F.holding self.old.files) (F.holding self.new.files) (hindered (F.faults self.old.files) self.old.met) (hindered (F.faults self.new.files) self.new.met) (rules_view self.old.post.now.rules) (page_view self.old.page) self.old.seat self.new.seat (call_asked request.now) response.new place (Some folder.now)) }
         ensures err { OnErr result (F.holding self.new.files ≡ F.holding self.old.files) }
         ensures post { self.new.post ≡ self.old.post }
         ensures page { self.new.page ≡ self.old.page }
@@ -209,7 +216,7 @@ impl<J: ShareName, R: Clock, F: DeskFiles, S> ControlDesk<'_, J, R, F, S> {
         ensures service { self.new.service ≡ self.old.service }
     {
         let post = self.post;
-        let Some(_turn) = post.turn.take(self.rt) else {
+        let Some(_turn) = post.turn.take(self.rt, &mut self.met) else {
             respond(Reply::Busy, response);
             return Ok(());
         };
@@ -226,7 +233,7 @@ impl<J: ShareName, R: Clock, F: DeskFiles, S> ControlDesk<'_, J, R, F, S> {
     ) -> Result<(), ShareFault>
         requires blank { IsBlank response.old }
         requires place { IsOnRecord place }
-        ensures ok { OnOk result (IsPutOff (F.naming self.old.files) (F.holding self.old.files) (F.holding self.new.files) (rules_view self.old.post.now.rules) (page_view self.old.page) self.old.seat self.new.seat (call_asked request.now) response.new ⊎ RespondsRecorded (F.naming self.old.files) (F.holding self.old.files) (F.holding self.new.files) (rules_view self.old.post.now.rules) (page_view self.old.page) self.old.seat self.new.seat (call_asked request.now) response.new place (Some folder.now)) }
+        ensures ok { OnOk result (IsPutOff (F.naming self.old.files) (F.holding self.old.files) (F.holding self.new.files) (hindered (F.faults self.old.files) self.old.met) (hindered (F.faults self.new.files) self.new.met) (rules_view self.old.post.now.rules) (page_view self.old.page) self.old.seat self.new.seat (call_asked request.now) response.new ⊎ RespondsRecorded (F.naming self.old.files) (F.holding self.old.files) (F.holding self.new.files) (hindered (F.faults self.old.files) self.old.met) (hindered (F.faults self.new.files) self.new.met) (rules_view self.old.post.now.rules) (page_view self.old.page) self.old.seat self.new.seat (call_asked request.now) response.new place (Some folder.now)) }
         ensures err { OnErr result (F.holding self.new.files ≡ F.holding self.old.files) }
         ensures post { self.new.post ≡ self.old.post }
         ensures page { self.new.page ≡ self.old.page }
@@ -237,11 +244,14 @@ impl<J: ShareName, R: Clock, F: DeskFiles, S> ControlDesk<'_, J, R, F, S> {
             respond(Reply::Busy, response);
             return Ok(());
         };
-        let Ok(logs) = read_logs(&self.files, self.alloc, folder) else {
-            respond(Reply::Unreadable, response);
-            return Ok(());
-        };
-        Ok(self.tell_on(place, folder, request, &held, &logs, response)?)
+        match read_logs(&mut self.files, &mut self.met, self.alloc, folder) {
+            Ok(logs) => Ok(self.tell_on(place, folder, request, &held, &logs, response)?),
+            Err(Unread::WantOfMemory) => Err(ShareFault::WantOfMemory),
+            Err(Unread::Failed) => {
+                respond(Reply::Unreadable, response);
+                Ok(())
+            }
+        }
     }
 
     /// The same of a snapshot, and of logs that were read.
@@ -256,7 +266,7 @@ impl<J: ShareName, R: Clock, F: DeskFiles, S> ControlDesk<'_, J, R, F, S> {
     ) -> Result<(), AllocError>
         requires blank { IsBlank response.old }
         requires place { IsOnRecord place }
-        ensures ok { OnOk result (RespondsOn (F.naming self.old.files) (F.holding self.old.files) (F.holding self.new.files) (rules_view self.old.post.now.rules) (page_view self.old.page) self.old.seat self.new.seat (call_asked request.now) response.new place folder.now (numbered_of held.now) (string_bytes held.now.text.document) (bytes_of logs.now) (passed_by logs.now)) }
+        ensures ok { OnOk result (RespondsOn (F.naming self.old.files) (F.holding self.old.files) (F.holding self.new.files) (hindered (F.faults self.old.files) self.old.met) (hindered (F.faults self.new.files) self.new.met) (rules_view self.old.post.now.rules) (page_view self.old.page) self.old.seat self.new.seat (call_asked request.now) response.new place folder.now (numbered_of held.now) (string_bytes held.now.document) (bytes_of logs.now) (passed_by logs.now)) }
         ensures err { OnErr result (F.holding self.new.files ≡ F.holding self.old.files) }
         ensures post { self.new.post ≡ self.old.post }
         ensures page { self.new.page ≡ self.old.page }
@@ -299,7 +309,7 @@ impl<J: ShareName, R: Clock, F: DeskFiles, S> ControlDesk<'_, J, R, F, S> {
         response: &mut Response,
     ) -> Result<(), AllocError>
         requires { IsBlank response.old }
-        ensures ok { OnOk result (RespondsApplied (F.naming self.old.files) (F.holding self.old.files) (F.holding self.new.files) (rules_view self.old.post.now.rules) (page_view self.old.page) self.old.seat self.new.seat (call_asked request.now) response.new (rules_view self.old.post.now.rules).applied_to folder.now (held_view held.now) (files_view logs.now)) }
+        ensures ok { OnOk result (RespondsApplied (F.naming self.old.files) (F.holding self.old.files) (F.holding self.new.files) (hindered (F.faults self.old.files) self.old.met) (hindered (F.faults self.new.files) self.new.met) (rules_view self.old.post.now.rules) (page_view self.old.page) self.old.seat self.new.seat (call_asked request.now) response.new (rules_view self.old.post.now.rules).applied_to folder.now (held_view held.now) (files_view logs.now)) }
         ensures err { OnErr result (F.holding self.new.files ≡ F.holding self.old.files) }
         ensures post { self.new.post ≡ self.old.post }
         ensures page { self.new.page ≡ self.old.page }

@@ -1,18 +1,19 @@
 //! The desk.
-ghost use Rattle.std.specs.Prelude.{◌≡◌, IfOk, IfSome, Some, is_some};
+ghost use Rattle.std.specs.Prelude.{◌≡◌, IfNone, IfOk, IfSome, MatchOption, Some, is_some, length, string_bytes};
 ghost use Rattle.ofrep_guards.specs.Asked.{asked_of, is_admitted};
-ghost use Rattle.snap_share.specs.Known.{WasRead};
 ghost use Rattle.control_desk.specs.Asked.{call_asked};
 ghost use Rattle.control_desk.specs.Desk.{keys_in};
-ghost use Rattle.control_desk.specs.Held.{numbered_of};
+ghost use Rattle.control_desk.specs.Held.{IsOfSnapshot, ReadsLast, numbered_of};
+ghost use Rattle.control_desk.specs.Obstacles.{Grows, IsUnknown, met_by};
 ghost use Rattle.control_desk.specs.Route.{route_of};
 ghost use Rattle.control_desk.specs.Rules.{rules_view};
 
 use crate::held::HeldSnapshot;
+use crate::obstacles::Obstacles;
 use crate::page::ConsolePage;
 use crate::post::DeskPost;
 use crate::route::{Route, route_of};
-use crate::sources::{FoundText, SourceText};
+use crate::sources::{Absent, PublishedSources, SourceText};
 use bytes::Bytes;
 use http::Request;
 use ofrep_guards::HeldKeys;
@@ -34,6 +35,7 @@ pub struct ControlDesk<'a, J: ShareName, R, F, S> {
     pub(crate) rt: &'a R,
     pub(crate) alloc: Global,
     pub(crate) post: &'a DeskPost,
+    pub(crate) sources: &'a PublishedSources<J>,
     pub(crate) page: ConsolePage<'a>,
     /// Whether the service is stopping.
     pub(crate) stop: &'a AtomicBool,
@@ -41,15 +43,17 @@ pub struct ControlDesk<'a, J: ShareName, R, F, S> {
     pub(crate) seat: ReadSeat<J>,
     pub(crate) files: F,
     pub(crate) service: S,
+    pub(crate) met: Obstacles,
 }
 
 impl<'a, J: ShareName, R, F, S> ControlDesk<'a, J, R, F, S> {
-    /// A desk at a post, with this console, this flag by which the service stops, and these keys, where one is wanted; it answers from
-    /// the snapshots of a seat and from these files, and all else goes to the service.
+    /// A desk at a post, with what is known of documents, this console, this flag by which the service stops, and these keys, where
+    /// one is wanted; it answers from the snapshots of a seat and from these files, and all else goes to the service.
     pub fn new(
         rt: &'a R,
         alloc: Global,
         post: &'a DeskPost,
+        sources: &'a PublishedSources<J>,
         page: ConsolePage<'a>,
         stop: &'a AtomicBool,
         keys: Option<HeldKeys<'a>>,
@@ -58,6 +62,7 @@ impl<'a, J: ShareName, R, F, S> ControlDesk<'a, J, R, F, S> {
         service: S,
     ) -> ControlDesk<'a, J, R, F, S>
         ensures post { result.post ≡ post.entry }
+        ensures sources { result.sources ≡ sources.entry }
         ensures page { result.page ≡ page.entry }
         ensures keys { result.keys ≡ keys.entry }
         ensures seat { result.seat ≡ seat }
@@ -68,12 +73,14 @@ impl<'a, J: ShareName, R, F, S> ControlDesk<'a, J, R, F, S> {
             rt,
             alloc,
             post,
+            sources,
             page,
             stop,
             keys,
             seat,
             files,
             service,
+            met: Obstacles::none(),
         }
     }
 }
@@ -104,10 +111,13 @@ impl<J: ShareName, R, F, S> ControlDesk<'_, J, R, F, S> {
 }
 
 impl<J: ShareName, R: Clock, F, S> ControlDesk<'_, J, R, F, S> {
-    /// The current snapshot with what is known of its documents; none where a later one is published meanwhile.
+    /// The current snapshot with what is known of its documents; none where nothing is set of it in time, or a later one is published
+    /// meanwhile.
     pub(crate) fn hold(&mut self) -> Result<Option<HeldSnapshot>, ShareFault>
-        ensures read { IfOk result (λ o. IfSome o (λ held. WasRead self.old.seat (Some (numbered_of held)) self.new.seat)) }
-        ensures number { IfOk result (λ o. IfSome o (λ held. held.text.number ≡ (numbered_of held).number)) }
+        ensures read { IfOk result (λ o. IfSome o (λ held. ReadsLast self.old.seat (numbered_of held) self.new.seat)) }
+        ensures document { IfOk result (λ o. IfSome o (λ held. IsOfSnapshot (numbered_of held) (string_bytes held.document))) }
+        ensures none { IfOk result (λ o. IfNone o (IsUnknown (met_by self.old.met) (met_by self.new.met))) }
+        ensures grows { Grows (met_by self.old.met) (met_by self.new.met) }
         ensures post { self.new.post ≡ self.old.post }
         ensures page { self.new.page ≡ self.old.page }
         ensures keys { self.new.keys ≡ self.old.keys }
@@ -115,23 +125,58 @@ impl<J: ShareName, R: Clock, F, S> ControlDesk<'_, J, R, F, S> {
         ensures service { self.new.service ≡ self.old.service }
     {
         let shared = self.seat.current()?;
-        match self.text_of(shared.number())? {
-            Some(text) => Ok(Some(HeldSnapshot { shared, text })),
-            None => Ok(None),
-        }
+        let Some(text) = self.text_of(shared.number())? else {
+            return Ok(None);
+        };
+        let (told, document, remarks) = text.into_parts();
+        self.seat.learn(told);
+        Ok(Some(HeldSnapshot {
+            shared,
+            document,
+            remarks,
+        }))
     }
 
     /// What is known of the documents of the snapshot of a number. It is set a moment after the snapshot is published.
-    fn text_of(&self, number: u64) -> Result<Option<SourceText>, AllocError>
-        ensures { IfOk result (λ o. IfSome o (λ text. text.number ≡ number)) }
+    fn text_of(&mut self, number: u64) -> Result<Option<SourceText<J>>, AllocError>
+        ensures number { IfOk result (λ o. IfSome o (λ text. length text.published ≡ number)) }
+        ensures none { IfOk result (λ o. IfNone o (IsUnknown (met_by self.old.met) (met_by self.new.met))) }
+        ensures grows { Grows (met_by self.old.met) (met_by self.new.met) }
+        ensures post { self.new.post ≡ self.old.post }
+        ensures page { self.new.page ≡ self.old.page }
+        ensures keys { self.new.keys ≡ self.old.keys }
+        ensures seat { self.new.seat ≡ self.old.seat }
+        ensures files { self.new.files ≡ self.old.files }
+        ensures service { self.new.service ≡ self.old.service }
     {
-        for _look in 0..LOOKS {
-            match self.post.sources().find(self.alloc, number)? {
-                FoundText::Held(text) => return Ok(Some(text)),
-                FoundText::Outdated => return Ok(None),
-                FoundText::Unset => thread::sleep(self.rt, Duration::from_millis(PAUSE_MILLIS)),
-            }
-        }
-        Ok(None)
+        look_for(self.rt, self.alloc, self.sources, number, &mut self.met)
     }
+}
+
+/// What is known of the documents of the snapshot of a number, once it is set; none where that is not in time, or a later one is
+/// published.
+fn look_for<J: ShareName, R: Clock>(
+    rt: &R,
+    alloc: Global,
+    sources: &PublishedSources<J>,
+    number: u64,
+    met: &mut Obstacles,
+) -> Result<Option<SourceText<J>>, AllocError>
+    ensures number { IfOk result (λ o. IfSome o (λ text. length text.published ≡ number)) }
+    ensures none { IfOk result (λ o. IfNone o (IsUnknown (met_by met.old) (met_by met.new))) }
+    ensures grows { Grows (met_by met.old) (met_by met.new) }
+{
+    for _look in 0..LOOKS {
+        match sources.find(alloc, number) {
+            Ok(text) => return Ok(Some(text)),
+            Err(Absent::WantOfMemory) => return Err(AllocError),
+            Err(Absent::Outdated) => {
+                met.meet_outdated();
+                return Ok(None);
+            }
+            Err(Absent::Unset) => met.meet_unset(),
+        }
+        thread::sleep(rt, Duration::from_millis(PAUSE_MILLIS));
+    }
+    Ok(None)
 }

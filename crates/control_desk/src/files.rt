@@ -1,5 +1,5 @@
 //! The files that a desk reads and writes.
-ghost use Rattle.std.specs.Prelude.{◌≡◌, ℕ, List, Option, IfOk, IfSome, OnErr, OnOk, map, option_map, string_bytes};
+ghost use Rattle.std.specs.Prelude.{◌≡◌, ◌<◌, ◌≤◌, ℕ, List, Option, IfOk, IfSome, OnErr, OnOk, map, option_map, string_bytes};
 ghost use Rattle.flagops_shell.specs.Files.{Holding, KeepsOthers, Stores};
 ghost use Rattle.control_desk.specs.Files.{Appends, Naming};
 
@@ -16,22 +16,37 @@ pub trait DeskFiles {
     // The bytes of the file at each path, where they are known.
     ghost holding: { Self → Option Holding };
 
+    // How often the system failed so far.
+    ghost faults: { Self → ℕ };
+
     /// The names of the files in a folder, in the order of their bytes.
-    fn names_in(&self, alloc: Global, folder: &str) -> io::Result<Vec<String>>
-        ensures { IfOk result (λ v. IfSome (naming self.now) (λ named. map string_bytes v.items ≡ named folder.now)) };
+    fn names_in(&mut self, alloc: Global, folder: &str) -> io::Result<Vec<String>>
+        ensures named { IfOk result (λ v. IfSome (naming self.old) (λ named. map string_bytes v.items ≡ named folder.now)) }
+        ensures failed { OnErr result (faults self.old < faults self.new) }
+        ensures counted { faults self.old ≤ faults self.new }
+        ensures naming { naming self.new ≡ naming self.old }
+        ensures holding { holding self.new ≡ holding self.old };
 
     /// All bytes of the file at a path; none where there is no file.
-    fn read_whole(&self, alloc: Global, path: &str) -> io::Result<Option<Vec<u8>>>
-        ensures { IfOk result (λ o. IfSome (holding self.now) (λ at. option_map (λ v. v.items) o ≡ at path.now)) };
+    fn read_whole(&mut self, alloc: Global, path: &str) -> io::Result<Option<Vec<u8>>>
+        ensures read { IfOk result (λ o. IfSome (holding self.old) (λ at. option_map (λ v. v.items) o ≡ at path.now)) }
+        ensures failed { OnErr result (faults self.old < faults self.new) }
+        ensures counted { faults self.old ≤ faults self.new }
+        ensures naming { naming self.new ≡ naming self.old }
+        ensures holding { holding self.new ≡ holding self.old };
 
     /// Adds a line to the end of the file at a path, which is made where it is missing, and hands it to the disk.
     fn append(&mut self, alloc: Global, path: &str, line: &[u8]) -> io::Result<()>
         ensures added { OnOk result (Appends (holding self.old) (holding self.new) path.now line.now) }
-        ensures others { KeepsOthers (holding self.old) (holding self.new) path.now };
+        ensures others { KeepsOthers (holding self.old) (holding self.new) path.now }
+        ensures failed { OnErr result (faults self.old < faults self.new) }
+        ensures counted { faults self.old ≤ faults self.new };
 
     /// Replaces the file at a path, whole or not at all.
     fn replace(&mut self, alloc: Global, path: &str, bytes: &[u8]) -> io::Result<()>
         ensures stored { OnOk result (Stores (holding self.old) (holding self.new) path.now bytes.now) }
         ensures kept { OnErr result (holding self.new ≡ holding self.old) }
-        ensures others { KeepsOthers (holding self.old) (holding self.new) path.now };
+        ensures others { KeepsOthers (holding self.old) (holding self.new) path.now }
+        ensures failed { OnErr result (faults self.old < faults self.new) }
+        ensures counted { faults self.old ≤ faults self.new };
 }

@@ -1,11 +1,9 @@
 //! A snapshot with what is known of its documents.
 ghost use Rattle.std.specs.Prelude.{◌≡◌};
-ghost use Rattle.std.specs.Arc.{arc_value};
 ghost use Rattle.flag_defs.specs.Flags.{flags_view};
 ghost use Rattle.control_answers.specs.Snapshot.{snapshot_view};
 ghost use Rattle.control_desk.specs.Held.{held_view};
 
-use crate::sources::SourceText;
 use control_answers::Snapshot;
 use flag_defs::Flags;
 use sync_frames::SharedSnapshot;
@@ -14,7 +12,8 @@ use sync_frames::SharedSnapshot;
 #[derive(Drop)]
 pub(crate) struct HeldSnapshot {
     pub(crate) shared: SharedSnapshot,
-    pub(crate) text: SourceText,
+    pub(crate) document: String,
+    pub(crate) remarks: String,
 }
 
 impl HeldSnapshot {
@@ -24,7 +23,7 @@ impl HeldSnapshot {
     {
         Snapshot {
             number: self.shared.number(),
-            document: self.text.document.as_str(),
+            document: self.document.as_str(),
             flags: self.shared.flags(),
         }
     }

@@ -3,12 +3,12 @@
 //! A [`ControlDesk`] is a `Service` of `http_server`. A guard has judged by then who asks (`ofrep_guards`). The desk reads the newest
 //! snapshot that its seat knows and, where a call is on what is recorded, the log files of a folder ([`DeskFiles`]), and hands both to
 //! `control_answers`. One desk at a time reads and plans, as they share a turn ([`DeskPost`]); what is known of documents beside their
-//! flags is set by who publishes these ([`PublishedSources`]).
+//! flags is set by who publishes these ([`PublishedSources`]), together with what had been published by then.
 //!
 //! ```rust
 //! let post = DeskPost::new(rules);
 //! let page = ConsolePage { text: PAGE, policy };
-//! let mut desk = ControlDesk::new(rt, alloc, &post, page, &is_stopping, keys, seat, SystemDeskFiles::new(rt), worker);
+//! let mut desk = ControlDesk::new(rt, alloc, &post, &sources, page, &is_stopping, keys, seat, SystemDeskFiles::new(rt), worker);
 //! desk.call(&request, &mut response)?;
 //! ```
 //!
@@ -28,6 +28,7 @@ mod giving;
 mod held;
 mod logs;
 mod names;
+mod obstacles;
 mod page;
 mod post;
 mod refusing;
@@ -45,5 +46,5 @@ pub use files::DeskFiles;
 pub use page::ConsolePage;
 pub use post::DeskPost;
 pub use rules::DeskRules;
-pub use sources::{PublishedSources, SourceText};
+pub use sources::{PublishedSources, ShownText, SourceText};
 pub use system::{DeskPaths, SystemDeskFiles};

@@ -1,15 +1,16 @@
 //! The logs of a folder.
-ghost use Rattle.std.specs.Prelude.{◌≡◌, IfOk, IfSome, filter, map, string_bytes};
+ghost use Rattle.std.specs.Prelude.{◌≡◌, ◌≤◌, IfErr, IfOk, IfSome, Some, filter, map, string_bytes};
 ghost use Rattle.log_tallies.specs.Lines.{files_view};
 ghost use Rattle.control_desk.specs.Files.{path_in};
-ghost use Rattle.control_desk.specs.Logs.{AreAt, AreListed, AreLogs, bytes_of, passed_by};
+ghost use Rattle.control_desk.specs.Logs.{AreAt, AreListed, AreLogs, IsUnread, IsUnreadOf, bytes_of, passed_by};
 ghost use Rattle.control_desk.specs.Names.{is_chosen};
+ghost use Rattle.control_desk.specs.Obstacles.{Grows, met_by};
 
 use crate::files::DeskFiles;
 use crate::names::is_chosen;
+use crate::obstacles::Obstacles;
 use log_tallies::LogFile;
-use std::alloc::{AllocError, Global};
-use std::io::{self, Error, ErrorKind};
+use std::alloc::{AllocError, AllocFailed, Global};
 
 /// How often a folder is listed where a file of it is gone by the time that it is read: it was renamed.
 const TRIES: usize = 10;
@@ -29,27 +30,71 @@ pub(crate) struct Logs {
     pub(crate) passed_over: Vec<String>,
 }
 
+/// Why logs are not read.
+#[derive(Clone, Copy, Debug, PartialEq, Eq)]
+pub(crate) enum Unread {
+    WantOfMemory,
+    /// The system failed, or logs were gone again and again by the time that they were read.
+    Failed,
+}
+
+impl From<AllocError> for Unread {
+    ghost use Rattle.control_desk.specs.declared.logs.Unread.TheVariants.{WantOfMemory};
+
+    ghost from_gives = { λ _ e. e ≡ WantOfMemory };
+
+    fn from(_fault: AllocError) -> Unread {
+        Unread::WantOfMemory
+    }
+}
+
+impl<T: Drop> From<AllocFailed<T>> for Unread {
+    ghost use Rattle.control_desk.specs.declared.logs.Unread.TheVariants.{WantOfMemory};
+
+    ghost from_gives = { λ _ e. e ≡ WantOfMemory };
+
+    fn from(_fault: AllocFailed<T>) -> Unread {
+        Unread::WantOfMemory
+    }
+}
+
 /// All logs of a folder, in the order of their names, but those that are compressed.
-pub(crate) fn read_logs<F: DeskFiles>(files: &F, alloc: Global, folder: &str) -> io::Result<Logs>
-    ensures { IfOk result (λ logs. AreLogs (F.naming files.now) (F.holding files.now) folder.now (bytes_of logs) (passed_by logs)) }
+pub(crate) fn read_logs<F: DeskFiles>(
+    files: &mut F,
+    met: &mut Obstacles,
+    alloc: Global,
+    folder: &str,
+) -> Result<Logs, Unread>
+    ensures logs { IfOk result (λ logs. AreLogs (F.naming files.old) (F.holding files.old) folder.now (bytes_of logs) (passed_by logs)) }
+    ensures unread { IfErr result (IsUnread (F.faults files.old) (F.faults files.new) (met_by met.old) (met_by met.new)) }
+    ensures grows { Grows (met_by met.old) (met_by met.new) }
+    ensures counted { F.faults files.old ≤ F.faults files.new }
+    ensures holding { F.holding files.new ≡ F.holding files.old }
 {
     for _try in 0..TRIES {
-        let names = files.names_in(alloc, folder)?;
+        let Ok(names) = files.names_in(alloc, folder) else {
+            return Err(Unread::Failed);
+        };
         if let Some(logs) = read_listed(files, alloc, folder, names.as_slice())? {
             return Ok(logs);
         }
+        met.meet_gone();
     }
-    Err(Error::from(ErrorKind::NotFound))
+    Err(Unread::Failed)
 }
 
 /// The logs among files of these names; none where one is gone.
 fn read_listed<F: DeskFiles>(
-    files: &F,
+    files: &mut F,
     alloc: Global,
     folder: &str,
     names: &[String],
-) -> io::Result<Option<Logs>>
-    ensures { IfOk result (λ o. IfSome o (λ logs. AreListed (F.holding files.now) folder.now (map string_bytes names.now) (bytes_of logs) (passed_by logs))) }
+) -> Result<Option<Logs>, Unread>
+    ensures logs { IfOk result (λ o. IfSome o (λ logs. AreListed (F.holding files.old) folder.now (map string_bytes names.now) (bytes_of logs) (passed_by logs))) }
+    ensures unread { IfErr result (IsUnreadOf (F.faults files.old) (F.faults files.new)) }
+    ensures counted { F.faults files.old ≤ F.faults files.new }
+    ensures naming { F.naming files.new ≡ F.naming files.old }
+    ensures holding { F.holding files.new ≡ F.holding files.old }
 {
     let chosen = named(alloc, names, false)?;
     let Some(read) = read_each(files, alloc, folder, chosen.as_slice())? else {
@@ -81,23 +126,49 @@ fn named<'a>(
 
 /// The files of these names; none where one is gone.
 fn read_each<F: DeskFiles>(
-    files: &F,
+    files: &mut F,
     alloc: Global,
     folder: &str,
     names: &[&str],
-) -> io::Result<Option<Vec<HeldLog>>>
-    ensures { IfOk result (λ o. IfSome o (λ v. AreAt (F.holding files.now) folder.now (map (λ name. name.now) names.now) (map (λ log. log.bytes.items) v.items))) }
+) -> Result<Option<Vec<HeldLog>>, Unread>
+    ensures logs { IfOk result (λ o. IfSome o (λ v. AreAt (F.holding files.old) folder.now (map (λ name. name.now) names.now) (map (λ log. log.bytes.items) v.items))) }
+    ensures unread { IfErr result (IsUnreadOf (F.faults files.old) (F.faults files.new)) }
+    ensures counted { F.faults files.old ≤ F.faults files.new }
+    ensures naming { F.naming files.new ≡ F.naming files.old }
+    ensures holding { F.holding files.new ≡ F.holding files.old }
 {
     let mut read = Vec::with_capacity(alloc, names.len())?;
     for name in names {
-        let path = path_in(alloc, folder, name)?;
-        let Some(bytes) = files.read_whole(alloc, path.as_str())? else {
-            return Ok(None);
-        };
-        let name = String::from_str(alloc, name)?;
-        read.push(HeldLog { name, bytes })?;
+        match read_log(files, alloc, folder, name)? {
+            Some(log) => read.push(log)?,
+            None => return Ok(None),
+        }
     }
     Ok(Some(read))
+}
+
+/// The file of a name; none where it is gone.
+fn read_log<F: DeskFiles>(
+    files: &mut F,
+    alloc: Global,
+    folder: &str,
+    name: &str,
+) -> Result<Option<HeldLog>, Unread>
+    ensures log { IfOk result (λ o. IfSome o (λ log. IfSome (F.holding files.old) (λ at. Some log.bytes.items ≡ at (path_in folder.now name.now)))) }
+    ensures unread { IfErr result (IsUnreadOf (F.faults files.old) (F.faults files.new)) }
+    ensures counted { F.faults files.old ≤ F.faults files.new }
+    ensures naming { F.naming files.new ≡ F.naming files.old }
+    ensures holding { F.holding files.new ≡ F.holding files.old }
+{
+    let path = path_in(alloc, folder, name)?;
+    let Ok(read) = files.read_whole(alloc, path.as_str()) else {
+        return Err(Unread::Failed);
+    };
+    let Some(bytes) = read else {
+        return Ok(None);
+    };
+    let name = String::from_str(alloc, name)?;
+    Ok(Some(HeldLog { name, bytes }))
 }
 
 /// The path of a file in a folder.

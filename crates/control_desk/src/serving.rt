@@ -1,7 +1,7 @@
 //! The desk as a service before another.
 ghost use Rattle.std.specs.Prelude.{◌≡◌, OnErr, OnOk, is_some};
 ghost use Rattle.http_server.specs.Response.{IsBlank};
-ghost use Rattle.control_desk.specs.Desk.{Desks, Passes, Stands, keys_in, page_view};
+ghost use Rattle.control_desk.specs.Desk.{Desks, Passes, Stands, hindered, keys_in, page_view};
 ghost use Rattle.control_desk.specs.Laws.{desked, desked_stays, still};
 ghost use Rattle.control_desk.specs.Reply.{Replies};
 ghost use Rattle.control_desk.specs.Rules.{rules_view};
@@ -63,7 +63,7 @@ impl<J: ShareName, R: Clock, F: DeskFiles, S: Service + CountsStatus> Service
     for ControlDesk<'_, J, R, F, S> {
     ghost answers = { λ old request response new.
         (new.post ≡ old.post) × (new.page ≡ old.page) × (new.keys ≡ old.keys)
-        × Desks S.answers (keys_in old.keys) (F.naming old.files) (F.holding old.files) (F.holding new.files) (rules_view old.post.now.rules) (page_view old.page) old.seat new.seat old.service request response new.service };
+        × Desks S.answers (keys_in old.keys) (F.naming old.files) (F.holding old.files) (F.holding new.files) (hindered (F.faults old.files) old.met) (hindered (F.faults new.files) new.met) (rules_view old.post.now.rules) (page_view old.page) old.seat new.seat old.service request response new.service };
 
     fn call(
         &mut self,
@@ -99,9 +99,9 @@ impl<J: ShareName, R: Clock, F: DeskFiles, S: Recording + CountsStatus> Recordin
         self.service.look();
     }
 
-    ghost given = { λ old request response new is. desked S.answers S.stands S.given (keys_in old.keys) (F.naming old.files) (F.holding old.files) (F.holding new.files) (rules_view old.post.now.rules) (page_view old.page) old.seat new.seat old.service request response new.service is.3 };
+    ghost given = { λ old request response new is. desked S.answers S.stands S.given (keys_in old.keys) (F.naming old.files) (F.holding old.files) (F.holding new.files) (hindered (F.faults old.files) old.met) (hindered (F.faults new.files) new.met) (rules_view old.post.now.rules) (page_view old.page) old.seat new.seat old.service request response new.service is.3 };
 
-    ghost stays = { λ old request response new is. desked_stays S.answers S.stands S.stays (keys_in old.keys) (F.naming old.files) (F.holding old.files) (F.holding new.files) (rules_view old.post.now.rules) (page_view old.page) old.seat new.seat old.service request response new.service is.3 };
+    ghost stays = { λ old request response new is. desked_stays S.answers S.stands S.stays (keys_in old.keys) (F.naming old.files) (F.holding old.files) (F.holding new.files) (hindered (F.faults old.files) old.met) (hindered (F.faults new.files) new.met) (rules_view old.post.now.rules) (page_view old.page) old.seat new.seat old.service request response new.service is.3 };
 
     ghost looked_stays = { λ old new is. still S.answers S.stands old.service new.service (S.looked_stays old.service new.service is.5) };
 }

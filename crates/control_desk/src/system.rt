@@ -1,9 +1,10 @@
 //! Files of the system.
-ghost use Rattle.std.specs.Prelude.{None};
+ghost use Rattle.std.specs.Prelude.{◌≡◌, None, length};
 
 use crate::files::DeskFiles;
 use flagops_files::SystemFiles;
 use flagops_shell::{FileSet, StoreFault};
+use http_server::Log;
 use std::alloc::{AllocError, Global};
 use std::fs::{self, File, OpenFile, OpenOptions};
 use std::io::{self, Error, ErrorKind, Print, Read, Write};
@@ -140,12 +141,20 @@ fn ends_whole(file: &File) -> io::Result<bool> {
 #[derive(Drop)]
 pub struct SystemDeskFiles<'a, P> {
     paths: &'a P,
+    /// A pair for each time that the system failed, which only proofs read.
+    faults: Log<u8, u8>,
 }
 
 impl<'a, P: DeskPaths> SystemDeskFiles<'a, P> {
-    /// The files at the paths of a system.
-    pub fn new(paths: &'a P) -> SystemDeskFiles<'a, P> {
-        SystemDeskFiles { paths }
+    /// The files at the paths of a system, which has not failed yet.
+    pub fn new(paths: &'a P) -> SystemDeskFiles<'a, P>
+        ensures paths { result.paths ≡ paths.entry }
+        ensures faults { length result.faults.items ≡ 0 }
+    {
+        SystemDeskFiles {
+            paths,
+            faults: Log::new(),
+        }
     }
 }
 
@@ -154,19 +163,37 @@ impl<P: DeskPaths> DeskFiles for SystemDeskFiles<'_, P> {
 
     ghost holding = { λ _. None };
 
-    fn names_in(&self, alloc: Global, folder: &str) -> io::Result<Vec<String>> {
-        self.paths.names_at(alloc, folder)
+    ghost faults = { λ files. length files.faults.items };
+
+    fn names_in(&mut self, alloc: Global, folder: &str) -> io::Result<Vec<String>> {
+        let names = self.paths.names_at(alloc, folder);
+        if names.is_err() {
+            self.faults = self.faults.and(&0, &0);
+        }
+        names
     }
 
-    fn read_whole(&self, alloc: Global, path: &str) -> io::Result<Option<Vec<u8>>> {
-        self.paths.bytes_at(alloc, path)
+    fn read_whole(&mut self, alloc: Global, path: &str) -> io::Result<Option<Vec<u8>>> {
+        let bytes = self.paths.bytes_at(alloc, path);
+        if bytes.is_err() {
+            self.faults = self.faults.and(&0, &0);
+        }
+        bytes
     }
 
     fn append(&mut self, alloc: Global, path: &str, line: &[u8]) -> io::Result<()> {
-        self.paths.append_at(alloc, path, line)
+        let outcome = self.paths.append_at(alloc, path, line);
+        if outcome.is_err() {
+            self.faults = self.faults.and(&0, &0);
+        }
+        outcome
     }
 
     fn replace(&mut self, alloc: Global, path: &str, bytes: &[u8]) -> io::Result<()> {
-        self.paths.replace_at(alloc, path, bytes)
+        let outcome = self.paths.replace_at(alloc, path, bytes);
+        if outcome.is_err() {
+            self.faults = self.faults.and(&0, &0);
+        }
+        outcome
     }
 }

@@ -60,7 +60,7 @@ pub(crate) fn tell_flags(
     let asked = FlagsAsked {
         number: held.shared.number(),
         flags: held.shared.flags(),
-        remarks: held.text.remarks.as_str(),
+        remarks: held.remarks.as_str(),
         sources: sources.as_slice(),
         recorded,
         may_apply: rules.applied_to.is_some(),

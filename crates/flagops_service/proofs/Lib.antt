@@ -1,11 +1,14 @@
+pub mod Alone
 pub mod Broken
 pub mod Copied
 pub mod KeysAt
 pub mod Matched
+pub mod Numbered
 pub mod Posts
 pub mod Reread
 pub mod Seats
 pub mod Shared
+pub mod Shown
 pub mod Started
 pub mod Stopped
 pub mod Told

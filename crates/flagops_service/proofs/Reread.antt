@@ -1,5 +1,5 @@
 -- Documents that are read again, one after the other and turn by turn.
-use Rattle.std.proofs.Common.{Bor, ◌≡◌, ◌≢◌, ◌+◌, ◌<◌, ◌⊎◌, ℕ, true, suc, List, [], ◌∷◌, ◌++◌, add-one, ap, decimal, drop, drop-cons, get_or, length, map, Option, Some, None, Err, IfSome, Vec, Global, inl, inr, is_some, refl, slice_get, subst, sym}
+use Rattle.std.proofs.Common.{Bor, ◌≡◌, ◌≢◌, ◌+◌, ◌<◌, ◌⊎◌, ℕ, Bool, true, suc, List, [], ◌∷◌, ◌++◌, add-one, ap, decimal, drop, drop-cons, get_or, length, map, Option, Some, None, Err, IfSome, Vec, Global, inl, inr, is_some, refl, slice_get, subst, sym}
 use Rattle.source_merge.specs.Sources.{SetsWithFloats, SourceList}
 use Rattle.source_merge.specs.declared.fault.SourceFault.{SourceFault}
 use Rattle.flagops_service.specs.Rereading.{IsUnfit, Kept, MayBeRefused, ReadsFrom, ReadsOne, State, Turns, Watches}
@@ -39,10 +39,10 @@ module _ (holding : Option Holding) (mode : OnBroken) where
       subst (λ ps. ReadsFrom holding mode (map now ps) place old new) (sym (left_at paths place x h is)) (mid, taken, reads, rest)
 
   -- one more turn behind others
-  pub one_turn : (paths : List (List ℕ)) (mids : List State) (old mid new : State) → Watches holding mode paths mids old mid → Turns holding mode paths mid new
-      → Watches holding mode paths (mids ++ new ∷ []) old new
-  one_turn paths [] old mid new watches turn = (subst (λ (s : State). Turns holding mode paths s new) watches turn, refl)
-  one_turn paths (m ∷ ms) old mid new watches turn = (watches.0, one_turn paths ms m mid new watches.1 turn)
+  pub one_turn : (paths : List (List ℕ)) (desks : Bool) (mids : List State) (old mid new : State) → Watches holding mode paths desks mids old mid → Turns holding mode paths desks mid new
+      → Watches holding mode paths desks (mids ++ new ∷ []) old new
+  one_turn paths desks [] old mid new watches turn = (subst (λ (s : State). Turns holding mode paths desks s new) watches turn, refl)
+  one_turn paths desks (m ∷ ms) old mid new watches turn = (watches.0, one_turn paths desks ms m mid new watches.1 turn)
 
 -- the same documents were read, of the same files
 pub reads_as : (held held' : Option Holding) (mode mode' : OnBroken) (paths paths' : List (List ℕ)) (old new : Kept) → held ≡ held' → mode ≡ mode' → paths ≡ paths'

@@ -15,11 +15,12 @@ use Rattle.flagops_streams.specs.Refusal.{is_want}
 use Rattle.flagops_streams.specs.declared.refusal.Refusal.{Refusal}
 use Rattle.flagops_streams.proofs.Gives.{counted}
 use Rattle.flagops_service.specs.Merging.{GivesMore}
-use Rattle.flagops_service.specs.Starting.{MayNotStart, StartsLoaded, StartsOn, StartsTo, last_of, stops_in, stops_on}
+use Rattle.flagops_service.specs.Starting.{MayNotStart, StartsAs, StartsLoaded, StartsOn, StartsTo, last_of, numbered, stops_in, stops_on}
 use Rattle.flagops_service.specs.Words.{Answering, ofrep_by, seats_of}
 use Rattle.flagops_service.specs.declared.asked.OnBroken.{OnBroken}
 use Rattle.flagops_service.specs.declared.asked.OnBroken.TheVariants.{Keep, Refuse, Serve}
 use Rattle.flagops_service.specs.declared.stop.Stop.TheVariants.{BrokenFlags}
+use Rattle.flagops_service.proofs.Numbered.{numbered_all, numbered_texts}
 
 -- the first document is merged, and those behind it give the rest
 pub first_merged : (sources next last : SourceList) (flags : Definitions) (text : List ℕ) (texts : List (List ℕ)) (r : Result Flags Refusal)
@@ -49,16 +50,20 @@ module _ (mode : OnBroken) (Reported : Bool → Result ℕ Refusal → Type 0) w
   abbrev pub IsRefused : Type 0
   IsRefused = (refusal : Refusal) × Reported false (Err refusal)
 
-  pub serves_as : (seats : ℕ) (d : Loaded) (answer : Answer) → StartsOn seats d answer → Reported (stops_in mode answer) (count_of answer) → Counted (length d.texts) ⊎ IsRefused
-  serves_as seats d (Ok all) (inl fails) p = absurd (cc (fails.1))
-  serves_as seats d (Ok all) (inr gives) p =
-      let count : length all ≡ length d.texts = omega (arith, counted true d.sources d.texts [] all gives) in
+  counted_as : (seats : ℕ) (texts : List (List ℕ)) (all : List Definitions) (r : Result Loaded Refusal) → numbered texts ≡ r → StartsLoaded seats r (Ok all) → Reported (stops_on mode (last_of all)) (Ok (length all)) → Counted (length texts) ⊎ IsRefused
+  counted_as seats texts all (Err e) is starts p = absurd (cc starts)
+  counted_as seats texts all (Ok d) is (inl fails) p = absurd (cc (fails.1))
+  counted_as seats texts all (Ok d) is (inr gives) p =
+      let count : length all ≡ length texts = omega (arith, counted true d.sources d.texts [] all gives, ap length (numbered_texts texts d is)) in
       inl (stops_on mode (last_of all), stopped mode (last_of all), subst (λ (k : ℕ). Reported (stops_on mode (last_of all)) (Ok k)) count p)
-  serves_as seats d (Err refusal) starts p = inr (refusal, p)
+
+  serves_as : (seats : ℕ) (texts : List (List ℕ)) (answer : Answer) → StartsAs seats (numbered texts) answer → Reported (stops_in mode answer) (count_of answer) → Counted (length texts) ⊎ IsRefused
+  serves_as seats texts (Ok all) starts p = counted_as seats texts all (numbered texts) refl starts p
+  serves_as seats texts (Err refusal) starts p = inr (refusal, p)
 
   -- the same, of as many documents as are asked for
-  pub served : (a : Answering) (d : Loaded) (answer : Answer) (n : ℕ) → length d.texts ≡ n → StartsOn (seats_of a) d answer → Reported (stops_in mode answer) (count_of answer) → Counted n ⊎ IsRefused
-  served a d answer n count starts report = subst (λ (k : ℕ). Counted k ⊎ IsRefused) count (serves_as (seats_of a) d answer starts report)
+  pub served : (a : Answering) (texts : List (List ℕ)) (answer : Answer) (n : ℕ) → length texts ≡ n → StartsAs (seats_of a) (numbered texts) answer → Reported (stops_in mode answer) (count_of answer) → Counted n ⊎ IsRefused
+  served a texts answer n count starts report = subst (λ (k : ℕ). Counted k ⊎ IsRefused) count (serves_as (seats_of a) texts answer starts report)
 
   -- documents that were merged are answered from, or not
   pub begun : (seats n : ℕ) (d : Loaded) (front : List Definitions) (flags : Definitions) → n ≡ length d.texts → Gives true d.sources d.texts [] (Ok (front ++ flags ∷ []))
@@ -79,14 +84,14 @@ module _ (out out' : Option (List ℕ)) (broken : Bool) (told told' : Option (Li
   pub not_stopped : stops ≡ false → Begins out out' broken told told' mute status a false n → Begins out out' broken told told' mute status a stops n
   not_stopped is begins = subst (λ (b : Bool). Begins out out' broken told told' mute status a b n) (sym is) begins
 
--- what documents that were loaded come to is what the words and the files come to
-loaded_started : (at : Holding) (a : Answering) (d : Loaded) (answer : Answer) → loaded_at at a.documents ≡ Ok d → StartsOn (seats_of a) d answer → StartsTo at a answer
-loaded_started at a d (Ok merges) loaded starts = subst (λ (r : Result Loaded Refusal). StartsLoaded (seats_of a) r (Ok merges)) (sym loaded) starts
-loaded_started at a d (Err refusal) loaded starts = λ _. subst (λ (r : Result Loaded Refusal). StartsLoaded (seats_of a) r (Err refusal)) (sym loaded) starts
+-- what documents come to is what their texts come to
+pub started_as : (seats : ℕ) (loaded : Result Loaded Refusal) (d : Loaded) (answer : Answer) → loaded ≡ Ok d → StartsOn seats d answer → StartsAs seats loaded answer
+started_as seats loaded d (Ok merges) is starts = subst (λ (r : Result Loaded Refusal). StartsLoaded seats r (Ok merges)) (sym is) starts
+started_as seats loaded d (Err refusal) is starts = λ _. subst (λ (r : Result Loaded Refusal). StartsLoaded seats r (Err refusal)) (sym is) starts
 
--- and so is why they were not loaded
-not_loaded : (at : Holding) (a : Answering) (refusal : Refusal) → (is_want refusal ≡ false → loaded_at at a.documents ≡ Err refusal) → StartsTo at a (Err refusal)
-not_loaded at a refusal loaded = λ other. subst (λ (r : Result Loaded Refusal). StartsLoaded (seats_of a) r (Err refusal)) (sym (loaded other)) refl
+-- and so is why there are none
+pub not_started : (seats : ℕ) (loaded : Result Loaded Refusal) (refusal : Refusal) → (is_want refusal ≡ false → loaded ≡ Err refusal) → StartsAs seats loaded (Err refusal)
+not_started seats loaded refusal is = λ other. subst (λ (r : Result Loaded Refusal). StartsLoaded seats r (Err refusal)) (sym (is other)) refl
 
 -- an answer to what is asked, and its report
 pub answered : (holding : Option Holding) (a : Answering) (answer : Answer) (Reported : Answer → Type 0)
@@ -99,14 +104,15 @@ module _ {X : Type 0} (now : X → List ℕ) (slice items : List X) (same : slic
   named : map now slice ≡ a.documents
   named = ap (map now) same ∙ sym paths
 
-  pub all_started : (d : Loaded) (answer : Answer) → IfSome holding (λ at. loaded_at at (map now slice) ≡ Ok d) → StartsOn (seats_of a) d answer → IfSome holding (λ at. StartsTo at a answer)
+  pub all_started : (d : Loaded) (answer : Answer) → IfSome holding (λ at. loaded_at at (map now slice) ≡ Ok d) → StartsAs (seats_of a) (numbered d.texts) answer → IfSome holding (λ at. StartsTo at a answer)
   all_started d answer loaded starts =
-      where_known holding (λ at. loaded_at at (map now slice) ≡ Ok d) (λ at. StartsTo at a answer) (λ at e. loaded_started at a d answer (ap (loaded_at at) (sym named) ∙ e) starts) loaded
+      where_known holding (λ at. loaded_at at (map now slice) ≡ Ok d) (λ at. StartsTo at a answer)
+      (λ at e. subst (λ (r : Result Loaded Refusal). StartsAs (seats_of a) r answer) (numbered_all at (map now slice) d e ∙ sym (ap (loaded_at at) (sym named) ∙ e)) starts) loaded
 
   pub none_started : (refusal : Refusal) → IfSome holding (λ at. is_want refusal ≡ false → loaded_at at (map now slice) ≡ Err refusal) → IfSome holding (λ at. StartsTo at a (Err refusal))
   none_started refusal loaded =
       where_known holding (λ at. is_want refusal ≡ false → loaded_at at (map now slice) ≡ Err refusal) (λ at. StartsTo at a (Err refusal))
-      (λ at e. not_loaded at a refusal (λ other. ap (loaded_at at) (sym named) ∙ e other)) loaded
+      (λ at e. not_started (seats_of a) (loaded_at at a.documents) refusal (λ other. ap (loaded_at at) (sym named) ∙ e other)) loaded
 
 -- ---- what the words ask for
 

@@ -1,4 +1,5 @@
 pub mod Words
+pub mod Shown
 pub mod Merging
 pub mod Starting
 pub mod Ended

@@ -1,6 +1,7 @@
 -- What reading documents again does, in private contracts alone.
-use Rattle.std.specs.Prelude.{◌≡◌, ◌⊎◌, ℕ, ◌+◌, List, [], ◌∷◌, true, decimal, is_some, slice_get, slice_set, Option, Some, None, IfSome, Result, Ok, Err, Vec}
+use Rattle.std.specs.Prelude.{◌≡◌, ◌⊎◌, ℕ, ◌+◌, Bool, List, [], ◌∷◌, true, decimal, is_some, slice_get, slice_set, Option, Some, None, IfSome, Result, Ok, Err, Vec}
 use Rattle.std.specs.declared.alloc.Global.{Global}
+use Rattle.control_desk.specs.Sources.{Source}
 use Rattle.flag_defs.specs.Document.{Definitions}
 use Rattle.flag_defs.specs.Floats.{MeansWithFloats}
 use Rattle.flag_defs.specs.declared.fault.DefFault.{DefFault}
@@ -103,20 +104,23 @@ ReadsFrom holding mode (path ∷ paths) place old new =
 
 -- ---- turn by turn
 
--- what is kept of documents, and what was published
+-- what is kept of documents, what was published, and what desks were shown last
 pub record State : Type 0 where
   pub kept : Kept
   pub published : List Flags
+  pub shown : Option Source
 
-abbrev pub state_of : Watched → List Flags → State
-state_of w published = record { kept = kept_of w; published = published }
+abbrev pub state_of : Watched → List Flags → Option Source → State
+state_of w published shown = record { kept = kept_of w; published = published; shown = shown }
 
--- all documents are read again, or not, and their merge is published behind all others, with the metadata of what was accepted last of each, or nothing is
-abbrev pub Turns : Option Holding → OnBroken → List (List ℕ) → State → State → Type 0
-Turns holding mode paths old new =
-    (ReadsFrom holding mode paths 0 old.kept new.kept ⊎ (new.kept ≡ old.kept)) × Publishes new.kept.sources (texts_of new.kept.accepted) old.published new.published
+-- All documents are read again, or not, and their merge is published behind all others, with the metadata of what was accepted last of each, or nothing is.
+-- Desks, where there are some, are shown what is published.
+abbrev pub Turns : Option Holding → OnBroken → List (List ℕ) → Bool → State → State → Type 0
+Turns holding mode paths desks old new =
+    (ReadsFrom holding mode paths 0 old.kept new.kept ⊎ (new.kept ≡ old.kept))
+    × Publishes new.kept.sources (texts_of new.kept.accepted) desks old.published new.published old.shown new.shown
 
 -- one turn after the other leads through these states
-abbrev pub Watches : Option Holding → OnBroken → List (List ℕ) → List State → State → State → Type 0
-Watches holding mode paths [] old new = new ≡ old
-Watches holding mode paths (mid ∷ mids) old new = Turns holding mode paths old mid × Watches holding mode paths mids mid new
+abbrev pub Watches : Option Holding → OnBroken → List (List ℕ) → Bool → List State → State → State → Type 0
+Watches holding mode paths desks [] old new = new ≡ old
+Watches holding mode paths desks (mid ∷ mids) old new = Turns holding mode paths desks old mid × Watches holding mode paths desks mids mid new

@@ -1,5 +1,5 @@
 -- What starting on documents gives, from the files at their paths.
-use Rattle.std.specs.Prelude.{◌≡◌, ◌⊎◌, Bool, true, false, ℕ, List, [], ◌∷◌, Result, Ok, Err}
+use Rattle.std.specs.Prelude.{◌≡◌, ◌⊎◌, ◌+◌, Bool, true, false, ℕ, List, [], ◌∷◌, ◌++◌, length, Result, Ok, Err}
 use Rattle.std.specs.List.{list_any}
 use Rattle.flag_defs.specs.Definition.{Definition}
 use Rattle.flag_defs.specs.Document.{Definitions}
@@ -8,7 +8,8 @@ use Rattle.flagops_service.specs.declared.asked.OnBroken.{OnBroken}
 use Rattle.flagops_service.specs.declared.asked.OnBroken.TheVariants.{Keep, Refuse, Serve}
 use Rattle.flagops_shell.specs.Files.{Holding}
 use Rattle.flagops_streams.specs.Loading.{Loaded, loaded_at}
-use Rattle.flagops_streams.specs.Documents.{Answer, Gives, MayFail}
+use Rattle.flagops_shell.specs.Outcomes.{◌>>=◌}
+use Rattle.flagops_streams.specs.Documents.{Answer, Gives, MayFail, source_added}
 use Rattle.flagops_streams.specs.Refusal.{is_want}
 use Rattle.flagops_streams.specs.declared.refusal.Refusal.{Refusal}
 use Rattle.flagops_streams.specs.declared.refusal.Refusal.TheVariants.{Share, Unbound, WantOfMemory}
@@ -41,12 +42,26 @@ MayNotStart seats refusal = ⊥
 abbrev pub StartsOn : ℕ → Loaded → Answer → Type 0
 StartsOn seats d answer = ((refusal : Refusal) × (answer ≡ Err refusal) × MayNotStart seats refusal) ⊎ Gives true d.sources d.texts [] answer
 
+-- documents of these texts behind others, each with a source under its number
+abbrev pub numbered_from : Loaded → List (List ℕ) → Result Loaded Refusal
+numbered_from d [] = Ok d
+numbered_from d (text ∷ texts) = do
+  sources ← source_added d.sources (length d.texts + 1)
+  numbered_from (record { sources = sources; texts = d.texts ++ text ∷ [] }) texts
+
+abbrev pub numbered : List (List ℕ) → Result Loaded Refusal
+numbered texts = numbered_from (record { sources = []; texts = [] }) texts
+
 -- the same, or why they were not loaded
 abbrev pub StartsLoaded : ℕ → Result Loaded Refusal → Answer → Type 0
 StartsLoaded seats (Err refusal) answer = answer ≡ Err refusal
 StartsLoaded seats (Ok d) answer = StartsOn seats d answer
 
--- what the documents at the paths of the words come to, unless memory ran out
+-- the same, unless memory ran out
+abbrev pub StartsAs : ℕ → Result Loaded Refusal → Answer → Type 0
+StartsAs seats loaded (Ok merges) = StartsLoaded seats loaded (Ok merges)
+StartsAs seats loaded (Err refusal) = is_want refusal ≡ false → StartsLoaded seats loaded (Err refusal)
+
+-- what the documents at the paths of the words come to
 abbrev pub StartsTo : Holding → Answering → Answer → Type 0
-StartsTo at a (Ok merges) = StartsLoaded (seats_of a) (loaded_at at a.documents) (Ok merges)
-StartsTo at a (Err refusal) = is_want refusal ≡ false → StartsLoaded (seats_of a) (loaded_at at a.documents) (Err refusal)
+StartsTo at a answer = StartsAs (seats_of a) (loaded_at at a.documents) answer

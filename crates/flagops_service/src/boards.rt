@@ -33,6 +33,7 @@ pub(crate) fn board_of(
     ensures idle { IfOk result (λ board. board.limits.idle_seconds ≡ answering.now.idle) }
     ensures max_body { IfOk result (λ board. board.limits.body_bytes ≡ answering.now.max_body) }
     ensures folder { IfOk result (λ board. option_map string_bytes board.desks.rules.folder ≡ (answering_view answering.now).log) }
+    ensures documents { IfOk result (λ board. map string_bytes board.desks.rules.documents.items ≡ (answering_view answering.now).documents) }
     ensures applied_to { IfOk result (λ board. option_map string_bytes board.desks.rules.applied_to ≡ applied_to (answering_view answering.now)) }
 {
     let origins = copied(alloc, answering.cors.as_slice())?;

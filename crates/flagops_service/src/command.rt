@@ -1,5 +1,5 @@
 //! The command `ofrep`.
-ghost use Rattle.std.specs.Prelude.{◌≡◌, ◌≤◌, ◌<◌, ◌++◌, ◌&&◌, None, false, if◌then◌else◌, is_some, length, map, option_map, string_bytes, vec_len, IfOk, IfSome};
+ghost use Rattle.std.specs.Prelude.{◌≡◌, ◌≤◌, ◌<◌, ◌+◌, ◌*◌, ◌++◌, ◌&&◌, None, Ok, false, if◌then◌else◌, is_some, length, map, option_map, string_bytes, vec_len, IfNone, IfOk, IfSome};
 ghost use Rattle.std.specs.List.{list_any};
 ghost use Rattle.flag_defs.specs.Flag.{is_broken};
 ghost use Rattle.flag_defs.specs.Flags.{flags_view};
@@ -7,8 +7,8 @@ ghost use Rattle.flagops_streams.specs.Loading.{documents_view};
 ghost use Rattle.flagops_streams.specs.Documents.{Answer, count_of, documents_in, texts_of};
 ghost use Rattle.source_merge.specs.View.{sources_view};
 ghost use Rattle.flagops_service.specs.Ended.{AnswersOfrep, Begins, Reports, Serves, ServesOfrep, TellsOfrep, cors_fault};
-ghost use Rattle.flagops_service.specs.Merging.{AreMerged, ArePublished};
-ghost use Rattle.flagops_service.specs.Starting.{StartsOn, StartsTo, stops_in, stops_on};
+ghost use Rattle.flagops_service.specs.Merging.{AreBegun, AreMerged, ArePublished, AreRead};
+ghost use Rattle.flagops_service.specs.Starting.{StartsAs, StartsOn, StartsTo, numbered, stops_in, stops_on};
 ghost use Rattle.flagops_shell.specs.Console.{IsOpen};
 ghost use Rattle.flagops_service.specs.Unready.{HasKeys};
 ghost use Rattle.flagops_service.specs.Words.{answering_view, applied_to, form_of, operators_of, paths_served, seats_of, some_of, subscribers_of};
@@ -20,7 +20,7 @@ use crate::document_texts::{DocumentTexts, show_texts, texts_of};
 use crate::host::Host;
 use crate::keys::WatchedKeys;
 use crate::log_news::tell_lines;
-use crate::merging::merge_all;
+use crate::merging::{merge_documents, numbered};
 use crate::preparing::{Prepared, Unready, operators_of, prepare, trouble_of_logs};
 use crate::reporting::{
     refuse_and_tell, refuse_document, refuse_start, refuse_unbound, refuse_unloaded, serving_line,
@@ -33,6 +33,7 @@ use crate::telling::{
 use crate::watched::Watched;
 use crate::watching::watch;
 use crate::words::read_ofrep;
+use control_desk::{PublishedSources, ShownText};
 use flag_defs::Flags;
 use flag_text::Outlet;
 use flagops_shell::{Console, FileSet, report_usage};
@@ -84,7 +85,7 @@ fn answer_asked<R: Host, F: FileSet, O: Outlet, E: Outlet>(
     let alloc = rt.alloc();
     let paths = answering.documents.as_slice();
     match loaded(alloc, files, paths) {
-        Ok(documents) => answer_documents(rt, answering, documents, files, out, err),
+        Ok(documents) => answer_documents(rt, answering, documents.texts, files, out, err),
         Err(unloaded) => refuse_unloaded(
             alloc,
             out,
@@ -96,8 +97,31 @@ fn answer_asked<R: Host, F: FileSet, O: Outlet, E: Outlet>(
     }
 }
 
-/// Answers from documents, of which there is one at least.
+/// Answers from documents of these texts, of which there is one at least.
 fn answer_documents<R: Host, F: FileSet, O: Outlet, E: Outlet>(
+    rt: &R,
+    answering: &Answering<'_>,
+    texts: Vec<Vec<u8>>,
+    files: &mut F,
+    out: &mut O,
+    err: &mut E,
+) -> u8
+    requires some { 0 < vec_len texts }
+    requires each { vec_len texts ≡ vec_len answering.now.documents }
+    requires out_whole { O.is_broken out.old ≡ false }
+    requires err_whole { E.is_broken err.old ≡ false }
+    ensures { (answer : Answer) × StartsAs (seats_of (answering_view answering.now)) (numbered (texts_of texts.items)) answer
+        × Reports (O.bytes out.old) (O.bytes out.new) (O.is_broken out.new) (E.bytes err.old) (E.bytes err.new) (E.is_broken err.new) result (answering_view answering.now) (stops_in answering.now.broken answer) (count_of answer) }
+{
+    let alloc = rt.alloc();
+    match numbered(alloc, texts) {
+        Ok(documents) => answer_numbered(rt, answering, documents, files, out, err),
+        Err(refusal) => refuse_and_tell(alloc, out, err, refusal),
+    }
+}
+
+/// Answers from documents, of which there is one at least, each with a source under its number.
+fn answer_numbered<R: Host, F: FileSet, O: Outlet, E: Outlet>(
     rt: &R,
     answering: &Answering<'_>,
     documents: Documents,
@@ -105,6 +129,7 @@ fn answer_documents<R: Host, F: FileSet, O: Outlet, E: Outlet>(
     out: &mut O,
     err: &mut E,
 ) -> u8
+    requires numbered { numbered (texts_of documents.texts.items) ≡ Ok (documents_view documents) }
     requires some { 0 < documents_in documents }
     requires each { documents_in documents ≡ vec_len answering.now.documents }
     requires out_whole { O.is_broken out.old ≡ false }
@@ -116,7 +141,7 @@ fn answer_documents<R: Host, F: FileSet, O: Outlet, E: Outlet>(
     let paths = answering.documents.as_slice();
     let Documents { sources, texts } = documents;
     let mut sources = sources;
-    match merge_all(alloc, &mut sources, texts.as_slice()) {
+    match merge_documents(alloc, &mut sources, texts.as_slice()) {
         Ok(flags) => answer_merged(rt, answering, flags, sources, texts, files, out, err),
         Err(refusal) => refuse_document(alloc, out, err, paths, texts.as_slice(), refusal),
     }
@@ -134,6 +159,7 @@ fn answer_merged<R: Host, F: FileSet, O: Outlet, E: Outlet>(
     err: &mut E,
 ) -> u8
     requires merged { AreMerged (sources_view sources) flags }
+    requires read { AreRead (texts_of texts.items) (sources_view sources) }
     requires each { vec_len texts ≡ vec_len answering.now.documents }
     requires out_whole { O.is_broken out.old ≡ false }
     requires err_whole { E.is_broken err.old ≡ false }
@@ -204,6 +230,7 @@ fn answer_flags<R: Host, F: FileSet, O: Outlet, E: Outlet>(
     err: &mut E,
 ) -> u8
     requires merged { AreMerged (sources_view watched.sources) flags }
+    requires read { AreRead (texts_of watched.accepted.items) (sources_view watched.sources) }
     requires out_whole { O.is_broken out.old ≡ false }
     requires err_whole { E.is_broken err.old ≡ false }
     ensures { Begins (O.bytes out.old) (O.bytes out.new) (O.is_broken out.new) (E.bytes err.old) (E.bytes err.new) (E.is_broken err.new) result (answering_view answering.now) false (length watched.entry.accepted.items) }
@@ -257,6 +284,7 @@ where
     requires clients { HasKeys (F.holding files.old) (answering_view answering.now).keys prepared.clients }
     requires logs { map (λ post. path_in post.journal) prepared.posts.items ≡ paths_of (answering_view answering.now).log answering.now.workers }
     requires merged { AreMerged (sources_view watched.sources) flags }
+    requires read { AreRead (texts_of watched.accepted.items) (sources_view watched.sources) }
     requires out_whole { O.is_broken out.old ≡ false }
     requires err_whole { E.is_broken err.old ≡ false }
     ensures { Begins (O.bytes out.old) (O.bytes out.new) (O.is_broken out.new) (E.bytes err.old) (E.bytes err.new) (E.is_broken err.new) result (answering_view answering.now) false (length watched.entry.accepted.items) }
@@ -317,8 +345,10 @@ where
     F: FileSet,
     O: Outlet,
     E: Outlet,
-    requires published { ArePublished (sources_view watched.sources) (texts_of watched.accepted.items) publisher.old }
-    requires seats { vec_len prepared.posts ≤ vec_len seats }
+    requires begun { AreBegun (sources_view watched.sources) (texts_of watched.accepted.items) (is_some answering.now.admin) publisher.old texts }
+    requires read { AreRead (texts_of watched.accepted.items) (sources_view watched.sources) }
+    requires admin { is_some prepared.admin ≡ is_some (answering_view answering.now).admin }
+    requires seats { vec_len seats ≡ vec_len prepared.posts + (vec_len prepared.streams + operators_of (answering_view answering.now).admin (answering_view answering.now).log) }
     requires cors { cors_fault (answering_view answering.now).cors ≡ None }
     requires may_stop { IfSome prepared.admin (λ post. post.may_stop ≡ answering.now.allow_stop) }
     requires clients { HasKeys (F.holding files.old) (answering_view answering.now).keys prepared.clients }
@@ -353,10 +383,11 @@ where
     say_published(alloc, err, 1, count, broken);
     let status = write_line(out, line.as_str(), 0);
     show_published(rt, &board, 1);
-    show_texts(rt, &board, 1, texts);
+    let sources = PublishedSources::new();
+    let shown = show_texts(rt, &sources, publisher.tell(), texts);
     let was_stopped = attend(
-        rt, answering, keys, &board, seats, posts, others, streams, admin, publisher, watched,
-        files, err,
+        rt, answering, keys, &board, &sources, shown, seats, posts, others, streams, admin,
+        publisher, watched, files, err,
     );
     tell_lines(rt, alloc, &board, err);
     say_ended(err, was_stopped);
@@ -377,6 +408,8 @@ fn attend<J, R, F, E>(
     answering: &Answering<'_>,
     keys: RandomState,
     board: &Board,
+    sources: &PublishedSources<J>,
+    shown: Option<ShownText<J>>,
     seats: Vec<ReadSeat<J>>,
     posts: Vec<Post>,
     others: Vec<ReadSeat<J>>,
@@ -392,8 +425,11 @@ where
     R: Host,
     F: FileSet,
     E: Outlet,
-    requires published { ArePublished (sources_view watched.sources) (texts_of watched.accepted.items) publisher.old }
+    requires published { ArePublished (sources_view watched.sources) (texts_of watched.accepted.items) (is_some answering.now.admin) publisher.old shown }
+    requires read { AreRead (texts_of watched.accepted.items) (sources_view watched.sources) }
     requires seated { vec_len seats ≡ vec_len posts }
+    requires operated { is_some admin ≡ is_some (answering_view answering.now).admin }
+    requires others { vec_len others ≡ vec_len streams + operators_of (answering_view answering.now).admin (answering_view answering.now).log }
     requires logs { map (λ post. path_in post.journal) posts.items ≡ paths_of (answering_view answering.now).log answering.now.workers }
     requires without { board.now.without_record ≡ answering.now.without_record }
     requires remember { is_some board.now.memory.memory ≡ is_some (some_of answering.now.remember) }
@@ -405,14 +441,15 @@ where
     requires may_stop { IfSome admin (λ post. post.may_stop ≡ answering.now.allow_stop) }
     requires origins { map string_bytes board.now.origins.items ≡ (answering_view answering.now).cors }
     requires folder { option_map string_bytes board.now.desks.rules.folder ≡ (answering_view answering.now).log }
+    requires documents { map string_bytes board.now.desks.rules.documents.items ≡ (answering_view answering.now).documents }
     requires applied_to { option_map string_bytes board.now.desks.rules.applied_to ≡ applied_to (answering_view answering.now) }
     requires clients { HasKeys (F.holding files.old) (answering_view answering.now).keys (option_map (λ ring. ring.first) board.now.keys) }
 {
     let alloc = rt.alloc();
-    let mut watched = watched;
-    let mut clients = WatchedKeys::new(alloc, answering.keys);
+    let clients = WatchedKeys::new(alloc, answering.keys);
     let mut others = others;
-    let Ok(operations) = seated(&mut others, streams.len(), admin) else {
+    let threads = operators_of(answering) / 2;
+    let Ok(operations) = seated(&mut others, streams.len(), threads, admin, sources) else {
         return false;
     };
     let ended = work_beside(
@@ -425,12 +462,19 @@ where
         others,
         streams,
         operations,
-        || {
+        move ||
+            requires { AreRead (texts_of watched.accepted.items) (sources_view watched.sources) }
+        {
+            let mut watched = watched;
+            let mut clients = clients;
+            let mut shown = shown;
             watch(
                 rt,
                 &mut watched,
                 &mut clients,
                 publisher,
+                sources,
+                &mut shown,
                 board,
                 answering,
                 files,
@@ -441,19 +485,32 @@ where
     ended.is_some()
 }
 
-/// The post of operations, where there is one, with the seats behind those of so many subscribers: half of them for the workers of its
-/// threads, and half for their desks.
-fn seated<J: ShareName>(
+/// The post of operations, where there is one, with two seats for each of so many threads, one of its worker and one of its desk: those
+/// behind the seats of the subscribers, which are left.
+fn seated<'a, J: ShareName>(
     others: &mut Vec<ReadSeat<J>>,
     subscribers: usize,
+    threads: usize,
     post: Option<AdminPost>,
-) -> Result<Option<Operations<J>>, AllocError> {
+    sources: &'a PublishedSources<J>,
+) -> Result<Option<Operations<'a, J>>, AllocError>
+    requires { vec_len others.old ≡ subscribers + 2 * threads }
+    ensures post { IfOk result (λ o. is_some o ≡ is_some post) }
+    ensures seats { IfOk result (λ o. IfSome o (λ operations. (vec_len operations.seats ≡ threads) × (vec_len operations.desks ≡ threads))) }
+    ensures left { IfOk result (λ o. IfSome o (λ _. vec_len others.new ≡ subscribers)) }
+    ensures kept { IfOk result (λ o. IfNone o (others.new ≡ others.old)) }
+{
     let Some(post) = post else {
         return Ok(None);
     };
-    let mut seats = others.split_off(subscribers.min(others.len()))?;
-    let desks = seats.split_off(seats.len() / 2)?;
-    Ok(Some(Operations { post, seats, desks }))
+    let mut seats = others.split_off(subscribers)?;
+    let desks = seats.split_off(threads)?;
+    Ok(Some(Operations {
+        post,
+        seats,
+        desks,
+        sources,
+    }))
 }
 
 /// Tells of each flag and of all metadata that is broken, by its document.

@@ -1,5 +1,5 @@
 //! What is opened before anybody is answered.
-ghost use Rattle.std.specs.Prelude.{◌≡◌, ◌≤◌, ◌-◌, IfErr, IfOk, IfSome, None, OnOk, is_some, map, vec_len};
+ghost use Rattle.std.specs.Prelude.{◌≡◌, ◌≤◌, ◌-◌, ◌*◌, ◌/◌, IfErr, IfOk, IfSome, None, OnOk, is_some, map, vec_len};
 ghost use Rattle.ofrep_service.specs.Logs.{path_in, paths_of};
 ghost use Rattle.flagops_service.specs.Ended.{cors_fault};
 ghost use Rattle.flagops_service.specs.Unready.{HasKeys, MayBeUnready};
@@ -154,6 +154,7 @@ pub(crate) fn most_subscribers(answering: &Answering<'_>) -> usize
 pub(crate) fn operators_of(answering: &Answering<'_>) -> usize
     ensures value { result ≡ operators_of (answering_view answering.now).admin (answering_view answering.now).log }
     ensures few { result ≤ 6 }
+    ensures pairs { 2 * (result / 2) ≡ result }
 {
     match (answering.admin, answering.log) {
         (None, _) => 0,

@@ -1,8 +1,8 @@
 //! Documents that are read again.
-ghost use Rattle.std.specs.Prelude.{◌≡◌, ◌==◌, ◌&&◌, ◌+◌, ◌-◌, ◌%◌, ◌^◌, ◌<◌, List, map, nat_lt};
+ghost use Rattle.std.specs.Prelude.{◌≡◌, ◌==◌, ◌&&◌, ◌+◌, ◌-◌, ◌%◌, ◌^◌, ◌<◌, List, is_some, map, nat_lt};
 ghost use Rattle.source_merge.specs.View.{sources_view};
 ghost use Rattle.flagops_streams.specs.Documents.{texts_of};
-ghost use Rattle.flagops_service.specs.Merging.{Publishes};
+ghost use Rattle.flagops_service.specs.Merging.{AreRead, Publishes};
 ghost use Rattle.flagops_service.specs.Rereading.{State, Watches, state_of};
 
 use crate::asked::Answering;
@@ -13,6 +13,7 @@ use crate::log_news::{LogNews, tell_lines, tell_news};
 use crate::sizes::show_sizes;
 use crate::telling::{broken_in, say_made, say_published};
 use crate::watched::Watched;
+use control_desk::{PublishedSources, ShownText};
 use flag_text::Outlet;
 use flagops_shell::FileSet;
 use flagops_streams::say;
@@ -37,12 +38,15 @@ pub(crate) fn watch<J: ShareName, R: Clock + LogPaths + Wait, F: FileSet, E: Out
     watched: &mut Watched<'_>,
     clients: &mut WatchedKeys<'_>,
     publisher: &mut Publisher<J>,
+    sources: &PublishedSources<J>,
+    shown: &mut Option<ShownText<J>>,
     board: &Board,
     answering: &Answering<'_>,
     files: &mut F,
     err: &mut E,
 )
-    ensures watches { (turns : List State) × Watches (F.holding files.old) watched.old.broken (map (λ path. path.now) watched.old.paths.now) turns (state_of watched.old publisher.old) (state_of watched.new publisher.new) }
+    requires read { AreRead (texts_of watched.old.accepted.items) (sources_view watched.old.sources) }
+    ensures watches { (turns : List State) × Watches (F.holding files.old) watched.old.broken (map (λ path. path.now) watched.old.paths.now) (is_some answering.now.admin) turns (state_of watched.old publisher.old shown.old) (state_of watched.new publisher.new shown.new) }
     ensures kept { F.holding files.new ≡ F.holding files.old }
 {
     let mut waits = false;
@@ -60,7 +64,9 @@ pub(crate) fn watch<J: ShareName, R: Clock + LogPaths + Wait, F: FileSet, E: Out
         watched.show(board);
         clients.renew(rt, board, files, err);
         if waits {
-            waits = publish(rt, watched, publisher, board, answering, err);
+            waits = publish(
+                rt, watched, publisher, sources, shown, board, answering, err,
+            );
         }
     }
 }
@@ -85,17 +91,20 @@ fn is_turn(second: u64, poll: u64) -> bool
     poll > 0 && (second + 1) % poll == 0
 }
 
-/// Publishes what the documents make now, with their metadata, unless they are too large together or memory runs out. Says whether that was want of
-/// memory, so that it is to be tried again at the next reading.
+/// Publishes what the documents make now, with their metadata, and shows desks what is known of the documents, unless they are too large
+/// together or memory runs out. Says whether that was want of memory, so that it is to be tried again at the next reading.
 fn publish<J: ShareName, R: Clock + Wait, E: Outlet>(
     rt: &R,
     watched: &Watched<'_>,
     publisher: &mut Publisher<J>,
+    sources: &PublishedSources<J>,
+    shown: &mut Option<ShownText<J>>,
     board: &Board,
     answering: &Answering<'_>,
     err: &mut E,
 ) -> bool
-    ensures { Publishes (sources_view watched.now.sources) (texts_of watched.now.accepted.items) publisher.old publisher.new }
+    requires { AreRead (texts_of watched.now.accepted.items) (sources_view watched.now.sources) }
+    ensures { Publishes (sources_view watched.now.sources) (texts_of watched.now.accepted.items) (is_some answering.now.admin) publisher.old publisher.new shown.old shown.new }
 {
     let flags = match watched.merged() {
         Ok(flags) => flags,
@@ -117,7 +126,7 @@ fn publish<J: ShareName, R: Clock + Wait, E: Outlet>(
     match publisher.publish(rt, watched.alloc, flags) {
         Ok(number) => {
             show_published(rt, board, number);
-            show_texts(rt, board, number, texts);
+            *shown = show_texts(rt, sources, publisher.tell(), texts);
             say_published(watched.alloc, err, number, count, broken);
             false
         }

@@ -19,7 +19,9 @@ use Rattle.snap_share.specs.contracts.seat.ReadSeat as ReadSeat
 use Rattle.snap_share.proofs.Crossings.{ReadSeat-send}
 use Rattle.ofrep_connections.specs.contracts.load.Load as Load
 use Rattle.access_lines.proofs.Crossings.{AccessLines-sync}
-use Rattle.control_desk.proofs.Crossings.{DeskPost-sync}
+use Rattle.control_desk.specs.contracts.sources.PublishedSources as PublishedSources
+use Rattle.control_desk.proofs.Crossings.{DeskPost-sync, PublishedSources-sync}
+use Rattle.note_memory.proofs.Crossings.{Handed-send, SharedMemory-sync}
 use Rattle.ofrep_guards.proofs.Crossings.{KeyRing-sync}
 use Rattle.ofrep_worker.proofs.Crossings.{Counts-sync}
 use Rattle.ofrep_service.specs.contracts.admin.AdminPost as AdminPost
@@ -33,12 +35,12 @@ captured_six ν A B C D E F a b c d e f =
     declared_send (type_at ν (A ∷ B ∷ C ∷ D ∷ E ∷ F ∷ []))
     (as_row_send (row_field A) a, (as_row_send (row_field B) b, (as_row_send (row_field C) c, (as_row_send (row_field D) d, (as_row_send (row_field E) e, (as_row_send (row_field F) f, tt))))))
 
--- and so seven
-captured_seven : (ν : Sym) (A B C D E F G : RattleType) → IsSend A → IsSend B → IsSend C → IsSend D → IsSend E → IsSend F → IsSend G
-    → IsSend (TupleAt ν (A ∷ B ∷ C ∷ D ∷ E ∷ F ∷ G ∷ []))
-captured_seven ν A B C D E F G a b c d e f h =
-    declared_send (type_at ν (A ∷ B ∷ C ∷ D ∷ E ∷ F ∷ G ∷ []))
-    (as_row_send (row_field A) a, (as_row_send (row_field B) b, (as_row_send (row_field C) c, (as_row_send (row_field D) d, (as_row_send (row_field E) e, (as_row_send (row_field F) f, (as_row_send (row_field G) h, tt)))))))
+-- and so eight
+captured_eight : (ν : Sym) (A B C D E F G H : RattleType) → IsSend A → IsSend B → IsSend C → IsSend D → IsSend E → IsSend F → IsSend G → IsSend H
+    → IsSend (TupleAt ν (A ∷ B ∷ C ∷ D ∷ E ∷ F ∷ G ∷ H ∷ []))
+captured_eight ν A B C D E F G H a b c d e f h i =
+    declared_send (type_at ν (A ∷ B ∷ C ∷ D ∷ E ∷ F ∷ G ∷ H ∷ []))
+    (as_row_send (row_field A) a, (as_row_send (row_field B) b, (as_row_send (row_field C) c, (as_row_send (row_field D) d, (as_row_send (row_field E) e, (as_row_send (row_field F) f, (as_row_send (row_field G) h, (as_row_send (row_field H) i, tt))))))))
 
 -- and so four
 captured_four : (ν : Sym) (A B C D : RattleType) → IsSend A → IsSend B → IsSend C → IsSend D → IsSend (TupleAt ν (A ∷ B ∷ C ∷ D ∷ []))
@@ -76,10 +78,10 @@ abbrev pub Working : (T : RattleType) → ShareName.Ghosts T.Denot → Sym → N
 Working T g ν r b R =
     TupleAt ν (ShrRef r.mir r.lft R ∷ Global.the_row ∷ RandomState.the_row ∷ ShrRef b.mir b.lft Board.the_row ∷ ReadSeat.the_row T g ∷ Post.the_row ∷ [])
 
--- the captures of a thread for operations: the same, a seat for its desk, and another post
-abbrev pub Operating : (T : RattleType) → ShareName.Ghosts T.Denot → Sym → NamedLft → NamedLft → RattleType → RattleType
-Operating T g ν r b R =
-    TupleAt ν (ShrRef r.mir r.lft R ∷ Global.the_row ∷ RandomState.the_row ∷ ShrRef b.mir b.lft Board.the_row ∷ ReadSeat.the_row T g ∷ ReadSeat.the_row T g ∷ AdminPost.the_row ∷ [])
+-- the captures of a thread for operations: the same, what is known of documents, a seat for its desk, and another post
+abbrev pub Operating : (T : RattleType) → ShareName.Ghosts T.Denot → Sym → NamedLft → NamedLft → NamedLft → RattleType → RattleType
+Operating T g ν r b s R =
+    TupleAt ν (ShrRef r.mir r.lft R ∷ Global.the_row ∷ RandomState.the_row ∷ ShrRef b.mir b.lft Board.the_row ∷ ShrRef s.mir s.lft (PublishedSources.the_row T g) ∷ ReadSeat.the_row T g ∷ ReadSeat.the_row T g ∷ AdminPost.the_row ∷ [])
 
 -- the captures of a thread of the stream: the handle, the board, its seat and its listener
 abbrev pub Streaming : (T : RattleType) → ShareName.Ghosts T.Denot → Sym → NamedLft → NamedLft → RattleType → RattleType
@@ -91,10 +93,10 @@ module _ (T : RattleType) (g : ShareName.Ghosts T.Denot) (send : IsSend T) (sync
       captured_six ν (ShrRef r.mir r.lft R) Global.the_row RandomState.the_row (ShrRef b.mir b.lft Board.the_row) (ReadSeat.the_row T g) Post.the_row
       (shr_send r.mir r.lft R is) Global-send RandomState-send (shr_send b.mir b.lft Board.the_row Board-sync) (ReadSeat-send T g send sync) Post-send
 
-  pub operate_send : (ν : Sym) (r b : NamedLft) (R : RattleType) → IsSync R → IsSend (Operating T g ν r b R)
-  operate_send ν r b R is =
-      captured_seven ν (ShrRef r.mir r.lft R) Global.the_row RandomState.the_row (ShrRef b.mir b.lft Board.the_row) (ReadSeat.the_row T g) (ReadSeat.the_row T g) AdminPost.the_row
-      (shr_send r.mir r.lft R is) Global-send RandomState-send (shr_send b.mir b.lft Board.the_row Board-sync) (ReadSeat-send T g send sync) (ReadSeat-send T g send sync) AdminPost-send
+  pub operate_send : (ν : Sym) (r b s : NamedLft) (R : RattleType) → IsSync R → IsSend (Operating T g ν r b s R)
+  operate_send ν r b s R is =
+      captured_eight ν (ShrRef r.mir r.lft R) Global.the_row RandomState.the_row (ShrRef b.mir b.lft Board.the_row) (ShrRef s.mir s.lft (PublishedSources.the_row T g)) (ReadSeat.the_row T g) (ReadSeat.the_row T g) AdminPost.the_row
+      (shr_send r.mir r.lft R is) Global-send RandomState-send (shr_send b.mir b.lft Board.the_row Board-sync) (shr_send s.mir s.lft (PublishedSources.the_row T g) (PublishedSources-sync T g send sync)) (ReadSeat-send T g send sync) (ReadSeat-send T g send sync) AdminPost-send
 
   pub stream_send : (ν : Sym) (r b : NamedLft) (R : RattleType) → IsSync R → IsSend (Streaming T g ν r b R)
   stream_send ν r b R is =

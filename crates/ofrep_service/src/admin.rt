@@ -1,6 +1,6 @@
 //! The threads of the listener for operations.
 ghost use denote.Param.Send.{IsSend, IsSync};
-ghost use Rattle.std.specs.Prelude.{◌≡◌, List, IfOk, false};
+ghost use Rattle.std.specs.Prelude.{◌≡◌, List, IfOk, IfSome, false, vec_len};
 ghost use Rattle.http_server.specs.Exchange.{Call};
 ghost use Rattle.ofrep_guards.specs.Hosts.{hosts_view, named_at};
 ghost use Rattle.recorded_answers.specs.Stand.{Works};
@@ -13,7 +13,7 @@ use crate::board::Board;
 use crate::workers::worker_of;
 use access_lines::LoggedService;
 use console_page::{page_html, page_policy};
-use control_desk::{ConsolePage, ControlDesk, DeskPaths, SystemDeskFiles};
+use control_desk::{ConsolePage, ControlDesk, DeskPaths, PublishedSources, SystemDeskFiles};
 use dated_answers::Dated;
 use http::HeaderValue;
 use http_server::{Config, Service};
@@ -73,12 +73,14 @@ impl AdminPost {
     }
 }
 
-/// Where operations are asked for, with a seat for the worker of each thread, and one for the desk before it.
+/// Where operations are asked for, with a seat for the worker of each thread, and one for the desk before it; and what is known of the
+/// documents of snapshots.
 #[derive(Drop)]
-pub struct Operations<J: ShareName> {
+pub struct Operations<'a, J: ShareName> {
     pub post: AdminPost,
     pub seats: Vec<ReadSeat<J>>,
     pub desks: Vec<ReadSeat<J>>,
+    pub sources: &'a PublishedSources<J>,
 }
 
 /// Listens on an address for those who ask for operations.
@@ -109,7 +111,7 @@ pub(crate) fn operate_beside<J, R, B, T>(
     alloc: Global,
     keys: RandomState,
     board: &Board,
-    admin: Option<Operations<J>>,
+    admin: Option<Operations<'_, J>>,
     beside: B,
 ) -> Option<T>
 where
@@ -122,7 +124,8 @@ where
         + Wait
         + Sync,
     B: FnOnce() -> Option<T> + Drop,
-    requires { B.pre beside }
+    requires called { B.pre beside }
+    requires paired { IfSome admin (λ operations. vec_len operations.seats ≡ vec_len operations.desks) }
 {
     thread::scope(
         thread::scope_env(),
@@ -130,7 +133,15 @@ where
         move |scope| -> Option<T>
             requires { IsSend J.row × IsSync J.row × IsSync R.row × B.pre beside }
         {
-            if let Some(Operations { post, seats, desks }) = admin {
+            if let Some(
+                Operations {
+                    post,
+                    seats,
+                    desks,
+                    sources,
+                },
+            ) = admin
+            {
                 for (seat, desk) in seats.into_iter().zip(desks) {
                     let Ok(own) = post.again(alloc) else {
                         board.end();
@@ -139,7 +150,7 @@ where
                     let spawned = Builder::new()
                         .stack_size(STACK_BYTES)
                         .spawn_scoped(scope, move || {
-                            operate(rt, alloc, keys, board, seat, desk, own)
+                            operate(rt, alloc, keys, board, sources, seat, desk, own)
                         });
                     if spawned.is_err() {
                         board.end();
@@ -160,11 +171,12 @@ fn operate<J: ShareName, R: Net + LogPaths + DeskPaths + Clock + Wait>(
     alloc: Global,
     keys: RandomState,
     board: &Board,
+    sources: &PublishedSources<J>,
     seat: ReadSeat<J>,
     desk: ReadSeat<J>,
     post: AdminPost,
 ) {
-    let _ended = answer_operations(rt, alloc, keys, board, seat, desk, post);
+    let _ended = answer_operations(rt, alloc, keys, board, sources, seat, desk, post);
 }
 
 fn answer_operations<J: ShareName, R: Net + LogPaths + DeskPaths + Clock + Wait>(
@@ -172,12 +184,13 @@ fn answer_operations<J: ShareName, R: Net + LogPaths + DeskPaths + Clock + Wait>
     alloc: Global,
     keys: RandomState,
     board: &Board,
+    sources: &PublishedSources<J>,
     seat: ReadSeat<J>,
     desk: ReadSeat<J>,
     post: AdminPost,
 ) -> io::Result<()> {
     let worker = worker_of(rt, alloc, board, seat, None);
-    let desk = desk_of(rt, alloc, board, desk, worker)?;
+    let desk = desk_of(rt, alloc, board, sources, desk, worker)?;
     let rules = AdminRules::new(&post.hosts, post.may_stop);
     let guard = AdminGuard::new(rules, &board.is_stopping, desk);
     let logged = LoggedService::new(rt, alloc, board.lines.as_ref(), guard);
@@ -185,15 +198,18 @@ fn answer_operations<J: ShareName, R: Net + LogPaths + DeskPaths + Clock + Wait>
     serve_operations(rt, alloc, keys, board, &post, &mut dated)?.into_outcome()
 }
 
-/// A desk before a worker, which goes by the rules and the keys of a board and answers from the snapshots of a seat.
+/// A desk before a worker, which goes by the rules and the keys of a board and answers from the snapshots of a seat, and from what is
+/// known of their documents.
 fn desk_of<'a, J: ShareName, R: DeskPaths, S: Drop>(
     rt: &'a R,
     alloc: Global,
     board: &'a Board,
+    sources: &'a PublishedSources<J>,
     seat: ReadSeat<J>,
     worker: S,
 ) -> io::Result<ControlDesk<'a, J, R, SystemDeskFiles<'a, R>, S>>
     ensures post { IfOk result (λ desk. desk.post.now ≡ board.now.desks) }
+    ensures sources { IfOk result (λ desk. desk.sources ≡ sources.entry) }
     ensures keys { IfOk result (λ desk. keys_in desk.keys ≡ first_keys board.now.keys) }
     ensures seat { IfOk result (λ desk. desk.seat ≡ seat) }
     ensures worker { IfOk result (λ desk. desk.service ≡ worker) }
@@ -203,6 +219,7 @@ fn desk_of<'a, J: ShareName, R: DeskPaths, S: Drop>(
         rt,
         alloc,
         &board.desks,
+        sources,
         page(alloc)?,
         &board.is_stopping,
         keys,

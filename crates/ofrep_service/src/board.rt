@@ -3,7 +3,7 @@ ghost use Rattle.std.specs.Prelude.{◌≡◌, IfSome, Some, is_some, option_map
 ghost use Rattle.std.specs.Sync.Mutex.{mutex_guard_value};
 
 use access_lines::{AccessLines, WaitingLines};
-use control_desk::{DeskPost, DeskRules, SourceText};
+use control_desk::{DeskPost, DeskRules};
 use log_file::Loss;
 use note_lines::NoteForm;
 use note_log::Trouble;
@@ -151,17 +151,6 @@ impl Board {
             Some(lines) => Some(lines.waiting(rt)),
             None => None,
         }
-    }
-
-    /// Sets what is known of the documents of the snapshot that was published last, and returns what holds it then.
-    pub fn set_sources<R: Wait>(
-        &self,
-        rt: &R,
-        text: SourceText,
-    ) -> MutexGuard<'_, Option<SourceText>>
-        ensures { mutex_guard_value result ≡ Some text }
-    {
-        self.desks.sources().set(rt, text)
     }
 
     /// The logs have so many bytes together.

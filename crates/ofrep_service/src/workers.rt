@@ -36,8 +36,8 @@ use std::time::Clock;
 const MOST_PENDING: usize = 16_777_216;
 
 /// Runs a worker on a thread for each post, and serves the stream on a thread for each listener, each with the seat of the same
-/// place, and operations on threads of their own, where there is a post for them, and does `beside` meanwhile on its own. There is a
-/// seat for each post. It ends when that and all workers have ended, and they end where they are asked to or the system fails them.
+/// place, and operations on a thread for each pair of their seats, where there is a post for them, and does `beside` meanwhile on its own.
+/// There is a seat for each post and each listener. It ends when that and all workers have ended, and they end where they are asked to or the system fails them.
 /// Where a thread can't be made it answers None, and `beside` is not done.
 pub fn work_beside<J, R, B, T>(
     rt: &R,
@@ -48,7 +48,7 @@ pub fn work_beside<J, R, B, T>(
     posts: Vec<Post>,
     stream_seats: Vec<ReadSeat<J>>,
     listeners: Vec<TcpListener>,
-    admin: Option<Operations<J>>,
+    admin: Option<Operations<'_, J>>,
     beside: B,
 ) -> Option<T>
 where
@@ -63,6 +63,8 @@ where
     B: FnOnce() -> T + Drop,
     requires called { B.pre beside }
     requires seated { vec_len seats ≡ vec_len posts }
+    requires streamed { vec_len stream_seats ≡ vec_len listeners }
+    requires paired { IfSome admin (λ operations. vec_len operations.seats ≡ vec_len operations.desks) }
 {
     operate_beside(
         rt,

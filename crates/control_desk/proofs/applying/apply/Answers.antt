@@ -21,9 +21,11 @@ returns-in-Ok-clause-ok g c =
     let files = files_view c.args.logs.now in
     let before = g.F.DeskFiles.holding c.args.files.now in
     let after = g.F.DeskFiles.holding c.write.new.files in
+    let failed = g.F.DeskFiles.faults c.args.files.now in
+    let failed' = g.F.DeskFiles.faults c.write.new.files in
     let response = c.write.new.response in
-    subst (λ (s : Snapshot). OnOk c.write.result ((r : Result Applied ControlRefusal) × IsApplyAnswer s c.args.token.now files r × AppliesIf folder path asker held before after response r)) c.snapshot.ensures
-    (given applied_view (IsApplyAnswer (snapshot_view c.snapshot.result) c.args.token.now files) (λ (r : Result Applied ControlRefusal). AppliesIf folder path asker held before after response r) c.write.result c.in-Ok.applied c.in-Ok.ensures.exact c.write.ensures.ok)
+    subst (λ (s : Snapshot). OnOk c.write.result ((r : Result Applied ControlRefusal) × IsApplyAnswer s c.args.token.now files r × AppliesIf folder path asker held before after failed failed' response r)) c.snapshot.ensures
+    (given applied_view (IsApplyAnswer (snapshot_view c.snapshot.result) c.args.token.now files) (λ (r : Result Applied ControlRefusal). AppliesIf folder path asker held before after failed failed' response r) c.write.result c.in-Ok.applied c.in-Ok.ensures.exact c.write.ensures.ok)
 
 -- its refusal is told, and nothing is written
 pub returns-in-Err-clause-ok : goal.returns-in-Err-clause-ok
@@ -34,7 +36,8 @@ returns-in-Err-clause-ok g c =
     let held = held_view c.args.held.now in
     let files = files_view c.args.logs.now in
     let before = g.F.DeskFiles.holding c.args.files.now in
+    let failed = g.F.DeskFiles.faults c.args.files.now in
     let response = c.tell_refusal.new.response in
     let told = on_ok_weaker c.tell_refusal.result (λ (is : IsRefusal (codes "apply") c.in-Err.refusal response). (is, refl)) c.tell_refusal.ensures.refusal in
-    subst (λ (s : Snapshot). OnOk c.tell_refusal.result ((r : Result Applied ControlRefusal) × IsApplyAnswer s c.args.token.now files r × AppliesIf folder path asker held before before response r)) c.snapshot.ensures
-    (refused applied_view (IsApplyAnswer (snapshot_view c.snapshot.result) c.args.token.now files) (λ (r : Result Applied ControlRefusal). AppliesIf folder path asker held before before response r) c.tell_refusal.result c.in-Err.refusal c.in-Err.ensures.exact told c.tell_refusal.ensures.known)
+    subst (λ (s : Snapshot). OnOk c.tell_refusal.result ((r : Result Applied ControlRefusal) × IsApplyAnswer s c.args.token.now files r × AppliesIf folder path asker held before before failed failed response r)) c.snapshot.ensures
+    (refused applied_view (IsApplyAnswer (snapshot_view c.snapshot.result) c.args.token.now files) (λ (r : Result Applied ControlRefusal). AppliesIf folder path asker held before before failed failed response r) c.tell_refusal.result c.in-Err.refusal c.in-Err.ensures.exact told c.tell_refusal.ensures.known)

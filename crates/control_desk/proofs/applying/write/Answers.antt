@@ -1,4 +1,4 @@
-use Rattle.std.proofs.Common.{◌≡◌, ◌∙◌, ℕ, Bool, true, List, ◌++◌, ap, codes, inl, inr, length, string_bytes, subst, sym}
+use Rattle.std.proofs.Common.{◌≡◌, ◌∙◌, ℕ, Bool, true, List, ◌++◌, ap, arith, codes, inl, inr, length, string_bytes, subst, sym}
 use Rattle.flag_defs.specs.Document.{Definitions}
 use Rattle.flagops_shell.specs.Files.{KeepsOthers}
 use Rattle.http1.specs.Fields.{Header}
@@ -35,6 +35,7 @@ returns-clause-ok g c =
     (subst (λ (b : List ℕ). IsResponse 200 (fields_of c.args.response.now ++ type_field Json) b c.finish.new.response) body c.in_ok-finish.ensures) in
     elim c.if-is_err.branch [
       | then-is_err w ↦ inr (inr (inr (
+        omega (arith, c.holds.ensures.counted, at_fault c.note_and_replace.result (sym c.is_err.ensures.value ∙ w.if-is_err.true) c.note_and_replace.ensures.failed),
         subst (Replies Unwritten) (sym w.response-is) w.respond-then-is_err.ensures,
         subst (KeepsOthers before after) history (at_fault c.note_and_replace.result (sym c.is_err.ensures.value ∙ w.if-is_err.true) c.note_and_replace.ensures.err),
       )))

@@ -39,7 +39,7 @@ returns-in-Ok-clause-serves g c =
     omega (arith, c.in-Ok.ensures.all, length-map documents.texts.items (λ t. t.items), ap length c.as_slice-paths.ensures.value) in
     served c.args.answering.now.broken
     (Reports (g.O.Outlet.bytes c.args.out.now) (g.O.Outlet.bytes c.answer_documents.new.out) (g.O.Outlet.is_broken c.answer_documents.new.out) (g.E.Outlet.bytes c.args.err.now) (g.E.Outlet.bytes c.answer_documents.new.err) (g.E.Outlet.is_broken c.answer_documents.new.err) c.answer_documents.result (answering_view c.args.answering.now))
-    a d started.0 _ count started.1 started.2
+    a d.texts started.0 _ count started.1 started.2
 
 pub returns-in-Err-clause-serves : goal.returns-in-Err-clause-serves
 returns-in-Err-clause-serves g c = inr (c.in-Err.unloaded.refusal, c.refuse_unloaded.ensures)

@@ -1,27 +1,21 @@
-use Rattle.std.proofs.Common.{List, [], ◌∷◌, ◌++◌, ℕ, true, Vec, Global, Err, Ok, inr, subst, sym}
-use Rattle.std.proofs.lemmas.List.{length-map}
-use Rattle.flag_defs.specs.Flags.{flags_view}
+use Rattle.std.proofs.Common.{◌≡◌, Ok, Err, length}
+use Rattle.flagops_streams.specs.Documents.{Answer, texts_of}
 use Rattle.flagops_streams.specs.Loading.{documents_view}
-use Rattle.flagops_streams.specs.Documents.{Answer, Gives, texts_of}
-use Rattle.flagops_service.specs.Ended.{Reports}
+use Rattle.flagops_service.specs.Starting.{numbered}
 use Rattle.flagops_service.specs.Words.{answering_view, seats_of}
-use Rattle.flagops_service.proofs.Started.{begun}
+use Rattle.flagops_service.proofs.Numbered.{numbered_texts}
+use Rattle.flagops_service.proofs.Started.{not_started, started_as}
 use Rattle.flagops_service.proofs.command.answer_documents.Goals as goal
 
+-- what the documents come to, their texts do
 pub returns-in-Ok : goal.returns-in-Ok
 returns-in-Ok g c =
-    let merged = c.in-Ok.ensures in
-    let d = documents_view c.args.documents in
-    let texts = c.args.documents.texts.items in
-    let all = merged.0 ++ flags_view c.in-Ok.flags ∷ [] in
-    let gives = subst (λ (ts : List (Vec ℕ Global)). Gives true d.sources (texts_of ts) [] (Ok all)) c.as_slice.ensures.value merged.1 in
-    begun c.args.answering.now.broken
-    (Reports (g.O.Outlet.bytes c.args.out.now) (g.O.Outlet.bytes c.answer_merged.new.out) (g.O.Outlet.is_broken c.answer_merged.new.out) (g.E.Outlet.bytes c.args.err.now) (g.E.Outlet.bytes c.answer_merged.new.err) (g.E.Outlet.is_broken c.answer_merged.new.err) c.answer_merged.result (answering_view c.args.answering.now))
-    (seats_of (answering_view c.args.answering.now)) _ d merged.0 (flags_view c.in-Ok.flags)
-    (sym (length-map texts (λ t. t.items))) gives c.answer_merged.ensures
+    let a = answering_view c.args.answering.now in
+    let started = c.answer_numbered.ensures in
+    (started.0, started_as (seats_of a) (numbered (texts_of c.args.texts.items)) (documents_view c.in-Ok.documents) started.0 c.in-Ok.ensures started.1, started.2)
 
 pub returns-in-Err : goal.returns-in-Err
 returns-in-Err g c =
-    let d = documents_view c.args.documents in
-    let gives = subst (λ (ts : List (Vec ℕ Global)). Gives true d.sources (texts_of ts) [] (let r : Answer = Err c.in-Err.refusal in r)) c.as_slice.ensures.value c.in-Err.ensures in
-    (Err c.in-Err.refusal, inr gives, c.refuse_document.ensures)
+    let a = answering_view c.args.answering.now in
+    let answer : Answer = Err c.in-Err.refusal in
+    (answer, not_started (seats_of a) (numbered (texts_of c.args.texts.items)) c.in-Err.refusal c.in-Err.ensures, c.refuse_and_tell.ensures)

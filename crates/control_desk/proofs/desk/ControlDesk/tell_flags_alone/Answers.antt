@@ -1,9 +1,8 @@
-use Rattle.std.proofs.Common.{◌≡◌, [], Option, Some, Bor, ap, inr, subst}
+use Rattle.std.proofs.Common.{◌≡◌, [], Option, Bor, ap, inr, subst}
 use Rattle.std.specs.Prelude.{IfSome}
 use Rattle.control_flags.specs.Sites.{Recorded}
-use Rattle.snap_share.specs.Known.{WasRead}
 use Rattle.control_desk.specs.Bodies.{TellsFlags}
-use Rattle.control_desk.specs.Held.{numbered_of}
+use Rattle.control_desk.specs.Held.{ReadsLast, numbered_of}
 use Rattle.control_desk.specs.Rules.{Rules, rules_view}
 use Rattle.control_desk.specs.declared.held.HeldSnapshot.{HeldSnapshot}
 use Rattle.control_desk.specs.declared.post.DeskPost.{DeskPost}
@@ -17,7 +16,7 @@ returns-clause-ok g c =
     let new = c.hold.new.self in
     let s = numbered_of held in
     let response = c.tell_flags.new.response in
-    let read : WasRead old.seat (Some s) new.seat = subst (λ (o : Option HeldSnapshot). IfSome o (λ h. WasRead old.seat (Some (numbered_of h)) new.seat)) c.in-Some.is c.in_ok-held.ensures.read in
+    let read : ReadsLast old.seat s new.seat = subst (λ (o : Option HeldSnapshot). IfSome o (λ h. ReadsLast old.seat (numbered_of h) new.seat)) c.in-Some.is c.in_ok-held.ensures.read in
     let rules : rules_view new.post.now.rules ≡ rules_view old.post.now.rules = ap (λ (p : Bor DeskPost). rules_view p.now.rules) c.hold.ensures.post in
     inr (
       s,

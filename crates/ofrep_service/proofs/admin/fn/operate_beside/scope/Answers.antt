@@ -14,7 +14,7 @@ at_life κ = record { mir = erased; lft = κ }
 pub spawn_scoped-spawned-requires-send-F : goal.spawn_scoped-spawned-requires-send-F
 spawn_scoped-spawned-requires-send-F g c = λ κs within.
     let sent =
-    operate_send (param 0 g.row.J) g.J.ShareName c.requires.0 c.requires.1 [] (at_life κs.1.1.1.1.1.0) (at_life κs.1.1.1.1.1.1.0) (param 1 g.row.R) c.requires.2 in
+    operate_send (param 0 g.row.J) g.J.ShareName c.requires.0 c.requires.1 [] (at_life κs.1.1.1.1.1.0) (at_life κs.1.1.1.1.1.1.0) (at_life κs.1.1.1.1.1.1.1.0) (param 1 g.row.R) c.requires.2 in
     let given =
-    param_send 1 (Operating (param 0 g.row.J) g.J.ShareName [] (at_life κs.1.1.1.1.1.0) (at_life κs.1.1.1.1.1.1.0) (param 1 g.row.R)) sent in
+    param_send 1 (Operating (param 0 g.row.J) g.J.ShareName [] (at_life κs.1.1.1.1.1.0) (at_life κs.1.1.1.1.1.1.0) (at_life κs.1.1.1.1.1.1.1.0) (param 1 g.row.R)) sent in
     record { owned = given.owned; leaving = given.leaving }
