@@ -21,7 +21,6 @@ use Rattle.ofrep_connections.specs.contracts.load.Load as Load
 use Rattle.access_lines.proofs.Crossings.{AccessLines-sync}
 use Rattle.control_desk.specs.contracts.sources.PublishedSources as PublishedSources
 use Rattle.control_desk.proofs.Crossings.{DeskPost-sync, PublishedSources-sync}
-use Rattle.note_memory.proofs.Crossings.{Handed-send, SharedMemory-sync}
 use Rattle.ofrep_guards.proofs.Crossings.{KeyRing-sync}
 use Rattle.ofrep_worker.proofs.Crossings.{Counts-sync}
 use Rattle.ofrep_service.specs.contracts.admin.AdminPost as AdminPost
