@@ -50,7 +50,7 @@ impl<'a, J: ShareName, R: Clock, F: LogFile> OfrepWorker<'a, J, R, F> {
         without_record: WithoutRecord,
     ) -> OfrepWorker<'a, J, R, F>
         ensures seat { result.seat ≡ seat }
-        ensures log { result.log ≡ log }
+        ensures log { result.log ≡ log.entry }
         ensures without { result.without_record ≡ without_record }
     {
         OfrepWorker {
