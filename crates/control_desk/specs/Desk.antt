@@ -1,5 +1,5 @@
 -- What a desk answers, and what its answers rest on.
-use Rattle.std.proofs.Common.{◌≡◌, ◌⊎◌, ◌<◌, ℕ, Bool, List, [], codes, Option, Some, None, is_some, option_map, unwrap_or, string_bytes}
+use Rattle.std.proofs.Common.{◌≡◌, ◌⊎◌, ◌<◌, ℕ, Bool, List, [], codes, Option, Some, None, is_some, option_map, unwrap_or}
 use Rattle.control_answers.specs.Snapshot.{Snapshot}
 use Rattle.control_answers.specs.declared.refusal.ControlRefusal.TheVariants.{NoRecord}
 use Rattle.control_calls.specs.Calls.{record_of}

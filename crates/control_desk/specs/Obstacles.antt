@@ -1,5 +1,5 @@
 -- What keeps a desk from answering.
-use Rattle.std.specs.Prelude.{◌≡◌, ◌⊎◌, ◌<◌, ◌≤◌, ◌+◌, ℕ, length}
+use Rattle.std.specs.Prelude.{◌⊎◌, ◌<◌, ◌≤◌, ◌+◌, ℕ, length}
 use Rattle.control_desk.specs.declared.obstacles.Obstacles as program
 
 -- what was met so far, by how often: another had the turn, or waited for it already; what is known of the documents of a snapshot was not set

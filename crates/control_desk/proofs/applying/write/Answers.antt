@@ -1,6 +1,6 @@
-use Rattle.std.proofs.Common.{◌≡◌, ◌∙◌, ℕ, Bool, true, List, ◌++◌, ap, arith, codes, inl, inr, length, string_bytes, subst, sym}
+use Rattle.std.proofs.Common.{◌≡◌, ◌∙◌, ℕ, Bool, true, List, ◌++◌, Option, ap, arith, codes, inl, inr, length, string_bytes, subst, sym}
 use Rattle.flag_defs.specs.Document.{Definitions}
-use Rattle.flagops_shell.specs.Files.{KeepsOthers}
+use Rattle.flagops_shell.specs.Files.{Holding, KeepsOthers}
 use Rattle.http1.specs.Fields.{Header}
 use Rattle.http_server.specs.Response.{IsResponse, fields_of}
 use Rattle.control_answers.specs.Apply.{applied_view}
@@ -37,17 +37,20 @@ returns-clause-ok g c =
       | then-is_err w ↦ inr (inr (inr (
         omega (arith, c.holds.ensures.counted, at_fault c.note_and_replace.result (sym c.is_err.ensures.value ∙ w.if-is_err.true) c.note_and_replace.ensures.failed),
         subst (Replies Unwritten) (sym w.response-is) w.respond-then-is_err.ensures,
-        subst (KeepsOthers before after) history (at_fault c.note_and_replace.result (sym c.is_err.ensures.value ∙ w.if-is_err.true) c.note_and_replace.ensures.err),
+        subst (KeepsOthers before after) history
+            (subst (λ (b : Option Holding). KeepsOthers b after c.as_str-2.result.now) c.holds.ensures.holding
+            (at_fault c.note_and_replace.result (sym c.is_err.ensures.value ∙ w.if-is_err.true) c.note_and_replace.ensures.err)),
       )))
       | else-is_err w ↦ inl (record {
-        same = subst (λ (b : Bool). HoldsText b before path held.document) same (subst (HoldsText c.in-Ok.is_same before path) text c.in-Ok.ensures);
+        same = subst (λ (b : Bool). HoldsText b before path held.document) same (subst (HoldsText c.in-Ok.is_same before path) text c.in-Ok.ensures.same);
         line = string_bytes c.in_ok-row.row;
         row = subst (λ (flags : Definitions). IsRowOf flags asker applied (string_bytes c.in_ok-row.row)) c.flags.ensures c.in_ok-row.ensures;
         writes =
             subst (λ (h : List ℕ). Writes before after h (string_bytes c.in_ok-row.row) path applied.document) history
             (subst (λ (l : List ℕ). Writes before after c.as_str-2.result.now l path applied.document) c.as_bytes-2.ensures.value
             (subst (λ (d : List ℕ). Writes before after c.as_str-2.result.now c.as_bytes-2.result.now path d) c.as_bytes-document.ensures.value
-            (at_value c.note_and_replace.result (sym c.is_err.ensures.value ∙ w.if-is_err.false) c.note_and_replace.ensures.ok)));
+            (subst (λ (b : Option Holding). Writes b after c.as_str-2.result.now c.as_bytes-2.result.now path c.as_bytes-document.result.now) c.holds.ensures.holding
+            (at_value c.note_and_replace.result (sym c.is_err.ensures.value ∙ w.if-is_err.false) c.note_and_replace.ensures.ok))));
         response_is = subst (IsResponse 200 (type_field Json) (written_text (length applied.document))) (sym w.response-is) done;
       })
     ]

@@ -1,4 +1,4 @@
-use Rattle.std.proofs.Common.{◌≡◌, ◌≤◌, ◌∙◌, Option, Bor, ap, arith, inl, inr, string_bytes, subst}
+use Rattle.std.proofs.Common.{◌≡◌, ◌≤◌, ◌∙◌, Option, Bor, ap, arith, inr, string_bytes, subst}
 use Rattle.std.specs.Prelude.{IfSome}
 use Rattle.control_desk.specs.Asked.{call_asked}
 use Rattle.control_desk.specs.Desk.{Page, RespondsOn, hindered, page_view}
@@ -8,12 +8,11 @@ use Rattle.control_desk.specs.Rules.{Rules, rules_view}
 use Rattle.control_desk.specs.declared.held.HeldSnapshot.{HeldSnapshot}
 use Rattle.control_desk.specs.declared.post.DeskPost.{DeskPost}
 use Rattle.control_desk.proofs.Seats.{aside}
-use Rattle.control_desk.proofs.Since.{put_off_since}
 use Rattle.control_desk.proofs.desk.ControlDesk.tell_in_turn.Goals as goal
 
 -- what is told is of the snapshot that was read, and of the logs that were
-pub returns-in_ok-tell_on-in-Ok-clause-ok : goal.returns-in_ok-tell_on-in-Ok-clause-ok
-returns-in_ok-tell_on-in-Ok-clause-ok g c =
+pub returns-in-Ok-clause-ok : goal.returns-in-Ok-clause-ok
+returns-in-Ok-clause-ok g c =
     let held = c.in-Some.held in
     let old = c.args.self.now in
     let mid = c.hold.new.self in
@@ -48,19 +47,3 @@ returns-in_ok-tell_on-in-Ok-clause-ok g c =
     (aside (naming read) (naming old.files) before after (hindered (faults read) met) has had has (rules_view mid.post.now.rules) (page_view mid.page) mid.seat new.seat old.seat new.seat asked response fewer (omega arith) c.args.place folder s document files passed
     (rw held_still at c.in_ok-tell_on-in-Ok.ensures.ok))) in
     inr (files, passed, are, (s, reads, (document, means, told)))
-
--- logs that can't be read are told of, since the snapshot was read
-pub returns-in-Err-Failed-clause-ok : goal.returns-in-Err-Failed-clause-ok
-returns-in-Err-Failed-clause-ok g c =
-    let old = c.args.self.now in
-    let mid = c.hold.new.self in
-    let naming = g.F.DeskFiles.naming in
-    let holding = g.F.DeskFiles.holding in
-    let faults = g.F.DeskFiles.faults in
-    let read = c.read_logs.new.files in
-    let had = hindered (faults old.files) old.met in
-    let since = hindered (faults mid.files) mid.met in
-    let has = hindered (faults read) c.read_logs.new.met in
-    let still : holding read ≡ holding old.files = c.read_logs.ensures.holding ∙ ap holding c.hold.ensures.files in
-    inl (put_off_since (naming old.files) (holding old.files) (holding read) had since has (rules_view old.post.now.rules) (page_view old.page) old.seat mid.seat (call_asked c.args.request.now) c.respond.new.response
-    (omega (arith, ap faults c.hold.ensures.files)) c.hold.ensures.grows (inr (c.in-Err-Failed.ensures.unread, c.respond.ensures), still))
