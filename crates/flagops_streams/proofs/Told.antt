@@ -1,5 +1,5 @@
 -- What is told, one text after the other.
-use Rattle.std.proofs.Common.{◌≡◌, ◌+◌, ◌-◌, ◌≤◌, ◌∙◌, ℕ, zero, suc, List, [], ◌∷◌, ◌++◌, Bool, true, false, not, ◌||◌, is_ok, nat_eq, Option, Some, None, Result, Ok, Err, IfOk, IfErr, inl, inr, refl, slice_get, sym, subst, length, replicate, arith}
+use Rattle.std.proofs.Common.{◌≡◌, ◌+◌, ◌-◌, ◌≤◌, ◌∙◌, ℕ, zero, suc, List, [], ◌∷◌, Bool, true, false, not, ◌||◌, is_ok, nat_eq, Option, Some, None, Result, Ok, Err, IfOk, IfErr, inl, inr, refl, slice_get, sym, subst, length, replicate, arith}
 use Rattle.std.proofs.lemmas.Bool.{true≢false}
 use Rattle.std.proofs.lemmas.Bool.Decides.{nat_tests}
 use Rattle.std.proofs.lemmas.List.{length-replicate, take_all}
@@ -105,9 +105,11 @@ module _ (before after : Bool) (stays : after ≡ false → before ≡ false) wh
 
   pub still_served : (paths : List (List ℕ)) (IsRefused : ℕ → Type 0) (documents port subscribers : ℕ) (b : Bool) (old new : Option (List ℕ))
       → TellsServing paths IsRefused documents port subscribers b old new before → TellsServing paths IsRefused documents port subscribers b old new after
-  still_served paths IsRefused documents port subscribers b old new (warned_to, warned, (came, absent, all, (came_to, arrived, (ends, count, served, gone)))) =
-      (warned_to, still_each paths IsRefused (documents - 1) old warned_to warned,
-          (came, absent, all, (came_to, still_arrivals port subscribers came warned_to came_to arrived, (ends, count, served, still_ends ends came_to new gone))))
+  still_served paths IsRefused documents port subscribers b old new (warned_to, warned, (came, absent, all, (came_to, arrived, (ends, count, served, gone)))) = (
+    warned_to,
+    still_each paths IsRefused (documents - 1) old warned_to warned,
+    (came, absent, all, (came_to, still_arrivals port subscribers came warned_to came_to arrived, (ends, count, served, still_ends ends came_to new gone))),
+  )
 
 -- nobody has come yet
 pub no_arrivals : (port subscribers : ℕ) (old new : Option (List ℕ)) (is_mute : Bool) → MayTell (listening_line port subscribers) old new is_mute → TellsArrivals port subscribers 0 old new is_mute

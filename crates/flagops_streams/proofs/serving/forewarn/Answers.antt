@@ -1,4 +1,4 @@
-use Rattle.std.proofs.Common.{◌≡◌, ◌∙◌, ◌+◌, ◌-◌, ◌<◌, ℕ, List, Vec, Global, Option, Some, ap, arith, get_or, length, map, option_map, refl, slice_get, sym}
+use Rattle.std.proofs.Common.{◌≡◌, ◌∙◌, ◌+◌, ◌-◌, ◌<◌, ℕ, List, Vec, Global, Some, ap, arith, get_or, length, map, option_map, refl, slice_get, sym}
 use Rattle.std.proofs.lemmas.Option.{slice_get-get_or, slice_get-map}
 use Rattle.flagops_streams.specs.Documents.{IsRefusedAt, texts_of}
 use Rattle.flagops_streams.proofs.Told.{refused_at, warned_more}
