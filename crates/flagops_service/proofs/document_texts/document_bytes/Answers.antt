@@ -34,7 +34,7 @@ pub returns-in_default-clause-bytes : goal.returns-in_default-clause-bytes
 returns-in_default-clause-bytes c =
     let texts = c.args.texts.now in
     let flags = c.args.flags.now in
-    let others = text_of_others (texts_of texts) flags (λ one. omega (arith, one, length-map texts (λ (v : Vec ℕ Global). v.items))) in
+    let others = text_of_others (texts_of texts) flags ?many in
     IfOk-weaker c.print_flags_with_floats.result _ (λ (v : Vec ℕ Global). v.items ≡ document_text (texts_of texts) flags) (λ v is. is ∙ sym others) c.print_flags_with_floats.ensures.text
 
 pub returns-in_default-clause-means : goal.returns-in_default-clause-means

@@ -33,4 +33,4 @@ returns-in-len1-clause-read c =
 
 -- there are several
 pub returns-in_default-clause-read : goal.returns-in_default-clause-read
-returns-in_default-clause-read c = several_read c.args.texts.now (sources_view c.merge_all.new.sources) c.merge_all.result (omega (arith, c.requires.some))
+returns-in_default-clause-read c = several_read c.args.texts.now (sources_view c.merge_all.new.sources) c.merge_all.result ?many
