@@ -1,5 +1,5 @@
 -- A document that is alone, and its source.
-use Rattle.std.proofs.Common.{◌≡◌, ◌∙◌, ◌<◌, ◌+◌, ◌++◌, ◌||◌, ℕ, zero, suc, Bool, true, false, cond, if◌then◌else◌, List, [], ◌∷◌, Option, Some, None, Result, Ok, Err, Vec, Global, ap, append-nil, arith, decimal, get_or, length, map, refl, slice_get, subst, sym, inl, inr}
+use Rattle.std.proofs.Common.{◌≡◌, ◌∙◌, ◌<◌, ◌+◌, ◌++◌, ℕ, zero, suc, Bool, true, false, cond, if◌then◌else◌, List, [], ◌∷◌, Option, Some, None, Result, Ok, Err, Vec, Global, ap, append-nil, arith, decimal, get_or, length, refl, slice_get, subst, sym, inl, inr}
 use Rattle.std.specs.Prelude.{IfErr, IfOk, MatchBool, nat_lt, slice_set}
 use Rattle.std.specs.Str.{bytes_eq, is_utf8}
 use Rattle.std.proofs.lemmas.List.{length-map, length-set}
@@ -10,7 +10,7 @@ use Rattle.flag_text.specs.declared.fault.TextFault.{TextFault}
 use Rattle.flag_text.specs.declared.fault.TextFault.TheVariants as text_fault
 use Rattle.float_variants.specs.Reading.{text_with_floats}
 use Rattle.flag_defs.specs.Changes.{by_key}
-use Rattle.flag_defs.specs.Document.{Definitions, TextMeans, limited, max_bytes}
+use Rattle.flag_defs.specs.Document.{Definitions, TextMeans, max_bytes}
 use Rattle.flag_defs.specs.Flags.{flags_view}
 use Rattle.flag_defs.specs.Floats.{MeansWithFloats}
 use Rattle.flag_defs.specs.declared.fault.DefFault.{DefFault}
@@ -48,12 +48,12 @@ set_alone name d text new h = by got.0 got.1 got.2
     got : (r : Result Definitions DefFault) × MeansWithFloats text r × ((let n : Result SourceList SourceFault = Ok new in n) ≡ with_read ((name, d) ∷ []) name r)
     got = subst (λ (b : Bool). MatchBool b ((r : Result Definitions DefFault) × MeansWithFloats text r × ((let n : Result SourceList SourceFault = Ok new in n) ≡ with_read ((name, d) ∷ []) name r)) ((let n : Result SourceList SourceFault = Ok new in n) ≡ Err Unknown)) here h
 
-    changed : (flags : Definitions) → cond (bytes_eq name name) ((name, Some flags) ∷ []) ((name, d) ∷ []) ≡ (name, Some flags) ∷ []
+    changed : (flags : Definitions) → cond {A = SourceList} (bytes_eq name name) ((name, Some flags) ∷ []) ((name, d) ∷ []) ≡ (name, Some flags) ∷ []
     changed flags = rw own refl
 
     by : (r : Result Definitions DefFault) → MeansWithFloats text r → (let n : Result SourceList SourceFault = Ok new in n) ≡ with_read ((name, d) ∷ []) name r
         → (flags : Definitions) × (new ≡ (name, Some flags) ∷ []) × MeansWithFloats text (Ok flags)
-    by (Ok flags) means is = (flags, (let same : new ≡ cond (bytes_eq name name) ((name, Some flags) ∷ []) ((name, d) ∷ []) = cc in same ∙ changed flags), means)
+    by (Ok flags) means is = (flags, (let same : new ≡ cond {A = SourceList} (bytes_eq name name) ((name, Some flags) ∷ []) ((name, d) ∷ []) = cc in same ∙ changed flags), means)
     by (Err fault) means is = absurd (cc is)
 
 -- ---- the flags of the only source are the merge
@@ -96,7 +96,8 @@ accepted_alone [] place last text old new here sets read t alone = absurd (cc he
 accepted_alone (x ∷ []) zero last text old new here sets read t alone =
     let a = read x.items refl in
     let set = set_alone (decimal 1) (Some a.0) text.items new (subst (λ (s : SourceList). SetsWithFloats s (decimal 1) text.items (Ok new)) a.1 sets) in
-    (set.0, set.1, subst (λ (bytes : List ℕ). MeansWithFloats bytes (Ok set.0)) cc set.2)
+    let same : text.items ≡ t = cc in
+    (set.0, set.1, subst (λ (bytes : List ℕ). MeansWithFloats bytes (Ok set.0)) same set.2)
 accepted_alone (x ∷ []) (suc place) last text old new here sets read t alone = absurd (omega (arith, slice_get_within (x ∷ []) (suc place) last here))
 accepted_alone (x ∷ y ∷ xs) place last text old new here sets read t alone =
     absurd (omega (arith, ap length alone, length-map (slice_set (x ∷ y ∷ xs) place text) (λ (v : Vec ℕ Global). v.items), length-set (x ∷ y ∷ xs) place text))
@@ -138,7 +139,8 @@ module _ (sources next : SourceList) (text : List ℕ) where
   pub one_read : (r : Result Flags Refusal) → sources ≡ (decimal 1, None) ∷ [] → IsMergedAlone r → IfOk r (λ _. AreRead (text ∷ []) next)
   one_read (Ok flags) alone merges = λ t is.
       let set = set_alone (decimal 1) None text next (subst (λ (s : SourceList). SetsWithFloats s (decimal 1) text (Ok next)) alone merges.0) in
-      (set.0, set.1, subst (λ (bytes : List ℕ). MeansWithFloats bytes (Ok set.0)) cc set.2)
+      let same : text ≡ t = cc in
+      (set.0, set.1, subst (λ (bytes : List ℕ). MeansWithFloats bytes (Ok set.0)) same set.2)
   one_read (Err refusal) alone merges = tt
 
 -- ---- a document is a text

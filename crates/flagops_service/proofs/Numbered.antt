@@ -22,11 +22,12 @@ documents_as d sources texts s t = ap₂ (λ (ss : SourceList) (ts : List (List 
 module _ (e : Loaded) where
   texts_from : (d : Loaded) (texts : List (List ℕ)) → numbered_from d texts ≡ Ok e → e.texts ≡ d.texts ++ texts
   texts_from d [] is = let same : d ≡ e = cc in ap (λ (l : Loaded). l.texts) (sym same) ∙ sym (append-nil d.texts)
-  texts_from d (text ∷ texts) is = by (source_added d.sources (length d.texts + 1)) is
+  texts_from d (text ∷ texts) is = by (source_added d.sources (length d.texts + 1)) is (λ sources h. texts_from (behind d text sources) texts h)
     where
-      by : (added : Result SourceList Refusal) → (added >>= λ sources. numbered_from (behind d text sources) texts) ≡ Ok e → e.texts ≡ d.texts ++ text ∷ texts
-      by (Ok sources) h = texts_from (behind d text sources) texts h ∙ append_assoc d.texts (text ∷ []) texts
-      by (Err refusal) h = absurd (cc h)
+      by : (added : Result SourceList Refusal) → (added >>= λ sources. numbered_from (behind d text sources) texts) ≡ Ok e
+          → ((sources : SourceList) → numbered_from (behind d text sources) texts ≡ Ok e → e.texts ≡ (d.texts ++ text ∷ []) ++ texts) → e.texts ≡ d.texts ++ text ∷ texts
+      by (Ok sources) h rest = rest sources h ∙ append_assoc d.texts (text ∷ []) texts
+      by (Err refusal) h rest = absurd (cc h)
 
 pub numbered_texts : (texts : List (List ℕ)) (d : Loaded) → numbered texts ≡ Ok d → d.texts ≡ texts
 numbered_texts texts d is = texts_from d (record { sources = []; texts = [] }) texts is
@@ -40,16 +41,17 @@ module _ (at : Holding) (e : Loaded) where
 
   loaded_behind : (d : Loaded) (paths : List (List ℕ)) → loaded_from at d paths ≡ Ok e → Behind d
   loaded_behind d [] is = let same : d ≡ e = cc in ([], ap (λ (l : Loaded). l.texts) (sym same) ∙ sym (append-nil d.texts), is)
-  loaded_behind d (path ∷ paths) is = by (source_added d.sources (length d.texts + 1)) (text_of (load_of at path text_bytes)) refl is
+  loaded_behind d (path ∷ paths) is = by (source_added d.sources (length d.texts + 1)) (text_of (load_of at path text_bytes)) refl is (λ sources text h. loaded_behind (behind d text sources) paths h)
     where
       by : (added : Result SourceList Refusal) (read : Result (List ℕ) Refusal) → source_added d.sources (length d.texts + 1) ≡ added
-          → ((added >>= λ sources. read >>= λ text. Ok (behind d text sources)) >>= λ next. loaded_from at next paths) ≡ Ok e → Behind d
-      by (Ok sources) (Ok text) same h =
-          let rest = loaded_behind (behind d text sources) paths h in
+          → ((added >>= λ sources. read >>= λ text. Ok (behind d text sources)) >>= λ next. loaded_from at next paths) ≡ Ok e
+          → ((sources : SourceList) (text : List ℕ) → loaded_from at (behind d text sources) paths ≡ Ok e → Behind (behind d text sources)) → Behind d
+      by (Ok sources) (Ok text) same h more =
+          let rest = more sources text h in
           let next : numbered_from d (text ∷ rest.0) ≡ numbered_from (behind d text sources) rest.0 = ap (λ (r : Result SourceList Refusal). r >>= λ more. numbered_from (behind d text more) rest.0) same in
           (text ∷ rest.0, rest.1 ∙ append_assoc d.texts (text ∷ []) rest.0, next ∙ rest.2)
-      by (Ok sources) (Err refusal) same h = absurd (cc h)
-      by (Err refusal) read same h = absurd (cc h)
+      by (Ok sources) (Err refusal) same h more = absurd (cc h)
+      by (Err refusal) read same h more = absurd (cc h)
 
 pub numbered_all : (at : Holding) (paths : List (List ℕ)) (d : Loaded) → loaded_at at paths ≡ Ok d → numbered d.texts ≡ Ok d
 numbered_all at paths d loaded =

@@ -12,12 +12,12 @@ unreachable-requires c =
     let bytes = c.in_ok-bytes.bytes.items in
     false≢true (c.in-Err.ensures.succeeds (IsUtf8-from_is_utf8 bytes (is_text bytes (flags_view c.args.flags.now) c.in_ok-bytes.ensures.means)))
 
-pub returns-in-Ok-clause-text : goal.returns-in-Ok-clause-text
-returns-in-Ok-clause-text c =
+pub returns-clause-text : goal.returns-clause-text
+returns-clause-text c =
     let same : string_bytes c.in-Ok.text ≡ c.in_ok-bytes.bytes.items = search rules in
     same ∙ c.in_ok-bytes.ensures.bytes
 
-pub returns-in-Ok-clause-means : goal.returns-in-Ok-clause-means
-returns-in-Ok-clause-means c =
+pub returns-clause-means : goal.returns-clause-means
+returns-clause-means c =
     let same : string_bytes c.in-Ok.text ≡ c.in_ok-bytes.bytes.items = search rules in
     subst (λ (bytes : List ℕ). MeansWithFloats bytes (Ok (flags_view c.args.flags.now))) (sym same) c.in_ok-bytes.ensures.means

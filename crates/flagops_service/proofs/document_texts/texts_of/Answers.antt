@@ -1,4 +1,4 @@
-use Rattle.std.proofs.Common.{◌≡◌, ◌∙◌, ℕ, List, Bool, true, false, Vec, Global, ap, is_some, not, string_bytes, subst, sym}
+use Rattle.std.proofs.Common.{◌∙◌, ℕ, List, true, false, Vec, Global, ap, is_some, not, string_bytes, subst, sym}
 use Rattle.flagops_streams.specs.Documents.{texts_of}
 use Rattle.flagops_service.specs.Shown.{IsKnownOf}
 use Rattle.flagops_service.proofs.Alone.{means_merged}
@@ -11,7 +11,7 @@ returns-then-is_none c =
     none_prepared (is_some c.args.answering.now.admin) (texts_of c.args.watched.now.accepted.items) c.args.flags.now (c.is_none.ensures ∙ ap not c.if-is_none.true)
 
 -- a document that is alone means the flags
-pub document_of-requires : goal.document_of-document-requires
+pub document_of-requires : goal.document_of-requires
 document_of-requires c = λ text alone.
     let watched = c.args.watched.now in
     means_merged watched.sources c.args.flags.now (texts_of watched.accepted.items) c.requires.read c.requires.merged text (ap texts_of (sym c.as_slice-texts.ensures.value) ∙ alone)
