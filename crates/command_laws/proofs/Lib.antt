@@ -1,3 +1,14 @@
 mod Applied
+mod Attempted
+mod Commands
+mod Evaluated
+mod Filters
+mod Kept
+mod KeptSteps
+mod Ramps
 mod Read
+mod Remarks
 mod Rollouts
+mod Served
+mod Told
+mod Writable
