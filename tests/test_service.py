@@ -1167,6 +1167,49 @@ class Logs(ServiceTest):
         self.told(child, "its path is opened anew")
         self.assertEqual(self.evaluated("a"), ["a"])
 
+    def asked_by_all(self, child, user):
+        """Asks for a user on 32 connections that wait at once, so that several workers take some."""
+        child.send_signal(signal.SIGSTOP)
+        streams = [http.client.HTTPConnection("127.0.0.1", self.port, timeout=SECONDS) for _ in range(32)]
+        for stream in streams:
+            stream.connect()
+        child.send_signal(signal.SIGCONT)
+        for stream in streams:
+            stream.request("POST", f"{FLAGS}/color", context(user))
+            self.assertEqual(stream.getresponse().status, 200)
+            stream.close()
+
+    def test_workers_remember_together(self):
+        """What one worker has written no other writes, as long as they are not asked for it at the same moment."""
+        child = self.start("--log", "log", "--workers", "4")
+        for burst in range(20):
+            self.asked_by_all(child, f"user-{burst}")
+        self.assertEqual(sorted(self.notes()), sorted(self.note(f"user-{burst}") for burst in range(20)))
+
+    def test_a_restart_remembers_the_logs_of_all_workers(self):
+        """However the lines are spread over the logs."""
+        os.mkdir(os.path.join(self.folder, "log"))
+        users = [f"user-{number}" for number in range(40)]
+        self.put("log/worker-3.log", "".join(self.note(user) + "\n" for user in users[:38]))
+        self.put("log/worker-1.log", "".join(self.note(user) + "\n" for user in users[38:]))
+        child = self.start("--log", "log", "--workers", "4", "--remember", "40")
+        for user in users:
+            self.asked_by_all(child, user)
+        self.assertEqual(sorted(self.notes()), sorted(self.note(user) for user in users))
+
+    def test_no_worker_relies_on_a_file_that_is_lost(self):
+        """The lines of one log are written again, those of the others are not."""
+        child = self.start("--log", "log", "--workers", "4")
+        for user in range(20):
+            self.asked_by_all(child, f"user-{user}")
+        logs = [os.path.join(self.folder, "log", f"worker-{worker}.log") for worker in range(1, 5)]
+        lost = max(logs, key=os.path.getsize)
+        os.remove(lost)
+        self.told(child, "its path is opened anew")
+        for user in range(20):
+            self.asked_by_all(child, f"user-{user}")
+        self.assertEqual(sorted(self.notes()), sorted(self.note(f"user-{user}") for user in range(20)))
+
     def test_a_restart_forgets_no_kind_of_line(self):
         """Lines of the other kind are no notes of this one."""
         child = self.start("--log", "log", "--workers", "1")

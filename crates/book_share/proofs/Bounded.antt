@@ -18,10 +18,10 @@ use Rattle.logic_ast.specs.declared.operator.Operator.TheVariants as op
 use Rattle.logic_values.specs.declared.fault.EvalFault.{EvalFault}
 use Rattle.logic_values.specs.declared.fault.EvalFault.TheVariants.{TooLong}
 use Rattle.logic_values.specs.Comparison.{bool_eq}
-use Rattle.logic_eval.specs.Evaluation.{evaluation_of, part_of, pair, pairs, input, meaning, meanings, by_meaning, bucket_meaning, bucket_meanings}
+use Rattle.logic_eval.specs.Evaluation.{evaluation_of, part_of, pair, pairs, input, meaning, meanings, operands, operand_meaning, by_meaning, bucket_meaning, bucket_meanings}
 use Rattle.logic_eval.specs.Fractional.{buckets_of, chosen, by_input, by_buckets, given_input, made_input}
 use Rattle.logic_values.specs.Lists.{items_in}
-use Rattle.logic_eval.specs.Operators.{Meaning, values, variable_run, strict, conditional, first_of_truth, mapped, kept, occurs, is_empty, all_of, reduced, over_items, over, start, over_from_start, operated, applied}
+use Rattle.logic_eval.specs.Operators.{Meaning, values, variable_run, strict, conditional, first_of_truth, mapped, kept, occurs, is_empty, all_of, reduced, over_items, over, start, over_from_start, operand, compares, with_tests, with_early_tests, asked, operated, applied_exactly}
 use Rattle.logic_values.specs.Objects.{reduce_scope}
 use Rattle.logic_eval.specs.Run.{Reach, Run, cost, reach, ends, gives, after, continues, ◌>>=◌, units_of, reached_of, most_units, with_reached}
 use Rattle.logic_eval.specs.Scope.{Situation, root_scope, default_input, size, variable}
@@ -98,7 +98,11 @@ b-variable : (ms : List Meaning) → AllFit ms → Fits (variable_run ms)
 b-variable ms ks scope = b-bind 0 _ _ (b-values ms scope ks) (λ vs. b-bind 0 _ _ (b-cost (size (variable scope vs)) _ (b-ends 0 _)) (λ v. b-ends 0 _))
 
 b-strict : (o : Operator) (ms : List Meaning) → AllFit ms → Fits (strict o ms)
-b-strict o ms ks scope = b-bind 0 _ _ (b-values ms scope ks) (λ vs. b-ends 0 (applied o scope vs))
+b-strict o ms ks scope = b-bind 0 _ _ (b-values ms scope ks) (λ vs. b-ends 0 (applied_exactly o scope vs))
+
+-- a `var` that is compared or tested
+b-operand : (ms : List Meaning) (m : Meaning) → AllFit ms → Fits (operand true ms m)
+b-operand ms m ks scope = b-cost 1 _ (b-bind 0 _ _ (b-values ms scope ks) (λ vs. b-bind 0 _ _ (b-cost (size (variable scope vs)) _ (b-ends 0 _)) (λ v. b-ends 0 _)))
 
 b-conditional : (ms : List Meaning) → AllFit ms → Fits (conditional ms)
 b-conditional [] ks scope = b-ends 0 _
@@ -165,6 +169,30 @@ b-operated op.NoneOf ms ks = b-over op.NoneOf ms ks
 b-operated op.Reduce ms ks = b-reduce ms ks
 b-operated o ms ks = b-strict o ms ks
 
+-- ---- the arguments of an operator, of which some are compared or tested
+
+b-tests : (ms operands : List Meaning) → AllFit ms → AllFit operands → AllFit (with_tests ms operands)
+b-tests [] operands ks js = tt
+b-tests (last ∷ []) operands ks js = ks
+b-tests (test ∷ result ∷ rest) [] ks js = ks
+b-tests (test ∷ result ∷ rest) (t ∷ []) ks js = ks
+b-tests (test ∷ result ∷ rest) (t ∷ u ∷ operands) ks js = (js.0, (ks.1.0, b-tests rest operands ks.1.1 js.1.1))
+
+b-early : (ms operands : List Meaning) → AllFit ms → AllFit operands → AllFit (with_early_tests ms operands)
+b-early [] operands ks js = tt
+b-early (m ∷ ms) [] ks js = ks
+b-early (m ∷ []) (t ∷ operands) ks js = (ks.0, tt)
+b-early (m ∷ next ∷ rest) (t ∷ operands) ks js = (js.0, b-early (next ∷ rest) operands ks.1 js.1)
+
+b-compared : (b : Bool) (ms operands : List Meaning) → AllFit ms → AllFit operands → AllFit (cond b operands ms)
+b-compared true ms operands ks js = js
+b-compared false ms operands ks js = ks
+
+b-asked : (o : Operator) (ms operands : List Meaning) → AllFit ms → AllFit operands → AllFit (asked o ms operands)
+b-asked op.If ms operands ks js = b-tests ms operands ks js
+b-asked op.And ms operands ks js = b-early ms operands ks js
+b-asked o ms operands ks js = b-compared (compares o) ms operands ks js
+
 -- ---- a site
 
 b-chosen : (o : Option (List ℕ)) → Bounded (chosen o)
@@ -195,13 +223,25 @@ mutual
   b-meaning : (default : Option (List ℕ)) (e : Expression) → Fits (meaning default e)
   b-meaning default (literal t) scope = b-cost (size t) _ (b-gives 0 t)
   b-meaning default (ast.list es) scope = b-cost 1 _ (b-bind 0 _ _ (b-values (meanings default es) scope (b-meanings default es)) (λ vs. b-gives 0 (list (items_of vs))))
-  b-meaning default (operation o es) scope = b-cost 1 _ (b-operated o (meanings default es) (b-meanings default es) scope)
+  b-meaning default (operation o es) scope =
+      b-cost 1 _ (b-operated o (asked o (meanings default es) (operands default es)) (b-asked o (meanings default es) (operands default es) (b-meanings default es) (b-operands default es)) scope)
   b-meaning default (fractional n b bs) scope =
       b-paid _ (b-bind 1 _ _ (b-input default (by_meaning default b) scope (b-by default b scope)) (λ i. b-bind 1 _ _ (b-pairs default bs scope) (λ ps. b-by_buckets n i (buckets_of ps))))
 
   b-meanings : (default : Option (List ℕ)) (es : Expressions) → AllFit (meanings default es)
   b-meanings default no_expressions = tt
   b-meanings default (expression e es) = (b-meaning default e, b-meanings default es)
+
+  b-operands : (default : Option (List ℕ)) (es : Expressions) → AllFit (operands default es)
+  b-operands default no_expressions = tt
+  b-operands default (expression e es) = (b-operand_meaning default e (b-meaning default e), b-operands default es)
+
+  b-operand_meaning : (default : Option (List ℕ)) (e : Expression) → Fits (meaning default e) → Fits (operand_meaning default e)
+  b-operand_meaning default (literal t) k = k
+  b-operand_meaning default (ast.list es) k = k
+  b-operand_meaning default (operation op.Var es) k = b-operand (meanings default es) (meaning default (operation op.Var es)) (b-meanings default es)
+  b-operand_meaning default (operation o es) k = k
+  b-operand_meaning default (fractional n b bs) k = k
 
   b-by : (default : Option (List ℕ)) (b : By) (scope : Shape) → IfSome (by_meaning default b) (λ m. Bounded (m scope))
   b-by default no_by scope = tt

@@ -1,5 +1,5 @@
 -- What an evaluation gives is among the outcomes of its expression.
-use Rattle.std.proofs.Common.{◌≡◌, inl, ℕ, ℤ, Bool, true, false, not, cond, List, [], ◌∷◌, ◌++◌, Option, Some, None, option_map, IfOk, refl, ap, subst}
+use Rattle.std.proofs.Common.{◌≡◌, inl, ℕ, ℤ, Bool, true, false, not, cond, List, [], ◌∷◌, ◌++◌, Option, Some, None, option_map, Result, Ok, Err, IfOk, refl, ap, subst}
 use Rattle.flag_text.specs.Shape as shape
 use Rattle.flag_text.specs.View.{items_of}
 use Rattle.flag_text.specs.Shape.{Shape, null, boolean, whole, text}
@@ -8,9 +8,10 @@ use Rattle.logic_ast.specs.declared.operator.Operator.{Operator}
 use Rattle.logic_ast.specs.declared.operator.Operator.TheVariants as op
 use Rattle.logic_eval.proofs.Runs.{runs-ends, runs-gives, runs-cost, runs-bind}
 use Rattle.logic_values.specs.Comparison.{bool_eq}
-use Rattle.logic_eval.specs.Evaluation.{meaning, meanings, bucket_meaning, bucket_meanings, pairs}
+use Rattle.logic_eval.specs.Evaluation.{meaning, meanings, operands, operand_meaning, bucket_meaning, bucket_meanings, pairs}
 use Rattle.logic_values.specs.Arithmetic.{if_number}
-use Rattle.logic_eval.specs.Operators.{Meaning, all_of, applied, as_list, conditional, first_of_truth, is_empty, kept, mapped, none_of, occurs, over, over_items, some_of, strict, values}
+use Rattle.logic_values.specs.declared.fault.EvalFault.{EvalFault}
+use Rattle.logic_eval.specs.Operators.{Meaning, all_of, applied, applied_exactly, as_list, asked, exact_test, has_decimal, if_tested, with_tests, with_early_tests, conditional, first_of_truth, is_empty, kept, mapped, none_of, occurs, over, over_items, some_of, strict, values}
 use Rattle.logic_eval.specs.Operators as operators
 use Rattle.logic_eval.specs.Run.{Run, gives, ◌>>=◌}
 use Rattle.logic_values.specs.Lists.{items_in}
@@ -55,8 +56,30 @@ GivenBy o v = IsAmong (given_outcome (given_by o) ∷ []) v
 nothing_given : (o : Operator) → Gives (GivenBy o) (let r : Run Shape = gives null in r)
 nothing_given o = runs-gives Anything (GivenBy o) null (among_null (given_outcome (given_by o) ∷ []) null refl)
 
+truth_or_fault : (r : Result Bool EvalFault) → IfOk (if_tested r) (IsAmong (truth ∷ []))
+truth_or_fault (Ok b) = inl (b, refl)
+truth_or_fault (Err e) = tt
+
+-- where a value is a decimal, what compares or tests gives a truth, and any other is a fault
+exact_told : (o : Operator) (vs : List Shape) → IfOk (if_tested (exact_test o vs)) (GivenBy o)
+exact_told op.Less vs = truth_or_fault _
+exact_told op.LessOrEqual vs = truth_or_fault _
+exact_told op.Greater vs = truth_or_fault _
+exact_told op.GreaterOrEqual vs = truth_or_fault _
+exact_told op.Equal vs = truth_or_fault _
+exact_told op.NotEqual vs = truth_or_fault _
+exact_told op.StrictEqual vs = truth_or_fault _
+exact_told op.StrictNotEqual vs = truth_or_fault _
+exact_told op.Not vs = inl (_, refl)
+exact_told op.Truth vs = inl (_, refl)
+exact_told o vs = tt
+
 strict_told : (o : Operator) (ms : List Meaning) (scope : Shape) → ((vs : List Shape) → IfOk (applied o scope vs) (GivenBy o)) → Gives (GivenBy o) (strict o ms scope)
-strict_told o ms scope h = runs-bind Anything Anything (GivenBy o) _ _ (any _) (λ vs _. runs-ends Anything (GivenBy o) (applied o scope vs) (h vs))
+strict_told o ms scope h = runs-bind Anything Anything (GivenBy o) _ _ (any _) (λ vs _. runs-ends Anything (GivenBy o) (applied_exactly o scope vs) (go vs (has_decimal vs)))
+  where
+    go : (vs : List Shape) (b : Bool) → IfOk (cond b (if_tested (exact_test o vs)) (applied o scope vs)) (GivenBy o)
+    go vs true = exact_told o vs
+    go vs false = h vs
 
 number_told : (n : Option ℤ) → IfOk (if_number n) (IsAmong (nameless ∷ []))
 number_told None = tt
@@ -161,13 +184,13 @@ module _ (d : Option (List ℕ)) where
 
 -- ---- expressions
 
-operated_told : (d : Option (List ℕ)) (o : Operator) (es : Expressions) (scope : Shape) → Gives (IsAmong (branches es)) (conditional (meanings d es) scope)
-    → Gives (IsAmong (arguments false es)) (first_of_truth false (meanings d es) scope) → Gives (IsAmong (arguments true es)) (first_of_truth true (meanings d es) scope)
-    → Gives (IsAmong (spec.operated o (branches es) (arguments false es) (arguments true es))) (operators.operated o (meanings d es) scope)
+operated_told : (d : Option (List ℕ)) (o : Operator) (es : Expressions) (scope : Shape) → Gives (IsAmong (branches es)) (conditional (with_tests (meanings d es) (operands d es)) scope)
+    → Gives (IsAmong (arguments false es)) (first_of_truth false (with_early_tests (meanings d es) (operands d es)) scope) → Gives (IsAmong (arguments true es)) (first_of_truth true (meanings d es) scope)
+    → Gives (IsAmong (spec.operated o (branches es) (arguments false es) (arguments true es))) (operators.operated o (asked o (meanings d es) (operands d es)) scope)
 operated_told d op.If es scope branch falsy truthy = branch
 operated_told d op.And es scope branch falsy truthy = falsy
 operated_told d op.Or es scope branch falsy truthy = truthy
-operated_told d o es scope branch falsy truthy = given_told o (meanings d es) scope
+operated_told d o es scope branch falsy truthy = given_told o (asked o (meanings d es) (operands d es)) scope
 
 module _ (d : Option (List ℕ)) where
   mutual
@@ -176,30 +199,59 @@ module _ (d : Option (List ℕ)) where
     told (list es) scope =
         runs-cost Anything (IsAmong (nameless ∷ [])) 1 _
         (runs-bind Anything Anything (IsAmong (nameless ∷ [])) _ _ (any _) (λ vs _. runs-gives Anything (IsAmong (nameless ∷ [])) (shape.list (items_of vs)) (inl refl)))
-    told (operation o es) scope = runs-cost Anything (IsAmong (spec.operated o (branches es) (arguments false es) (arguments true es))) 1 _ (operated_told d o es scope (branches_told es scope) (arguments_told false es scope) (arguments_told true es scope))
+    told (operation o es) scope =
+        runs-cost Anything (IsAmong (spec.operated o (branches es) (arguments false es) (arguments true es))) 1 _
+        (operated_told d o es scope (branches_told es scope) (all_arguments_told es scope) (arguments_told es scope))
     told (fractional n b bs) scope =
         runs-cost Anything (IsAmong (names bs)) 1 _
         (runs-bind Anything Anything (IsAmong (names bs)) _ _ (any _)
         (λ i _. runs-bind Anything (AllNamed (names bs)) (IsAmong (names bs)) _ _ (pairs_told bs scope) (λ ps h. decided_told (names bs) n i ps h)))
 
-    branches_told : (es : Expressions) (scope : Shape) → Gives (IsAmong (branches es)) (conditional (meanings d es) scope)
+    -- the same where it is compared or tested, given what it is where it is not
+    operand_told : (e : Expression) (scope : Shape) → Gives (IsAmong (outcomes e)) (meaning d e scope) → Gives (IsAmong (outcomes e)) (operand_meaning d e scope)
+    operand_told (literal t) scope h = h
+    operand_told (list es) scope h = h
+    operand_told (operation op.Var es) scope h = gives_computed _
+    operand_told (operation o es) scope h = h
+    operand_told (fractional n b bs) scope h = h
+
+    operand_truth_told : (e : Expression) (scope : Shape) → Gives (CountsAs d e) (operand_meaning d e scope)
+    operand_truth_told (literal t) scope = truth_told d (literal t) scope
+    operand_truth_told (list es) scope = truth_told d (list es) scope
+    operand_truth_told (operation o es) scope = any _
+    operand_truth_told (fractional n b bs) scope = any _
+
+    branches_told : (es : Expressions) (scope : Shape) → Gives (IsAmong (branches es)) (conditional (with_tests (meanings d es) (operands d es)) scope)
     branches_told no_expressions scope = runs-gives Anything (IsAmong []) null refl
     branches_told (expression last no_expressions) scope = told last scope
     branches_told (expression test (expression e es)) scope =
         let P = IsAmong (by_test (literal_truth test) (outcomes e) (branches es)) in
-        runs-bind Anything (CountsAs d test) P _ _ (truth_told d test scope)
-        (λ v c. by_test_told (literal_truth test) (is_true v) (outcomes e) (branches es) (meaning d e scope) (conditional (meanings d es) scope) c (told e scope) (branches_told es scope))
+        runs-bind Anything (CountsAs d test) P _ _ (operand_truth_told test scope)
+        (λ v c. by_test_told (literal_truth test) (is_true v) (outcomes e) (branches es) (meaning d e scope) (conditional (with_tests (meanings d es) (operands d es)) scope) c (told e scope) (branches_told es scope))
 
-    arguments_told : (wanted : Bool) (es : Expressions) (scope : Shape) → Gives (IsAmong (arguments wanted es)) (first_of_truth wanted (meanings d es) scope)
-    arguments_told wanted no_expressions scope = runs-gives Anything (IsAmong []) null refl
-    arguments_told wanted (expression last no_expressions) scope = told last scope
-    arguments_told wanted (expression e (expression next es)) scope =
-        let test = option_map (bool_eq wanted) (literal_truth e) in
-        let rest = arguments wanted (expression next es) in
+    -- the arguments of `or`
+    arguments_told : (es : Expressions) (scope : Shape) → Gives (IsAmong (arguments true es)) (first_of_truth true (meanings d es) scope)
+    arguments_told no_expressions scope = runs-gives Anything (IsAmong []) null refl
+    arguments_told (expression last no_expressions) scope = told last scope
+    arguments_told (expression e (expression next es)) scope =
+        let test = option_map (bool_eq true) (literal_truth e) in
+        let rest = arguments true (expression next es) in
         let P = IsAmong (outcomes e) in
         runs-bind Anything (λ v. P v × CountsAs d e v) (IsAmong (by_test test (outcomes e) rest)) _ _ (both P (CountsAs d e) _ (told e scope) (truth_told d e scope))
-        (λ v h. by_test_told test (bool_eq wanted (is_true v)) (outcomes e) rest (gives v) (first_of_truth wanted (meanings d (expression next es)) scope)
-        (counts_wanted wanted (literal_truth e) (is_true v) h.1) (runs-gives Anything P v h.0) (arguments_told wanted (expression next es) scope))
+        (λ v h. by_test_told test (bool_eq true (is_true v)) (outcomes e) rest (gives v) (first_of_truth true (meanings d (expression next es)) scope)
+        (counts_wanted true (literal_truth e) (is_true v) h.1) (runs-gives Anything P v h.0) (arguments_told (expression next es) scope))
+
+    -- those of `and`, all but the last of which are tested
+    all_arguments_told : (es : Expressions) (scope : Shape) → Gives (IsAmong (arguments false es)) (first_of_truth false (with_early_tests (meanings d es) (operands d es)) scope)
+    all_arguments_told no_expressions scope = runs-gives Anything (IsAmong []) null refl
+    all_arguments_told (expression last no_expressions) scope = told last scope
+    all_arguments_told (expression e (expression next es)) scope =
+        let test = option_map (bool_eq false) (literal_truth e) in
+        let rest = arguments false (expression next es) in
+        let P = IsAmong (outcomes e) in
+        runs-bind Anything (λ v. P v × CountsAs d e v) (IsAmong (by_test test (outcomes e) rest)) _ _ (both P (CountsAs d e) _ (operand_told e scope (told e scope)) (operand_truth_told e scope))
+        (λ v h. by_test_told test (bool_eq false (is_true v)) (outcomes e) rest (gives v) (first_of_truth false (with_early_tests (meanings d (expression next es)) (operands d (expression next es))) scope)
+        (counts_wanted false (literal_truth e) (is_true v) h.1) (runs-gives Anything P v h.0) (all_arguments_told (expression next es) scope))
 
     pairs_told : (bs : Buckets) (scope : Shape) → Gives (AllNamed (names bs)) (pairs (bucket_meanings d bs) scope)
     pairs_told no_buckets scope = runs-gives Anything (AllNamed []) [] tt

@@ -1,6 +1,7 @@
 pub mod Ending
 mod FilesJoined
 mod Joins
+mod Kept
 mod Loaded
 pub mod Matched
 pub mod Naming

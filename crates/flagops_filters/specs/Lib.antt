@@ -6,6 +6,7 @@ pub mod Join
 pub mod Joined
 pub mod Law
 pub mod Moment
+pub mod Opening
 pub mod Place
 pub mod Record
 pub mod Refusal

@@ -1,5 +1,7 @@
 //! What a standard input began with, for diagnostics.
-ghost use Rattle.std.specs.Prelude.{◌≡◌};
+ghost use Rattle.std.specs.Prelude.{◌≡◌, ◌≤◌, ◌++◌, ℕ, List, [], take};
+ghost use Rattle.file_diagnostics.specs.Ends.{ends_of};
+ghost use Rattle.flagops_filters.specs.Opening.{most_kept};
 
 use file_diagnostics::Ends;
 use line_batches::Inlet;
@@ -10,11 +12,16 @@ const KEPT: usize = 4096;
 
 /// Where bytes were read from, and what these began with. It is for people.
 pub trait Opening {
-    /// What is seen at the beginning of the bytes that were read: that there were none, or a byte order mark.
-    fn opening(&self) -> Ends;
+    // The first bytes that were read.
+    ghost first: { Self → List ℕ };
+
+    /// What is seen at the two ends of the first bytes that were read: that there were none, or a byte order mark.
+    fn opening(&self) -> Ends
+        ensures { result ≡ ends_of (first self.now) };
 
     /// The first bytes that were read, at most 4,096.
-    fn first_bytes(&self) -> &[u8];
+    fn first_bytes(&self) -> &[u8]
+        ensures { result.now ≡ first self.now };
 }
 
 /// An inlet that keeps the first bytes that were read.
@@ -29,23 +36,27 @@ impl<I: Inlet> OpenedInlet<I> {
     pub fn new(inlet: I) -> OpenedInlet<I>
         ensures bytes { ⟦<OpenedInlet<I> as Inlet>⟧.bytes result ≡ I.bytes inlet }
         ensures broken { ⟦<OpenedInlet<I> as Inlet>⟧.is_broken result ≡ I.is_broken inlet }
+        ensures first { ⟦<OpenedInlet<I> as Opening>⟧.first result ≡ [] }
     {
         OpenedInlet {
             inlet,
-            front: Front {
-                bytes: [0; KEPT],
-                count: 0,
-            },
+            front: Front::new(),
         }
     }
 }
 
 impl<I: Inlet> Inlet for OpenedInlet<I> {
+    ghost use Rattle.std.specs.Prelude.{◌≡◌, ◌++◌, ℕ, List, take};
+    ghost use Rattle.std.specs.Io.KnownBytes.{Consumes};
+    ghost use Rattle.flagops_filters.specs.Opening.{most_kept};
+
     ghost bytes = { λ o. I.bytes o.inlet };
 
     ghost is_broken = { λ o. I.is_broken o.inlet };
 
-    ghost was_read = { λ old new. I.was_read old.inlet new.inlet };
+    // What was read is kept behind the first bytes before it, as far as there is room.
+    ghost was_read = { λ old new. I.was_read old.inlet new.inlet
+        × ((more : List ℕ) × (take new.front.count new.front.bytes ≡ take most_kept (take old.front.count old.front.bytes ++ more)) × Consumes (I.bytes old.inlet) (I.bytes new.inlet) more) };
 
     fn read(&mut self, buf: &mut [u8]) -> io::Result<usize> {
         let outcome = self.inlet.read(buf);
@@ -57,6 +68,10 @@ impl<I: Inlet> Inlet for OpenedInlet<I> {
 }
 
 impl<I> Opening for OpenedInlet<I> {
+    ghost use Rattle.std.specs.Prelude.{take};
+
+    ghost first = { λ o. take o.front.count o.front.bytes };
+
     fn opening(&self) -> Ends {
         Ends::of(self.front.kept())
     }
@@ -71,21 +86,34 @@ impl<I> Opening for OpenedInlet<I> {
 struct Front {
     bytes: [u8; KEPT],
     count: usize,
+    ghost fits: { count ≤ 4096 },
 }
 
 impl Front {
-    /// Keeps the first of more bytes, as far as there is room.
-    fn keep(&mut self, more: &[u8]) {
-        for byte in more {
-            let Some(place) = self.bytes.get_mut(self.count) else {
-                return;
-            };
-            *place = *byte;
-            self.count = self.count.saturating_add(1);
+    /// Nothing was read yet.
+    fn new() -> Front
+        ensures { take result.count result.bytes ≡ [] }
+    {
+        Front {
+            bytes: [0; KEPT],
+            count: 0,
         }
     }
 
-    fn kept(&self) -> &[u8] {
-        self.bytes.get(..self.count).unwrap_or(&[])
+    /// Keeps the first of more bytes, as far as there is room.
+    fn keep(&mut self, more: &[u8])
+        ensures { take self.new.count self.new.bytes ≡ take most_kept (take self.old.count self.old.bytes ++ more.now) }
+    {
+        let count = (KEPT - self.count).min(more.len());
+        let end = self.count + count;
+        self.bytes[self.count..end].copy_from_slice(&more[..count]);
+        self.count = end;
+    }
+
+    /// The bytes that were kept.
+    fn kept(&self) -> &[u8]
+        ensures { result.now ≡ take self.now.count self.now.bytes }
+    {
+        &self.bytes[..self.count]
     }
 }

@@ -1,5 +1,5 @@
 -- What the words of `ofrep` ask for, by what `clap` reads of them.
-use Rattle.std.specs.Prelude.{ℕ, zero, suc, ◌+◌, ◌-◌, ◌/◌, Bool, true, false, max, List, [], ◌∷◌, codes, map, Option, Some, None, option_copied, option_map, unwrap_or, if◌then◌else◌}
+use Rattle.std.specs.Prelude.{ℕ, zero, suc, ◌+◌, ◌-◌, Bool, true, false, List, [], ◌∷◌, codes, map, Option, Some, None, option_copied, option_map, unwrap_or, if◌then◌else◌}
 use Rattle.std.specs.Str.{bytes_eq}
 use Rattle.clap.specs.Kinds.{Kinds}
 use Rattle.clap.specs.Simple.{App, new_app, new_rule, with_rule}
@@ -102,10 +102,6 @@ form_of false = Input
 abbrev pub some_of : ℕ → Option ℕ
 some_of zero = None
 some_of (suc n) = Some (suc n)
-
--- how many notes each of so many workers remembers of these: none, where there are fewer
-abbrev pub share_of : ℕ → ℕ → Option ℕ
-share_of notes workers = some_of (notes / max workers 1)
 
 -- ---- what the command takes
 

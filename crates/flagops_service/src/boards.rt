@@ -1,28 +1,30 @@
 //! The board of a service, for what is asked for.
 ghost use Rattle.std.specs.Prelude.{◌≡◌, IfOk, is_some, map, option_copied, option_map, string_bytes};
-ghost use Rattle.std.specs.NonZero.{non_zero_usize_get};
-ghost use Rattle.flagops_service.specs.Words.{answering_view, applied_to, form_of, paths_served, share_of};
+ghost use Rattle.flagops_service.specs.Words.{answering_view, applied_to, form_of, paths_served, some_of};
 
 use crate::asked::Answering;
-use crate::remembering::share_of;
+use crate::remembering::memory_of;
 use access_lines::AccessLines;
 use control_desk::DeskRules;
 use note_lines::NoteForm;
+use note_memory::SharedMemory;
 use ofrep_guards::{Keys, Paths};
 use ofrep_service::{Board, ConnectionLimits};
 use std::alloc::{AllocError, Global};
+use std::hash::RandomState;
 use std::time::{Clock, SystemTime, UNIX_EPOCH};
 
-/// A board for what is asked for: the workers share the notes that are remembered, write them with the inputs or with their hashes
+/// A board for what is asked for: the workers remember so many notes together, in a table with these keys, write them with the inputs or with their hashes
 /// alone, want a key of these where a file is named, and serve the evaluations alone where operations have an address of their own.
 /// Their connections have the limits that are asked for.
 pub(crate) fn board_of(
     alloc: Global,
     answering: &Answering<'_>,
     clients: Option<Keys>,
+    keys: RandomState,
 ) -> Result<Board, AllocError>
     ensures without { IfOk result (λ board. board.without_record ≡ answering.now.without_record) }
-    ensures remember { IfOk result (λ board. option_map non_zero_usize_get board.remember ≡ share_of answering.now.remember answering.now.workers) }
+    ensures remember { IfOk result (λ board. is_some board.memory.memory ≡ is_some (some_of answering.now.remember)) }
     ensures form { IfOk result (λ board. board.form ≡ form_of answering.now.log_points) }
     ensures origins { IfOk result (λ board. map string_bytes board.origins.items ≡ (answering_view answering.now).cors) }
     ensures keys { IfOk result (λ board. option_map (λ ring. ring.first) board.keys ≡ clients) }
@@ -34,12 +36,12 @@ pub(crate) fn board_of(
     ensures applied_to { IfOk result (λ board. option_map string_bytes board.desks.rules.applied_to ≡ applied_to (answering_view answering.now)) }
 {
     let origins = copied(alloc, answering.cors.as_slice())?;
-    let share = share_of(answering.remember, answering.workers);
+    let memory = SharedMemory::new(memory_of(alloc, keys, answering.remember)?);
     let paths = paths_served(answering.admin);
     let lines = lines_of(alloc, answering.access_log);
     let board = Board::new(
         answering.without_record,
-        share,
+        memory,
         form_of(answering.log_points),
         origins,
         clients,

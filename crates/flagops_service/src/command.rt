@@ -1,7 +1,6 @@
 //! The command `ofrep`.
 ghost use Rattle.std.specs.Prelude.{◌≡◌, ◌≤◌, ◌<◌, ◌++◌, ◌&&◌, None, false, if◌then◌else◌, is_some, length, map, option_map, string_bytes, vec_len, IfOk, IfSome};
 ghost use Rattle.std.specs.List.{list_any};
-ghost use Rattle.std.specs.NonZero.{non_zero_usize_get};
 ghost use Rattle.flag_defs.specs.Flag.{is_broken};
 ghost use Rattle.flag_defs.specs.Flags.{flags_view};
 ghost use Rattle.flagops_streams.specs.Loading.{documents_view};
@@ -12,7 +11,7 @@ ghost use Rattle.flagops_service.specs.Merging.{AreMerged, ArePublished};
 ghost use Rattle.flagops_service.specs.Starting.{StartsOn, StartsTo, stops_in, stops_on};
 ghost use Rattle.flagops_shell.specs.Console.{IsOpen};
 ghost use Rattle.flagops_service.specs.Unready.{HasKeys};
-ghost use Rattle.flagops_service.specs.Words.{answering_view, applied_to, form_of, operators_of, paths_served, seats_of, share_of, subscribers_of};
+ghost use Rattle.flagops_service.specs.Words.{answering_view, applied_to, form_of, operators_of, paths_served, seats_of, some_of, subscribers_of};
 ghost use Rattle.ofrep_service.specs.Logs.{path_in, paths_of};
 
 use crate::asked::{Answering, OnBroken};
@@ -344,7 +343,7 @@ where
         keys,
         clients,
     } = prepared;
-    let board = match board_of(alloc, answering, clients) {
+    let board = match board_of(alloc, answering, clients, keys) {
         Ok(board) => board,
         Err(AllocError) => return refuse_and_tell(alloc, out, err, Refusal::WantOfMemory),
     };
@@ -397,7 +396,7 @@ where
     requires seated { vec_len seats ≡ vec_len posts }
     requires logs { map (λ post. path_in post.journal) posts.items ≡ paths_of (answering_view answering.now).log answering.now.workers }
     requires without { board.now.without_record ≡ answering.now.without_record }
-    requires remember { option_map non_zero_usize_get board.now.remember ≡ share_of answering.now.remember answering.now.workers }
+    requires remember { is_some board.now.memory.memory ≡ is_some (some_of answering.now.remember) }
     requires form { board.now.form ≡ form_of answering.now.log_points }
     requires paths { board.now.paths ≡ paths_served (answering_view answering.now).admin }
     requires lines { is_some board.now.lines ≡ answering.now.access_log }

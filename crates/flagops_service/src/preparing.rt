@@ -7,7 +7,6 @@ ghost use Rattle.flagops_service.specs.Words.{Answering as Asked, answering_view
 
 use crate::asked::Answering;
 use crate::keys::read_keys;
-use crate::remembering::lines_of;
 use crate::stop::Stop;
 use crate::unbound::{Spot, Unbound, address_of};
 use flagops_shell::FileSet;
@@ -69,8 +68,8 @@ where
 {
     judge_origins(answering)?;
     let clients = read_keys(alloc, files, answering)?;
-    let lines = lines_of(answering.remember, answering.workers);
-    let logs = match open_logs(rt, alloc, answering.log, answering.workers as usize, lines) {
+    let workers = answering.workers as usize;
+    let logs = match open_logs(rt, alloc, answering.log, workers, answering.remember) {
         Ok(logs) => logs,
         Err(LogFault::WantOfMemory) => return Err(Unready::WantOfMemory),
         Err(fault) => return Err(Unready::Stopped(Stop::NoLog(fault))),

@@ -1,20 +1,30 @@
-//! How many notes a worker remembers.
-ghost use Rattle.std.specs.Prelude.{◌≡◌, ◌/◌, max, option_map};
+//! What the logs of the workers remember.
+ghost use Rattle.std.specs.Prelude.{◌≡◌, IfOk, option_map};
 ghost use Rattle.std.specs.NonZero.{non_zero_usize_get};
-ghost use Rattle.flagops_service.specs.Words.{share_of};
+ghost use Rattle.flagops_service.specs.Words.{some_of};
 
+use note_memory::NoteMemory;
+use std::alloc::{AllocError, Global};
+use std::hash::RandomState;
 use std::num::NonZeroUsize;
 
-/// How many notes each of so many workers remembers, which share what is remembered; none where there are fewer than workers.
-pub(crate) fn share_of(notes: u64, workers: u64) -> Option<NonZeroUsize>
-    ensures { option_map non_zero_usize_get result ≡ share_of notes workers }
+/// A memory of so many notes for all workers; none where it is none.
+pub(crate) fn memory_of(
+    alloc: Global,
+    keys: RandomState,
+    notes: u64,
+) -> Result<Option<NoteMemory>, AllocError>
+    ensures { IfOk result (λ memory. option_map (λ m. m.table.cap) memory ≡ some_of notes) }
 {
-    NonZeroUsize::new(lines_of(notes, workers) as usize)
+    match most_of(notes) {
+        Some(most) => Ok(Some(NoteMemory::new(alloc, keys, most)?)),
+        None => Ok(None),
+    }
 }
 
-/// How many of the last lines of its log each of so many workers remembers at first: as many as it remembers.
-pub(crate) fn lines_of(notes: u64, workers: u64) -> u64
-    ensures { result ≡ notes / max workers 1 }
+/// The number of notes that are remembered, where it is not 0.
+fn most_of(notes: u64) -> Option<NonZeroUsize>
+    ensures { option_map non_zero_usize_get result ≡ some_of notes }
 {
-    notes / workers.max(1)
+    NonZeroUsize::new(notes as usize)
 }

@@ -89,20 +89,23 @@ pub not_loaded : (at : Holding) (s : Serving) (refusal : Refusal) → (is_want r
 not_loaded at s refusal loaded = λ other. subst (λ (r : Result Loaded Refusal). ServesLoaded s.floats s.subscribers r (Err refusal)) (sym (loaded other)) refl
 
 -- an answer to what is asked, and its report
-pub answered : (holding : Option Holding) (s : Serving) (answer : Answer) (Reported : Answer → Type 0)
-    → IfSome holding (λ at. AnswersTo at s answer) → Reported answer
-    → IfSome holding (λ at. (r : Answer) × AnswersTo at s r × Reported r)
+pub answered : (holding : Option Holding) (s : Serving) (answer : Answer) (Reported : Holding → Answer → Type 0)
+    → IfSome holding (λ at. AnswersTo at s answer) → ((at : Holding) → Reported at answer)
+    → IfSome holding (λ at. (r : Answer) × AnswersTo at s r × Reported at r)
 answered holding s answer Reported answers report =
-    where_known holding (λ at. AnswersTo at s answer) (λ at. (r : Answer) × AnswersTo at s r × Reported r) (λ at h. (answer, h, report)) answers
+    where_known holding (λ at. AnswersTo at s answer) (λ at. (r : Answer) × AnswersTo at s r × Reported at r) (λ at h. (answer, h, report at)) answers
 
 -- the same over the words' own paths, of which the slice was taken
 module _ {X : Type 0} (now : X → List ℕ) (slice items : List X) (same : slice ≡ items) (holding : Option Holding) (s : Serving) (paths : s.documents ≡ map now items) where
   pub named : map now slice ≡ s.documents
   named = ap (map now) same ∙ sym paths
 
-  pub all_served : (d : Loaded) (answer : Answer) → IfSome holding (λ at. loaded_at at (map now slice) ≡ Ok d) → ServesTo s.floats s.subscribers d.sources d.texts [] answer → IfSome holding (λ at. AnswersTo at s answer)
-  all_served d answer loaded served =
-      where_known holding (λ at. loaded_at at (map now slice) ≡ Ok d) (λ at. AnswersTo at s answer) (λ at e. loaded_served at s d answer (ap (loaded_at at) (sym named) ∙ e) served) loaded
+  pub all_served : (d : Loaded) (answer : Answer) (Reported : Holding → Answer → Type 0)
+      → IfSome holding (λ at. loaded_at at (map now slice) ≡ Ok d) → ServesTo s.floats s.subscribers d.sources d.texts [] answer → ((at : Holding) → loaded_at at s.documents ≡ Ok d → Reported at answer)
+      → IfSome holding (λ at. (r : Answer) × AnswersTo at s r × Reported at r)
+  all_served d answer Reported loaded served report =
+      where_known holding (λ at. loaded_at at (map now slice) ≡ Ok d) (λ at. (r : Answer) × AnswersTo at s r × Reported at r)
+      (λ at e. let all = ap (loaded_at at) (sym named) ∙ e in (answer, loaded_served at s d answer all served, report at all)) loaded
 
   pub none_served : (refusal : Refusal) → IfSome holding (λ at. is_want refusal ≡ false → loaded_at at (map now slice) ≡ Err refusal) → IfSome holding (λ at. AnswersTo at s (Err refusal))
   none_served refusal loaded =

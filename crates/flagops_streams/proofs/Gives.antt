@@ -132,9 +132,9 @@ count_served floats subscribers sources texts all (inr (ends, absent, whole, som
     omega (arith, counted floats sources texts [] all (subst (Gives floats sources texts []) (all_sent (missed_of (published_in whole) ends + absent) whole all is) gives))
 
 -- what is reported of an answer is one line: the number of the documents, or a refusal
-pub reported : (paths : List (List ℕ)) (Is : Bool → List ℕ → Type 0) (floats : Bool) (subscribers : ℕ) (sources : SourceList) (texts : List (List ℕ)) (answer : Answer) (old new : Option (List ℕ)) (broken : Bool) (err err_after : Option (List ℕ)) (is_mute : Bool) (status count : ℕ)
-    → length texts ≡ count → ServesTo floats subscribers sources texts [] answer → Reports paths Is (count_of answer) old new broken err err_after is_mute status → Serves paths Is count old new broken err err_after is_mute status
-reported paths Is floats subscribers sources texts (Ok all) old new broken err err_after is_mute status count is served (inl line) =
-    inl (subst (λ (m : ℕ). Publishes (Is true) m old new broken err err_after is_mute status) (count_served floats subscribers sources texts all served ∙ is) line)
-reported paths Is floats subscribers sources texts (Ok all) old new broken err err_after is_mute status count is served (inr want) = inr (WantOfMemory, want)
-reported paths Is floats subscribers sources texts (Err refusal) old new broken err err_after is_mute status count is served line = inr (refusal, line)
+pub reported : (paths : List (List ℕ)) (Tells : Bool → Option (List ℕ) → Option (List ℕ) → Bool → Type 0) (floats : Bool) (subscribers : ℕ) (sources : SourceList) (texts : List (List ℕ)) (answer : Answer) (old new : Option (List ℕ)) (broken : Bool) (err err_after : Option (List ℕ)) (is_mute : Bool) (status count : ℕ)
+    → length texts ≡ count → ServesTo floats subscribers sources texts [] answer → Reports paths Tells (count_of answer) old new broken err err_after is_mute status → Serves paths Tells count old new broken err err_after is_mute status
+reported paths Tells floats subscribers sources texts (Ok all) old new broken err err_after is_mute status count is served (inl line) =
+    inl (subst (λ (m : ℕ). Publishes (Tells true) m old new broken err err_after is_mute status) (count_served floats subscribers sources texts all served ∙ is) line)
+reported paths Tells floats subscribers sources texts (Ok all) old new broken err err_after is_mute status count is served (inr want) = inr (WantOfMemory, want)
+reported paths Tells floats subscribers sources texts (Err refusal) old new broken err err_after is_mute status count is served line = inr (refusal, line)

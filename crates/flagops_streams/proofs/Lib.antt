@@ -1,3 +1,4 @@
+mod Answering
 pub mod Crossings
 pub mod DocumentsLoaded
 pub mod Ends

@@ -1,17 +1,17 @@
 -- What is told, one text after the other.
-use Rattle.std.proofs.Common.{◌≡◌, ◌+◌, ℕ, zero, suc, List, [], ◌∷◌, ◌++◌, Bool, true, false, not, ◌||◌, is_ok, nat_eq, Option, Some, None, Result, Ok, Err, IfOk, IfErr, inl, inr, refl, sym, subst, length, arith}
+use Rattle.std.proofs.Common.{◌≡◌, ◌+◌, ◌-◌, ◌≤◌, ◌∙◌, ℕ, zero, suc, List, [], ◌∷◌, Bool, true, false, not, ◌||◌, is_ok, nat_eq, Option, Some, None, Result, Ok, Err, IfOk, IfErr, inl, inr, refl, slice_get, sym, subst, length, replicate, arith}
 use Rattle.std.proofs.lemmas.Bool.{true≢false}
 use Rattle.std.proofs.lemmas.Bool.Decides.{nat_tests}
-use Rattle.std.proofs.lemmas.List.{take_all}
+use Rattle.std.proofs.lemmas.List.{length-replicate, take_all}
 use Rattle.std.specs.Bool.{OnTrue}
 use Rattle.std.specs.Io.KnownBytes.{Appends}
 use Rattle.flag_text.specs.Outlet.{AppendsPart}
 use Rattle.file_diagnostics.specs.Named.{Names}
-use Rattle.flagops_streams.specs.Report.{RefusesBeside, Reports}
-use Rattle.flagops_streams.specs.Told.{IsForewarning, IsGone, IsServeLine, MayForewarn, MayForewarnAt, MayTell, MayTellEach, Says, SaysEach, TellsArrivals, TellsEnds, TellsGone, TellsLate, TellsLines, came_line, forewarning, gone_line, late_line, listening_line}
-use Rattle.sync_server.specs.End.{is_closed_end}
-use Rattle.sync_server.specs.declared.end.StreamEnd.{StreamEnd}
-use Rattle.sync_server.specs.declared.end.StreamEnd.TheVariants as ends
+use Rattle.flag_defs.specs.Floats.{MeansAs}
+use Rattle.flag_defs.specs.declared.fault.DefFault.{DefFault}
+use Rattle.flagops_streams.specs.Documents.{IsRefusedAt}
+use Rattle.flagops_streams.specs.Report.{RefusesBeside, Reports, Serves}
+use Rattle.flagops_streams.specs.Told.{MayForewarn, MayForewarnAt, MayForewarnEach, MayTell, MayTellEach, Says, TellsArrivals, TellsDepartures, TellsEnds, TellsGone, TellsLate, TellsOfSubscribers, TellsServing, came_line, forewarning, gone_line, late_line, listening_line}
 use Rattle.flagops_streams.specs.declared.disconnected.Disconnected.{Disconnected}
 use Rattle.flagops_streams.specs.declared.refusal.Refusal.{Refusal}
 use Rattle.flagops_streams.specs.declared.refusal.Refusal.TheVariants.{WantOfMemory}
@@ -38,36 +38,6 @@ still_said old new false after text stays said = whole_said old new after text s
 still_said old new true false text stays said = absurd (true≢false (stays refl))
 still_said old new true true text stays said = said
 
--- such lines, and others behind them
-module _ (Is : List ℕ → Type 0) where
-  still_each : (old new : Option (List ℕ)) (before after : Bool) (lines : List (List ℕ)) → (after ≡ false → before ≡ false) → SaysEach Is old new before lines → SaysEach Is old new after lines
-  still_each old new before after [] stays each = each
-  still_each old new before after (line ∷ lines) stays (between, is, said, each) =
-      (between, is, still_said old between before after line stays said, still_each between new before after lines stays each)
-
-  each_behind : (old mid new : Option (List ℕ)) (is_mute : Bool) (lines more : List (List ℕ)) → SaysEach Is old mid is_mute lines → SaysEach Is mid new is_mute more → SaysEach Is old new is_mute (lines ++ more)
-  each_behind old mid new is_mute [] more each others = subst (λ (o : Option (List ℕ)). SaysEach Is o new is_mute more) each others
-  each_behind old mid new is_mute (line ∷ lines) more (between, is, said, each) others =
-      (between, is, said, each_behind between mid new is_mute lines more each others)
-
-  pub still_told : (old new : Option (List ℕ)) (before after : Bool) → (after ≡ false → before ≡ false) → TellsLines Is old new before → TellsLines Is old new after
-  still_told old new before after stays (lines, each) = (lines, still_each old new before after lines stays each)
-
-  pub nothing_told : (old new : Option (List ℕ)) (is_mute : Bool) → new ≡ old → TellsLines Is old new is_mute
-  nothing_told old new is_mute same = ([], same)
-
-  pub one_told : (old new : Option (List ℕ)) (is_mute : Bool) (line : List ℕ) → Is line → Says old new is_mute line → TellsLines Is old new is_mute
-  one_told old new is_mute line is said = (line ∷ [], (new, is, said, refl))
-
-  pub lines_behind : (old mid new : Option (List ℕ)) (before after : Bool) → (after ≡ false → before ≡ false) → TellsLines Is old mid before → TellsLines Is mid new after → TellsLines Is old new after
-  lines_behind old mid new before after stays (lines, each) (more, others) =
-      (lines ++ more, each_behind old mid new after lines more (still_each old mid before after lines stays each) others)
-
-  -- such a text may have been told
-  pub may_told : (text : List ℕ) (old new : Option (List ℕ)) (is_mute : Bool) → Is text → MayTell text old new is_mute → TellsLines Is old new is_mute
-  may_told text old new is_mute is (inl same) = nothing_told old new is_mute same
-  may_told text old new is_mute is (inr said) = one_told old new is_mute text is said
-
 -- a line that could be made was told once, else nothing was
 pub made_told : {X E : Type 0} (bytes : X → List ℕ) (line : Result X E) (text : List ℕ) (old new : Option (List ℕ)) (is_mute : Bool)
     → IfOk line (λ s. bytes s ≡ text) → IfOk line (λ s. Says old new is_mute (bytes s)) → IfErr line (λ _. new ≡ old) → MayTell text old new is_mute
@@ -78,14 +48,6 @@ made_told bytes (Err e) text old new is_mute exact said none = inl none
 pub told_late : (wait status : ℕ) (old new : Option (List ℕ)) (is_mute : Bool) → status ≡ 1 → MayTell (late_line wait) old new is_mute → TellsLate wait status old new is_mute
 told_late wait status old new is_mute one (inl same) = inl same
 told_late wait status old new is_mute one (inr said) = inr (one, said)
-
--- such lines are lines of another kind
-pub lines_as : (Is As : List ℕ → Type 0) → ((line : List ℕ) → Is line → As line) → (old new : Option (List ℕ)) (is_mute : Bool) → TellsLines Is old new is_mute → TellsLines As old new is_mute
-lines_as Is As more old new is_mute (lines, each) = (lines, go old lines each)
-  where
-    go : (from : Option (List ℕ)) (lines : List (List ℕ)) → SaysEach Is from new is_mute lines → SaysEach As from new is_mute lines
-    go from [] each = each
-    go from (line ∷ lines) (between, is, said, each) = (between, more line is, said, go between lines each)
 
 -- ---- texts that are told once
 
@@ -119,6 +81,36 @@ module _ (before after : Bool) (stays : after ≡ false → before ≡ false) wh
       let more : MayTellEach line (suc n) between new after = (mid, still_in_turn line n between mid told, subst (λ (k : ℕ). MayTell (line k) mid new after) (sym next) last) in
       (between, still_may (listening_line port subscribers) old between first, subst (λ (k : ℕ). MayTellEach line k between new after) next more)
 
+  -- one more document behind the first
+  still_warned : (paths : List (List ℕ)) (IsRefused : ℕ → Type 0) (place : ℕ) (old new : Option (List ℕ)) → MayForewarnAt paths IsRefused place old new before → MayForewarnAt paths IsRefused place old new after
+  still_warned paths IsRefused place old new (inl same) = inl same
+  still_warned paths IsRefused place old new (inr (path, at, refused, inl same)) = inr (path, at, refused, inl same)
+  still_warned paths IsRefused place old new (inr (path, at, refused, inr (why, names, said))) =
+      inr (path, at, refused, inr (why, names, still_said old new before after (forewarning place why) stays said))
+
+  pub still_each : (paths : List (List ℕ)) (IsRefused : ℕ → Type 0) (n : ℕ) (old new : Option (List ℕ)) → MayForewarnEach paths IsRefused n old new before → MayForewarnEach paths IsRefused n old new after
+  still_each paths IsRefused zero old new same = same
+  still_each paths IsRefused (suc n) old new (between, warned, last) = (between, still_each paths IsRefused n old between warned, still_warned paths IsRefused (n + 2) between new last)
+
+  pub warned_more : (paths : List (List ℕ)) (IsRefused : ℕ → Type 0) (n place : ℕ) (old mid new : Option (List ℕ)) → place ≡ n + 2
+      → MayForewarnEach paths IsRefused n old mid before → MayForewarnAt paths IsRefused place mid new after → MayForewarnEach paths IsRefused (n + 1) old new after
+  warned_more paths IsRefused n place old mid new is warned last =
+      let next : suc n ≡ n + 1 = omega arith in
+      subst (λ (k : ℕ). MayForewarnEach paths IsRefused k old new after) next
+      (mid, still_each paths IsRefused n old mid warned, subst (λ (k : ℕ). MayForewarnAt paths IsRefused k mid new after) is last)
+
+  pub still_arrivals : (port subscribers came : ℕ) (old new : Option (List ℕ)) → TellsArrivals port subscribers came old new before → TellsArrivals port subscribers came old new after
+  still_arrivals port subscribers came old new (between, first, told) =
+      (between, still_may (listening_line port subscribers) old between first, still_in_turn (λ number. came_line number subscribers) came between new told)
+
+  pub still_served : (paths : List (List ℕ)) (IsRefused : ℕ → Type 0) (documents port subscribers : ℕ) (b : Bool) (old new : Option (List ℕ))
+      → TellsServing paths IsRefused documents port subscribers b old new before → TellsServing paths IsRefused documents port subscribers b old new after
+  still_served paths IsRefused documents port subscribers b old new (warned_to, warned, (came, absent, all, (came_to, arrived, (ends, count, served, gone)))) = (
+    warned_to,
+    still_each paths IsRefused (documents - 1) old warned_to warned,
+    (came, absent, all, (came_to, still_arrivals port subscribers came warned_to came_to arrived, (ends, count, served, still_ends ends came_to new gone))),
+  )
+
 -- nobody has come yet
 pub no_arrivals : (port subscribers : ℕ) (old new : Option (List ℕ)) (is_mute : Bool) → MayTell (listening_line port subscribers) old new is_mute → TellsArrivals port subscribers 0 old new is_mute
 no_arrivals port subscribers old new is_mute first = (new, first, refl)
@@ -130,46 +122,88 @@ pub forewarned_by : (path why : List ℕ) (place : ℕ) (old new : Option (List 
 forewarned_by path why place old new is_mute names (inl same) = inl same
 forewarned_by path why place old new is_mute names (inr said) = inr (why, names, said)
 
--- that is a line of the document at the place
-pub forewarned_at : (paths : List (List ℕ)) (place : ℕ) (old new : Option (List ℕ)) (is_mute : Bool) → MayForewarnAt paths place old new is_mute → TellsLines (IsForewarning paths) old new is_mute
-forewarned_at paths place old new is_mute (inl same) = nothing_told (IsForewarning paths) old new is_mute same
-forewarned_at paths place old new is_mute (inr (path, at, inl same)) = nothing_told (IsForewarning paths) old new is_mute same
-forewarned_at paths place old new is_mute (inr (path, at, inr (why, names, said))) =
-    one_told (IsForewarning paths) old new is_mute (forewarning place why) (place, path, why, at, names, refl) said
+-- the document of some bytes is at a place
+pub refused_at : (paths : List (List ℕ)) (floats : Bool) (texts : List (List ℕ)) (text : List ℕ) (place : ℕ) (old new : Option (List ℕ)) (is_mute : Bool) → slice_get texts (place - 1) ≡ Some text
+    → MayForewarnAt paths (λ _. (fault : DefFault) × MeansAs floats text (Err fault)) place old new is_mute → MayForewarnAt paths (IsRefusedAt floats texts) place old new is_mute
+refused_at paths floats texts text place old new is_mute there (inl same) = inl same
+refused_at paths floats texts text place old new is_mute there (inr (path, at, (fault, means), told)) = inr (path, at, (text, fault, there, means), told)
+
+-- documents that are refused in one sense are so in another
+warned_as : (paths : List (List ℕ)) (Is As : ℕ → Type 0) → ((place : ℕ) → Is place → As place) → (n : ℕ) (old new : Option (List ℕ)) (is_mute : Bool) → MayForewarnEach paths Is n old new is_mute → MayForewarnEach paths As n old new is_mute
+warned_as paths Is As more zero old new is_mute same = same
+warned_as paths Is As more (suc n) old new is_mute (between, warned, inl same) = (between, warned_as paths Is As more n old between is_mute warned, inl same)
+warned_as paths Is As more (suc n) old new is_mute (between, warned, inr (path, at, refused, told)) =
+    (between, warned_as paths Is As more n old between is_mute warned, inr (path, at, more (n + 2) refused, told))
+
+pub served_as : (paths : List (List ℕ)) (Is As : ℕ → Type 0) → ((place : ℕ) → Is place → As place) → (documents port subscribers : ℕ) (b : Bool) (old new : Option (List ℕ)) (is_mute : Bool)
+    → TellsServing paths Is documents port subscribers b old new is_mute → TellsServing paths As documents port subscribers b old new is_mute
+served_as paths Is As more documents port subscribers b old new is_mute (between, warned, told) = (between, warned_as paths Is As more (documents - 1) old between is_mute warned, told)
+
+-- nothing is told of documents, nor of subscribers of whom nothing is known
+none_warned : (paths : List (List ℕ)) (IsRefused : ℕ → Type 0) (n : ℕ) (old : Option (List ℕ)) (is_mute : Bool) → MayForewarnEach paths IsRefused n old old is_mute
+none_warned paths IsRefused zero old is_mute = refl
+none_warned paths IsRefused (suc n) old is_mute = (old, none_warned paths IsRefused n old is_mute, inl refl)
+
+unknown_ends : (n : ℕ) (old : Option (List ℕ)) (is_mute : Bool) → TellsEnds (replicate n None) old old is_mute
+unknown_ends zero old is_mute = refl
+unknown_ends (suc n) old is_mute = (old, unknown_ends n old is_mute, refl)
+
+pub none_gone : (are_served : Bool) (came absent : ℕ) (old new : Option (List ℕ)) (is_mute : Bool) → are_served ≡ false → new ≡ old → TellsDepartures are_served came absent old new is_mute
+none_gone are_served came absent old new is_mute refused same =
+    (replicate came None, length-replicate came None, λ served. absurd (true≢false (sym served ∙ refused)), subst (λ (o : Option (List ℕ)). TellsEnds (replicate came None) old o is_mute) (sym same) (unknown_ends came old is_mute))
+
+-- some came, and nothing more is told
+pub some_came : (port subscribers came : ℕ) (are_served : Bool) (old new : Option (List ℕ)) (is_mute : Bool) → are_served ≡ false → came ≤ subscribers
+    → TellsArrivals port subscribers came old new is_mute → TellsOfSubscribers port subscribers are_served old new is_mute
+some_came port subscribers came are_served old new is_mute refused few arrived =
+    (came, subscribers - came, omega (arith, few), (new, arrived, none_gone are_served came (subscribers - came) new new is_mute refused refl))
+
+-- nobody came
+pub nobody_came : (port subscribers : ℕ) (are_served : Bool) (old new : Option (List ℕ)) (is_mute : Bool) → are_served ≡ false → new ≡ old → TellsOfSubscribers port subscribers are_served old new is_mute
+nobody_came port subscribers are_served old new is_mute refused same =
+    some_came port subscribers 0 are_served old new is_mute refused (omega arith) (no_arrivals port subscribers old new is_mute (inl same))
+
+-- nothing was told at all
+pub nothing_served : (paths : List (List ℕ)) (IsRefused : ℕ → Type 0) (documents port subscribers : ℕ) (old : Option (List ℕ)) (is_mute : Bool) → TellsServing paths IsRefused documents port subscribers false old old is_mute
+nothing_served paths IsRefused documents port subscribers old is_mute = (old, none_warned paths IsRefused (documents - 1) old is_mute, nobody_came port subscribers false old old is_mute refl refl)
 
 -- what is told where all were served may be told where some were not
-pub gone_as : (b c : Bool) → (c ≡ true → b ≡ true) → (line : List ℕ) → IsGone b line → IsGone c line
-gone_as b c more line (gone, number, sent, is) = (gone, number, λ all. sent (more all), is)
+pub serving_as : (paths : List (List ℕ)) (IsRefused : ℕ → Type 0) (documents port subscribers : ℕ) (old new : Option (List ℕ)) (is_mute : Bool)
+    → TellsServing paths IsRefused documents port subscribers true old new is_mute → TellsServing paths IsRefused documents port subscribers false old new is_mute
+serving_as paths IsRefused documents port subscribers old new is_mute (warned_to, warned, (came, absent, all, (came_to, arrived, (ends, count, served, gone)))) =
+    (warned_to, warned, (came, absent, all, (came_to, arrived, (ends, count, λ never. absurd (true≢false (sym never)), gone))))
 
--- the end of a stream that was sent the last one
-pub closed_is : (end : StreamEnd) → is_closed_end end ≡ true → end ≡ ends.Closed
-closed_is ends.Closed is = refl
-closed_is ends.Limit is = absurd (cc (is))
-closed_is ends.WriteFault is = absurd (cc (is))
-closed_is ends.ReadSeatFault is = absurd (cc (is))
-closed_is ends.WantOfMemory is = absurd (cc (is))
+-- where all were served, none was missed, and nobody was absent
+pub none_missed : (unserved absent counted : ℕ) → unserved ≡ counted → nat_eq (unserved + absent) 0 ≡ true → counted + absent ≡ 0
+none_missed unserved absent counted is none = grind (arith, nat_tests)
 
-pub serve_line_as : (paths : List (List ℕ)) (port subscribers : ℕ) (b c : Bool) → (c ≡ true → b ≡ true) → (line : List ℕ) → IsServeLine paths port subscribers b line → IsServeLine paths port subscribers c line
-serve_line_as paths port subscribers b c more line (inl warned) = inl warned
-serve_line_as paths port subscribers b c more line (inr (inl came)) = inr (inl came)
-serve_line_as paths port subscribers b c more line (inr (inr gone)) = inr (inr (gone_as b c more line gone))
+-- ---- a report behind what was told before
 
--- a sum that is none is one of none and none
-pub left_zero : (n m : ℕ) → nat_eq (n + m) 0 ≡ true → nat_eq n 0 ≡ true
-left_zero n m none = grind (arith, nat_tests)
+module _ (paths : List (List ℕ)) (Tells : Bool → Option (List ℕ) → Option (List ℕ) → Bool → Type 0)
+    (still : (b : Bool) (old new : Option (List ℕ)) (before after : Bool) → (after ≡ false → before ≡ false) → Tells b old new before → Tells b old new after)
+    (weaker : (old new : Option (List ℕ)) (is_mute : Bool) → Tells true old new is_mute → Tells false old new is_mute)
+    (old new : Option (List ℕ)) (broken : Bool) (err mid err_after : Option (List ℕ)) (before is_mute : Bool) (stays : is_mute ≡ false → before ≡ false) (status : ℕ) where
+  refused_behind : (refusal : Refusal) → Tells false err mid before → RefusesBeside paths (λ o n _. n ≡ o) refusal old new broken mid err_after is_mute status → RefusesBeside paths (Tells false) refusal old new broken err err_after is_mute status
+  refused_behind refusal told (by, (between, same, text)) =
+      (by, (between, subst (λ (o : Option (List ℕ)). Tells false err o is_mute) (sym same) (still false err mid before is_mute stays told), text))
 
-pub right_zero : (n m : ℕ) → nat_eq (n + m) 0 ≡ true → nat_eq m 0 ≡ true
-right_zero n m none = grind (arith, nat_tests)
+  pub reported_behind : (answer : Result ℕ Refusal) → Tells (is_ok answer) err mid before → Reports paths (λ _ o n _. n ≡ o) answer old new broken mid err_after is_mute status → Reports paths Tells answer old new broken err err_after is_mute status
+  reported_behind (Ok n) told (inl (line, same)) = inl (line, subst (λ (o : Option (List ℕ)). Tells true err o is_mute) (sym same) (still true err mid before is_mute stays told))
+  reported_behind (Ok n) told (inr want) = inr (refused_behind WantOfMemory (weaker err mid before told) want)
+  reported_behind (Err refusal) told refuses = refused_behind refusal told refuses
 
--- ---- a report behind lines
+-- ---- a report of what is told in another sense
 
-module _ (paths : List (List ℕ)) (Is : Bool → List ℕ → Type 0) (weaker : (line : List ℕ) → Is true line → Is false line) (old new : Option (List ℕ)) (broken : Bool) (err mid err_after : Option (List ℕ)) (before is_mute : Bool) (stays : is_mute ≡ false → before ≡ false) (status : ℕ) where
-  refused_behind : (refusal : Refusal) → TellsLines (Is false) err mid before → RefusesBeside paths (λ _. ⊥) refusal old new broken mid err_after is_mute status → RefusesBeside paths (Is false) refusal old new broken err err_after is_mute status
-  refused_behind refusal lines (by, (between, none, text)) =
-      (by, (between, lines_behind (Is false) err mid between before is_mute stays lines (lines_as (λ _. ⊥) (Is false) (λ line never. absurd never) mid between is_mute none), text))
+module _ (paths : List (List ℕ)) (Tells As : Bool → Option (List ℕ) → Option (List ℕ) → Bool → Type 0) (more : (b : Bool) (old new : Option (List ℕ)) (is_mute : Bool) → Tells b old new is_mute → As b old new is_mute)
+    (old new : Option (List ℕ)) (broken : Bool) (err err_after : Option (List ℕ)) (is_mute : Bool) (status : ℕ) where
+  refused_as : (refusal : Refusal) → RefusesBeside paths (Tells false) refusal old new broken err err_after is_mute status → RefusesBeside paths (As false) refusal old new broken err err_after is_mute status
+  refused_as refusal (by, (between, told, why)) = (by, (between, more false err between is_mute told, why))
 
-  pub reported_behind : (answer : Result ℕ Refusal) → TellsLines (Is (is_ok answer)) err mid before → Reports paths (λ _ _. ⊥) answer old new broken mid err_after is_mute status → Reports paths Is answer old new broken err err_after is_mute status
-  reported_behind (Ok n) lines (inl (line, none)) =
-      inl (line, lines_behind (Is true) err mid err_after before is_mute stays lines (lines_as (λ _. ⊥) (Is true) (λ line never. absurd never) mid err_after is_mute none))
-  reported_behind (Ok n) lines (inr want) = inr (refused_behind WantOfMemory (lines_as (Is true) (Is false) weaker err mid before lines) want)
-  reported_behind (Err refusal) lines refuses = refused_behind refusal lines refuses
+  pub reports_as : (answer : Result ℕ Refusal) → Reports paths Tells answer old new broken err err_after is_mute status → Reports paths As answer old new broken err err_after is_mute status
+  reports_as (Ok n) (inl (line, told)) = inl (line, more true err err_after is_mute told)
+  reports_as (Ok n) (inr want) = inr (refused_as WantOfMemory want)
+  reports_as (Err refusal) refuses = refused_as refusal refuses
+
+  pub serves_as : (n : ℕ) → Serves paths Tells n old new broken err err_after is_mute status → Serves paths As n old new broken err err_after is_mute status
+  serves_as n (inl (line, told)) = inl (line, more true err err_after is_mute told)
+  serves_as n (inr (refusal, refuses)) = inr (refusal, refused_as refusal refuses)

@@ -1,9 +1,11 @@
 -- Documents that are published one after the other, each merged over those before it.
-use Rattle.std.specs.Prelude.{◌≡◌, ◌≢◌, ◌⊎◌, ◌<◌, ℕ, ◌+◌, List, [], ◌∷◌, ◌++◌, Bool, false, ◌&&◌, length, map, decimal, if◌then◌else◌, nat_eq, nat_le, nat_lt, vec_len, Vec, Option, Some, None, Result, Ok, Err}
+use Rattle.std.specs.Prelude.{◌≡◌, ◌≢◌, ◌⊎◌, ◌<◌, ℕ, ◌+◌, ◌-◌, List, [], ◌∷◌, ◌++◌, Bool, false, ◌&&◌, length, map, decimal, if◌then◌else◌, nat_eq, nat_le, nat_lt, slice_get, vec_len, Vec, Option, Some, None, Result, Ok, Err}
 use Rattle.std.specs.declared.alloc.Global.{Global}
 use Rattle.flag_defs.specs.Flags.{flags_view}
 use Rattle.flag_defs.specs.declared.flags.Flags.{Flags}
 use Rattle.flag_defs.specs.Document.{Definitions}
+use Rattle.flag_defs.specs.Floats.{MeansAs}
+use Rattle.flag_defs.specs.declared.fault.DefFault.{DefFault}
 use Rattle.snap_share.specs.declared.fault.ShareFault.TheVariants as share
 use Rattle.source_merge.specs.Merge.{merged_of}
 use Rattle.source_merge.specs.Sources.{SetsAs, SourceList, added, most_sources}
@@ -56,6 +58,10 @@ MayRefuse floats number sources text refusal = ⊥
 abbrev pub LeavesSources : Bool → ℕ → SourceList → List ℕ → SourceList → Refusal → Type 0
 LeavesSources floats number before text after (Merged fault) = SetsAs floats before (decimal number) text (Ok after)
 LeavesSources floats number before text after refusal = after ≡ before
+
+-- the bytes at a place, from 1, are no document, which may have floats or may not
+abbrev pub IsRefusedAt : Bool → List (List ℕ) → ℕ → Type 0
+IsRefusedAt floats texts place = (text : List ℕ) × (fault : DefFault) × (slice_get texts (place - 1) ≡ Some text) × MeansAs floats text (Err fault)
 
 -- the merges that were published, in order, or why not all documents were
 abbrev pub Answer : Type 0

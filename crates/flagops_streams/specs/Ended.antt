@@ -4,12 +4,12 @@ use Rattle.clap.specs.Walk.{Text}
 use Rattle.flagops_shell.specs.Console.{Shown}
 use Rattle.flagops_shell.specs.Files.{Holding}
 use Rattle.flagops_shell.specs.Usage.{ShowsOneUsage, ShowsWordsWant}
-use Rattle.flagops_streams.specs.Loading.{AnswersTo, TellsUnloaded}
+use Rattle.flagops_streams.specs.Loading.{AnswersTo, IsRefusedOf, TellsUnloaded}
 use Rattle.flagops_streams.specs.Words.{follow_by, follow_faults, serve_by, serve_faults}
 use Rattle.flagops_streams.specs.Documents.{Answer, count_of}
 use Rattle.flagops_streams.specs.Printed.{Follows}
 use Rattle.flagops_streams.specs.Report.{FindsNobody, RefusesBy, Reports, Serves}
-use Rattle.flagops_streams.specs.Told.{IsServeLine, TellsLate}
+use Rattle.flagops_streams.specs.Told.{TellsLate, TellsServing}
 use Rattle.flagops_streams.specs.declared.refusal.Refusal.TheVariants.{Unreadable}
 
 module _ (old new : Shown) (status : ℕ) where
@@ -17,13 +17,13 @@ module _ (old new : Shown) (status : ℕ) where
   abbrev pub AnswersServe : Option Holding → List Text → Type 0
   AnswersServe files words = IfSome (serve_by words) (λ s. IfSome files (λ at.
       ((answer : Answer) × AnswersTo at s answer
-      × Reports s.documents (IsServeLine s.documents s.port s.subscribers) (count_of answer) old.printed new.printed new.is_broken old.reported new.reported new.is_mute status)
+      × Reports s.documents (TellsServing s.documents (IsRefusedOf at s) (length s.documents) s.port s.subscribers) (count_of answer) old.printed new.printed new.is_broken old.reported new.reported new.is_mute status)
       ⊎ ShowsWordsWant old new status))
 
   -- all documents were published, or there was a refusal
   abbrev pub ServesAsked : List Text → Type 0
   ServesAsked words = IfSome (serve_by words) (λ s.
-      Serves s.documents (IsServeLine s.documents s.port s.subscribers) (length s.documents) old.printed new.printed new.is_broken old.reported new.reported new.is_mute status
+      Serves s.documents (TellsServing s.documents (λ _. Unit {0}) (length s.documents) s.port s.subscribers) (length s.documents) old.printed new.printed new.is_broken old.reported new.reported new.is_mute status
       ⊎ ShowsWordsWant old new status)
 
   -- the lines of a stream, beside which nothing is told but that nothing came; or nobody listens on the port, which is told

@@ -7,7 +7,7 @@ use Rattle.flagops_shell.specs.Outcomes.{◌>>=◌}
 use Rattle.flagops_shell.specs.declared.files.LoadFault.{LoadFault}
 use Rattle.flagops_shell.specs.declared.files.LoadFault.TheVariants as load
 use Rattle.limits.specs.Limits.{text_bytes}
-use Rattle.flagops_streams.specs.Documents.{Answer, ServesTo, source_added, texts_of}
+use Rattle.flagops_streams.specs.Documents.{Answer, IsRefusedAt, ServesTo, source_added, texts_of}
 use Rattle.flagops_streams.specs.Refusal.{is_unreadable, is_want}
 use Rattle.flagops_streams.specs.declared.documents.Documents.{Documents}
 use Rattle.flagops_streams.specs.declared.refusal.Refusal.{Refusal}
@@ -85,6 +85,10 @@ ServesLoaded floats subscribers (Ok d) answer = ServesTo floats subscribers d.so
 abbrev pub AnswersTo : Holding → Serving → Answer → Type 0
 AnswersTo at s (Ok published) = ServesLoaded s.floats s.subscribers (loaded_at at s.documents) (Ok published)
 AnswersTo at s (Err r) = is_want r ≡ false → ServesLoaded s.floats s.subscribers (loaded_at at s.documents) (Err r)
+
+-- the document at a place, from 1, is none, of those that are loaded
+abbrev pub IsRefusedOf : Holding → Serving → ℕ → Type 0
+IsRefusedOf at s place = (d : Loaded) × (loaded_at at s.documents ≡ Ok d) × IsRefusedAt s.floats d.texts place
 
 -- a file could not be read
 abbrev pub is_unread : {X : Type 0} → Result X code.Unloaded → Bool

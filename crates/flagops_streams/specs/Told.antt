@@ -1,10 +1,11 @@
 -- What a person is told beside the output, on an outlet of its own.
-use Rattle.std.specs.Prelude.{◌≡◌, ◌⊎◌, ◌<◌, ◌≤◌, ℕ, zero, suc, Bool, true, false, List, [], ◌∷◌, ◌++◌, codes, decimal, length, Option, Some, None}
+use Rattle.std.specs.Prelude.{◌≡◌, ◌⊎◌, ◌<◌, ◌+◌, ◌-◌, ℕ, zero, suc, Bool, true, false, List, [], ◌∷◌, ◌++◌, codes, decimal, length, Option, Some, None}
 use Rattle.std.specs.Io.KnownBytes.{Appends}
 use Rattle.file_diagnostics.specs.Named.{Names}
 use Rattle.flag_text.specs.Outlet.{AppendsPart}
 use Rattle.sync_server.specs.declared.end.StreamEnd.{StreamEnd}
 use Rattle.sync_server.specs.declared.end.StreamEnd.TheVariants.{Closed, Limit, WriteFault, ReadSeatFault, WantOfMemory}
+use Rattle.flagops_streams.specs.Documents.{missed_of}
 use Rattle.flagops_streams.specs.Why.{IsPathAt, IsWhy, memory_line, why_lines}
 use Rattle.flagops_streams.specs.declared.disconnected.Disconnected.{Disconnected}
 use Rattle.flagops_streams.specs.declared.refusal.Refusal.{Refusal}
@@ -14,11 +15,6 @@ abbrev pub Says : Option (List ℕ) → Option (List ℕ) → Bool → List ℕ 
 Says old new false text = Appends old new text
 Says old new true text = AppendsPart old new text
 
--- these lines were told so, one after the other, and each is one of those that may be told
-abbrev pub SaysEach : (List ℕ → Type 0) → Option (List ℕ) → Option (List ℕ) → Bool → List (List ℕ) → Type 0
-SaysEach Is old new is_mute [] = new ≡ old
-SaysEach Is old new is_mute (line ∷ lines) = (between : Option (List ℕ)) × Is line × Says old between is_mute line × SaysEach Is between new is_mute lines
-
 -- a text was told once, or nothing where there is no memory for it
 abbrev pub MayTell : List ℕ → Option (List ℕ) → Option (List ℕ) → Bool → Type 0
 MayTell text old new is_mute = (new ≡ old) ⊎ Says old new is_mute text
@@ -27,10 +23,6 @@ MayTell text old new is_mute = (new ≡ old) ⊎ Says old new is_mute text
 abbrev pub MayTellEach : (ℕ → List ℕ) → ℕ → Option (List ℕ) → Option (List ℕ) → Bool → Type 0
 MayTellEach text zero old new is_mute = new ≡ old
 MayTellEach text (suc n) old new is_mute = (between : Option (List ℕ)) × MayTellEach text n old between is_mute × MayTell (text (suc n)) between new is_mute
-
--- nothing but such lines was told
-abbrev pub TellsLines : (List ℕ → Type 0) → Option (List ℕ) → Option (List ℕ) → Bool → Type 0
-TellsLines Is old new is_mute = (lines : List (List ℕ)) × SaysEach Is old new is_mute lines
 
 -- a text that is not empty was told
 abbrev pub TellsText : Option (List ℕ) → Option (List ℕ) → Bool → Type 0
@@ -48,9 +40,9 @@ TellsReason refusal = TellsOrShort (λ text. text ≡ why_lines refusal)
 abbrev pub TellsReasonAt : List (List ℕ) → Refusal → Option (List ℕ) → Option (List ℕ) → Bool → Type 0
 TellsReasonAt paths refusal = TellsOrShort (IsWhy paths refusal)
 
--- such lines, and behind them why there was a refusal
-abbrev pub TellsWhy : List (List ℕ) → (List ℕ → Type 0) → Refusal → Option (List ℕ) → Option (List ℕ) → Bool → Type 0
-TellsWhy paths Is refusal old new is_mute = (between : Option (List ℕ)) × TellsLines Is old between is_mute × TellsReasonAt paths refusal between new is_mute
+-- this was told, and behind it why there was a refusal
+abbrev pub TellsWhy : List (List ℕ) → (Option (List ℕ) → Option (List ℕ) → Bool → Type 0) → Refusal → Option (List ℕ) → Option (List ℕ) → Bool → Type 0
+TellsWhy paths Tells refusal old new is_mute = (between : Option (List ℕ)) × Tells old between is_mute × TellsReasonAt paths refusal between new is_mute
 
 -- lines about a file were told, by its path
 abbrev pub TellsOfFile : List ℕ → Option (List ℕ) → Option (List ℕ) → Bool → Type 0
@@ -102,13 +94,6 @@ unfoldable pub gone_line : ℕ → ℕ → StreamEnd → List ℕ
 gone_line number snapshots end =
     codes "serve: subscriber " ++ (decimal number ++ (codes " has gone after " ++ (decimal snapshots ++ (codes " snapshots: " ++ (reason_of end ++ codes "\n")))))
 
-abbrev pub IsCame : ℕ → List ℕ → Type 0
-IsCame subscribers line = (number : ℕ) × (0 < number) × (number ≤ subscribers) × (line ≡ came_line number subscribers)
-
--- of some that has gone; where all were served, it was sent the last one
-abbrev pub IsGone : Bool → List ℕ → Type 0
-IsGone are_served line = (gone : Disconnected) × (number : ℕ) × (are_served ≡ true → gone.end ≡ Closed) × (line ≡ gone_line number gone.frames gone.end)
-
 -- what is told of one that is counted: once that it has gone, or nothing where no end of its stream is known
 abbrev pub TellsGone : Option Disconnected → Option (List ℕ) → Option (List ℕ) → Bool → Type 0
 TellsGone None old new is_mute = new ≡ old
@@ -124,26 +109,31 @@ abbrev pub TellsArrivals : ℕ → ℕ → ℕ → Option (List ℕ) → Option 
 TellsArrivals port subscribers came old new is_mute =
     (between : Option (List ℕ)) × MayTell (listening_line port subscribers) old between is_mute × MayTellEach (λ number. came_line number subscribers) came between new is_mute
 
--- where `serve` listens for so many subscribers, and that one has come
-abbrev pub IsArrival : ℕ → ℕ → List ℕ → Type 0
-IsArrival port subscribers line = (line ≡ listening_line port subscribers) ⊎ IsCame subscribers line
+-- once that each of those who came has gone, by the ends of their streams; where all were served, nobody was absent and none was missed
+abbrev pub TellsDepartures : Bool → ℕ → ℕ → Option (List ℕ) → Option (List ℕ) → Bool → Type 0
+TellsDepartures are_served came absent old new is_mute =
+    (ends : List (Option Disconnected)) × (length ends ≡ came) × (are_served ≡ true → (published : ℕ) × (missed_of published ends + absent ≡ 0)) × TellsEnds ends old new is_mute
 
--- that a document will be refused, by its path and its place
-abbrev pub IsForewarning : List (List ℕ) → List ℕ → Type 0
-IsForewarning paths line = (place : ℕ) × (path : List ℕ) × (why : List ℕ) × IsPathAt paths place path × Names path why × (line ≡ forewarning place why)
+-- of so many subscribers: where `serve` listens, who came, and that they have gone
+abbrev pub TellsOfSubscribers : ℕ → ℕ → Bool → Option (List ℕ) → Option (List ℕ) → Bool → Type 0
+TellsOfSubscribers port subscribers are_served old new is_mute =
+    (came : ℕ) × (absent : ℕ) × (came + absent ≡ subscribers)
+    × ((between : Option (List ℕ)) × TellsArrivals port subscribers came old between is_mute × TellsDepartures are_served came absent between new is_mute)
 
 -- that of this path and place is told once, or nothing where it is accepted or there is no memory
 abbrev pub MayForewarn : List ℕ → ℕ → Option (List ℕ) → Option (List ℕ) → Bool → Type 0
 MayForewarn path place old new is_mute = (new ≡ old) ⊎ ((why : List ℕ) × Names path why × Says old new is_mute (forewarning place why))
 
--- the same of the one at a place
-abbrev pub MayForewarnAt : List (List ℕ) → ℕ → Option (List ℕ) → Option (List ℕ) → Bool → Type 0
-MayForewarnAt paths place old new is_mute = (new ≡ old) ⊎ ((path : List ℕ) × IsPathAt paths place path × MayForewarn path place old new is_mute)
+-- the same of the one at a place, where that is refused
+abbrev pub MayForewarnAt : List (List ℕ) → (ℕ → Type 0) → ℕ → Option (List ℕ) → Option (List ℕ) → Bool → Type 0
+MayForewarnAt paths IsRefused place old new is_mute = (new ≡ old) ⊎ ((path : List ℕ) × IsPathAt paths place path × IsRefused place × MayForewarn path place old new is_mute)
 
--- of the subscribers: where it listens for so many, that one has come, that one has gone
-abbrev pub IsOfSubscribers : ℕ → ℕ → Bool → List ℕ → Type 0
-IsOfSubscribers port subscribers are_served line = IsArrival port subscribers line ⊎ IsGone are_served line
+-- of each of so many documents behind the first, in their order
+abbrev pub MayForewarnEach : List (List ℕ) → (ℕ → Type 0) → ℕ → Option (List ℕ) → Option (List ℕ) → Bool → Type 0
+MayForewarnEach paths IsRefused zero old new is_mute = new ≡ old
+MayForewarnEach paths IsRefused (suc n) old new is_mute = (between : Option (List ℕ)) × MayForewarnEach paths IsRefused n old between is_mute × MayForewarnAt paths IsRefused (n + 2) between new is_mute
 
--- what `serve` tells: that a document will be refused, and of its subscribers
-abbrev pub IsServeLine : List (List ℕ) → ℕ → ℕ → Bool → List ℕ → Type 0
-IsServeLine paths port subscribers are_served line = IsForewarning paths line ⊎ IsOfSubscribers port subscribers are_served line
+-- what `serve` tells of so many documents, at the places where they are refused, and then of its subscribers
+abbrev pub TellsServing : List (List ℕ) → (ℕ → Type 0) → ℕ → ℕ → ℕ → Bool → Option (List ℕ) → Option (List ℕ) → Bool → Type 0
+TellsServing paths IsRefused documents port subscribers are_served old new is_mute =
+    (between : Option (List ℕ)) × MayForewarnEach paths IsRefused (documents - 1) old between is_mute × TellsOfSubscribers port subscribers are_served between new is_mute

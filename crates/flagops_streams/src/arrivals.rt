@@ -1,7 +1,7 @@
 //! Waiting for the subscribers.
-ghost use Rattle.std.specs.Prelude.{◌≡◌, ◌+◌, ◌<◌, ◌≤◌, ◌^◌, false, vec_len, IfErr, IfOk};
+ghost use Rattle.std.specs.Prelude.{◌≡◌, ◌+◌, ◌<◌, ◌≤◌, ◌^◌, ℕ, false, vec_len, IfErr, IfOk};
 ghost use Rattle.flagops_streams.specs.Documents.{MayFail};
-ghost use Rattle.flagops_streams.specs.Told.{IsArrival, TellsArrivals, TellsLines};
+ghost use Rattle.flagops_streams.specs.Told.{TellsArrivals};
 
 use crate::refusal::Refusal;
 use crate::remark::{say_came, say_listening};
@@ -42,7 +42,7 @@ where
     ensures came { IfOk result (λ arrived. vec_len arrived.streams + arrived.absent ≡ subscribers) }
     ensures refused { IfErr result (λ refusal. MayFail subscribers refusal) }
     ensures told { IfOk result (λ arrived. TellsArrivals port subscribers (vec_len arrived.streams) (E.bytes err.old) (E.bytes err.new) (E.is_broken err.new)) }
-    ensures lines { TellsLines (IsArrival port subscribers) (E.bytes err.old) (E.bytes err.new) (E.is_broken err.new) }
+    ensures some { IfErr result (λ _. (came : ℕ) × (came ≤ subscribers) × TellsArrivals port subscribers came (E.bytes err.old) (E.bytes err.new) (E.is_broken err.new)) }
     ensures stays { E.is_broken err.new ≡ false → E.is_broken err.old ≡ false }
 {
     let streams = match connections(rt, alloc, port, subscribers, wait, err) {
@@ -76,7 +76,7 @@ where
     ensures few { IfOk result (λ streams. vec_len streams ≤ subscribers) }
     ensures refused { IfErr result (λ refusal. MayFail subscribers refusal) }
     ensures told { IfOk result (λ streams. TellsArrivals port subscribers (vec_len streams) (E.bytes err.old) (E.bytes err.new) (E.is_broken err.new)) }
-    ensures lines { TellsLines (IsArrival port subscribers) (E.bytes err.old) (E.bytes err.new) (E.is_broken err.new) }
+    ensures some { IfErr result (λ _. (came : ℕ) × (came ≤ subscribers) × TellsArrivals port subscribers came (E.bytes err.old) (E.bytes err.new) (E.is_broken err.new)) }
     ensures stays { E.is_broken err.new ≡ false → E.is_broken err.old ≡ false }
 {
     let address = SocketAddr::from(([127, 0, 0, 1], port));

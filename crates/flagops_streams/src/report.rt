@@ -55,7 +55,7 @@ pub(crate) fn report_answer<O: Outlet, E: Outlet>(
     answer: Result<u64, Refusal>,
 ) -> u8
     requires { O.is_broken out.old ≡ false }
-    ensures reports { Reports (map (λ path. path.now) paths.now) (λ _ _. ⊥) answer (O.bytes out.old) (O.bytes out.new) (O.is_broken out.new) (E.bytes err.old) (E.bytes err.new) (E.is_broken err.new) result }
+    ensures reports { Reports (map (λ path. path.now) paths.now) (λ _ told now _. now ≡ told) answer (O.bytes out.old) (O.bytes out.new) (O.is_broken out.new) (E.bytes err.old) (E.bytes err.new) (E.is_broken err.new) result }
     ensures stays { E.is_broken err.new ≡ false → E.is_broken err.old ≡ false }
 {
     match answer {

@@ -3,10 +3,10 @@ ghost use Rattle.std.specs.Prelude.{◌≡◌, false, true, length, map, IfSome}
 ghost use Rattle.flagops_shell.specs.Console.{IsOpen};
 ghost use Rattle.flagops_streams.specs.Ended.{AnswersServe, RefusesUnread, ServesAsked, TellsServe};
 ghost use Rattle.flagops_streams.specs.Documents.{Answer, count_of};
-ghost use Rattle.flagops_streams.specs.Loading.{AnswersTo, TellsUnloaded};
+ghost use Rattle.flagops_streams.specs.Loading.{AnswersTo, IsRefusedOf, TellsUnloaded};
 ghost use Rattle.flagops_streams.specs.Refusal.{is_unreadable};
 ghost use Rattle.flagops_streams.specs.Report.{RefusesBy, Reports, Serves};
-ghost use Rattle.flagops_streams.specs.Told.{IsServeLine, TellsOfFile, TellsReason};
+ghost use Rattle.flagops_streams.specs.Told.{TellsOfFile, TellsReason, TellsServing};
 ghost use Rattle.flagops_streams.specs.Words.{serving_view};
 ghost use Rattle.flagops_streams.specs.declared.refusal.Refusal.TheVariants.{Unreadable};
 
@@ -79,8 +79,8 @@ where
     requires out_whole { O.is_broken out.old ≡ false }
     requires err_whole { E.is_broken err.old ≡ false }
     ensures answers { IfSome (F.holding files.old) (λ at. (answer : Answer) × AnswersTo at (serving_view serving.now) answer
-        × Reports (serving_view serving.now).documents (IsServeLine (serving_view serving.now).documents serving.now.port serving.now.subscribers) (count_of answer) (O.bytes out.old) (O.bytes out.new) (O.is_broken out.new) (E.bytes err.old) (E.bytes err.new) (E.is_broken err.new) result) }
-    ensures serves { Serves (serving_view serving.now).documents (IsServeLine (serving_view serving.now).documents serving.now.port serving.now.subscribers) (length serving.now.documents.items) (O.bytes out.old) (O.bytes out.new) (O.is_broken out.new) (E.bytes err.old) (E.bytes err.new) (E.is_broken err.new) result }
+        × Reports (serving_view serving.now).documents (TellsServing (serving_view serving.now).documents (IsRefusedOf at (serving_view serving.now)) (length (serving_view serving.now).documents) serving.now.port serving.now.subscribers) (count_of answer) (O.bytes out.old) (O.bytes out.new) (O.is_broken out.new) (E.bytes err.old) (E.bytes err.new) (E.is_broken err.new) result) }
+    ensures serves { Serves (serving_view serving.now).documents (TellsServing (serving_view serving.now).documents (λ _. Unit {0}) (length (serving_view serving.now).documents) serving.now.port serving.now.subscribers) (length serving.now.documents.items) (O.bytes out.old) (O.bytes out.new) (O.is_broken out.new) (E.bytes err.old) (E.bytes err.new) (E.is_broken err.new) result }
     ensures unread { F.has_failed files.old ≡ false → F.has_failed files.new ≡ true
         → RefusesBy Unreadable (O.bytes out.old) (O.bytes out.new) (O.is_broken out.new) result × TellsUnloaded (F.holding files.old) (serving_view serving.now).documents (E.bytes err.old) (E.bytes err.new) (E.is_broken err.new) }
     ensures kept { F.holding files.new ≡ F.holding files.old }

@@ -1,12 +1,12 @@
 //! The command `serve`: documents published to subscribers.
-ghost use Rattle.std.specs.Prelude.{◌≡◌, ◌⊎◌, ◌+◌, ◌^◌, ◌<◌, ◌≤◌, ◌∷◌, [], List, Option, Err, false, true, if◌then◌else◌, is_ok, length, map, nat_eq, vec_len, IfOk, IfSome};
+ghost use Rattle.std.specs.Prelude.{◌≡◌, ◌⊎◌, ◌+◌, ◌-◌, ◌^◌, ◌<◌, ◌≤◌, ◌∷◌, [], List, Option, Err, false, if◌then◌else◌, is_ok, length, map, vec_len, IfOk};
 ghost use denote.Param.Send.{IsSend, IsSync};
 ghost use Rattle.flag_defs.specs.Flags.{flags_view};
+ghost use Rattle.flag_defs.specs.Floats.{MeansAs};
 ghost use Rattle.source_merge.specs.View.{sources_view};
-ghost use Rattle.flagops_streams.specs.Documents.{Answer, Counts, Gives, GivesSome, ServesAll, ServesTo, count_of, documents_in, is_served, less_missed, missed_of, published_in, texts_of, told_view};
+ghost use Rattle.flagops_streams.specs.Documents.{Answer, Counts, Gives, GivesSome, IsRefusedAt, ServesAll, ServesTo, count_of, documents_in, is_served, less_missed, missed_of, published_in, texts_of, told_view};
 ghost use Rattle.flagops_streams.specs.Report.{Reports, Serves};
-ghost use Rattle.sync_server.specs.End.{is_closed_end};
-ghost use Rattle.flagops_streams.specs.Told.{IsForewarning, IsGone, IsOfSubscribers, IsServeLine, MayForewarnAt, TellsEnds, TellsGone, TellsLines};
+ghost use Rattle.flagops_streams.specs.Told.{MayForewarnAt, MayForewarnEach, TellsDepartures, TellsEnds, TellsGone, TellsOfSubscribers, TellsServing};
 
 use crate::arrivals::{Arrived, arrivals};
 use crate::board::Board;
@@ -56,8 +56,8 @@ where
     E: Outlet + Drop,
     requires whole { O.is_broken out.old ≡ false }
     requires some { 0 < documents_in documents }
-    ensures serves { Serves (map (λ path. path.now) paths.now) (IsServeLine (map (λ path. path.now) paths.now) port subscribers) (documents_in documents) (O.bytes out.old) (O.bytes out.new) (O.is_broken out.new) (E.bytes err.old) (E.bytes err.new) (E.is_broken err.new) result }
-    ensures documents { (answer : Answer) × ServesAll floats subscribers documents answer × Reports (map (λ path. path.now) paths.now) (IsServeLine (map (λ path. path.now) paths.now) port subscribers) (count_of answer) (O.bytes out.old) (O.bytes out.new) (O.is_broken out.new) (E.bytes err.old) (E.bytes err.new) (E.is_broken err.new) result }
+    ensures serves { Serves (map (λ path. path.now) paths.now) (TellsServing (map (λ path. path.now) paths.now) (IsRefusedAt floats (texts_of documents.texts.items)) (documents_in documents) port subscribers) (documents_in documents) (O.bytes out.old) (O.bytes out.new) (O.is_broken out.new) (E.bytes err.old) (E.bytes err.new) (E.is_broken err.new) result }
+    ensures documents { (answer : Answer) × ServesAll floats subscribers documents answer × Reports (map (λ path. path.now) paths.now) (TellsServing (map (λ path. path.now) paths.now) (IsRefusedAt floats (texts_of documents.texts.items)) (documents_in documents) port subscribers) (count_of answer) (O.bytes out.old) (O.bytes out.new) (O.is_broken out.new) (E.bytes err.old) (E.bytes err.new) (E.is_broken err.new) result }
 {
     let alloc = rt.alloc();
     let Documents { sources, texts } = documents;
@@ -69,12 +69,19 @@ where
 
 /// Tells of each document behind the first that will be refused once its turn comes, and why.
 fn forewarn<E: Outlet>(alloc: Global, paths: &[&str], floats: bool, texts: &[Vec<u8>], err: &mut E)
-    ensures lines { TellsLines (IsForewarning (map (λ path. path.now) paths.now)) (E.bytes err.old) (E.bytes err.new) (E.is_broken err.new) }
+    ensures told { MayForewarnEach (map (λ path. path.now) paths.now) (IsRefusedAt floats (texts_of texts.now)) (length texts.now - 1) (E.bytes err.old) (E.bytes err.new) (E.is_broken err.new) }
     ensures stays { E.is_broken err.new ≡ false → E.is_broken err.old ≡ false }
 {
-    for before in 1..texts.len() {
-        let place = (before as u64).saturating_add(1);
-        forewarn_of(alloc, paths, place, floats, texts[before].as_slice(), err);
+    for behind in 0..texts.len().saturating_sub(1) {
+        let place = behind as u64 + 2;
+        forewarn_of(
+            alloc,
+            paths,
+            place,
+            floats,
+            texts[behind + 1].as_slice(),
+            err,
+        );
     }
 }
 
@@ -87,7 +94,7 @@ fn forewarn_of<E: Outlet>(
     text: &[u8],
     err: &mut E,
 )
-    ensures told { MayForewarnAt (map (λ path. path.now) paths.now) place (E.bytes err.old) (E.bytes err.new) (E.is_broken err.new) }
+    ensures told { MayForewarnAt (map (λ path. path.now) paths.now) (λ _. (fault : DefFault) × MeansAs floats text.now (Err fault)) place (E.bytes err.old) (E.bytes err.new) (E.is_broken err.new) }
     ensures stays { E.is_broken err.new ≡ false → E.is_broken err.old ≡ false }
 {
     let Some(path) = path_at(paths, place) else {
@@ -129,7 +136,7 @@ where
     E: Outlet + Drop,
     requires { 0 < length texts.now }
     ensures serves { Counts (ServesTo floats subscribers (sources_view sources) (texts_of texts.now) []) result }
-    ensures lines { TellsLines (IsOfSubscribers port subscribers (is_ok result)) (E.bytes err.old) (E.bytes err.new) (E.is_broken err.new) }
+    ensures told { TellsOfSubscribers port subscribers (is_ok result) (E.bytes err.old) (E.bytes err.new) (E.is_broken err.new) }
     ensures stays { E.is_broken err.new ≡ false → E.is_broken err.old ≡ false }
 {
     let alloc = rt.alloc();
@@ -160,7 +167,7 @@ fn publish_to<J: ShareName + Send + Sync, R: Clock + Threads + Wait + Sync, E: O
 ) -> Result<u64, Refusal>
     requires { history.seen.book ≡ J.book }
     ensures serves { Counts (ServesTo floats (vec_len arrived.streams + arrived.absent) (sources_view sources) (texts_of texts.now) (flags_view flags ∷ [])) result }
-    ensures lines { TellsLines (IsGone (is_ok result)) (E.bytes err.old) (E.bytes err.new) (E.is_broken err.new) }
+    ensures told { TellsDepartures (is_ok result) (vec_len arrived.streams) arrived.absent (E.bytes err.old) (E.bytes err.new) (E.is_broken err.new) }
     ensures stays { E.is_broken err.new ≡ false → E.is_broken err.old ≡ false }
 {
     let (mut publisher, seats) = match share::<J, R>(
@@ -206,7 +213,7 @@ fn publish_shared<J: ShareName + Send + Sync, R: Clock + Threads + Wait + Sync, 
 ) -> Result<Told<J>, Refusal>
     requires { length publisher.old ≡ 1 }
     ensures serves { ServesTo floats (vec_len arrived.streams + arrived.absent) (sources_view sources) (texts_of texts.now) (map flags_view publisher.old) (told_view result) }
-    ensures lines { TellsLines (IsGone (is_ok result)) (E.bytes err.old) (E.bytes err.new) (E.is_broken err.new) }
+    ensures told { TellsDepartures (is_ok result) (vec_len arrived.streams) arrived.absent (E.bytes err.old) (E.bytes err.new) (E.is_broken err.new) }
     ensures stays { E.is_broken err.new ≡ false → E.is_broken err.old ≡ false }
 {
     let told = publisher.tell();
@@ -314,7 +321,7 @@ fn serve_beside<
     err: &mut E,
 ) -> Result<Told<J>, Refusal>
     ensures gives { (result ≡ Err Refusal.NoThread) ⊎ GivesSome (vec_len arrived.streams + arrived.absent) (P.gives publishing) (told_view result) }
-    ensures lines { TellsLines (IsGone (is_ok result)) (E.bytes err.old) (E.bytes err.new) (E.is_broken err.new) }
+    ensures told { TellsDepartures (is_ok result) (vec_len arrived.streams) arrived.absent (E.bytes err.old) (E.bytes err.new) (E.is_broken err.new) }
     ensures stays { E.is_broken err.new ≡ false → E.is_broken err.old ≡ false }
 {
     replace_with(
@@ -323,7 +330,7 @@ fn serve_beside<
         |err: E, publishing: P| -> (E, Result<Told<J>, Refusal>)
             requires { IsSend J.row × IsSync J.row × IsSync R.row }
             ensures gives { (result.1 ≡ Err Refusal.NoThread) ⊎ GivesSome (vec_len arrived.streams + arrived.absent) (P.gives publishing) (told_view result.1) }
-            ensures lines { TellsLines (IsGone (is_ok result.1)) (E.bytes err) (E.bytes result.0) (E.is_broken result.0) }
+            ensures told { TellsDepartures (is_ok result.1) (vec_len arrived.streams) arrived.absent (E.bytes err) (E.bytes result.0) (E.is_broken result.0) }
             ensures stays { E.is_broken result.0 ≡ false → E.is_broken err ≡ false }
         { serve_in_scope(rt, alloc, board, seats, arrived, publishing, err) },
     )
@@ -345,7 +352,7 @@ fn serve_in_scope<
     err: E,
 ) -> (E, Result<Told<J>, Refusal>)
     ensures gives { (result.1 ≡ Err Refusal.NoThread) ⊎ GivesSome (vec_len arrived.streams + arrived.absent) (P.gives publishing) (told_view result.1) }
-    ensures lines { TellsLines (IsGone (is_ok result.1)) (E.bytes err) (E.bytes result.0) (E.is_broken result.0) }
+    ensures told { TellsDepartures (is_ok result.1) (vec_len arrived.streams) arrived.absent (E.bytes err) (E.bytes result.0) (E.is_broken result.0) }
     ensures stays { E.is_broken result.0 ≡ false → E.is_broken err ≡ false }
 {
     thread::scope(
@@ -354,7 +361,7 @@ fn serve_in_scope<
         move |scope| -> (E, Result<Told<J>, Refusal>)
             requires { IsSend J.row × IsSync J.row × IsSync R.row × (vec_len arrived.streams + arrived.absent < 2 ^ 64) }
             ensures gives { (result.1 ≡ Err Refusal.NoThread) ⊎ GivesSome (vec_len arrived.streams + arrived.absent) (P.gives publishing) (told_view result.1) }
-            ensures lines { TellsLines (IsGone (is_ok result.1)) (E.bytes err) (E.bytes result.0) (E.is_broken result.0) }
+            ensures told { TellsDepartures (is_ok result.1) (vec_len arrived.streams) arrived.absent (E.bytes err) (E.bytes result.0) (E.is_broken result.0) }
             ensures stays { E.is_broken result.0 ≡ false → E.is_broken err ≡ false }
         {
             let Arrived {
@@ -419,7 +426,6 @@ fn tell_gone<J: ShareName, R: Wait, E: Outlet>(
 ) -> usize
     ensures few { result ≤ count }
     ensures ends { (ends : List (Option Disconnected)) × (length ends ≡ count) × (result ≡ missed_of published ends) × TellsEnds ends (E.bytes err.old) (E.bytes err.new) (E.is_broken err.new) }
-    ensures lines { TellsLines (IsGone (nat_eq result 0)) (E.bytes err.old) (E.bytes err.new) (E.is_broken err.new) }
     ensures stays { E.is_broken err.new ≡ false → E.is_broken err.old ≡ false }
 {
     let mut missed = 0;
@@ -438,7 +444,6 @@ fn tell_next<J: ShareName, R: Wait, E: Outlet>(
     err: &mut E,
 ) -> usize
     ensures end { (end : Option Disconnected) × (result ≡ (if is_served published end then 0 else 1)) × TellsGone end (E.bytes err.old) (E.bytes err.new) (E.is_broken err.new) }
-    ensures lines { TellsLines (IsGone (nat_eq result 0)) (E.bytes err.old) (E.bytes err.new) (E.is_broken err.new) }
     ensures stays { E.is_broken err.new ≡ false → E.is_broken err.old ≡ false }
 {
     match board.next_end(rt) {
@@ -452,8 +457,7 @@ fn tell_next<J: ShareName, R: Wait, E: Outlet>(
 
 /// 1 where a stream ended before so many publications were sent, or no end of it is known.
 fn missed_by(end: Option<Disconnected>, published: u64) -> usize
-    ensures exact { result ≡ (if is_served published end then 0 else 1) }
-    ensures closed { nat_eq result 0 ≡ true → IfSome end (λ gone. is_closed_end gone.end ≡ true) }
+    ensures { result ≡ (if is_served published end then 0 else 1) }
 {
     let Some(gone) = end else {
         return 1;

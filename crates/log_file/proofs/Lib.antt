@@ -2,3 +2,4 @@ mod LastLine
 mod Pieces
 mod Lengths
 pub mod LastLines
+pub mod Handing

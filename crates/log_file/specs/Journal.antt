@@ -21,11 +21,11 @@ lost_after Stands = None
 lost_after (Reopened loss) = None
 lost_after (Lost loss fault) = Some loss
 
--- what is left of the lines that were read of it: none of a file that is lost
-abbrev pub last_after : Look → List ℕ → List ℕ
-last_after Stands last = last
-last_after (Reopened loss) last = []
-last_after (Lost loss fault) last = []
+-- what is left of the bytes that stand in it, which were read of it or handed to it: none of a file that is lost
+abbrev pub left_after : Look → List ℕ → List ℕ
+left_after Stands bytes = bytes
+left_after (Reopened loss) bytes = []
+left_after (Lost loss fault) bytes = []
 
 -- the path of a file that was lost so was opened anew, or could not be
 abbrev pub IsOpenedAnew : Loss → Look → Type 0

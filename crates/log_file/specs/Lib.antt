@@ -5,5 +5,6 @@ pub mod Last
 pub mod Loss
 pub mod Modes
 pub mod File
+pub mod Handed
 pub mod Piece
 pub mod Journal

@@ -5,12 +5,14 @@
 //! [`SystemLog`] is a file of the system, which no other process has open as a log.
 //!
 //! Proved, over the definitions of `specs/`: a journal that opens has left the whole lines of its file, the longest prefix that
-//! ends with a line feed; it appends only to a file that stood at its path when it was last looked for; what it makes it asks the
-//! system to make for its owner alone.
+//! ends with a line feed; it appends only to a file that stood at its path when it was last looked for; what it says that the
+//! file was handed, which is [`Handed`], stands at the end of that, and begins anew with another file; what it makes it asks the system to
+//! make for its owner alone.
 #![tactic(auto)]
 
 mod fault;
 mod file;
+mod handed;
 mod journal;
 mod last;
 mod loss;
@@ -21,6 +23,7 @@ mod whole;
 
 pub use fault::LogFault;
 pub use file::LogFile;
+pub use handed::Handed;
 pub use journal::{Journal, Look};
 pub use loss::Loss;
 pub use paths::LogPaths;

@@ -18,11 +18,11 @@ use Rattle.logic_ast.specs.declared.operator.Operator.TheVariants as op
 use Rattle.logic_ast.proofs.Replaced.{entries_of-literal}
 use Rattle.logic_values.specs.declared.fault.EvalFault.{EvalFault}
 use Rattle.logic_values.specs.Comparison.{bool_eq}
-use Rattle.logic_eval.specs.Evaluation.{part_of, pairs, input, meaning, meanings, by_meaning, bucket_meanings}
+use Rattle.logic_eval.specs.Evaluation.{part_of, pairs, input, meaning, meanings, operands, operand_meaning, by_meaning, bucket_meanings}
 use Rattle.logic_eval.specs.Fractional.{buckets_of, chosen, reached, by_input, by_buckets, decided, given_input, made_input}
 use Rattle.logic_eval.specs.Laws.{with_total, paid_for}
 use Rattle.logic_values.specs.Lists.{items_in}
-use Rattle.logic_eval.specs.Operators.{Meaning, values, strict, conditional, first_of_truth, mapped, kept, occurs, is_empty, reduced, over_items, over, start, over_from_start, operated, applied}
+use Rattle.logic_eval.specs.Operators.{Meaning, values, variable_run, strict, conditional, first_of_truth, mapped, kept, occurs, is_empty, reduced, over_items, over, start, over_from_start, found_decimal, compares, with_tests, with_early_tests, asked, operated, applied_exactly}
 use Rattle.logic_values.specs.Objects.{reduce_scope}
 use Rattle.logic_eval.specs.Run.{Reach, Entry, Run, cost, reach, ends, gives, after, after_trace, continues, ◌>>=◌, reached_of, units_of}
 use Rattle.logic_eval.specs.Scope.{size, variable}
@@ -191,88 +191,156 @@ module _ (n : ℕ) (old new : Entries) where
   same-if true r s u v h k = h
   same-if false r s u v h k = k
 
+  -- meanings that give the same, one by one
+  abbrev pub AllSame : List Meaning → List Meaning → Type 0
+  AllSame [] [] = Unit {0}
+  AllSame [] (p ∷ ps) = ⊥
+  AllSame (m ∷ ms) [] = ⊥
+  AllSame (m ∷ ms) (p ∷ ps) = ((scope : Shape) → Same n old new (m scope) (p scope)) × AllSame ms ps
+
+  same-values : (ms ps : List Meaning) → AllSame ms ps → (scope : Shape) → Same n old new (values ms scope) (values ps scope)
+  same-values [] [] ks scope = same-gives []
+  same-values [] (p ∷ ps) ks scope = absurd ks
+  same-values (m ∷ ms) [] ks scope = absurd ks
+  same-values (m ∷ ms) (p ∷ ps) ks scope = same-bind _ _ _ _ (ks.0 scope) (λ v. same-bind _ _ _ _ (same-values ms ps ks.1 scope) (λ vs. same-gives (v ∷ vs)))
+
+  same-conditional : (ms ps : List Meaning) → AllSame ms ps → (scope : Shape) → Same n old new (conditional ms scope) (conditional ps scope)
+  same-conditional [] [] ks scope = same-gives null
+  same-conditional [] (p ∷ ps) ks scope = absurd ks
+  same-conditional (m ∷ ms) [] ks scope = absurd ks
+  same-conditional (m ∷ []) (p ∷ []) ks scope = ks.0 scope
+  same-conditional (m ∷ []) (p ∷ q ∷ ps) ks scope = absurd ks.1
+  same-conditional (m ∷ r ∷ ms) (p ∷ []) ks scope = absurd ks.1
+  same-conditional (m ∷ r ∷ ms) (p ∷ q ∷ ps) ks scope =
+      same-bind _ _ _ _ (ks.0 scope) (λ v. same-if (is_true v) _ _ _ _ (ks.1.0 scope) (same-conditional ms ps ks.1.1 scope))
+
+  same-first : (b : Bool) (ms ps : List Meaning) → AllSame ms ps → (scope : Shape) → Same n old new (first_of_truth b ms scope) (first_of_truth b ps scope)
+  same-first b [] [] ks scope = same-gives null
+  same-first b [] (p ∷ ps) ks scope = absurd ks
+  same-first b (m ∷ ms) [] ks scope = absurd ks
+  same-first b (m ∷ []) (p ∷ []) ks scope = ks.0 scope
+  same-first b (m ∷ []) (p ∷ q ∷ ps) ks scope = absurd ks.1
+  same-first b (m ∷ r ∷ ms) (p ∷ []) ks scope = absurd ks.1
+  same-first b (m ∷ r ∷ ms) (p ∷ q ∷ ps) ks scope =
+      same-bind _ _ _ _ (ks.0 scope) (λ v. same-if (bool_eq b (is_true v)) _ _ _ _ (same-gives v) (same-first b (r ∷ ms) (q ∷ ps) ks.1 scope))
+
+  module _ (body other : Meaning) (k : (scope : Shape) → Same n old new (body scope) (other scope)) where
+    same-mapped : (ts : List Shape) → Same n old new (mapped body ts) (mapped other ts)
+    same-mapped [] = same-gives []
+    same-mapped (t ∷ ts) = same-bind _ _ _ _ (k t) (λ v. same-bind _ _ _ _ (same-mapped ts) (λ vs. same-gives (v ∷ vs)))
+
+    same-kept : (ts : List Shape) → Same n old new (kept body ts) (kept other ts)
+    same-kept [] = same-gives []
+    same-kept (t ∷ ts) = same-bind _ _ _ _ (k t) (λ v. same-bind _ _ _ _ (same-kept ts) (λ vs. same-gives (cond (is_true v) (t ∷ vs) vs)))
+
+    same-occurs : (b : Bool) (ts : List Shape) → Same n old new (occurs b body ts) (occurs b other ts)
+    same-occurs b [] = same-gives false
+    same-occurs b (t ∷ ts) = same-bind _ _ _ _ (k t) (λ v. same-if (bool_eq b (is_true v)) _ _ _ _ (same-gives true) (same-occurs b ts))
+
+    same-reduced : (so_far : Shape) (ts : List Shape) → Same n old new (reduced body so_far ts) (reduced other so_far ts)
+    same-reduced so_far [] = same-gives so_far
+    same-reduced so_far (t ∷ ts) = same-bind _ _ _ _ (k (reduce_scope so_far t)) (λ v. same-reduced v ts)
+
+    same-over_items : (o : Operator) (ts : List Shape) → Same n old new (over_items o body ts) (over_items o other ts)
+    same-over_items op.Map ts = same-bind _ _ _ _ (same-mapped ts) (λ vs. same-gives (list (items_of vs)))
+    same-over_items op.Filter ts = same-bind _ _ _ _ (same-kept ts) (λ vs. same-gives (list (items_of vs)))
+    same-over_items op.AllOf ts = same-if (is_empty ts) _ _ _ _ (same-gives (boolean false)) (same-bind _ _ _ _ (same-occurs false ts) (λ b. same-gives (boolean (not b))))
+    same-over_items op.SomeOf ts = same-bind _ _ _ _ (same-occurs true ts) (λ b. same-gives (boolean b))
+    same-over_items op.NoneOf ts = same-bind _ _ _ _ (same-occurs true ts) (λ b. same-gives (boolean (not b)))
+    same-over_items o ts = same-gives null
+
+  same-over : (o : Operator) (ms ps : List Meaning) → AllSame ms ps → (scope : Shape) → Same n old new (over o ms scope) (over o ps scope)
+  same-over o [] [] ks scope = same-gives null
+  same-over o [] (p ∷ ps) ks scope = absurd ks
+  same-over o (m ∷ ms) [] ks scope = absurd ks
+  same-over o (m ∷ []) (p ∷ []) ks scope = same-gives null
+  same-over o (m ∷ []) (p ∷ q ∷ ps) ks scope = absurd ks.1
+  same-over o (m ∷ r ∷ ms) (p ∷ []) ks scope = absurd ks.1
+  same-over o (m ∷ r ∷ ms) (p ∷ q ∷ ps) ks scope = same-bind _ _ _ _ (ks.0 scope) (λ v. same-over_items r q ks.1.0 o (items_in v))
+
+  same-start : (ms ps : List Meaning) → AllSame ms ps → (scope : Shape) → Same n old new (start ms scope) (start ps scope)
+  same-start [] [] ks scope = same-gives null
+  same-start [] (p ∷ ps) ks scope = absurd ks
+  same-start (m ∷ ms) [] ks scope = absurd ks
+  same-start (m ∷ ms) (p ∷ ps) ks scope = ks.0 scope
+
+  same-reduce : (ms ps : List Meaning) → AllSame ms ps → (scope : Shape) → Same n old new (over_from_start ms scope) (over_from_start ps scope)
+  same-reduce [] [] ks scope = same-gives null
+  same-reduce [] (p ∷ ps) ks scope = absurd ks
+  same-reduce (m ∷ ms) [] ks scope = absurd ks
+  same-reduce (m ∷ []) (p ∷ []) ks scope = same-gives null
+  same-reduce (m ∷ []) (p ∷ q ∷ ps) ks scope = absurd ks.1
+  same-reduce (m ∷ r ∷ ms) (p ∷ []) ks scope = absurd ks.1
+  same-reduce (m ∷ r ∷ ms) (p ∷ q ∷ ps) ks scope =
+      same-bind _ _ _ _ (ks.0 scope) (λ v. same-bind _ _ _ _ (same-start ms ps ks.1.1 scope) (λ u. same-reduced r q ks.1.0 u (items_in v)))
+
+  same-strict : (o : Operator) (ms ps : List Meaning) → AllSame ms ps → (scope : Shape) → Same n old new (strict o ms scope) (strict o ps scope)
+  same-strict o ms ps ks scope = same-bind _ _ _ _ (same-values ms ps ks scope) (λ vs. same-ends (applied_exactly o scope vs))
+
+  same-variable : (ms ps : List Meaning) → AllSame ms ps → (scope : Shape) → Same n old new (variable_run ms scope) (variable_run ps scope)
+  same-variable ms ps ks scope =
+      same-bind _ _ _ _ (same-values ms ps ks scope) (λ vs. same-bind _ _ _ _ (same-cost (size (variable scope vs)) _ _ (same-gives (variable scope vs))) (λ v. same-ends _))
+
+  -- a `var` that is compared or tested
+  same-operand : (ms ps : List Meaning) → AllSame ms ps → (scope : Shape)
+      → Same n old new (after (cost 1) (values ms scope >>= λ vs. found_decimal (variable scope vs))) (after (cost 1) (values ps scope >>= λ vs. found_decimal (variable scope vs)))
+  same-operand ms ps ks scope =
+      same-cost 1 _ _ (same-bind _ _ _ _ (same-values ms ps ks scope) (λ vs. same-bind _ _ _ _ (same-cost (size (variable scope vs)) _ _ (same-gives (variable scope vs))) (λ v. same-ends _)))
+
+  same-operated : (o : Operator) (ms ps : List Meaning) → AllSame ms ps → (scope : Shape) → Same n old new (operated o ms scope) (operated o ps scope)
+  same-operated op.Var ms ps ks scope = same-variable ms ps ks scope
+  same-operated op.If ms ps ks scope = same-conditional ms ps ks scope
+  same-operated op.And ms ps ks scope = same-first false ms ps ks scope
+  same-operated op.Or ms ps ks scope = same-first true ms ps ks scope
+  same-operated op.Map ms ps ks scope = same-over op.Map ms ps ks scope
+  same-operated op.Filter ms ps ks scope = same-over op.Filter ms ps ks scope
+  same-operated op.AllOf ms ps ks scope = same-over op.AllOf ms ps ks scope
+  same-operated op.SomeOf ms ps ks scope = same-over op.SomeOf ms ps ks scope
+  same-operated op.NoneOf ms ps ks scope = same-over op.NoneOf ms ps ks scope
+  same-operated op.Reduce ms ps ks scope = same-reduce ms ps ks scope
+  same-operated o ms ps ks scope = same-strict o ms ps ks scope
+
   module _ (d : Option (List ℕ)) where
     abbrev pub W : Expression → Expression
     W e = with_entries n new e
 
+    abbrev pub WS : Expressions → Expressions
+    WS es = all_with_entries n new es
+
+    -- alike, also where they are compared or tested
     abbrev pub Alike : Expression → Type 0
-    Alike e = (scope : Shape) → Same n old new (meaning d e scope) (meaning d (W e) scope)
+    Alike e = ((scope : Shape) → Same n old new (meaning d e scope) (meaning d (W e) scope)) × ((scope : Shape) → Same n old new (operand_meaning d e scope) (operand_meaning d (W e) scope))
 
     abbrev pub AllAlike : Expressions → Type 0
     AllAlike no_expressions = Unit {0}
     AllAlike (expression e es) = Alike e × AllAlike es
 
-    same-values : (es : Expressions) → AllAlike es → (scope : Shape) → Same n old new (values (meanings d es) scope) (values (meanings d (all_with_entries n new es)) scope)
-    same-values no_expressions ks scope = same-gives []
-    same-values (expression e es) ks scope = same-bind _ _ _ _ (ks.0 scope) (λ v. same-bind _ _ _ _ (same-values es ks.1 scope) (λ vs. same-gives (v ∷ vs)))
+    pub meanings-alike : (es : Expressions) → AllAlike es → AllSame (meanings d es) (meanings d (WS es))
+    meanings-alike no_expressions ks = tt
+    meanings-alike (expression e es) ks = (ks.0.0, meanings-alike es ks.1)
 
-    same-conditional : (es : Expressions) → AllAlike es → (scope : Shape) → Same n old new (conditional (meanings d es) scope) (conditional (meanings d (all_with_entries n new es)) scope)
-    same-conditional no_expressions ks scope = same-gives null
-    same-conditional (expression last no_expressions) ks scope = ks.0 scope
-    same-conditional (expression test (expression result rest)) ks scope =
-        same-bind _ _ _ _ (ks.0 scope) (λ v. same-if (is_true v) _ _ _ _ (ks.1.0 scope) (same-conditional rest ks.1.1 scope))
+    operands-alike : (es : Expressions) → AllAlike es → AllSame (operands d es) (operands d (WS es))
+    operands-alike no_expressions ks = tt
+    operands-alike (expression e es) ks = (ks.0.1, operands-alike es ks.1)
 
-    same-first : (b : Bool) (es : Expressions) → AllAlike es → (scope : Shape) → Same n old new (first_of_truth b (meanings d es) scope) (first_of_truth b (meanings d (all_with_entries n new es)) scope)
-    same-first b no_expressions ks scope = same-gives null
-    same-first b (expression last no_expressions) ks scope = ks.0 scope
-    same-first b (expression e (expression next rest)) ks scope =
-        same-bind _ _ _ _ (ks.0 scope) (λ v. same-if (bool_eq b (is_true v)) _ _ _ _ (same-gives v) (same-first b (expression next rest) ks.1 scope))
+    tests-alike : (es : Expressions) → AllAlike es → AllSame (with_tests (meanings d es) (operands d es)) (with_tests (meanings d (WS es)) (operands d (WS es)))
+    tests-alike no_expressions ks = tt
+    tests-alike (expression e no_expressions) ks = (ks.0.0, tt)
+    tests-alike (expression e (expression f es)) ks = (ks.0.1, (ks.1.0.0, tests-alike es ks.1.1))
 
-    module _ (body : Expression) (k : Alike body) where
-      same-mapped : (ts : List Shape) → Same n old new (mapped (meaning d body) ts) (mapped (meaning d (W body)) ts)
-      same-mapped [] = same-gives []
-      same-mapped (t ∷ ts) = same-bind _ _ _ _ (k t) (λ v. same-bind _ _ _ _ (same-mapped ts) (λ vs. same-gives (v ∷ vs)))
+    early-alike : (es : Expressions) → AllAlike es → AllSame (with_early_tests (meanings d es) (operands d es)) (with_early_tests (meanings d (WS es)) (operands d (WS es)))
+    early-alike no_expressions ks = tt
+    early-alike (expression e no_expressions) ks = (ks.0.0, tt)
+    early-alike (expression e (expression f es)) ks = (ks.0.1, early-alike (expression f es) ks.1)
 
-      same-kept : (ts : List Shape) → Same n old new (kept (meaning d body) ts) (kept (meaning d (W body)) ts)
-      same-kept [] = same-gives []
-      same-kept (t ∷ ts) = same-bind _ _ _ _ (k t) (λ v. same-bind _ _ _ _ (same-kept ts) (λ vs. same-gives (cond (is_true v) (t ∷ vs) vs)))
+    compared-alike : (b : Bool) (es : Expressions) → AllAlike es → AllSame (cond b (operands d es) (meanings d es)) (cond b (operands d (WS es)) (meanings d (WS es)))
+    compared-alike true es ks = operands-alike es ks
+    compared-alike false es ks = meanings-alike es ks
 
-      same-occurs : (b : Bool) (ts : List Shape) → Same n old new (occurs b (meaning d body) ts) (occurs b (meaning d (W body)) ts)
-      same-occurs b [] = same-gives false
-      same-occurs b (t ∷ ts) = same-bind _ _ _ _ (k t) (λ v. same-if (bool_eq b (is_true v)) _ _ _ _ (same-gives true) (same-occurs b ts))
-
-      same-reduced : (so_far : Shape) (ts : List Shape) → Same n old new (reduced (meaning d body) so_far ts) (reduced (meaning d (W body)) so_far ts)
-      same-reduced so_far [] = same-gives so_far
-      same-reduced so_far (t ∷ ts) = same-bind _ _ _ _ (k (reduce_scope so_far t)) (λ v. same-reduced v ts)
-
-      same-over_items : (o : Operator) (ts : List Shape) → Same n old new (over_items o (meaning d body) ts) (over_items o (meaning d (W body)) ts)
-      same-over_items op.Map ts = same-bind _ _ _ _ (same-mapped ts) (λ vs. same-gives (list (items_of vs)))
-      same-over_items op.Filter ts = same-bind _ _ _ _ (same-kept ts) (λ vs. same-gives (list (items_of vs)))
-      same-over_items op.AllOf ts = same-if (is_empty ts) _ _ _ _ (same-gives (boolean false)) (same-bind _ _ _ _ (same-occurs false ts) (λ b. same-gives (boolean (not b))))
-      same-over_items op.SomeOf ts = same-bind _ _ _ _ (same-occurs true ts) (λ b. same-gives (boolean b))
-      same-over_items op.NoneOf ts = same-bind _ _ _ _ (same-occurs true ts) (λ b. same-gives (boolean (not b)))
-      same-over_items o ts = same-gives null
-
-    same-over : (o : Operator) (es : Expressions) → AllAlike es → (scope : Shape) → Same n old new (over o (meanings d es) scope) (over o (meanings d (all_with_entries n new es)) scope)
-    same-over o no_expressions ks scope = same-gives null
-    same-over o (expression e no_expressions) ks scope = same-gives null
-    same-over o (expression e (expression body rest)) ks scope = same-bind _ _ _ _ (ks.0 scope) (λ v. same-over_items body ks.1.0 o (items_in v))
-
-    same-start : (es : Expressions) → AllAlike es → (scope : Shape) → Same n old new (start (meanings d es) scope) (start (meanings d (all_with_entries n new es)) scope)
-    same-start no_expressions ks scope = same-gives null
-    same-start (expression e es) ks scope = ks.0 scope
-
-    same-reduce : (es : Expressions) → AllAlike es → (scope : Shape) → Same n old new (over_from_start (meanings d es) scope) (over_from_start (meanings d (all_with_entries n new es)) scope)
-    same-reduce no_expressions ks scope = same-gives null
-    same-reduce (expression e no_expressions) ks scope = same-gives null
-    same-reduce (expression e (expression body rest)) ks scope =
-        same-bind _ _ _ _ (ks.0 scope) (λ v. same-bind _ _ _ _ (same-start rest ks.1.1 scope) (λ u. same-reduced body ks.1.0 u (items_in v)))
-
-    same-strict : (o : Operator) (es : Expressions) → AllAlike es → (scope : Shape) → Same n old new (strict o (meanings d es) scope) (strict o (meanings d (all_with_entries n new es)) scope)
-    same-strict o es ks scope = same-bind _ _ _ _ (same-values es ks scope) (λ vs. same-ends (applied o scope vs))
-
-    same-operated : (o : Operator) (es : Expressions) → AllAlike es → (scope : Shape) → Same n old new (operated o (meanings d es) scope) (operated o (meanings d (all_with_entries n new es)) scope)
-    same-operated op.Var es ks scope = same-bind _ _ _ _ (same-values es ks scope) (λ vs. same-bind _ _ _ _ (same-cost (size (variable scope vs)) _ _ (same-gives (variable scope vs))) (λ v. same-ends _))
-    same-operated op.If es ks scope = same-conditional es ks scope
-    same-operated op.And es ks scope = same-first false es ks scope
-    same-operated op.Or es ks scope = same-first true es ks scope
-    same-operated op.Map es ks scope = same-over op.Map es ks scope
-    same-operated op.Filter es ks scope = same-over op.Filter es ks scope
-    same-operated op.AllOf es ks scope = same-over op.AllOf es ks scope
-    same-operated op.SomeOf es ks scope = same-over op.SomeOf es ks scope
-    same-operated op.NoneOf es ks scope = same-over op.NoneOf es ks scope
-    same-operated op.Reduce es ks scope = same-reduce es ks scope
-    same-operated o es ks scope = same-strict o es ks scope
+    asked-alike : (o : Operator) (es : Expressions) → AllAlike es → AllSame (asked o (meanings d es) (operands d es)) (asked o (meanings d (WS es)) (operands d (WS es)))
+    asked-alike op.If es ks = tests-alike es ks
+    asked-alike op.And es ks = early-alike es ks
+    asked-alike o es ks = compared-alike (compares o) es ks
 
     abbrev pub SameIf : Option Meaning → Option Meaning → Shape → Type 0
     SameIf None None scope = Unit {0}
@@ -348,6 +416,13 @@ module _ (n : ℕ) (old new : Entries) where
           go true k = k
           go false k = k
 
+      -- a site is no `var`, with its new rule or without
+      site-operand : (d : Option (List ℕ)) (m : ℕ) (b : By) (bs : Buckets) (c : Bool) (scope : Shape)
+          → Same n old new (meaning d (fractional m b bs) scope) (meaning d (cond c (fractional m b (literal_buckets new)) (fractional m (by_with_entries n new b) (buckets_with_entries n new bs))) scope)
+          → Same n old new (operand_meaning d (fractional m b bs) scope) (operand_meaning d (cond c (fractional m b (literal_buckets new)) (fractional m (by_with_entries n new b) (buckets_with_entries n new bs))) scope)
+      site-operand d m b bs true scope one = one
+      site-operand d m b bs false scope one = one
+
       abbrev pub Known : List Site → Type 0
       Known ss = (s : Site) → Contains ss s → s.number ≡ n → entries_of s.buckets ≡ Some old
 
@@ -360,8 +435,8 @@ module _ (n : ℕ) (old new : Entries) where
       mutual
         pub alike : (d : Option (List ℕ)) (k : ℕ) (e : Expression) → is_formed k e ≡ true → Known (preorder e) → (scope : Shape) → Same n old new (meaning d e scope) (meaning d (with_entries n new e) scope)
         alike d k (literal t) h a scope = same-cost (size t) _ _ (same-gives t)
-        alike d k (ast.list es) h a scope = same-cost 1 _ _ (same-bind _ _ _ _ (same-values d es (all-alike d k es h a) scope) (λ vs. same-gives (list (items_of vs))))
-        alike d k (operation o es) h a scope = same-cost 1 _ _ (same-operated d o es (all-alike d k es (right (takes o (expression_count es)) _ h) a) scope)
+        alike d k (ast.list es) h a scope = same-cost 1 _ _ (same-bind _ _ _ _ (same-values _ _ (meanings-alike d es (all-alike d k es h a)) scope) (λ vs. same-gives (list (items_of vs))))
+        alike d k (operation o es) h a scope = same-cost 1 _ _ (same-operated o _ _ (asked-alike d o es (all-alike d k es (right (takes o (expression_count es)) _ h) a)) scope)
         alike d k (fractional m b bs) h a scope =
             let parts = right (m == k) _ h in
             let here : Site = record { number = m; bucketing = b; buckets = bs } in
@@ -376,7 +451,17 @@ module _ (n : ℕ) (old new : Entries) where
         all-alike : (d : Option (List ℕ)) (k : ℕ) (es : Expressions) → are_formed k es ≡ true → Known (preorder_in es) → AllAlike d es
         all-alike d k no_expressions h a = tt
         all-alike d k (expression e es) h a =
-            (alike d k e (left (is_formed k e) _ h) (known-left (preorder e) _ a), all-alike d (k + sites e) es (right (is_formed k e) _ h) (known-right (preorder e) _ a))
+            let one = alike d k e (left (is_formed k e) _ h) (known-left (preorder e) _ a) in
+            ((one, operand-alike d k e (left (is_formed k e) _ h) (known-left (preorder e) _ a) one), all-alike d (k + sites e) es (right (is_formed k e) _ h) (known-right (preorder e) _ a))
+
+        -- the same where it is compared or tested, given what it is where it is not
+        operand-alike : (d : Option (List ℕ)) (k : ℕ) (e : Expression) → is_formed k e ≡ true → Known (preorder e) → ((scope : Shape) → Same n old new (meaning d e scope) (meaning d (with_entries n new e) scope))
+            → (scope : Shape) → Same n old new (operand_meaning d e scope) (operand_meaning d (with_entries n new e) scope)
+        operand-alike d k (literal t) h a one scope = one scope
+        operand-alike d k (ast.list es) h a one scope = one scope
+        operand-alike d k (operation op.Var es) h a one scope = same-operand (meanings d es) (meanings d (all_with_entries n new es)) (meanings-alike d es (all-alike d k es (right (takes op.Var (expression_count es)) _ h) a)) scope
+        operand-alike d k (operation o es) h a one scope = one scope
+        operand-alike d k (fractional m b bs) h a one scope = site-operand d m b bs (m == n) scope (one scope)
 
         by-alike : (d : Option (List ℕ)) (k : ℕ) (b : By) → by_is_formed k b ≡ true → Known (preorder_in_by b) → (scope : Shape) → SameIf d (by_meaning d b) (by_meaning d (by_with_entries n new b)) scope
         by-alike d k no_by h a scope = tt

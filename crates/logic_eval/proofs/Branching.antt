@@ -1,16 +1,22 @@
 -- What isn't evaluated of `if`, `and`, `or` and a site whose entries are literal.
-use Rattle.std.proofs.Common.{◌≡◌, ℕ, ◌<◌, ◌^◌, pos, true, nat_lt, List, [], ◌∷◌, append-nil, Option, Some, None, option_map, option_and_then, Result, Ok, Err, refl, ap, ◌∙◌, arith}
+use Rattle.std.proofs.Common.{◌≡◌, ℕ, ◌<◌, ◌^◌, pos, Bool, true, false, not, cond, ◌&&◌, nat_lt, List, [], ◌∷◌, append-nil, Option, Some, None, option_map, option_and_then, Result, Ok, Err, refl, sym, ap, ◌∙◌, arith}
 use Rattle.bucket_core.specs.Rule.{Entries, total_weight}
 use Rattle.bucket_core.proofs.Points.{total_weight-cons}
-use Rattle.flag_text.specs.Shape.{Shape, text, whole}
-use Rattle.logic_ast.specs.Expression.{no_expressions, expression, Buckets, no_buckets, bucket, literal_bucket, computed_bucket}
+use Rattle.flag_text.specs.Shape.{Shape, text, whole, has_other}
+use Rattle.logic_ast.specs.Expression as ast
+use Rattle.logic_ast.specs.Expression.{Expression, literal, operation, fractional, Expressions, no_expressions, expression, Buckets, no_buckets, bucket, literal_bucket, computed_bucket}
 use Rattle.logic_ast.specs.Sites.{entries_of}
 use Rattle.logic_values.specs.declared.fault.EvalFault.{EvalFault}
-use Rattle.logic_eval.specs.Evaluation.{pairs, bucket_meanings}
+use Rattle.logic_ast.specs.declared.operator.Operator.TheVariants as op
+use Rattle.decimal_values.specs.Decimals.{is_readable}
+use Rattle.logic_values.specs.declared.fault.EvalFault.TheVariants.{Arithmetic}
+use Rattle.logic_eval.specs.Evaluation.{pairs, bucket_meanings, meaning, meanings, operand_meaning}
 use Rattle.logic_eval.specs.Fractional as buckets
 use Rattle.logic_eval.specs.Fractional.{buckets_of, not_too_heavy, by_input, by_buckets, decided}
+use Rattle.logic_eval.specs.Operators.{values, found, found_whole, found_decimal, read, read_decimal}
+use Rattle.logic_eval.specs.Scope.{variable}
 use Rattle.logic_eval.specs.Run.{Run, cost, ends, gives, after, after_trace, continues, ◌>>=◌}
-use Rattle.logic_eval.specs.Laws.{LiteralSiteChooses, TrueTestSkipsTheRest, FalseTestSkipsItsResult, FalseEndsAnd, TrueEndsOr}
+use Rattle.logic_eval.specs.Laws.{ReadableOperandsAreAsEver, WithoutDecimalsAsEver, LiteralSiteChooses, TrueTestSkipsTheRest, FalseTestSkipsItsResult, FalseEndsAnd, TrueEndsOr}
 
 -- a run that gives a value, and runs after it that are the same at that value
 same_after : {A B : Type 0} (r : Run A) (f g : A → Run B) (v : A) → r.ending ≡ Ok v → f v ≡ g v → (r >>= f) ≡ (r >>= g)
@@ -29,15 +35,58 @@ gives-then : {A B : Type 0} (v : A) (f : A → Run B) → (gives v >>= f) ≡ f 
 unfolding ◌>>=◌ ends
 gives-then v f = refl
 
+-- runs after the same run that are the same where they give the value
+same_if_given : {A B : Type 0} (r : Run A) (f g : A → Run B) (v : B) → (r >>= f).ending ≡ Ok v → ((u : A) → (f u).ending ≡ Ok v → f u ≡ g u) → (r >>= f) ≡ (r >>= g)
+unfolding ◌>>=◌
+same_if_given {A} {B} r f g v e h = go r.ending e
+  where
+    go : (x : Result A EvalFault) → (continues r.trace x f).ending ≡ Ok v → continues r.trace x f ≡ continues r.trace x g
+    go (Ok u) k = ap (after_trace r.trace) (h u k)
+    go (Err x) k = absurd (cc)
+
+-- what can be read is read alike where it is compared or tested
+read_alike : (u v : Shape) → (read u).ending ≡ Ok v → read u ≡ read_decimal u
+unfolding ends
+read_alike u v e = go (has_other u) e
+  where
+    go : (b : Bool) → cond b (let r : Result Shape EvalFault = Err Arithmetic in r) (Ok u) ≡ Ok v
+        → (let r : Run Shape = ends (cond b (Err Arithmetic) (Ok u)) in r) ≡ ends (cond (b && not (is_readable u)) (Err Arithmetic) (Ok u))
+    go true k = absurd (cc)
+    go false k = refl
+
+found_alike : (u v : Shape) → (found_whole u).ending ≡ Ok v → found_whole u ≡ found_decimal u
+found_alike u v e = same_if_given (found u) read read_decimal v e (λ w k. read_alike w v k)
+
+variable_alike : (d : Option (List ℕ)) (es : Expressions) (scope v : Shape) → (meaning d (operation op.Var es) scope).ending ≡ Ok v
+    → operand_meaning d (operation op.Var es) scope ≡ meaning d (operation op.Var es) scope
+unfolding after
+variable_alike d es scope v e =
+    sym (ap (after (cost 1)) (same_if_given (values (meanings d es) scope) (λ vs. found_whole (variable scope vs)) (λ vs. found_decimal (variable scope vs)) v e (λ vs k. found_alike (variable scope vs) v k)))
+
+pub operand_as_ever : ReadableOperandsAreAsEver
+operand_as_ever d (literal t) scope v e = refl
+operand_as_ever d (ast.list es) scope v e = refl
+operand_as_ever d (operation op.Var es) scope v e = variable_alike d es scope v e
+operand_as_ever d (operation o es) scope v e = refl
+operand_as_ever d (fractional n b bs) scope v e = refl
+
+pub without_decimals : WithoutDecimalsAsEver
+without_decimals o scope vs e = rw e refl
+
+bind_alike : {A B : Type 0} (r s : Run A) (f : A → Run B) → r ≡ s → (r >>= f) ≡ (s >>= f)
+bind_alike r s f e = ap (λ x. x >>= f) e
+
 pub true_test : TrueTestSkipsTheRest
-true_test default test result rest scope v e t = ap (after (cost 1)) (same_after _ _ _ v e (rw t refl))
+true_test default test result rest scope v e t = ap (after (cost 1)) (bind_alike _ _ _ (operand_as_ever default test scope v e) ∙ same_after _ _ _ v e (rw t refl))
 
 pub false_test : FalseTestSkipsItsResult
-false_test default test result other rest scope v e t = ap (after (cost 1)) (same_after _ _ _ v e (rw t refl))
+false_test default test result other rest scope v e t =
+    let as_ever = operand_as_ever default test scope v e in
+    ap (after (cost 1)) (bind_alike _ _ _ as_ever ∙ (same_after _ _ _ v e (rw t refl) ∙ sym (bind_alike _ _ _ as_ever)))
 
 pub false_argument : FalseEndsAnd
 false_argument default first no_expressions scope v e t = refl
-false_argument default first (expression next rest) scope v e t = ap (after (cost 1)) (nothing_after _ _ v e (rw t refl))
+false_argument default first (expression next rest) scope v e t = ap (after (cost 1)) (bind_alike _ _ _ (operand_as_ever default first scope v e) ∙ nothing_after _ _ v e (rw t refl))
 
 pub true_argument : TrueEndsOr
 true_argument default first no_expressions scope v e t = refl

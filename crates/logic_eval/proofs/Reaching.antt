@@ -16,19 +16,19 @@ use Rattle.logic_ast.specs.declared.operator.Operator.{Operator}
 use Rattle.logic_ast.specs.declared.operator.Operator.TheVariants as op
 use Rattle.logic_values.specs.declared.fault.EvalFault.{EvalFault}
 use Rattle.logic_values.specs.Comparison.{bool_eq}
-use Rattle.logic_eval.specs.Evaluation.{part_of, pairs, input, meaning, meanings, by_meaning, bucket_meanings}
+use Rattle.logic_eval.specs.Evaluation.{part_of, pairs, input, meaning, meanings, operands, operand_meaning, by_meaning, bucket_meanings}
 use Rattle.logic_eval.specs.Fractional as buckets
 use Rattle.logic_eval.specs.Fractional.{buckets_of, not_too_heavy, chosen, reached, by_input, by_buckets, decided, given_input, made_input}
 use Rattle.logic_values.specs.Lists.{items_in}
-use Rattle.logic_eval.specs.Operators.{Meaning, values, variable_run, strict, conditional, first_of_truth, mapped, kept, occurs, is_empty, all_of, reduced, over_items, over, start, over_from_start, operated, applied}
+use Rattle.logic_eval.specs.Operators.{Meaning, values, variable_run, strict, conditional, first_of_truth, mapped, kept, occurs, is_empty, all_of, reduced, over_items, over, start, over_from_start, operand, compares, with_tests, with_early_tests, asked, operated, applied_exactly}
 use Rattle.logic_values.specs.Objects.{reduce_scope}
-use Rattle.logic_eval.specs.Run.{Reach, Run}
+use Rattle.logic_eval.specs.Run.{Reach, Run, gives}
 use Rattle.logic_eval.specs.Scope.{size, variable}
 use Rattle.logic_values.specs.Truth.{is_true}
 use Rattle.logic_eval.proofs.Choices.{buckets_entries}
 use Rattle.logic_eval.proofs.Runs.{Runs, runs-ends, runs-gives, runs-faults, runs-cost, runs-reach, runs-bind}
 use Rattle.logic_eval.proofs.Tidy.{tidy_whole}
-use Rattle.logic_eval.proofs.WholeValues.{IsWhole, are_whole, are_whole-items_in, IsTidy, variable-tidy, read-whole, applied-whole, reduce_scope-tidy}
+use Rattle.logic_eval.proofs.WholeValues.{IsWhole, are_whole, are_whole-items_in, IsTidy, variable-tidy, read-whole, is_operand, IsOperand, AreOperands, operand-whole, false-whole, read_decimal-operand, applied_exactly-whole, reduce_scope-tidy}
 
 -- an entry of a site
 pub record IsReachOf (s : Site) (r : Reach) : Type 0 where
@@ -65,24 +65,103 @@ module _ (Q : Reach → Type 0) where
       (λ vs ps. runs-bind Q IsTidy IsWhole _ _ (runs-cost Q IsTidy (size (variable scope vs)) _ (runs-gives Q IsTidy (variable scope vs) (variable-tidy scope vs w ps)))
       (λ v p. runs-ends Q IsWhole _ (read-whole v p)))
 
-  keeps-strict : (o : Operator) (ms : List Meaning) → AllKeep ms → Keeps (strict o ms)
-  keeps-strict o ms ks scope w = runs-bind Q AreWhole IsWhole _ _ (keeps-values ms scope ks w) (λ vs ps. runs-ends Q IsWhole (applied o scope vs) (applied-whole o scope vs ps))
+  -- the same where it is compared or tested: there it may give a decimal, too
+  abbrev pub KeepsOperand : Meaning → Type 0
+  KeepsOperand m = (scope : Shape) → is_tidy scope ≡ true → Runs IsOperand Q (m scope)
+
+  abbrev pub AllKeepOperands : List Meaning → Type 0
+  AllKeepOperands [] = Unit {0}
+  AllKeepOperands (m ∷ ms) = KeepsOperand m × AllKeepOperands ms
+
+  as-operand : {r : Run Shape} → Runs IsWhole Q r → Runs IsOperand Q r
+  as-operand {r} h = record { value = go r.ending h.value; reached = h.reached }
+    where
+      go : (j : Result Shape EvalFault) → IfOk j IsWhole → IfOk j IsOperand
+      go (Ok v) p = operand-whole v p
+      go (Err f) p = tt
+
+  as-operands : (ms : List Meaning) → AllKeep ms → AllKeepOperands ms
+  as-operands [] ks = tt
+  as-operands (m ∷ ms) ks = ((λ scope w. as-operand (ks.0 scope w)), as-operands ms ks.1)
+
+  keeps-operand_values : (ms : List Meaning) (scope : Shape) → AllKeepOperands ms → is_tidy scope ≡ true → Runs AreOperands Q (values ms scope)
+  keeps-operand_values [] scope ks w = runs-gives Q AreOperands [] refl
+  keeps-operand_values (m ∷ ms) scope ks w =
+      runs-bind Q IsOperand AreOperands _ _ (ks.0 scope w)
+      (λ v p. runs-bind Q AreOperands AreOperands _ _ (keeps-operand_values ms scope ks.1 w) (λ vs ps. runs-gives Q AreOperands (v ∷ vs) (both (is_operand v) _ p ps)))
+
+  keeps-operand_variable : (ms : List Meaning) (m : Meaning) → AllKeep ms → KeepsOperand (operand true ms m)
+  keeps-operand_variable ms m ks scope w =
+      runs-cost Q IsOperand 1 _ (runs-bind Q AreWhole IsOperand _ _ (keeps-values ms scope ks w)
+      (λ vs ps. runs-bind Q IsTidy IsOperand _ _ (runs-cost Q IsTidy (size (variable scope vs)) _ (runs-gives Q IsTidy (variable scope vs) (variable-tidy scope vs w ps)))
+      (λ v p. runs-ends Q IsOperand _ (read_decimal-operand v p))))
+
+  keeps-strict : (o : Operator) (ms : List Meaning) → AllKeepOperands ms → Keeps (strict o ms)
+  keeps-strict o ms ks scope w =
+      runs-bind Q AreOperands IsWhole _ _ (keeps-operand_values ms scope ks w) (λ vs ps. runs-ends Q IsWhole (applied_exactly o scope vs) (applied_exactly-whole o scope vs ps))
 
   keeps-if : (b : Bool) (r s : Run Shape) → Runs IsWhole Q r → Runs IsWhole Q s → Runs IsWhole Q (cond b r s)
   keeps-if true r s h k = h
   keeps-if false r s h k = k
 
-  keeps-conditional : (ms : List Meaning) → AllKeep ms → Keeps (conditional ms)
+  -- the arguments of `if`, whose tests may give decimals
+  abbrev pub TestsKeep : List Meaning → Type 0
+  TestsKeep [] = Unit {0}
+  TestsKeep (last ∷ []) = Keeps last
+  TestsKeep (test ∷ result ∷ rest) = KeepsOperand test × (Keeps result × TestsKeep rest)
+
+  as-tests : (ms : List Meaning) → AllKeep ms → TestsKeep ms
+  as-tests [] ks = tt
+  as-tests (last ∷ []) ks = ks.0
+  as-tests (test ∷ result ∷ rest) ks = ((λ scope w. as-operand (ks.0 scope w)), (ks.1.0, as-tests rest ks.1.1))
+
+  tests-keep : (ms operands : List Meaning) → AllKeep ms → AllKeepOperands operands → TestsKeep (with_tests ms operands)
+  tests-keep [] operands ks js = tt
+  tests-keep (last ∷ []) operands ks js = ks.0
+  tests-keep (test ∷ result ∷ rest) [] ks js = as-tests (test ∷ result ∷ rest) ks
+  tests-keep (test ∷ result ∷ rest) (t ∷ []) ks js = as-tests (test ∷ result ∷ rest) ks
+  tests-keep (test ∷ result ∷ rest) (t ∷ u ∷ operands) ks js = (js.0, (ks.1.0, tests-keep rest operands ks.1.1 js.1.1))
+
+  keeps-conditional : (ms : List Meaning) → TestsKeep ms → Keeps (conditional ms)
   keeps-conditional [] ks scope w = runs-gives Q IsWhole null refl
-  keeps-conditional (last ∷ []) ks scope w = ks.0 scope w
+  keeps-conditional (last ∷ []) ks scope w = ks scope w
   keeps-conditional (test ∷ result ∷ rest) ks scope w =
-      runs-bind Q IsWhole IsWhole _ _ (ks.0 scope w) (λ v p. keeps-if (is_true v) _ _ (ks.1.0 scope w) (keeps-conditional rest ks.1.1 scope w))
+      runs-bind Q IsOperand IsWhole _ _ (ks.0 scope w) (λ v p. keeps-if (is_true v) _ _ (ks.1.0 scope w) (keeps-conditional rest ks.1.1 scope w))
 
   keeps-first_of_truth : (b : Bool) (ms : List Meaning) → AllKeep ms → Keeps (first_of_truth b ms)
   keeps-first_of_truth b [] ks scope w = runs-gives Q IsWhole null refl
   keeps-first_of_truth b (last ∷ []) ks scope w = ks.0 scope w
   keeps-first_of_truth b (m ∷ next ∷ rest) ks scope w =
       runs-bind Q IsWhole IsWhole _ _ (ks.0 scope w) (λ v p. keeps-if (bool_eq b (is_true v)) _ _ (runs-gives Q IsWhole v p) (keeps-first_of_truth b (next ∷ rest) ks.1 scope w))
+
+  -- the arguments of `and`, of which all but the last may give decimals
+  abbrev pub EarlyKeep : List Meaning → Type 0
+  EarlyKeep [] = Unit {0}
+  EarlyKeep (last ∷ []) = Keeps last
+  EarlyKeep (m ∷ next ∷ rest) = KeepsOperand m × EarlyKeep (next ∷ rest)
+
+  as-early : (ms : List Meaning) → AllKeep ms → EarlyKeep ms
+  as-early [] ks = tt
+  as-early (last ∷ []) ks = ks.0
+  as-early (m ∷ next ∷ rest) ks = ((λ scope w. as-operand (ks.0 scope w)), as-early (next ∷ rest) ks.1)
+
+  early-keep : (ms operands : List Meaning) → AllKeep ms → AllKeepOperands operands → EarlyKeep (with_early_tests ms operands)
+  early-keep [] operands ks js = tt
+  early-keep (m ∷ ms) [] ks js = as-early (m ∷ ms) ks
+  early-keep (m ∷ []) (t ∷ operands) ks js = ks.0
+  early-keep (m ∷ next ∷ rest) (t ∷ []) ks js = (js.0, as-early (next ∷ rest) ks.1)
+  early-keep (m ∷ next ∷ rest) (t ∷ u ∷ operands) ks js = (js.0, early-keep (next ∷ rest) (u ∷ operands) ks.1 js.1)
+
+  -- a value that counts as false ends it, and is whole
+  keeps-and_next : (v : Shape) (rest : Run Shape) (b : Bool) → is_operand v ≡ true → is_true v ≡ b → Runs IsWhole Q rest → Runs IsWhole Q (cond (bool_eq false b) (gives v) rest)
+  keeps-and_next v rest true p e k = k
+  keeps-and_next v rest false p e k = runs-gives Q IsWhole v (false-whole v p e)
+
+  keeps-and : (ms : List Meaning) → EarlyKeep ms → Keeps (first_of_truth false ms)
+  keeps-and [] ks scope w = runs-gives Q IsWhole null refl
+  keeps-and (last ∷ []) ks scope w = ks scope w
+  keeps-and (m ∷ next ∷ rest) ks scope w =
+      runs-bind Q IsOperand IsWhole _ _ (ks.0 scope w) (λ v p. keeps-and_next v _ (is_true v) p refl (keeps-and (next ∷ rest) ks.1 scope w))
 
   module _ (body : Meaning) (k : Keeps body) where
     keeps-mapped : (ts : List Shape) → AreWhole ts → Runs AreWhole Q (mapped body ts)
@@ -145,18 +224,22 @@ module _ (Q : Reach → Type 0) where
       runs-bind Q IsWhole IsWhole _ _ (ks.0 scope w)
       (λ v p. runs-bind Q IsWhole IsWhole _ _ (keeps-start rest ks.1.1 scope w) (λ u q. keeps-reduced body ks.1.0 u (items_in v) q (are_whole-items_in v p)))
 
-  keeps-operated : (o : Operator) (ms : List Meaning) → AllKeep ms → Keeps (operated o ms)
-  keeps-operated op.Var ms ks = keeps-variable ms ks
-  keeps-operated op.If ms ks = keeps-conditional ms ks
-  keeps-operated op.And ms ks = keeps-first_of_truth false ms ks
-  keeps-operated op.Or ms ks = keeps-first_of_truth true ms ks
-  keeps-operated op.Map ms ks = keeps-over op.Map ms ks
-  keeps-operated op.Filter ms ks = keeps-over op.Filter ms ks
-  keeps-operated op.AllOf ms ks = keeps-over op.AllOf ms ks
-  keeps-operated op.SomeOf ms ks = keeps-over op.SomeOf ms ks
-  keeps-operated op.NoneOf ms ks = keeps-over op.NoneOf ms ks
-  keeps-operated op.Reduce ms ks = keeps-reduce ms ks
-  keeps-operated o ms ks = keeps-strict o ms ks
+  compared-keep : (b : Bool) (ms operands : List Meaning) → AllKeep ms → AllKeepOperands operands → AllKeepOperands (cond b operands ms)
+  compared-keep true ms operands ks js = js
+  compared-keep false ms operands ks js = as-operands ms ks
+
+  keeps-operated : (o : Operator) (ms operands : List Meaning) → AllKeep ms → AllKeepOperands operands → Keeps (operated o (asked o ms operands))
+  keeps-operated op.Var ms operands ks js = keeps-variable ms ks
+  keeps-operated op.If ms operands ks js = keeps-conditional (with_tests ms operands) (tests-keep ms operands ks js)
+  keeps-operated op.And ms operands ks js = keeps-and (with_early_tests ms operands) (early-keep ms operands ks js)
+  keeps-operated op.Or ms operands ks js = keeps-first_of_truth true ms ks
+  keeps-operated op.Map ms operands ks js = keeps-over op.Map ms ks
+  keeps-operated op.Filter ms operands ks js = keeps-over op.Filter ms ks
+  keeps-operated op.AllOf ms operands ks js = keeps-over op.AllOf ms ks
+  keeps-operated op.SomeOf ms operands ks js = keeps-over op.SomeOf ms ks
+  keeps-operated op.NoneOf ms operands ks js = keeps-over op.NoneOf ms ks
+  keeps-operated op.Reduce ms operands ks js = keeps-reduce ms ks
+  keeps-operated o ms operands ks js = keeps-strict o (cond (compares o) operands ms) (compared-keep (compares o) ms operands ks js)
 
   -- ---- a site
 
@@ -225,7 +308,8 @@ module _ (Q : Reach → Type 0) where
     keeps-meaning default k (ast.list es) h a scope w =
         runs-cost Q IsWhole 1 _ (runs-bind Q AreWhole IsWhole _ _ (keeps-values (meanings default es) scope (keep-meanings default k es h a) w) (λ vs ps. runs-gives Q IsWhole (list (items_of vs)) ps))
     keeps-meaning default k (operation o es) h a scope w =
-        runs-cost Q IsWhole 1 _ (keeps-operated o (meanings default es) (keep-meanings default k es (right (takes o (expression_count es)) _ h) a) scope w)
+        let formed = right (takes o (expression_count es)) _ h in
+        runs-cost Q IsWhole 1 _ (keeps-operated o (meanings default es) (operands default es) (keep-meanings default k es formed a) (keep-operands default k es formed a) scope w)
     keeps-meaning default k (fractional n b bs) h a scope w =
         let parts = right (n == k) _ h in
         let here : Site = record { number = n; bucketing = b; buckets = bs } in
@@ -245,6 +329,22 @@ module _ (Q : Reach → Type 0) where
     keep-meanings default k no_expressions h a = tt
     keep-meanings default k (expression e es) h a =
         (keeps-meaning default k e (left (is_formed k e) _ h) (allows-left (preorder e) _ a), keep-meanings default (k + sites e) es (right (is_formed k e) _ h) (allows-right (preorder e) _ a))
+
+    keep-operands : (default : Option (List ℕ)) (k : ℕ) (es : Expressions) → are_formed k es ≡ true → Allows (preorder_in es) → AllKeepOperands (operands default es)
+    keep-operands default k no_expressions h a = tt
+    keep-operands default k (expression e es) h a =
+        let formed = left (is_formed k e) _ h in
+        let below = allows-left (preorder e) _ a in
+        (keeps-operand default k e formed below (keeps-meaning default k e formed below), keep-operands default (k + sites e) es (right (is_formed k e) _ h) (allows-right (preorder e) _ a))
+
+    -- given what it gives where it is not compared or tested
+    keeps-operand : (default : Option (List ℕ)) (k : ℕ) (e : Expression) → is_formed k e ≡ true → Allows (preorder e) → Keeps (meaning default e) → KeepsOperand (operand_meaning default e)
+    keeps-operand default k (literal t) h a one scope w = as-operand (one scope w)
+    keeps-operand default k (ast.list es) h a one scope w = as-operand (one scope w)
+    keeps-operand default k (operation op.Var es) h a one scope w =
+        keeps-operand_variable (meanings default es) (meaning default (operation op.Var es)) (keep-meanings default k es (right (takes op.Var (expression_count es)) _ h) a) scope w
+    keeps-operand default k (operation o es) h a one scope w = as-operand (one scope w)
+    keeps-operand default k (fractional n b bs) h a one scope w = as-operand (one scope w)
 
     keeps-by : (default : Option (List ℕ)) (k : ℕ) (b : By) → by_is_formed k b ≡ true → Allows (preorder_in_by b) → (scope : Shape) → is_tidy scope ≡ true → IfSome (by_meaning default b) (λ m. Runs IsWhole Q (m scope))
     keeps-by default k no_by h a scope w = tt

@@ -1,11 +1,11 @@
 -- Lists of values, one by one.
-use Rattle.std.proofs.Common.{◌≡◌, ℕ, ◌+◌, ◌<◌, List, [], ◌∷◌, ◌++◌, length, get_or, drop, Option, Result, Ok, Err, refl, sym, ap, ◌∙◌, append_assoc, append-nil}
+use Rattle.std.proofs.Common.{◌≡◌, ℕ, ◌+◌, ◌<◌, Bool, true, false, List, [], ◌∷◌, ◌++◌, length, get_or, drop, Option, Result, Ok, Err, refl, sym, ap, ◌∙◌, append_assoc, append-nil}
 use Rattle.flag_text.specs.Shape.{Shape}
 use Rattle.logic_ast.specs.declared.node.Node.{Node}
 use Rattle.logic_ast.specs.View.{node_view, nodes_view}
 use Rattle.logic_values.specs.declared.fault.EvalFault.{EvalFault}
 use Rattle.logic_eval.specs.Budget.{Progress, paid, if_paid}
-use Rattle.logic_eval.specs.Evaluation.{meaning, meanings}
+use Rattle.logic_eval.specs.Evaluated.{tested_meaning, tested_meanings}
 use Rattle.logic_eval.specs.Operators.{values}
 use Rattle.logic_eval.specs.Run.{Run, gives, ◌>>=◌}
 use Rattle.logic_eval.proofs.Budgets.{paid-bind, paid-gives, bind_ok, bind_err}
@@ -53,12 +53,19 @@ pub before_rest : {A : Type 0} (p : Progress) (r : Run A) (rest : Run (List A)) 
 before_rest p r rest v q e = bind_ok p r _ v q e ∙ (paid-bind q rest _ ∙ prepended-if (v ∷ []) (paid q rest))
 
 -- the nodes from i on, where the node at i is paid for
-pub values_ok : (default : Option (List ℕ)) (scope : Shape) (xs : List Node) (i : ℕ) (x : Node) (p q : Progress) (v : Shape) → i < length xs → x ≡ get_or xs i x
-    → paid p (meaning default (node_view x) scope) ≡ Ok (v, q)
-    → paid p (values (meanings default (nodes_view (drop i xs))) scope) ≡ prepended (v ∷ []) (paid q (values (meanings default (nodes_view (drop (i + 1) xs))) scope))
-values_ok default scope xs i x p q v h is e = rw (drop_at xs i x h is) (before_rest p _ _ v q e)
+pub values_ok : (tested : Bool) (default : Option (List ℕ)) (scope : Shape) (xs : List Node) (i : ℕ) (x : Node) (p q : Progress) (v : Shape) → i < length xs → x ≡ get_or xs i x
+    → paid p (tested_meaning tested default (node_view x) scope) ≡ Ok (v, q)
+    → paid p (values (tested_meanings tested default (nodes_view (drop i xs))) scope) ≡ prepended (v ∷ []) (paid q (values (tested_meanings tested default (nodes_view (drop (i + 1) xs))) scope))
+values_ok true default scope xs i x p q v h is e = rw (drop_at xs i x h is) (before_rest p _ _ v q e)
+values_ok false default scope xs i x p q v h is e = rw (drop_at xs i x h is) (before_rest p _ _ v q e)
 
-pub values_err : (default : Option (List ℕ)) (scope : Shape) (xs : List Node) (i : ℕ) (x : Node) (p : Progress) (e : EvalFault) → i < length xs → x ≡ get_or xs i x
-    → paid p (meaning default (node_view x) scope) ≡ Err e
-    → paid p (values (meanings default (nodes_view (drop i xs))) scope) ≡ Err e
-values_err default scope xs i x p e h is f = rw (drop_at xs i x h is) (bind_err p _ _ e f)
+pub values_err : (tested : Bool) (default : Option (List ℕ)) (scope : Shape) (xs : List Node) (i : ℕ) (x : Node) (p : Progress) (e : EvalFault) → i < length xs → x ≡ get_or xs i x
+    → paid p (tested_meaning tested default (node_view x) scope) ≡ Err e
+    → paid p (values (tested_meanings tested default (nodes_view (drop i xs))) scope) ≡ Err e
+values_err true default scope xs i x p e h is f = rw (drop_at xs i x h is) (bind_err p _ _ e f)
+values_err false default scope xs i x p e h is f = rw (drop_at xs i x h is) (bind_err p _ _ e f)
+
+-- no value is left
+pub values_none : (tested : Bool) (default : Option (List ℕ)) (scope : Shape) → values (tested_meanings tested default (nodes_view [])) scope ≡ gives []
+values_none true default scope = refl
+values_none false default scope = refl

@@ -1,6 +1,7 @@
 -- What an operator gives of whole values is whole.
-use Rattle.std.proofs.Common.{◌≡◌, ℕ, zero, suc, ◌<◌, ◌^◌, ℤ, pos, negsuc, Bool, true, false, cond, nat_lt, List, [], ◌∷◌, ◌++◌, Option, Some, None, option_and_then, Result, Ok, Err, refl, ap, ◌∙◌, arith}
-use Rattle.std.specs.Prelude.{◌+ℤ◌, ◌-ℤ◌, ◌*ℤ◌, neg_ℤ, int_rem, int_lt, filter, flat_map, codes, unwrap_or, slice_get, IfOk}
+use Rattle.std.proofs.Common.{◌≡◌, ℕ, zero, suc, ◌<◌, ◌^◌, ℤ, pos, negsuc, Bool, true, false, not, cond, ◌&&◌, ◌||◌, nat_lt, List, [], ◌∷◌, ◌++◌, Option, Some, None, option_and_then, Result, Ok, Err, refl, sym, ap, ◌∙◌, arith}
+use Rattle.std.specs.Prelude.{◌+ℤ◌, ◌-ℤ◌, ◌*ℤ◌, neg_ℤ, int_rem, int_lt, filter, flat_map, codes, unwrap_or, slice_get, is_some, IfOk}
+use Rattle.std.specs.List.{list_all}
 use Rattle.std.specs.Int.{int_min, int_max}
 use Rattle.std.specs.Int.RustNames.{unsigned_abs}
 use Rattle.std.specs.Ordering.{int_eq, match_ordering, nat_cmp, ordering_reverse}
@@ -20,9 +21,11 @@ use Rattle.logic_ast.specs.declared.operator.Operator.TheVariants as op
 use Rattle.logic_values.specs.declared.fault.EvalFault.{EvalFault}
 use Rattle.logic_values.specs.declared.fault.EvalFault.TheVariants.{Arithmetic}
 use Rattle.logic_values.specs.Arithmetic.{if_number, step, folded, folded_from_first, difference, remainder, remainder_of}
+use Rattle.decimal_values.specs.Decimals.{has_value, is_decimal, is_readable, spelled_value, spelling_of}
 use Rattle.logic_values.specs.Lists.{shapes_of, items_in, parts_of}
+use Rattle.logic_values.specs.Truth.{is_true}
 use Rattle.logic_values.specs.Number.{in_range, number_of, signed_value}
-use Rattle.logic_eval.specs.Operators.{applied, argument}
+use Rattle.logic_eval.specs.Operators.{applied, applied_exactly, argument, exact_test, has_decimal, if_tested, is_unreadable}
 use Rattle.logic_values.specs.Objects.{reduce_scope, with_member, with_flagd}
 use Rattle.logic_eval.specs.Scope.{Situation, flagd, root_scope, index_of, step as path_step, follow, find, variable, is_missing, names_from, missing, found_count, missing_unless}
 use Rattle.logic_values.specs.Text.{if_text, part_result, part}
@@ -290,6 +293,91 @@ applied-whole op.Cat scope vs h = if_text-whole _
 applied-whole op.Substr scope vs h = part-whole vs
 applied-whole op.SemVer scope vs h = refl
 applied-whole o scope vs h = refl
+
+-- ---- decimals, where a value is compared or tested
+
+-- whole, or a decimal
+abbrev pub is_operand : Shape → Bool
+is_operand v = is_whole v || is_decimal v
+
+abbrev pub IsOperand : Shape → Type 0
+IsOperand v = is_operand v ≡ true
+
+abbrev pub AreOperands : List Shape → Type 0
+AreOperands vs = list_all is_operand vs ≡ true
+
+pub operand-whole : (v : Shape) → is_whole v ≡ true → is_operand v ≡ true
+operand-whole v h = ap (λ b. b || is_decimal v) h
+
+whole_or : (a b : Bool) → (a || b) ≡ true → b ≡ false → a ≡ true
+whole_or true b h e = refl
+whole_or false b h e = absurd (not_both (sym e ∙ h))
+  where
+    not_both : false ≡ true → ⊥
+    not_both k = cc
+
+none_here : (a b : Bool) → (a || b) ≡ false → a ≡ false
+none_here true b h = absurd (cc)
+none_here false b h = refl
+
+none_later : (a b : Bool) → (a || b) ≡ false → b ≡ false
+none_later true b h = absurd (cc)
+none_later false b h = h
+
+-- without a decimal they are whole
+pub operands-whole : (vs : List Shape) → list_all is_operand vs ≡ true → has_decimal vs ≡ false → are_whole vs ≡ true
+operands-whole [] h e = refl
+operands-whole (v ∷ vs) h e =
+    both (is_whole v) _ (whole_or (is_whole v) (is_decimal v) (left (is_operand v) _ h) (none_here (is_decimal v) _ e)) (operands-whole vs (right (is_operand v) _ h) (none_later (is_decimal v) _ e))
+
+-- a decimal counts as true
+decimal-true : (v : Shape) → is_decimal v ≡ true → is_true v ≡ true
+decimal-true null h = cc
+decimal-true (boolean b) h = cc
+decimal-true (whole n) h = cc
+decimal-true other h = cc
+decimal-true (text s) h = cc
+decimal-true (list ts) h = cc
+decimal-true (object ms) h = refl
+
+-- a value that counts as false is whole
+pub false-whole : (v : Shape) → is_operand v ≡ true → is_true v ≡ false → is_whole v ≡ true
+false-whole v h f = go (is_decimal v) refl
+  where
+    not_both : true ≡ false → ⊥
+    not_both k = cc
+
+    go : (b : Bool) → is_decimal v ≡ b → is_whole v ≡ true
+    go true e = absurd (not_both (sym (decimal-true v e) ∙ f))
+    go false e = whole_or (is_whole v) (is_decimal v) h e
+
+readable-decimal : (o : Option (List ℕ)) → has_value (spelled_value o) ≡ true → is_some o ≡ true
+readable-decimal None h = absurd (cc)
+readable-decimal (Some s) h = refl
+
+-- what is read there is whole, or a decimal
+pub read_decimal-operand : (v : Shape) → is_tidy v ≡ true → IfOk (cond (is_unreadable v) (let r : Result Shape EvalFault = Err Arithmetic in r) (Ok v)) IsOperand
+read_decimal-operand v h = go (has_other v) (is_readable v) refl refl
+  where
+    or_right : (a : Bool) → (a || true) ≡ true
+    or_right true = refl
+    or_right false = refl
+
+    go : (b c : Bool) → has_other v ≡ b → is_readable v ≡ c → IfOk (cond (b && not c) (let r : Result Shape EvalFault = Err Arithmetic in r) (Ok v)) IsOperand
+    go true true e f = ap (λ b. is_whole v || b) (readable-decimal (spelling_of v) f) ∙ or_right (is_whole v)
+    go true false e f = tt
+    go false c e f = operand-whole v (is_whole-tidy v h e)
+
+if_tested-whole : (r : Result Bool EvalFault) → IfOk (if_tested r) IsWhole
+if_tested-whole (Ok b) = refl
+if_tested-whole (Err e) = tt
+
+pub applied_exactly-whole : (o : Operator) (scope : Shape) (vs : List Shape) → list_all is_operand vs ≡ true → IfOk (applied_exactly o scope vs) IsWhole
+applied_exactly-whole o scope vs h = go (has_decimal vs) refl
+  where
+    go : (b : Bool) → has_decimal vs ≡ b → IfOk (cond b (if_tested (exact_test o vs)) (applied o scope vs)) IsWhole
+    go true e = if_tested-whole (exact_test o vs)
+    go false e = applied-whole o scope vs (operands-whole vs h e)
 
 -- ---- scopes
 

@@ -7,8 +7,10 @@ use Rattle.logic_ast.specs.Expression.{Expression, operation, fractional, Expres
 use Rattle.logic_ast.specs.Formed.{is_well_formed}
 use Rattle.logic_ast.specs.Sites.{sites, entries_of, entries_at, with_entries}
 use Rattle.logic_ast.specs.declared.operator.Operator.TheVariants.{If, And, Or}
-use Rattle.logic_eval.specs.Evaluation.{evaluation_of, meaning, by_meaning, input}
+use Rattle.logic_ast.specs.declared.operator.Operator.{Operator}
+use Rattle.logic_eval.specs.Evaluation.{evaluation_of, meaning, operand_meaning, by_meaning, input}
 use Rattle.logic_eval.specs.Fractional.{by_input}
+use Rattle.logic_eval.specs.Operators.{applied, applied_exactly, has_decimal}
 use Rattle.logic_eval.specs.Run.{Reach, Entry, cost, reach, after, ◌>>=◌, reached_of, most_units}
 use Rattle.logic_eval.specs.Scope.{Situation, default_input, root_scope}
 use Rattle.logic_values.specs.declared.fault.EvalFault.{EvalFault}
@@ -49,6 +51,14 @@ abbrev pub TrueEndsOr : Type 0
 TrueEndsOr =
     (default : Option (List ℕ)) (first : Expression) (rest : Expressions) (scope v : Shape) → (meaning default first scope).ending ≡ Ok v → is_true v ≡ true
     → meaning default (operation Or (expression first rest)) scope ≡ after (cost 1) (meaning default first scope)
+
+-- An expression that gives a value, and so reads no number that is not whole, is evaluated where it is compared or tested as it is elsewhere.
+abbrev pub ReadableOperandsAreAsEver : Type 0
+ReadableOperandsAreAsEver = (default : Option (List ℕ)) (e : Expression) (scope v : Shape) → (meaning default e scope).ending ≡ Ok v → operand_meaning default e scope ≡ meaning default e scope
+
+-- An operator that is given no decimal gives of its values what it gave before decimals were compared.
+abbrev pub WithoutDecimalsAsEver : Type 0
+WithoutDecimalsAsEver = (o : Operator) (scope : Shape) (vs : List Shape) → has_decimal vs ≡ false → applied_exactly o scope vs ≡ applied o scope vs
 
 -- an entry of site n with this total, any other entry as it is
 abbrev pub with_total : ℕ → ℕ → Reach → Reach

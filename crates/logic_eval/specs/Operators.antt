@@ -1,5 +1,5 @@
 -- The operators over the meanings of their arguments, each by its JsonLogic or flagd name.
-use Rattle.std.specs.Prelude.{ℕ, unwrap_or, slice_get, Bool, true, false, not, List, [], ◌∷◌, if◌then◌else◌, Result, Ok, Err}
+use Rattle.std.specs.Prelude.{ℕ, unwrap_or, slice_get, Bool, true, false, not, ◌&&◌, List, [], ◌∷◌, if◌then◌else◌, Result, Ok, Err}
 use Rattle.flag_text.specs.Shape.{Shape, null, boolean, list, has_other}
 use Rattle.flag_text.specs.View.{items_of}
 use Rattle.logic_ast.specs.declared.operator.Operator.{Operator}
@@ -8,6 +8,7 @@ use Rattle.logic_values.specs.declared.fault.EvalFault.{EvalFault}
 use Rattle.logic_values.specs.declared.fault.EvalFault.TheVariants.{Arithmetic}
 use Rattle.logic_values.specs.Arithmetic.{if_number, sum, product, difference, remainder, maximum, minimum}
 use Rattle.logic_values.specs.Comparison.{bool_eq, is_same, is_equal, is_less, is_at_most, is_chain}
+use Rattle.decimal_values.specs.Decimals.{is_decimal, is_readable, less, at_most, equal, same, chain}
 use Rattle.logic_values.specs.Lists.{items_in, merged, is_in}
 use Rattle.logic_values.specs.Objects.{reduce_scope}
 use Rattle.logic_eval.specs.Run.{cost, Run, ends, gives, after, ◌>>=◌}
@@ -15,7 +16,7 @@ use Rattle.logic_eval.specs.Scope.{size, variable, missing, missing_some}
 use Rattle.logic_values.specs.Text.{joined, part, both_texts}
 use Rattle.logic_values.specs.Truth.{is_true}
 use Rattle.logic_values.specs.Version.{version_matches}
-use Rattle.std.specs.List.{starts_with, ends_with}
+use Rattle.std.specs.List.{list_any, starts_with, ends_with}
 use Rattle.std.specs.Prelude.{nat_eq}
 
 -- what an expression gives, by the scope
@@ -64,6 +65,40 @@ applied op.Substr scope vs = part vs
 applied op.SemVer scope vs = Ok (boolean (version_matches (argument 0 vs) (argument 1 vs) (argument 2 vs)))
 applied o scope vs = Ok (boolean (test_of o (argument 0 vs) (argument 1 vs)))
 
+-- ---- decimals: numbers of the context that are not whole
+
+abbrev pub has_decimal : List Shape → Bool
+has_decimal vs = list_any is_decimal vs
+
+abbrev pub negated : Result Bool EvalFault → Result Bool EvalFault
+negated (Ok b) = Ok (not b)
+negated (Err e) = Err e
+
+-- what the operators give that compare or test their first two arguments, where one of those may be a decimal; any other is a fault
+abbrev pub exact_test_of : Operator → Shape → Shape → Result Bool EvalFault
+exact_test_of op.Equal a b = equal a b
+exact_test_of op.StrictEqual a b = same a b
+exact_test_of op.NotEqual a b = negated (equal a b)
+exact_test_of op.StrictNotEqual a b = negated (same a b)
+exact_test_of op.Greater a b = less b a
+exact_test_of op.GreaterOrEqual a b = at_most b a
+exact_test_of op.Not a b = Ok (not (is_true a))
+exact_test_of op.Truth a b = Ok (is_true a)
+exact_test_of o a b = Err Arithmetic
+
+abbrev pub exact_test : Operator → List Shape → Result Bool EvalFault
+exact_test op.Less vs = chain less vs
+exact_test op.LessOrEqual vs = chain at_most vs
+exact_test o vs = exact_test_of o (argument 0 vs) (argument 1 vs)
+
+abbrev pub if_tested : Result Bool EvalFault → Result Shape EvalFault
+if_tested (Ok b) = Ok (boolean b)
+if_tested (Err e) = Err e
+
+-- what an operator gives of the values: as ever, unless one of them is a decimal
+abbrev pub applied_exactly : Operator → Shape → List Shape → Result Shape EvalFault
+applied_exactly o scope vs = if has_decimal vs then if_tested (exact_test o vs) else applied o scope vs
+
 -- `var` also costs the size of what it gives
 abbrev pub found : Shape → Run Shape
 found v = after (cost (size v)) (gives v)
@@ -78,9 +113,59 @@ found_whole v = found v >>= read
 abbrev pub variable_run : List Meaning → Meaning
 variable_run ms scope = values ms scope >>= λ vs. found_whole (variable scope vs)
 
+abbrev pub is_unreadable : Shape → Bool
+is_unreadable v = has_other v && not (is_readable v)
+
+-- a decimal within the limits of exact numbers may be read where it is compared or tested
+abbrev pub read_decimal : Shape → Run Shape
+read_decimal v = ends (if is_unreadable v then Err Arithmetic else Ok v)
+
+abbrev pub found_decimal : Shape → Run Shape
+found_decimal v = found v >>= read_decimal
+
+-- an argument that is compared or tested: `var` may give a decimal there
+abbrev pub operand : Bool → List Meaning → Meaning → Meaning
+operand true ms m = λ scope. after (cost 1) (values ms scope >>= λ vs. found_decimal (variable scope vs))
+operand false ms m = m
+
+-- the operators that compare or test all their arguments
+abbrev pub compares : Operator → Bool
+compares op.Less = true
+compares op.LessOrEqual = true
+compares op.Greater = true
+compares op.GreaterOrEqual = true
+compares op.Equal = true
+compares op.NotEqual = true
+compares op.StrictEqual = true
+compares op.StrictNotEqual = true
+compares op.Not = true
+compares op.Truth = true
+compares o = false
+
+-- the tests of `if` as operands: of each two arguments the first
+abbrev pub with_tests : List Meaning → List Meaning → List Meaning
+with_tests (m ∷ result ∷ ms) (test ∷ n ∷ tests) = test ∷ result ∷ with_tests ms tests
+with_tests ms tests = ms
+
+abbrev pub unless_last : List Meaning → Meaning → Meaning → Meaning
+unless_last [] m test = m
+unless_last (next ∷ rest) m test = test
+
+-- those of `and`: all arguments but the last
+abbrev pub with_early_tests : List Meaning → List Meaning → List Meaning
+with_early_tests (m ∷ ms) (test ∷ tests) = unless_last ms m test ∷ with_early_tests ms tests
+with_early_tests ms tests = ms
+
+-- The arguments of an operator, those that it compares or tests as operands. A test of `or` that counts as true is its value, too, and the items
+-- at which `filter`, `all`, `some` and `none` test have no decimals, since no value of an evaluation has one.
+abbrev pub asked : Operator → List Meaning → List Meaning → List Meaning
+asked op.If ms operands = with_tests ms operands
+asked op.And ms operands = with_early_tests ms operands
+asked o ms operands = if compares o then operands else ms
+
 -- the values of all arguments, then the operator on them
 abbrev pub strict : Operator → List Meaning → Meaning
-strict o ms scope = values ms scope >>= λ vs. ends (applied o scope vs)
+strict o ms scope = values ms scope >>= λ vs. ends (applied_exactly o scope vs)
 
 -- `if`: pairs of a test and a result, and a last result
 abbrev pub conditional : List Meaning → Meaning

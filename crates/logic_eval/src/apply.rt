@@ -5,10 +5,11 @@ ghost use Rattle.flag_text.specs.Outcome.{GivesUnless};
 ghost use Rattle.logic_values.specs.declared.fault.EvalFault.TheVariants.{WantOfMemory};
 ghost use Rattle.logic_values.specs.Arithmetic.{if_number};
 ghost use Rattle.logic_values.specs.Comparison.{is_less, is_at_most, is_chain};
-ghost use Rattle.logic_eval.specs.Operators.{applied, argument, test_of};
+ghost use Rattle.logic_eval.specs.Operators.{applied, applied_exactly, argument, test_of};
 ghost use Rattle.logic_values.specs.Views.{seen_view, value_view};
 ghost use Rattle.logic_eval.specs.Views.{scope_view};
 
+use crate::exact::{exact_test, has_decimal};
 use crate::missing::{missing, missing_some};
 use crate::scope::Scope;
 use logic_ast::Operator;
@@ -29,8 +30,11 @@ pub(crate) fn apply<'a>(
     scope: Scope,
     values: SmallVec<Value<'a>, 3>,
 ) -> Result<Value<'a>, EvalFault>
-    ensures exact { GivesUnless WantOfMemory value_view result (applied operator (scope_view scope.entry) (map value_view values.entry.items)) }
+    ensures exact { GivesUnless WantOfMemory value_view result (applied_exactly operator (scope_view scope.entry) (map value_view values.entry.items)) }
 {
+    if has_decimal(values.as_slice()) {
+        return Ok(Value::Bool(exact_test(operator, values.as_slice())?));
+    }
     match operator {
         Operator::Merge => Ok(Value::Items(merged(alloc, values)?)),
         _ => applied(alloc, operator, scope, values.as_slice()),
@@ -71,7 +75,7 @@ fn applied<'a>(
 }
 
 // The argument at a place, null where there is none.
-fn argument<'s, 'a>(values: &'s [Value<'a>], place: usize) -> Seen<'s, 'a>
+pub(crate) fn argument<'s, 'a>(values: &'s [Value<'a>], place: usize) -> Seen<'s, 'a>
     ensures { seen_view result ≡ argument place (map value_view values.now) }
 {
     match values.get(place) {

@@ -13,7 +13,8 @@ use std::alloc::{AllocError, Global};
 /// The evaluation context, the flag's key and the moment: the last two are seen as `$flagd`.
 ///
 /// It borrows the context and the key. By its type the context's names rise and its whole numbers are in range, and the moment is
-/// below 2^53. A number of it may be one that is not whole, which is a fault of the evaluations alone that read it.
+/// below 2^53. A number of it may be one that is not whole, which is a fault of the evaluations alone that read it, unless they compare or
+/// test it: then it stands in the context as an object of one member, a decimal.
 #[derive(Drop)]
 pub struct Context<'a> {
     members: &'a [(String, Tree)],

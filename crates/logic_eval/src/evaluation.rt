@@ -28,8 +28,9 @@ pub(crate) const MOST_UNITS: u64 = 100_000;
 /// evaluation.
 ///
 /// Refused, in the order of evaluation: `Arithmetic` where a number is missing, out of range or
-/// divided by 0, or where `var` gives what a number that is not whole stands in, `BadBuckets` where the buckets of a site are no entries of a rule, `TextTooLong`
-/// where a text that is made has more than 65,536 bytes; and `TooLong` where what came before costs
+/// divided by 0, where `var` gives what a number that is not whole stands in, unless it is a decimal that is compared or tested, or where
+/// a decimal, or a text that is compared with one, is beyond the limits of exact numbers; `BadBuckets` where the buckets of a site are no
+/// entries of a rule; `TextTooLong` where a text that is made has more than 65,536 bytes; and `TooLong` where what came before costs
 /// more than 100,000 units. `WantOfMemory` may come at any step.
 ///
 /// It takes about as many steps as units, but for the buckets of a site of which one is computed, which are walked, and for a

@@ -165,6 +165,13 @@ fn follow<'s, 'a>(place: Place<'s, 'a>, path: &str) -> Option<Place<'s, 'a>>
     }
 }
 
+/// What a path leads to in a part of the context, as `var` follows it: an object's member, or a list's item by its index, step by step.
+pub fn seen_at<'a>(part: Part<'a>, path: &str) -> Option<Seen<'a, 'a>>
+    ensures { option_map seen_view result ≡ follow (view part.entry.tree.now) (slice_split is_dot path.now) }
+{
+    Some(follow(Place::Given(part), path)?.seen())
+}
+
 // The first step of a path, from the scope.
 fn enter<'s, 'a>(scope: Scope<'s, 'a>, name: &str) -> Option<Place<'s, 'a>>
     ensures { option_map place_view result ≡ step (scope_view scope.entry) name.now }

@@ -17,19 +17,21 @@
 //! ```
 //!
 //! It walks the nodes (`nodes`), looks paths up in their scope (`find`), pays from the `meter`, and lets each site choose
-//! (`choice`, and `literal` where its buckets are). The values, and the operators on values alone, are `logic_values`'s.
+//! (`choice`, and `literal` where its buckets are). The values, and the operators on values alone, are `logic_values`'s; a number of the
+//! context that is not whole is a value only on its way to an operator that compares or tests it (`exact`, by `decimal_values`).
 //!
 //! Proved, over the definitions in `specs/`: value, reached list and fault are those of `evaluation_of` (`Evaluation`,
 //! `Operators`, `Scope`, `Fractional`, `Run`), for every expression and context; the value is whole; what is reached is of the
 //! expression's sites. [`eval_scalar`] gives the same of a value that is a text, a boolean or null (`Scalar`).
-//! [`a_literal_site_chooses`], [`a_branch_not_taken_is_not_evaluated`] and [`a_rule_that_chooses_alike_changes_nothing_else`]
-//! say what the definition amounts to (`Laws`).
+//! [`a_literal_site_chooses`], [`a_branch_not_taken_is_not_evaluated`], [`decimals_change_nothing_else`] and
+//! [`a_rule_that_chooses_alike_changes_nothing_else`] say what the definition amounts to (`Laws`).
 #![tactic(auto)]
 
 mod apply;
 mod choice;
 mod context;
 mod evaluation;
+mod exact;
 mod find;
 mod fractional;
 mod hashed;
@@ -45,10 +47,12 @@ mod variable;
 
 pub use context::Context;
 pub use evaluation::eval;
+pub use find::seen_at;
 pub use laws::{
     a_branch_not_taken_is_not_evaluated, a_literal_site_chooses,
-    a_rule_that_chooses_alike_changes_nothing_else,
+    a_rule_that_chooses_alike_changes_nothing_else, decimals_change_nothing_else,
 };
 pub use logic_values::{EvalFault, Value};
 pub use meter::Reached;
+pub use nodes::compares;
 pub use scalar::eval_scalar;

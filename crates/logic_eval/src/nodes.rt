@@ -2,10 +2,10 @@
 ghost use Rattle.std.specs.Prelude.{◌≡◌, IfOk, map, drop};
 ghost use Rattle.logic_ast.specs.Sites.{preorder, preorder_in, preorder_in_by, preorder_in_buckets};
 ghost use Rattle.logic_ast.specs.View.{node_view, nodes_view, boxed_view, buckets_view};
-ghost use Rattle.logic_eval.specs.Evaluated.{Evaluates, by_meaning_of, bucket_meanings_of, meaning_of, meanings_of};
+ghost use Rattle.logic_eval.specs.Evaluated.{Evaluates, by_meaning_of, bucket_meanings_of, conditional_meanings_of, meaning_of, meanings_of, operand_of, operands_of, tested_meaning_of, tested_meanings_of, tested_operation, truth_meanings_of};
 ghost use Rattle.logic_eval.specs.Evaluation.{input, pairs, part_of};
 ghost use Rattle.logic_eval.specs.Literal.{AreSummed};
-ghost use Rattle.logic_eval.specs.Operators.{values, operated, conditional, first_of_truth, strict, over, over_items, over_from_start, start, mapped, kept, occurs, reduced};
+ghost use Rattle.logic_eval.specs.Operators.{values, asked, compares, operated, conditional, first_of_truth, strict, over, over_items, over_from_start, start, mapped, kept, occurs, reduced};
 ghost use Rattle.logic_values.specs.Views.{value_view};
 ghost use Rattle.logic_eval.specs.Views.{scope_view, default_view, input_view, weighted_variant_view};
 
@@ -15,7 +15,7 @@ use crate::fractional::{Input, WeightedVariant};
 use crate::literal::decide_literal;
 use crate::meter::{Meter, pay_for};
 use crate::scope::{Scope, Subject, ends_at};
-use crate::variable::variable;
+use crate::variable::{variable, variable_or_decimal};
 use logic_ast::{Bucket, Node, Operator};
 use logic_values::truth::is_true;
 use logic_values::{EvalFault, Value, copy, items_of};
@@ -44,7 +44,7 @@ pub(crate) fn evaluate_node<'s, 'a>(
         }
         Node::List(items) => {
             meter.pay(1)?;
-            let values = evaluate_all(meter, items, scope, subject)?;
+            let values = evaluate_all(meter, items, false, scope, subject)?;
             Ok(Value::Items(listed(meter.alloc, values)?))
         }
         Node::Operation(operator, arguments) => {
@@ -64,21 +64,83 @@ pub(crate) fn evaluate_node<'s, 'a>(
     }
 }
 
-// The values of all, from the left.
+// The value of a node that is compared or tested: `var` may give a decimal there.
+#[cycle(evaluate)]
+#[tactic(auto, using(crate::proofs::Within::in_operation))]
+fn evaluate_operand<'s, 'a>(
+    meter: &mut Meter,
+    node: &'a Node,
+    scope: Scope<'s, 'a>,
+    subject: Subject<'a>,
+) -> Result<Value<'a>, EvalFault>
+    requires { AreSummed subject (preorder (node_view node.now)) }
+    ensures exact { Evaluates value_view meter.old meter.new result (operand_of subject.entry node.now (scope_view scope.entry)) }
+{
+    match node {
+        Node::Operation(operator, arguments) => {
+            meter.pay(1)?;
+            operate_tested(meter, arguments, *operator, scope, subject)
+        }
+        _ => evaluate_node(meter, node, scope, subject),
+    }
+}
+
+// An operator on its arguments, whose value is compared or tested.
+#[cycle(evaluate)]
+fn operate_tested<'s, 'a>(
+    meter: &mut Meter,
+    arguments: &'a Vec<Node>,
+    operator: Operator,
+    scope: Scope<'s, 'a>,
+    subject: Subject<'a>,
+) -> Result<Value<'a>, EvalFault>
+    requires { AreSummed subject (preorder_in (nodes_view arguments.now.items)) }
+    ensures exact { Evaluates value_view meter.old meter.new result (tested_operation operator (default_view subject.entry) (nodes_view arguments.now.items) (scope_view scope.entry)) }
+{
+    match operator {
+        Operator::Var => {
+            let values = evaluate_all(meter, arguments, false, scope, subject)?;
+            variable_or_decimal(meter, scope, values)
+        }
+        _ => operate(meter, arguments, operator, scope, subject),
+    }
+}
+
+// The value of a node that is compared or tested, or of one that is not.
+#[cycle(evaluate)]
+fn evaluate_operand_if<'s, 'a>(
+    meter: &mut Meter,
+    node: &'a Node,
+    tested: bool,
+    scope: Scope<'s, 'a>,
+    subject: Subject<'a>,
+) -> Result<Value<'a>, EvalFault>
+    requires { AreSummed subject (preorder (node_view node.now)) }
+    ensures exact { Evaluates value_view meter.old meter.new result (tested_meaning_of tested subject.entry node.now (scope_view scope.entry)) }
+{
+    if tested {
+        evaluate_operand(meter, node, scope, subject)
+    } else {
+        evaluate_node(meter, node, scope, subject)
+    }
+}
+
+// The values of all, from the left: where they are compared or tested, or where they are not.
 #[cycle(evaluate)]
 #[tactic(auto, using(crate::proofs::Within::in_nodes))]
 fn evaluate_all<'s, 'a>(
     meter: &mut Meter,
     nodes: &'a Vec<Node>,
+    tested: bool,
     scope: Scope<'s, 'a>,
     subject: Subject<'a>,
 ) -> Result<SmallVec<Value<'a>, 3>, EvalFault>
     requires { AreSummed subject (preorder_in (nodes_view nodes.now.items)) }
-    ensures exact { Evaluates (λ vs. map value_view vs.items) meter.old meter.new result (values (meanings_of subject.entry nodes.now.items) (scope_view scope.entry)) }
+    ensures exact { Evaluates (λ vs. map value_view vs.items) meter.old meter.new result (values (tested_meanings_of tested subject.entry nodes.now.items) (scope_view scope.entry)) }
 {
     let mut values = SmallVec::new(meter.alloc);
     for node in nodes {
-        let value = evaluate_node(meter, node, scope, subject)?;
+        let value = evaluate_operand_if(meter, node, tested, scope, subject)?;
         values.push(value)?;
     }
     Ok(values)
@@ -105,7 +167,7 @@ fn operate<'s, 'a>(
     subject: Subject<'a>,
 ) -> Result<Value<'a>, EvalFault>
     requires { AreSummed subject (preorder_in (nodes_view arguments.now.items)) }
-    ensures exact { Evaluates value_view meter.old meter.new result (operated operator (meanings_of subject.entry arguments.now.items) (scope_view scope.entry)) }
+    ensures exact { Evaluates value_view meter.old meter.new result (operated operator (asked operator (meanings_of subject.entry arguments.now.items) (operands_of subject.entry arguments.now.items)) (scope_view scope.entry)) }
 {
     match operator {
         Operator::If => conditional(meter, arguments, scope, subject),
@@ -118,14 +180,34 @@ fn operate<'s, 'a>(
         Operator::NoneOf => over(meter, arguments, Operator::NoneOf, scope, subject),
         Operator::Reduce => reduce(meter, arguments, scope, subject),
         Operator::Var => {
-            let values = evaluate_all(meter, arguments, scope, subject)?;
+            let values = evaluate_all(meter, arguments, false, scope, subject)?;
             variable(meter, scope, values)
         }
         _ => {
-            let values = evaluate_all(meter, arguments, scope, subject)?;
+            let tested = compares(operator);
+            let values = evaluate_all(meter, arguments, tested, scope, subject)?;
             apply(meter.alloc, operator, scope, values)
         }
     }
+}
+
+/// Whether the operator compares or tests all its arguments.
+pub fn compares(operator: Operator) -> bool
+    ensures { result ≡ compares operator }
+{
+    matches!(
+        operator,
+        Operator::Less
+            | Operator::LessOrEqual
+            | Operator::Greater
+            | Operator::GreaterOrEqual
+            | Operator::Equal
+            | Operator::NotEqual
+            | Operator::StrictEqual
+            | Operator::StrictNotEqual
+            | Operator::Not
+            | Operator::Truth
+    )
 }
 
 // `if`: pairs of a test and a result, and a last result.
@@ -138,11 +220,11 @@ fn conditional<'s, 'a>(
     subject: Subject<'a>,
 ) -> Result<Value<'a>, EvalFault>
     requires { AreSummed subject (preorder_in (nodes_view nodes.now.items)) }
-    ensures exact { Evaluates value_view meter.old meter.new result (conditional (meanings_of subject.entry nodes.now.items) (scope_view scope.entry)) }
+    ensures exact { Evaluates value_view meter.old meter.new result (conditional (conditional_meanings_of subject.entry nodes.now.items) (scope_view scope.entry)) }
 {
     let pairs = nodes.len() / 2;
     for pair in 0..pairs {
-        let value = evaluate_node(meter, &nodes[2 * pair], scope, subject)?;
+        let value = evaluate_operand(meter, &nodes[2 * pair], scope, subject)?;
         if is_true(value.seen()) {
             return evaluate_node(meter, &nodes[2 * pair + 1], scope, subject);
         }
@@ -153,7 +235,8 @@ fn conditional<'s, 'a>(
     Ok(Value::Null)
 }
 
-// `and` looks for a value that counts as false, `or` for one that counts as true: the first, else the last.
+// `and` looks for a value that counts as false, `or` for one that counts as true: the first, else the last. Only what `and` tests may be a
+// decimal, since that counts as true and so is not its value.
 #[cycle(evaluate)]
 #[tactic(auto, using(crate::proofs::Within::in_nodes))]
 fn first_of_truth<'s, 'a>(
@@ -164,14 +247,14 @@ fn first_of_truth<'s, 'a>(
     subject: Subject<'a>,
 ) -> Result<Value<'a>, EvalFault>
     requires { AreSummed subject (preorder_in (nodes_view nodes.now.items)) }
-    ensures exact { Evaluates value_view meter.old meter.new result (first_of_truth wanted (meanings_of subject.entry nodes.now.items) (scope_view scope.entry)) }
+    ensures exact { Evaluates value_view meter.old meter.new result (first_of_truth wanted (truth_meanings_of wanted subject.entry nodes.now.items) (scope_view scope.entry)) }
 {
     if nodes.is_empty() {
         return Ok(Value::Null);
     }
     let last = nodes.len() - 1;
     for place in 0..last {
-        let value = evaluate_node(meter, &nodes[place], scope, subject)?;
+        let value = evaluate_operand_if(meter, &nodes[place], !wanted, scope, subject)?;
         if is_true(value.seen()) == wanted {
             return Ok(value);
         }

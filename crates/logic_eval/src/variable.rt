@@ -1,7 +1,7 @@
 //! `var`, and the whole scope as a value.
 ghost use Rattle.std.specs.Prelude.{◌≡◌, IfOk, map};
 ghost use Rattle.logic_eval.specs.Budget.{Follows};
-ghost use Rattle.logic_eval.specs.Operators.{found, found_whole};
+ghost use Rattle.logic_eval.specs.Operators.{found, found_decimal, found_whole, is_unreadable};
 ghost use Rattle.logic_eval.specs.Scope.{variable};
 ghost use Rattle.logic_eval.specs.Views.{progress, scope_view, source_view};
 ghost use Rattle.logic_values.specs.Views.{value_view};
@@ -10,6 +10,7 @@ use crate::find::{Found, Place, find};
 use crate::meter::{Meter, pay_for_place, pay_for_scope, pay_for_value};
 use crate::other::has_other;
 use crate::scope::Scope;
+use decimal_values::is_readable;
 use logic_values::{EvalFault, Value, copy, fold};
 use smallvec::SmallVec;
 use std::alloc::{AllocError, Global};
@@ -79,6 +80,27 @@ pub(crate) fn variable<'a>(
         return Err(EvalFault::Arithmetic);
     }
     Ok(value)
+}
+
+/// `var` where what it gives is compared or tested: there it may be a decimal itself, within the limits of exact numbers.
+pub(crate) fn variable_or_decimal<'a>(
+    meter: &mut Meter,
+    scope: Scope<'_, 'a>,
+    values: SmallVec<Value<'a>, 3>,
+) -> Result<Value<'a>, EvalFault>
+    ensures exact { Follows value_view (progress meter.old) (progress meter.new) result (found_decimal (variable (scope_view scope.entry) (map value_view values.entry.items))) }
+{
+    let value = found(meter, scope, values)?;
+    if is_unreadable(&value) {
+        return Err(EvalFault::Arithmetic);
+    }
+    Ok(value)
+}
+
+fn is_unreadable(value: &Value) -> bool
+    ensures exact { result ≡ is_unreadable (value_view value.now) }
+{
+    has_other(value) && !is_readable(value.seen())
 }
 
 // What `var` gives, paid for before it is copied.

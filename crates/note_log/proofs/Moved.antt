@@ -1,12 +1,8 @@
 -- Writes one after the other.
-use Rattle.std.proofs.Common.{◌≡◌, ℕ, List, [], ◌∷◌, ◌++◌, take, drop, Option, Some, None, refl, sym, ap, ◌∙◌, append_assoc, append-nil}
-use Rattle.std.specs.declared.alloc.Global.{Global}
+use Rattle.std.proofs.Common.{◌≡◌, ℕ, List, [], ◌++◌, take, drop, Option, Some, None, refl, sym, ap, ◌∙◌, append_assoc, append-nil}
 use Rattle.std.specs.Io.KnownBytes.{append_known}
-use Rattle.std.proofs.lemmas.Grind.{flat_map-append}
 use Rattle.std.proofs.lemmas.List.{take-append-drop}
-use Rattle.bytes.specs.declared.unique.BytesMut.{BytesMut}
 use Rattle.note_log.specs.Handing.{Moves}
-use Rattle.note_log.specs.Sound.{handed_in}
 
 pub known_nil : (b : Option (List ℕ)) → b ≡ append_known b []
 known_nil None = refl
@@ -22,12 +18,6 @@ known_trans b0 b1 b2 xs ys x y = y ∙ ap (λ (b : Option (List ℕ)). append_kn
 
 pub unmoved : (b : Option (List ℕ)) (h w : List ℕ) → Moves b b h h w w
 unmoved b h w = record { more = []; bytes = known_nil b; handed = sym (append-nil h); waiting = refl }
-
--- the bytes of one write more
-pub one_write : (writes after : List (BytesMut Global × ℕ)) (buffer : BytesMut Global) (n : ℕ) → after ≡ writes ++ (buffer, n) ∷ [] → handed_in after ≡ handed_in writes ++ take n buffer.items
-one_write writes after buffer n e =
-    ap handed_in e ∙ flat_map-append (λ (w : BytesMut Global × ℕ). take w.1 w.0.items) writes ((buffer, n) ∷ [])
-    ∙ ap (λ (bs : List ℕ). handed_in writes ++ bs) (append-nil (take n buffer.items))
 
 module _ (b0 b1 b2 : Option (List ℕ)) (h0 h1 h2 w0 w1 w2 : List ℕ) where
   -- a front of n bytes more

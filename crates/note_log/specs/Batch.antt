@@ -5,39 +5,35 @@ use Rattle.std.specs.declared.alloc.Global.{Global}
 use Rattle.note_lines.specs.Hashed.{line_as}
 use Rattle.note_lines.specs.Note.{Noted, most_noted}
 use Rattle.note_lines.specs.declared.form.NoteForm.{NoteForm}
-use Rattle.note_log.specs.Line.{HasLine}
+use Rattle.note_memory.specs.Files.{StandsIn}
 use Rattle.note_log.specs.Log.{Wants}
-use Rattle.note_log.specs.Sound.{Remembered}
+use Rattle.note_memory.specs.Shown.{shown_in}
 use Rattle.note_log.specs.declared.batch.Batch.{Batch}
 
--- the line of the note is remembered
-abbrev pub IsKnown : NoteForm → Remembered → Noted → Type 0
-IsKnown form remembered note = (e : Vec ℕ Global × Unit {0}) × Contains remembered e × (e.0.items ≡ line_as form note)
+abbrev pub items_of : List (Vec ℕ Global) → List (List ℕ)
+items_of lines = map (λ line. line.items) lines
 
--- each of the lines stands in the bytes
-abbrev pub StandAll : List ℕ → List (Vec ℕ Global) → Type 0
-StandAll bytes lines = (line : Vec ℕ Global) → Contains lines line → HasLine line.items bytes
+-- the note is too long, or its line came last
+abbrev pub Adds : NoteForm → Noted → List (Vec ℕ Global) → List (Vec ℕ Global) → Type 0
+Adds form note old new =
+    ((most_noted < length note.input) × (new ≡ old))
+    ⊎ ((length note.input ≤ most_noted) × (items_of new ≡ items_of old ++ line_as form note ∷ []))
 
-abbrev pub Same : Batch → Batch → Type 0
-Same old new = (new.lines.items ≡ old.lines.items) × (new.bytes.items ≡ old.bytes.items)
-
--- the line of the note came last
-abbrev pub Grows : NoteForm → Noted → Batch → Batch → Type 0
-Grows form note old new =
-    (map (λ line. line.items) new.lines.items ≡ map (λ line. line.items) old.lines.items ++ line_as form note ∷ [])
-    × (new.bytes.items ≡ old.bytes.items ++ line_as form note)
-
--- the note is too long, or its line is remembered, or it was added
-abbrev pub Adds : NoteForm → Noted → Remembered → Batch → Batch → Type 0
-Adds form note remembered old new =
-    ((most_noted < length note.input) × Same old new)
-    ⊎ (IsKnown form remembered note × Same old new)
-    ⊎ ((length note.input ≤ most_noted) × Grows form note old new)
-
--- the lines of some of the notes, and each note that is to be recorded is one of them or remembered
-pub record IsBatch (form : NoteForm) (notes : List Noted) (remembered : Remembered) (batch : Batch) : Type 0 where
+-- the lines of all notes that are to be recorded, and of no other
+pub record ArePrinted (form : NoteForm) (notes : List Noted) (printed : List (Vec ℕ Global)) : Type 0 where
   pub recorded : List Noted
   pub wanted : (note : Noted) → Contains recorded note → Wants notes note
-  pub lines : map (λ line. line.items) batch.lines.items ≡ map (line_as form) recorded
+  pub lines : items_of printed ≡ map (line_as form) recorded
+  pub all : (note : Noted) → Wants notes note → Contains recorded note
+
+-- one of the notes has this line
+abbrev pub IsOneOf : NoteForm → List Noted → List ℕ → Type 0
+IsOneOf form notes line = (note : Noted) × Contains notes note × (line_as form note ≡ line)
+
+-- the lines of some of the notes, and the line of each note that is to be recorded is one of them, or stands in what an open file was handed
+pub record IsBatch (form : NoteForm) (notes : List Noted) (batch : Batch) : Type 0 where
+  pub recorded : List Noted
+  pub wanted : (note : Noted) → Contains recorded note → Wants notes note
+  pub lines : items_of batch.lines.items ≡ map (line_as form) recorded
   pub bytes : batch.bytes.items ≡ flat_map (line_as form) recorded
-  pub known : (note : Noted) → Wants notes note → IsKnown form remembered note ⊎ Contains recorded note
+  pub known : (note : Noted) → Wants notes note → StandsIn (line_as form note) (shown_in batch.shown.items) ⊎ IsOneOf form recorded (line_as form note)

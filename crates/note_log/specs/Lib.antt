@@ -1,7 +1,7 @@
 pub use Rattle.note_lines.specs.Note
-pub mod Line
+pub use Rattle.note_memory.specs.Files
+pub use Rattle.note_memory.specs.Line
 pub mod Sound
 pub mod Log
 pub mod Handing
 pub mod Batch
-pub mod Recalled

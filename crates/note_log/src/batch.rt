@@ -1,69 +1,92 @@
 //! The lines of notes that are not remembered.
-ghost use Rattle.std.specs.Prelude.{IfOk, OnOk};
-ghost use Rattle.note_log.specs.Batch.{Adds, IsBatch};
+ghost use Rattle.std.specs.Prelude.{◌≡◌, IfOk, OnOk};
+ghost use Rattle.std.specs.List.{flat_map};
+ghost use Rattle.note_log.specs.Batch.{Adds, ArePrinted, IsBatch, items_of};
+ghost use Rattle.note_memory.specs.Recalled.{joined};
 
 use bytes::BytesMut;
+use http_server::Log;
 use limits::INPUT_BYTES;
-use lru::LruCache;
 use note_lines::{Note, NoteForm, line_as};
+use note_memory::{Files, SharedMemory};
 use std::alloc::{AllocError, Global};
-use std::hash::RandomState;
 
-/// The lines of notes, and the same one after the other; and those that are remembered.
+/// The lines of notes, and the same one after the other.
 #[derive(Drop)]
 pub(crate) struct Batch {
     pub(crate) lines: Vec<Vec<u8>>,
     pub(crate) bytes: BytesMut,
-    pub(crate) known: Vec<Vec<u8>>,
+    /// The files that were open when the memory was asked, which only proofs read.
+    pub(crate) shown: Log<Files, u8>,
     /// How many inputs were too long for a note.
     pub(crate) too_long: u64,
 }
 
-/// The lines of these notes in a form that are not remembered. A note whose input is too long has none.
+/// The lines of notes, and how many inputs were too long for one.
+#[derive(Drop)]
+struct Printed {
+    lines: Vec<Vec<u8>>,
+    too_long: u64,
+}
+
+/// The lines of these notes in a form that a memory does not know of a file that is open. A note whose input is too long has none.
+#[tactic(auto, using(crate::proofs::Batches::batch_left))]
 pub(crate) fn batch_of(
     alloc: Global,
     form: NoteForm,
     notes: &[Note],
-    remembered: &LruCache<Vec<u8>, (), RandomState>,
+    memory: &SharedMemory,
 ) -> Result<Batch, AllocError>
-    ensures { IfOk result (λ batch. IsBatch form notes.now remembered.now.entries batch) }
+    ensures { IfOk result (λ batch. ∥ IsBatch form notes.now batch ∥₁) }
 {
-    let mut batch = Batch {
+    let printed = lines_of(alloc, form, notes)?;
+    let unknown = memory.unknown(alloc, printed.lines)?;
+    let bytes = joined(alloc, unknown.lines.as_slice())?;
+    Ok(Batch {
+        lines: unknown.lines,
+        bytes,
+        shown: unknown.shown,
+        too_long: printed.too_long,
+    })
+}
+
+/// The lines of these notes.
+fn lines_of(alloc: Global, form: NoteForm, notes: &[Note]) -> Result<Printed, AllocError>
+    ensures { IfOk result (λ printed. ArePrinted form notes.now printed.lines.items) }
+{
+    let mut printed = Printed {
         lines: Vec::new(alloc),
-        bytes: BytesMut::new(alloc),
-        known: Vec::new(alloc),
         too_long: 0,
     };
     for note in notes {
-        batch.add(alloc, form, note, remembered)?;
+        printed.add(alloc, form, note)?;
     }
-    Ok(batch)
+    Ok(printed)
 }
 
-impl Batch {
-    /// Adds the line of a note, where it has one that is not remembered.
-    fn add(
-        &mut self,
-        alloc: Global,
-        form: NoteForm,
-        note: &Note,
-        remembered: &LruCache<Vec<u8>, (), RandomState>,
-    ) -> Result<(), AllocError>
-        ensures { OnOk result (Adds form note.now remembered.now.entries self.old self.new) }
+impl Printed {
+    /// Adds the line of a note, where it has one.
+    fn add(&mut self, alloc: Global, form: NoteForm, note: &Note) -> Result<(), AllocError>
+        ensures { OnOk result (Adds form note.now self.old.lines.items self.new.lines.items) }
     {
         if note.input.len() > INPUT_BYTES {
             self.too_long = self.too_long.saturating_add(1);
             return Ok(());
         }
-        let mut line = line_as(alloc, form, &note.page, note.input.as_str())?;
-        if remembered.contains(line.as_slice()) {
-            self.known.push(line)?;
-            return Ok(());
-        }
-        self.bytes.extend_from_slice(line.as_slice())?;
+        let line = line_as(alloc, form, &note.page, note.input.as_str())?;
         // It may be remembered for long, and was printed into more room than it needs.
-        line.shrink_to_fit();
-        self.lines.push(line)?;
+        self.lines.push(Vec::from_slice(alloc, line.as_slice())?)?;
         Ok(())
     }
+}
+
+/// The lines, one after the other.
+fn joined(alloc: Global, lines: &[Vec<u8>]) -> Result<BytesMut, AllocError>
+    ensures { IfOk result (λ bytes. bytes.items ≡ joined (items_of lines.now)) }
+{
+    let mut bytes = BytesMut::new(alloc);
+    for line in lines {
+        bytes.extend_from_slice(line.as_slice())?;
+    }
+    Ok(bytes)
 }

@@ -11,7 +11,8 @@ use Rattle.flag_text.specs.Printing.{text_of}
 use Rattle.flag_text.specs.Shape.{Shape}
 use Rattle.logic_eval.specs.Run.{Reach}
 use Rattle.logic_eval.specs.Views.{reach_view}
-use Rattle.ofrep_answers.specs.Evaluation.{bodies, evaluation, is_spelled, reached_at, reached_in}
+use Rattle.decimal_reads.specs.Reads.{Reading}
+use Rattle.ofrep_answers.specs.Evaluation.{bodies, evaluation, is_spelled, reached_at, reached_in, read_by_flag, text_told}
 use Rattle.ofrep_answers.specs.Near.{near_details, near_if}
 use Rattle.ofrep_answers.specs.Request.{Asked}
 use Rattle.ofrep_answers.specs.declared.answer.Answer as program
@@ -19,7 +20,7 @@ use Rattle.ofrep_answers.specs.declared.answer.Content.{Content}
 use Rattle.ofrep_answers.specs.declared.answer.Content.TheVariants as content
 use Rattle.ofrep_answers.specs.declared.answer.FlagReached.{FlagReached}
 use Rattle.ofrep_bodies.specs.Bodies.{failure, flags_text}
-use Rattle.ofrep_bodies.specs.Evaluation.{body_text, status_of}
+use Rattle.ofrep_bodies.specs.Evaluation.{status_of}
 use Rattle.ofrep_answers.specs.Metadata.{AnswerMetadata, no_metadata}
 use Rattle.ofrep_bodies.specs.Failure.{code_status}
 use Rattle.ofrep_contexts.specs.Context.{context_of}
@@ -96,20 +97,21 @@ without_context key body fault = failed key (fault_code fault) (details_in body 
 
 -- ---- one flag
 
-abbrev pub one_told : Bool → List ℕ → List ℕ → Resolved → Answered
-one_told spelled metadata key r = record { status = status_of r; allow = None; tag = None; body = json (body_text spelled metadata key r); reached = reached_at key r.reached }
+abbrev pub one_told : Option Reading → Bool → List ℕ → List ℕ → Resolved → Answered
+one_told read spelled metadata key r = record { status = status_of r; allow = None; tag = None; body = json (text_told read spelled metadata key r); reached = reached_at key r.reached }
 
 -- the same, where no flag's key is near one that none has
-abbrev pub one_unless_near : Option (List ℕ) → Bool → List ℕ → List ℕ → Resolved → Answered
-one_unless_near None spelled metadata key r = one_told spelled metadata key r
-one_unless_near (Some near) spelled metadata key r = failed (Some key) (Some FlagNotFound) (near_details near)
+abbrev pub one_unless_near : Option (List ℕ) → Option Reading → Bool → List ℕ → List ℕ → Resolved → Answered
+one_unless_near None read spelled metadata key r = one_told read spelled metadata key r
+one_unless_near (Some near) read spelled metadata key r = failed (Some key) (Some FlagNotFound) (near_details near)
 
--- what a resolution is answered with: where no flag has the key, it is said which key is near
-abbrev pub one_resolved : AnswerMetadata → Marked → List ℕ → Resolved → Answered
-one_resolved metadata flags key r = one_unless_near (near_if r.code flags.0 key) (is_spelled key flags) (metadata.of_flag key) key r
+-- What a resolution in a context is answered with: where no flag has the key, it is said which key is near, and where a targeting can't be evaluated,
+-- which number that is not whole it reads.
+abbrev pub one_resolved : AnswerMetadata → Marked → List ℕ → Shape → Resolved → Answered
+one_resolved metadata flags key context r = one_unless_near (near_if r.code flags.0 key) (read_by_flag flags.0 key context r) (is_spelled key flags) (metadata.of_flag key) key r
 
 abbrev pub one_in : AnswerMetadata → Marked → ℕ → List ℕ → List ℕ → Result Shape ContextFault → Answered
-one_in metadata flags moment key body (Ok context) = one_resolved metadata flags key (evaluation flags.0 key context moment)
+one_in metadata flags moment key body (Ok context) = one_resolved metadata flags key context (evaluation flags.0 key context moment)
 one_in metadata flags moment key body (Err fault) = without_context (Some key) body fault
 
 -- what stands in a path in the place of the key, as it was sent

@@ -1,5 +1,6 @@
 //! The answer to a request for every flag.
 ghost use Rattle.std.specs.Prelude.{◌≡◌, ◌<◌, ◌≤◌, ◌++◌, ◌^◌, true, length, map, option_copied, option_map, string_bytes, if◌then◌else◌, IfOk, OnOk, IsOk};
+ghost use Rattle.decimal_reads.specs.Reads.{read_view};
 ghost use Rattle.flag_defs.specs.Flags.{flags_view};
 ghost use Rattle.flag_defs.specs.Floats.{floats_view};
 ghost use Rattle.flag_metadata.specs.Merged.{flag_metadata, merged_metadata};
@@ -17,7 +18,9 @@ ghost use Rattle.ofrep_contexts.specs.Context.{context_of, max_body};
 use crate::answer::{Answer, Content, FlagReached, push_reached};
 use crate::evaluation::{evaluate, is_spelled};
 use crate::one::without_context;
+use crate::reads::{read_by_flag, told_text};
 use crate::reasons::Reasons;
+use decimal_reads::DecimalRead;
 use entity_tags::{entity_tag, is_listed, opaque_tag};
 use flag_defs::Flags;
 use flag_metadata::Metadata;
@@ -25,7 +28,7 @@ use flag_resolve::{Reason, Resolution};
 use flag_text::Tree;
 use http::StatusCode;
 use json::Scratch;
-use ofrep_bodies::{evaluation_text, flags_text, status_of};
+use ofrep_bodies::{flags_text, status_of};
 use ofrep_contexts::{ContextFault, read_context_with};
 use std::alloc::{AllocError, Global};
 
@@ -84,8 +87,9 @@ fn told_flags(
         let (key, _) = flags.at(i);
         let resolution = evaluate(alloc, flags, key, context, moment)?;
         let spelled = is_spelled(flags, key);
+        let read = read_by_flag(flags, key, context, &resolution);
         told.count(resolution.reason);
-        told.add(alloc, metadata, key, resolution, spelled)?;
+        told.add(alloc, metadata, key, read, resolution, spelled)?;
     }
     Ok(told)
 }
@@ -99,22 +103,23 @@ impl Evaluations {
         self.reasons.count(reason);
     }
 
-    /// Adds the evaluation of the flag of a key.
+    /// Adds the evaluation of the flag of a key, or what its targeting reads.
     fn add(
         &mut self,
         alloc: Global,
         metadata: &Metadata,
         key: &str,
+        read: Option<DecimalRead>,
         resolution: Resolution,
         spelled: bool,
     ) -> Result<(), AllocError>
-        ensures bodies { OnOk result (map string_bytes self.new.bodies.items ≡ map string_bytes self.old.bodies.items ++ body_if_told spelled (flag_metadata (metadata_view metadata.now) key.now) key.now (resolution_view resolution)) }
+        ensures bodies { OnOk result (map string_bytes self.new.bodies.items ≡ map string_bytes self.old.bodies.items ++ body_if_told (option_map read_view read.entry) spelled (flag_metadata (metadata_view metadata.now) key.now) key.now (resolution_view resolution)) }
         ensures reached { OnOk result (map reached_view self.new.reached.items ≡ map reached_view self.old.reached.items ++ reached_at key.now (resolution_view resolution).reached) }
     {
         if status_of(&resolution) == StatusCode::NOT_FOUND {
             return push_reached(alloc, &mut self.reached, key, resolution.reached);
         }
-        let text = evaluation_text(alloc, metadata, key, &resolution, spelled)?;
+        let text = told_text(alloc, metadata, key, read, &resolution, spelled)?;
         self.bodies.push(text)?;
         push_reached(alloc, &mut self.reached, key, resolution.reached)
     }

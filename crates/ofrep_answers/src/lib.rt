@@ -18,6 +18,7 @@ mod kind;
 mod laws;
 mod near;
 mod one;
+mod reads;
 mod reasons;
 mod request;
 

@@ -1,5 +1,6 @@
 //! The answer to a request for one flag.
 ghost use Rattle.std.specs.Prelude.{◌≡◌, ◌<◌, ◌≢◌, ◌^◌, true, Some, IfOk, IsOk, option_copied, option_map, string_bytes, unwrap_or};
+ghost use Rattle.decimal_reads.specs.Reads.{read_view};
 ghost use Rattle.flag_defs.specs.Flags.{flags_view};
 ghost use Rattle.flag_defs.specs.Floats.{floats_view};
 ghost use Rattle.flag_metadata.specs.Merged.{flag_metadata};
@@ -20,13 +21,15 @@ ghost use Rattle.ofrep_requests.specs.Request.{text_if};
 use crate::answer::{Answer, Content, push_reached};
 use crate::evaluation::{evaluate, is_spelled};
 use crate::near::near_if;
+use crate::reads::{read_by_flag, told_text};
 use crate::reasons::Reasons;
+use decimal_reads::DecimalRead;
 use flag_defs::Flags;
 use flag_metadata::Metadata;
 use flag_resolve::{Code, Reason, Resolution};
 use flag_text::{Tree, print_tree};
 use json::Scratch;
-use ofrep_bodies::{code_status, evaluation_text, failure_body, status_of};
+use ofrep_bodies::{code_status, failure_body, status_of};
 use ofrep_contexts::{ContextFault, details_in, read_context_with};
 use ofrep_requests::key_in;
 use std::alloc::{AllocError, Global};
@@ -69,7 +72,7 @@ fn segment_in(path: &str) -> &str
 
 /// The bytes as a text, or another text where they are none.
 #[tactic(auto, using(ofrep_requests::proofs::Texts::text_if_utf8, ofrep_requests::proofs::Texts::text_if_not))]
-fn text_or<'a>(bytes: &'a [u8], other: &'a str) -> &'a str
+pub(crate) fn text_or<'a>(bytes: &'a [u8], other: &'a str) -> &'a str
     ensures { result.now ≡ unwrap_or (text_if bytes.now) other.now }
 {
     match str::from_utf8(bytes) {
@@ -109,41 +112,54 @@ fn one_in_context(
 ) -> Result<Answer, AllocError>
     requires moment { moment < 2 ^ 53 }
     requires context { is_tidy (view context.now) ≡ true }
-    ensures { IfOk result (λ a. answer_view a ≡ one_resolved (metadata_of (metadata_view metadata.now)) (flags_view flags.now, floats_view flags.now) key.now (evaluation (flags_view flags.now) key.now (view context.now) moment)) }
+    ensures { IfOk result (λ a. answer_view a ≡ one_resolved (metadata_of (metadata_view metadata.now)) (flags_view flags.now, floats_view flags.now) key.now (view context.now) (evaluation (flags_view flags.now) key.now (view context.now) moment)) }
 {
     let resolution = evaluate(alloc, flags, key, context, moment)?;
-    one_resolved(alloc, flags, metadata, key, resolution)
+    one_resolved(alloc, flags, metadata, key, context, resolution)
 }
 
-/// The answer with a resolution of the flag of this key.
+/// The answer with a resolution of the flag of this key in this context.
 fn one_resolved(
     alloc: Global,
     flags: &Flags,
     metadata: &Metadata,
     key: &str,
+    context: &Tree,
     resolution: Resolution,
 ) -> Result<Answer, AllocError>
-    ensures { IfOk result (λ a. answer_view a ≡ one_resolved (metadata_of (metadata_view metadata.now)) (flags_view flags.now, floats_view flags.now) key.now (resolution_view resolution)) }
+    requires context { is_tidy (view context.now) ≡ true }
+    ensures { IfOk result (λ a. answer_view a ≡ one_resolved (metadata_of (metadata_view metadata.now)) (flags_view flags.now, floats_view flags.now) key.now (view context.now) (resolution_view resolution)) }
 {
     match near_if(resolution.code, flags, key) {
         Some(near) => not_found(alloc, key, near, resolution.reason),
-        None => one_told(alloc, metadata, key, resolution, is_spelled(flags, key)),
+        None => {
+            let read = read_by_flag(flags, key, context, &resolution);
+            one_told(
+                alloc,
+                metadata,
+                key,
+                read,
+                resolution,
+                is_spelled(flags, key),
+            )
+        }
     }
 }
 
-/// The answer with a resolution, whose value may stand as its spelling.
+/// The answer with a resolution, whose value may stand as its spelling, or with what the targeting reads.
 fn one_told(
     alloc: Global,
     metadata: &Metadata,
     key: &str,
+    read: Option<DecimalRead>,
     resolution: Resolution,
     spelled: bool,
 ) -> Result<Answer, AllocError>
-    ensures { IfOk result (λ a. answer_view a ≡ one_told spelled (flag_metadata (metadata_view metadata.now) key.now) key.now (resolution_view resolution)) }
+    ensures { IfOk result (λ a. answer_view a ≡ one_told (option_map read_view read.entry) spelled (flag_metadata (metadata_view metadata.now) key.now) key.now (resolution_view resolution)) }
 {
     let status = status_of(&resolution);
     let reasons = Reasons::of(resolution.reason);
-    let text = evaluation_text(alloc, metadata, key, &resolution, spelled)?.into_bytes();
+    let text = told_text(alloc, metadata, key, read, &resolution, spelled)?.into_bytes();
     let mut reached = Vec::new(alloc);
     push_reached(alloc, &mut reached, key, resolution.reached)?;
     Ok(Answer {

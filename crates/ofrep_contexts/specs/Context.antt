@@ -6,6 +6,7 @@ use Rattle.flag_text.specs.Shape.{Shape, null, object, no_members}
 use Rattle.flag_text.specs.declared.fault.TextFault.{TextFault}
 use Rattle.flag_text.specs.declared.fault.TextFault.TheVariants as text_fault
 use Rattle.ofrep_contexts.specs.Deep.{is_too_deep}
+use Rattle.sent_numbers.specs.Levels.{without_spelling}
 use Rattle.sent_numbers.specs.Sent.{if_shallow, sent_of}
 use Rattle.ofrep_contexts.specs.Fault.{of_text}
 use Rattle.ofrep_contexts.specs.declared.fault.ContextFault.{ContextFault}
@@ -24,17 +25,25 @@ abbrev pub read_as : Result Shape TextFault → Result Shape ContextFault
 read_as (Ok t) = Ok t
 read_as (Err e) = Err (of_text e)
 
--- the member `context`: absent and null are the empty context, an object is a context with at most 120 levels
+-- null is the empty context, an object is a context with at most 120 levels
+abbrev pub context_as : Shape → Result Shape ContextFault
+context_as null = Ok empty_context
+context_as (object ms) = read_as (if_shallow (Ok (object ms)))
+context_as t = Err NotObject
+
+-- the member `context`, absent or not
 abbrev pub context_in : Option Shape → Result Shape ContextFault
 context_in None = Ok empty_context
-context_in (Some null) = Ok empty_context
-context_in (Some (object ms)) = read_as (if_shallow (Ok (object ms)))
-context_in (Some t) = Err NotObject
+context_in (Some t) = context_as (without_spelling t)
 
--- the context of a body that was read; its other members are passed over
+-- the context of an object; its other members are passed over
+abbrev pub context_within : Shape → Result Shape ContextFault
+context_within (object ms) = context_in (find_member (codes "context") ms)
+context_within t = Err BodyNotObject
+
+-- the context of a body that was read
 abbrev pub body_context : Result Shape TextFault → Result Shape ContextFault
-body_context (Ok (object ms)) = context_in (find_member (codes "context") ms)
-body_context (Ok t) = Err BodyNotObject
+body_context (Ok t) = context_within (without_spelling t)
 body_context (Err e) = Err (of_text e)
 
 -- why a body is not read as JSON: it nests too deep, or is no JSON text

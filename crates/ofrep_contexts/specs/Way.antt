@@ -8,6 +8,7 @@ use Rattle.ofrep_contexts.specs.Context.{max_body}
 use Rattle.ofrep_contexts.specs.Fault.{details_of}
 use Rattle.ofrep_contexts.specs.declared.fault.ContextFault.{ContextFault}
 use Rattle.ofrep_contexts.specs.declared.fault.ContextFault.TheVariants.{WantOfMemory, TooLarge, BodyTooDeep, NotJson, BodyNotObject, NotObject, TooDeep}
+use Rattle.sent_numbers.specs.Levels.{stand_for_number}
 use Rattle.sent_numbers.specs.Sent.{sent_of}
 
 -- the most bytes of a way
@@ -27,7 +28,7 @@ abbrev pub first : Option (List ℕ) → Option (List ℕ) → Option (List ℕ)
 first None later = later
 first (Some way) later = Some way
 
--- the way to the first list or object within so many others, in the order of the names and the places
+-- the way to the first list or object within so many others, in the order of the names and the places; an object that stands for a number is none
 abbrev mutual
   pub way_to : ℕ → Shape → Option (List ℕ)
   way_to levels null = None
@@ -36,7 +37,7 @@ abbrev mutual
   way_to levels other = None
   way_to levels (text t) = None
   way_to levels (list ts) = if levels == 0 then Some [] else way_in_items (levels - 1) ts 0
-  way_to levels (object ms) = if levels == 0 then Some [] else way_in_members (levels - 1) ms
+  way_to levels (object ms) = if stand_for_number ms then None else (if levels == 0 then Some [] else way_in_members (levels - 1) ms)
 
   pub way_in_items : ℕ → Items → ℕ → Option (List ℕ)
   way_in_items levels no_items place = None

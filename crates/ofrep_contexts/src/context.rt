@@ -5,14 +5,14 @@ ghost use Rattle.flag_text.specs.Outcome.{GivesUnless, seen_as};
 ghost use Rattle.flag_text.specs.Readers.{find_member};
 ghost use Rattle.flag_text.specs.Shape.{is_tidy, members_are_tidy};
 ghost use Rattle.flag_text.specs.View.{view, members_view};
-ghost use Rattle.ofrep_contexts.specs.Context.{body_context, context_of, max_body, no_json};
+ghost use Rattle.ofrep_contexts.specs.Context.{body_context, context_as, context_of, max_body, no_json};
 ghost use Rattle.ofrep_contexts.specs.Context as spec;
 
 use crate::deep::is_too_deep;
 use crate::fault::ContextFault;
 use flag_text::{TextFault, Tree, position_of};
 use json::Scratch;
-use sent_numbers::{read_sent_with, shallow};
+use sent_numbers::{read_sent_with, shallow, without_spelling};
 use std::alloc::Global;
 
 /// The most bytes of a request's body.
@@ -20,7 +20,7 @@ pub const MAX_BODY: usize = limits::TEXT_BYTES;
 
 /// The evaluation context that the body of a request carries: the object that is its member `context`. Where that is absent or
 /// null, or the body is empty, it is the empty object. The body's other members are passed over. A number whose value is whole and in
-/// range is that whole number however it is spelled; any other is `Tree::Other`, which is in nobody's way until it is read.
+/// range is that whole number however it is spelled; any other is in nobody's way until it is read (`sent_numbers`).
 ///
 /// Refusals, in this order: `TooLarge`, before anything is read; `BodyTooDeep`; `NotJson`; `BodyNotObject`; `NotObject`; `TooDeep`. The
 /// first, the third of bytes that are not UTF-8, and the context of an empty body take no memory.
@@ -73,7 +73,7 @@ fn body_context(alloc: Global, body: Tree) -> Result<Tree, ContextFault>
     ensures exact { seen_as view result ≡ body_context (Ok (view body)) }
     ensures tidy { IfOk result (λ t. is_tidy (view t) ≡ true) }
 {
-    match body {
+    match without_spelling(body) {
         Tree::Object(members) => context_in(alloc, member_named(members, "context")),
         _ => Err(ContextFault::BodyNotObject),
     }
@@ -86,9 +86,21 @@ fn context_in(alloc: Global, context: Option<Tree>) -> Result<Tree, ContextFault
     ensures tidy { IfOk result (λ t. is_tidy (view t) ≡ true) }
 {
     match context {
-        None | Some(Tree::Null) => Ok(Tree::Object(Vec::new(alloc))),
-        Some(Tree::Object(members)) => Ok(shallow(Tree::Object(members))?),
-        Some(_) => Err(ContextFault::NotObject),
+        None => Ok(Tree::Object(Vec::new(alloc))),
+        Some(context) => context_as(alloc, without_spelling(context)),
+    }
+}
+
+/// The context that a value is: null is the empty one.
+fn context_as(alloc: Global, context: Tree) -> Result<Tree, ContextFault>
+    requires { is_tidy (view context) ≡ true }
+    ensures exact { seen_as view result ≡ context_as (view context) }
+    ensures tidy { IfOk result (λ t. is_tidy (view t) ≡ true) }
+{
+    match context {
+        Tree::Null => Ok(Tree::Object(Vec::new(alloc))),
+        Tree::Object(members) => Ok(shallow(Tree::Object(members))?),
+        _ => Err(ContextFault::NotObject),
     }
 }
 

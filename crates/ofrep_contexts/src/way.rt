@@ -4,6 +4,7 @@ ghost use Rattle.flag_text.specs.View.{view, items_view, members_view};
 ghost use Rattle.ofrep_contexts.specs.Way.{joined, way_in_items, way_in_members, way_to};
 
 use flag_text::Tree;
+use sent_numbers::stands_for_number;
 use std::alloc::{AllocError, Global};
 
 /// The most bytes of a way.
@@ -13,12 +14,13 @@ const MAX_WAY: usize = 200;
 const REST: &str = "..";
 
 /// The way to the first list or object in the tree that stands within so many others, in at most 200 bytes: its first bytes and `..`
-/// where it is longer.
+/// where it is longer. An object that stands for a number is none.
 #[cycle(way)]
 pub(crate) fn way_to(alloc: Global, levels: u32, tree: &Tree) -> Result<Option<String>, AllocError>
     ensures { IfOk result (λ way. option_map string_bytes way ≡ way_to levels (view tree.now)) }
 {
     match tree {
+        _ if stands_for_number(tree) => Ok(None),
         Tree::List(_) if levels == 0 => Ok(Some(String::new(alloc))),
         Tree::Object(_) if levels == 0 => Ok(Some(String::new(alloc))),
         Tree::List(items) => way_in_items(alloc, levels - 1, items),

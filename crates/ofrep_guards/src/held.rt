@@ -1,8 +1,9 @@
 //! Keys that many guards share, and that change while they are in use.
-ghost use Rattle.std.specs.Prelude.{◌≡◌, IfOk, Some};
+ghost use Rattle.std.specs.Prelude.{◌≡◌, ◌⊎◌, IfOk, Option, Some, true};
 ghost use Rattle.std.specs.Sync.Mutex.{mutex_guard_value};
 ghost use Rattle.ofrep_guards.specs.Key.{keys_view};
 ghost use Rattle.ofrep_guards.specs.Held.{TakesOver};
+ghost use Rattle.ofrep_guards.specs.declared.keys.Keys.{Keys};
 
 use crate::keys::Keys;
 use std::alloc::{AllocError, Global};
@@ -82,7 +83,9 @@ impl<'a> HeldKeys<'a> {
 
     /// Takes over the keys of the ring where others were set. Where memory runs out, or they are being set or taken over just now,
     /// they are taken over the next time.
-    pub fn renew(&mut self) {
+    pub fn renew(&mut self)
+        ensures { (self.new.keys ≡ self.old.keys) ⊎ ((later : Option Keys) × TakesOver later self.old.keys self.new.keys true) }
+    {
         let ring = self.ring;
         let version = ring.version.load(Ordering::SeqCst);
         if version == self.version {

@@ -13,6 +13,7 @@ use Rattle.std.specs.contracts.random_state.RandomState as RandomState
 use Rattle.std.specs.contracts.net.tcp.TcpListener as TcpListener
 use Rattle.http_server.proofs.log.Log.TheSendSync as log
 use Rattle.log_file.specs.contracts.system.SystemLog as SystemLog
+use Rattle.note_memory.proofs.Crossings.{Handed-send, SharedMemory-sync}
 use Rattle.snap_share.specs.declared.history.ShareName as ShareName
 use Rattle.snap_share.specs.contracts.seat.ReadSeat as ReadSeat
 use Rattle.snap_share.proofs.Crossings.{ReadSeat-send}
@@ -56,7 +57,7 @@ Load-sync = search (sendable, crosses) depth 40
 
 Board-sync : IsSync Board.the_row
 Board-sync =
-    declared_sync Board.the_type (Counts-sync, (Load-sync, (search (sendable, crosses) depth 40, (search (sendable, crosses) depth 40, (search (sendable, crosses) depth 40, (search (sendable, crosses) depth 40, (search (sendable, crosses) depth 40, (search (sendable, crosses) depth 40, (search (sendable, crosses) depth 40, (search (sendable, crosses, KeyRing-sync) depth 40, (search (sendable, crosses) depth 40, (search (sendable, crosses, AccessLines-sync) depth 40, (search (sendable, crosses) depth 40, (DeskPost-sync, (Load-sync, tt)))))))))))))))
+    declared_sync Board.the_type (Counts-sync, (Load-sync, (search (sendable, crosses) depth 40, (search (sendable, crosses) depth 40, (search (sendable, crosses) depth 40, (search (sendable, crosses) depth 40, (SharedMemory-sync, (search (sendable, crosses) depth 40, (search (sendable, crosses) depth 40, (search (sendable, crosses, KeyRing-sync) depth 40, (search (sendable, crosses) depth 40, (search (sendable, crosses, AccessLines-sync) depth 40, (search (sendable, crosses) depth 40, (DeskPost-sync, (Load-sync, tt)))))))))))))))
 
 TcpListener-send : IsSend TcpListener.the_row
 TcpListener-send = search (sendable, crosses) depth 40
@@ -65,7 +66,7 @@ SystemLog-send : IsSend SystemLog.the_row
 SystemLog-send = search (sendable, crosses, log.the_send) depth 80
 
 Post-send : IsSend Post.the_row
-Post-send = search (sendable, crosses, SystemLog-send) depth 120
+Post-send = search (sendable, crosses, SystemLog-send, Handed-send) depth 120
 
 AdminPost-send : IsSend AdminPost.the_row
 AdminPost-send = search (sendable, crosses) depth 120

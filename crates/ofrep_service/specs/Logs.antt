@@ -1,8 +1,8 @@
 -- Where the logs of workers stand.
 use Rattle.std.specs.Prelude.{ℕ, zero, suc, ◌+◌, List, [], ◌∷◌, ◌++◌, codes, decimal, Option, option_map, string_bytes}
 use Rattle.log_file.specs.declared.file.LogFile.{Ghosts}
-use Rattle.log_file.specs.declared.journal.Journal.{Journal}
 use Rattle.log_file.specs.declared.system.SystemLog.{SystemLog}
+use Rattle.note_memory.specs.declared.numbered.NumberedJournal.{NumberedJournal}
 
 -- the path of the log of a worker, by its number from 1
 abbrev pub path_of : List ℕ → ℕ → List ℕ
@@ -18,5 +18,5 @@ paths_of folder zero = []
 paths_of folder (suc workers) = paths_of folder workers ++ path_at folder (workers + 1) ∷ []
 
 -- where a log is kept, its path
-abbrev pub path_in : {g : Ghosts SystemLog} → Option (Journal SystemLog g) → Option (List ℕ)
-path_in log = option_map (λ l. string_bytes l.file.path) log
+abbrev pub path_in : {g : Ghosts SystemLog} → Option (NumberedJournal SystemLog g) → Option (List ℕ)
+path_in log = option_map (λ l. string_bytes l.journal.file.path) log

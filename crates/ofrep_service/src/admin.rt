@@ -155,7 +155,7 @@ where
 }
 
 /// Answers the connections of a post until all threads are to end or the system fails.
-fn operate<J: ShareName, R: Net + LogPaths + DeskPaths + Clock>(
+fn operate<J: ShareName, R: Net + LogPaths + DeskPaths + Clock + Wait>(
     rt: &R,
     alloc: Global,
     keys: RandomState,
@@ -167,7 +167,7 @@ fn operate<J: ShareName, R: Net + LogPaths + DeskPaths + Clock>(
     let _ended = answer_operations(rt, alloc, keys, board, seat, desk, post);
 }
 
-fn answer_operations<J: ShareName, R: Net + LogPaths + DeskPaths + Clock>(
+fn answer_operations<J: ShareName, R: Net + LogPaths + DeskPaths + Clock + Wait>(
     rt: &R,
     alloc: Global,
     keys: RandomState,
@@ -176,7 +176,7 @@ fn answer_operations<J: ShareName, R: Net + LogPaths + DeskPaths + Clock>(
     desk: ReadSeat<J>,
     post: AdminPost,
 ) -> io::Result<()> {
-    let worker = worker_of(rt, alloc, keys, board, seat, None)?;
+    let worker = worker_of(rt, alloc, board, seat, None);
     let desk = desk_of(rt, alloc, board, desk, worker)?;
     let rules = AdminRules::new(&post.hosts, post.may_stop);
     let guard = AdminGuard::new(rules, &board.is_stopping, desk);
@@ -250,7 +250,7 @@ type OperatingDesk<'a, J, R> = ControlDesk<
 
 /// Has a desk of the board, which begins with its keys, answer the connections of a post until all threads are to end or the system
 /// fails. Its guard goes by the hosts of the post, and was not asked to stop yet.
-fn serve_operations<'a, J: ShareName, R: Net + LogPaths + DeskPaths + Clock>(
+fn serve_operations<'a, J: ShareName, R: Net + LogPaths + DeskPaths + Clock + Wait>(
     rt: &R,
     alloc: Global,
     keys: RandomState,

@@ -7,10 +7,10 @@ use control_desk::{DeskPost, DeskRules, SourceText};
 use log_file::Loss;
 use note_lines::NoteForm;
 use note_log::Trouble;
+use note_memory::SharedMemory;
 use ofrep_connections::Load;
 use ofrep_guards::{KeyRing, Keys, LaterKeys, Paths};
 use ofrep_worker::{Counts, WithoutRecord};
-use std::num::NonZeroUsize;
 use std::sync::atomic::{AtomicBool, AtomicU64, Ordering};
 use std::sync::{MutexGuard, Wait};
 
@@ -22,8 +22,8 @@ pub struct ConnectionLimits {
 }
 
 /// What the threads of a service tell each other: what the workers count, how many connections they hold, which snapshot was
-/// published last, whether they are to end; and what becomes of answers that can't be recorded, how many notes each worker
-/// remembers, what their lines have of the inputs, the pages of which origins may ask, the keys of which a request shows one, where one
+/// published last, whether they are to end; and what becomes of answers that can't be recorded, the memory of their logs, what the lines
+/// of notes have of the inputs, the pages of which origins may ask, the keys of which a request shows one, where one
 /// is wanted, what the workers serve, and the limits of their connections; and what the desks of operations share.
 #[derive(Drop)]
 pub struct Board {
@@ -35,7 +35,7 @@ pub struct Board {
     pub(crate) is_over: AtomicBool,
     published: AtomicU64,
     pub(crate) without_record: WithoutRecord,
-    pub(crate) remember: Option<NonZeroUsize>,
+    pub(crate) memory: SharedMemory,
     pub(crate) form: NoteForm,
     pub(crate) origins: Vec<String>,
     pub(crate) keys: Option<KeyRing>,
@@ -49,13 +49,13 @@ pub struct Board {
 }
 
 impl Board {
-    /// A board where nothing was counted or published yet. This becomes of answers that can't be recorded, each worker remembers so
-    /// many notes, or none, and their lines have this form, the pages of these origins may ask, or with `*` any, a request shows one of
+    /// A board where nothing was counted or published yet. This becomes of answers that can't be recorded, the logs of the workers
+    /// share this memory, and their lines have this form, the pages of these origins may ask, or with `*` any, a request shows one of
     /// the keys, where there are some, the workers serve these paths, the lines of requests go there, where they are wanted,
     /// connections have these limits, and the desks of operations go by these rules.
     pub fn new(
         without_record: WithoutRecord,
-        remember: Option<NonZeroUsize>,
+        memory: SharedMemory,
         form: NoteForm,
         origins: Vec<String>,
         keys: Option<Keys>,
@@ -65,7 +65,7 @@ impl Board {
         rules: DeskRules,
     ) -> Board
         ensures without { result.without_record ≡ without_record }
-        ensures remember { result.remember ≡ remember }
+        ensures memory { result.memory ≡ memory }
         ensures form { result.form ≡ form }
         ensures origins { result.origins ≡ origins }
         ensures keys { option_map (λ ring. ring.first) result.keys ≡ keys }
@@ -85,7 +85,7 @@ impl Board {
             is_over: AtomicBool::new(false),
             published: AtomicU64::new(0),
             without_record,
-            remember,
+            memory,
             form,
             origins,
             keys,

@@ -4,6 +4,7 @@ ghost use Rattle.log_file.specs.declared.fault.LogFault.TheVariants.{WantOfMemor
 ghost use Rattle.ofrep_service.specs.Logs.{path_at, path_in, path_of, paths_of};
 
 use log_file::{LogFault, LogPaths, SystemLog, make_folder};
+use note_memory::NumberedJournal;
 use std::alloc::{AllocError, Global};
 use std::io;
 
@@ -14,10 +15,11 @@ const FOLDER_MODE: u32 = 0o700;
 const FILE_MODE: u32 = 0o600;
 
 /// The log of a worker: its notes are kept at the end of a file of the system.
-pub type Journal = log_file::Journal<SystemLog>;
+pub type Journal = NumberedJournal<SystemLog>;
 
 /// Opens the logs of so many workers in a folder, which is made where it is missing: one for each worker, or none where no folder is
-/// named. So many of the last lines of each are read. No other process may have one of them open.
+/// named. So many of their last lines are read: all of them where they have no more, and else of each its share at least. No other
+/// process may have one of them open.
 pub fn open_logs<P: LogPaths>(
     paths: &P,
     alloc: Global,
@@ -31,12 +33,23 @@ pub fn open_logs<P: LogPaths>(
     if let Some(folder) = folder {
         make_folder(paths, folder)?;
     }
+    let share = lines / (workers as u64).max(1);
+    let mut left = lines;
     let mut logs = Vec::new(alloc);
     for worker in 0..workers {
-        let log = open_log(paths, alloc, folder, worker + 1, lines)?;
+        let log = open_log(paths, alloc, folder, worker + 1, left.max(share))?;
+        left = left.saturating_sub(lines_read(&log));
         logs.push(log)?;
     }
     Ok(logs)
+}
+
+/// How many last lines of a log are read, where one is kept.
+fn lines_read(log: &Option<Journal>) -> u64 {
+    match log {
+        Some(journal) => journal.lines_read(),
+        None => 0,
+    }
 }
 
 /// Opens the log of a worker, by its number from 1, where a folder is named.
@@ -64,11 +77,11 @@ fn open_in<P: LogPaths>(
     worker: usize,
     lines: u64,
 ) -> Result<Journal, LogFault>
-    ensures { IfOk result (λ log. string_bytes log.file.path ≡ path_of folder.now worker) }
+    ensures { IfOk result (λ log. string_bytes log.journal.file.path ≡ path_of folder.now worker) }
 {
     let path = log_path(alloc, folder, worker)?;
     let file = SystemLog::open(paths, path)?;
-    Journal::open(alloc, file, lines)
+    Ok(Journal::new(log_file::Journal::open(alloc, file, lines)?))
 }
 
 /// The path of the log of a worker.

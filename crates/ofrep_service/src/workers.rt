@@ -1,11 +1,9 @@
 //! The threads of the workers.
 ghost use denote.Param.Send.{IsSend, IsSync};
-ghost use Rattle.std.specs.NonZero.{non_zero_usize_get};
-ghost use Rattle.std.specs.Prelude.{◌≡◌, List, IfOk, IfSome, is_none, option_map, vec_len};
+ghost use Rattle.std.specs.Prelude.{◌≡◌, List, [], IfSome, map, option_map, vec_len};
 ghost use Rattle.http_server.specs.Exchange.{Call};
 ghost use Rattle.std.specs.List.{flat_map};
 ghost use Rattle.ofrep_guards.specs.Asked.{first_keys, rules_view};
-ghost use Rattle.note_log.specs.Log.{logged};
 ghost use Rattle.recorded_answers.specs.Stand.{AllStand, Works};
 ghost use Rattle.ofrep_service.specs.Limits.{HasLimits};
 
@@ -26,7 +24,7 @@ use ofrep_guards::{CountsStatus, Guard, Rules};
 use ofrep_worker::OfrepWorker;
 use recorded_answers::Recording;
 use snap_share::{ReadSeat, ShareName};
-use std::alloc::{AllocError, Global};
+use std::alloc::Global;
 use std::hash::RandomState;
 use std::io;
 use std::net::{Net, TcpListener, TcpStream};
@@ -140,6 +138,8 @@ where
         move |scope| -> Option<T>
             requires { IsSend J.row × IsSync J.row × IsSync R.row × B.pre beside }
         {
+            let mut posts = posts;
+            recall(rt, alloc, board, posts.as_mut_slice());
             for (seat, post) in seats.into_iter().zip(posts) {
                 let spawned = Builder::new()
                     .stack_size(STACK_BYTES)
@@ -155,7 +155,7 @@ where
 }
 
 /// Answers the connections of a post until all threads are to end or the system fails.
-fn work<J: ShareName, R: Net + LogPaths + Clock>(
+fn work<J: ShareName, R: Net + LogPaths + Clock + Wait>(
     rt: &R,
     alloc: Global,
     keys: RandomState,
@@ -166,7 +166,7 @@ fn work<J: ShareName, R: Net + LogPaths + Clock>(
     let _ended = answer(rt, alloc, keys, board, seat, post);
 }
 
-fn answer<J: ShareName, R: Net + LogPaths + Clock>(
+fn answer<J: ShareName, R: Net + LogPaths + Clock + Wait>(
     rt: &R,
     alloc: Global,
     keys: RandomState,
@@ -175,7 +175,7 @@ fn answer<J: ShareName, R: Net + LogPaths + Clock>(
     post: Post,
 ) -> io::Result<()> {
     let Post { listener, journal } = post;
-    let worker = worker_of(rt, alloc, keys, board, seat, journal)?;
+    let worker = worker_of(rt, alloc, board, seat, journal);
     let rules = Rules::new(
         alloc,
         board.origins.as_slice(),
@@ -243,27 +243,43 @@ fn serve_recorded<S: Recording, R: Net + Clock>(
     )
 }
 
-/// The worker of a post: it answers from the snapshots of a seat, and records in the post's log, where it has one, of which it
-/// remembers the lines that were read as it was opened.
+/// Has the board's memory remember the last lines that were read of the logs of all posts, before a worker answers.
+pub(crate) fn recall<R: Wait>(rt: &R, alloc: Global, board: &Board, posts: &mut [Post])
+    ensures { map (λ p. option_map (λ j. (j.journal.file, j.journal.last.items)) p.journal) posts.new ≡ map (λ p. option_map (λ j. (j.journal.file, [])) p.journal) posts.old }
+{
+    for post in posts.iter_mut() {
+        recall_one(rt, alloc, board, post);
+    }
+}
+
+/// The same of one post.
+fn recall_one<R: Wait>(rt: &R, alloc: Global, board: &Board, post: &mut Post)
+    ensures { option_map (λ j. (j.journal.file, j.journal.last.items)) post.new.journal ≡ option_map (λ j. (j.journal.file, [])) post.old.journal }
+{
+    if let Some(journal) = &mut post.journal {
+        journal.recall(rt, alloc, &board.memory);
+    }
+}
+
+/// The worker of a post: it answers from the snapshots of a seat, and records in the post's log, where it has one, which shares the
+/// board's memory.
 pub(crate) fn worker_of<'a, J: ShareName, R: Clock>(
     rt: &'a R,
     alloc: Global,
-    keys: RandomState,
     board: &'a Board,
     seat: ReadSeat<J>,
     journal: Option<Journal>,
-) -> Result<OfrepWorker<'a, J, R, SystemLog>, AllocError>
-    ensures seat { IfOk result (λ worker. worker.seat ≡ seat) }
-    ensures log { IfOk result (λ worker. option_map (λ l. l.journal.file) worker.log ≡ option_map (λ j. j.file) journal) }
-    ensures recalls { IfOk result (λ worker. IfSome journal (λ j. IfSome worker.log (λ l. (logged l).handed ≡ j.last.items))) }
-    ensures without { IfOk result (λ worker. worker.without_record ≡ board.now.without_record) }
-    ensures remember { IfOk result (λ worker. IfSome worker.log (λ l. IfSome board.now.remember (λ most. l.remembered.cap ≡ non_zero_usize_get most))) }
-    ensures form { IfOk result (λ worker. IfSome worker.log (λ l. l.form ≡ board.now.form)) }
-    ensures forgets { IfOk result (λ worker. IfSome worker.log (λ l. l.forgets ≡ is_none board.now.remember)) }
+) -> OfrepWorker<'a, J, R, SystemLog>
+    ensures seat { result.seat ≡ seat }
+    ensures log { option_map (λ l. l.journal.journal.file) result.log ≡ option_map (λ j. j.journal.file) journal }
+    ensures without { result.without_record ≡ board.now.without_record }
+    ensures memory { IfSome result.log (λ l. l.memory.now ≡ board.now.memory) }
+    ensures number { option_map (λ l. l.journal.number) result.log ≡ option_map (λ j. j.number) journal }
+    ensures form { IfSome result.log (λ l. l.form ≡ board.now.form) }
 {
     let log = match journal {
-        Some(journal) => Some(NoteLog::new(alloc, keys, board.form, journal, board.remember)?),
+        Some(journal) => Some(NoteLog::new(alloc, board.form, journal, &board.memory)),
         None => None,
     };
-    Ok(OfrepWorker::new(rt, alloc, seat, log, &board.counts, board.without_record))
+    OfrepWorker::new(rt, alloc, seat, log, &board.counts, board.without_record)
 }

@@ -9,7 +9,7 @@ use Rattle.note_lines.specs.Hashed.{line_as}
 use Rattle.note_lines.specs.Note.{Noted}
 use Rattle.note_log.specs.Log.{Logged, Records, Wants, logged, logged_after}
 use Rattle.note_log.specs.declared.log.NoteLog.{NoteLog}
-use Rattle.note_log.proofs.Lines.{not_in}
+use Rattle.note_memory.proofs.Lists.{not_in}
 use Rattle.http.specs.declared.request.Request.{Request}
 use Rattle.http_server.specs.declared.response.Response.{Response}
 use Rattle.snap_share.specs.Known.{Seat}
@@ -38,14 +38,16 @@ none_of (note ∷ notes) h = absurd (not_in note (h note (Contains-append_left (
 waited : (old new : Logged) (old_bytes new_bytes : Option (List ℕ)) (all : Bool) → Records [] old new old_bytes new_bytes all → HandsOver old new
 waited old new old_bytes new_bytes all r = record {
   more = r.more;
+  shown = r.shown;
   form = r.form;
   earlier = r.earlier;
   handed = r.handed;
   waiting = sym (append-nil old.waiting) ∙ ap (λ (notes : List Noted). old.waiting ++ flat_map (line_as old.form) notes) (sym (none_of r.recorded r.wanted)) ∙ r.lines;
+  relied = r.relied;
 }
 
 same_log : (old new : Logged) → new ≡ old → HandsOver old new
-same_log old new is = record { more = []; form = ap (λ (l : Logged). l.form) is; earlier = ap (λ (l : Logged). l.earlier) is; handed = ap (λ (l : Logged). l.handed) is ∙ sym (append-nil old.handed); waiting = ap (λ (l : Logged). l.waiting) (sym is) }
+same_log old new is = record { more = []; shown = []; form = ap (λ (l : Logged). l.form) is; earlier = ap (λ (l : Logged). l.earlier) is; handed = ap (λ (l : Logged). l.handed) is ∙ sym (append-nil old.handed); waiting = ap (λ (l : Logged). l.waiting) (sym is); relied = ap (λ (l : Logged). l.relied) is ∙ sym (append-nil old.relied) }
 
 pub handed_over : {E F : Type 0} {g : Ghosts F} (result : Result Bool E) (old new : NoteLog F g) (old_bytes new_bytes : Option (List ℕ))
     → IfOk result (λ all. ∥ Records [] (logged old) (logged new) old_bytes new_bytes all ∥₁) → OnErr result (new ≡ old) → ∥ HandsOver (logged old) (logged new) ∥₁

@@ -12,7 +12,7 @@ use Rattle.log_file.specs.declared.journal.Look.{Look}
 use Rattle.note_lines.specs.Hashed.{line_as}
 use Rattle.note_lines.specs.Note.{Noted}
 use Rattle.note_lines.specs.declared.form.NoteForm.{NoteForm}
-use Rattle.note_log.specs.Line.{HasLine}
+use Rattle.note_memory.specs.Files.{StandsIn}
 use Rattle.note_log.specs.Log.{Logged, Records, Wants, files_of, logged, logged_after, trouble_of}
 use Rattle.note_log.specs.declared.log.NoteLog.{NoteLog}
 use Rattle.note_log.specs.declared.trouble.Trouble.{Trouble}
@@ -37,17 +37,17 @@ pub record Kept : Type 0 where
 abbrev pub kept_of : {F : Type 0} {g : Ghosts F} → NoteLog F g → Kept
 kept_of {F} {g} l = record {
   logged = logged l;
-  bytes = g.bytes l.journal.file;
-  stands = g.stands l.journal.file;
-  is_lost = is_some l.journal.lost;
-  faults = g.faults l.journal.file;
+  bytes = g.bytes l.journal.journal.file;
+  stands = g.stands l.journal.journal.file;
+  is_lost = is_some l.journal.journal.lost;
+  faults = g.faults l.journal.journal.file;
 }
 
 -- of the log of a worker that keeps one
 abbrev pub kept_in : {F : Type 0} {g : Ghosts F} → Option (NoteLog F g) → Option Kept
 kept_in log = option_map kept_of log
 
--- all the notes are recorded, in a file that stood at its path; where there are none the log stays as it is
+-- all the notes are recorded, in the log's file, which stood at its path, or in one that another log has open; where there are none the log stays as it is
 abbrev pub AllRecorded : List Noted → Kept → Kept → Type 0
 AllRecorded notes old new =
     ((notes ≡ []) × (new ≡ old)) ⊎ ((new.stands ≡ true) × (∥ Records notes old.logged new.logged old.bytes new.bytes true ∥₁))
@@ -102,10 +102,12 @@ Responds without seat seat' request response old new =
 -- what waited is handed over as far as the file takes it
 pub record HandsOver (old new : Logged) : Type 0 where
   pub more : List ℕ
+  pub shown : List (List ℕ)
   pub form : new.form ≡ old.form
   pub earlier : new.earlier ≡ old.earlier
   pub handed : new.handed ≡ old.handed ++ more
   pub waiting : old.waiting ≡ more ++ new.waiting
+  pub relied : new.relied ≡ old.relied ++ shown
 
 -- what a look leaves of a log that is kept: it is found or begins anew, and then what waits for it is handed over
 abbrev pub LooksIn : Option Kept → Option Kept → Type 0
@@ -115,7 +117,7 @@ LooksIn _ _ = ⊥
 
 -- how often the path of a log that is kept was looked for
 abbrev pub looks_in : {F : Type 0} {g : Ghosts F} → Option (NoteLog F g) → Option ℕ
-looks_in {F} {g} log = option_map (λ l. g.looks l.journal.file) log
+looks_in {F} {g} log = option_map (λ l. g.looks l.journal.journal.file) log
 
 -- where a log is kept its path was looked for
 abbrev pub Rises : Option ℕ → Option ℕ → Type 0
@@ -123,25 +125,21 @@ Rises (Some old) (Some new) = old < new
 Rises None None = Unit {0}
 Rises _ _ = ⊥
 
--- the form of the lines of a log, and what its files were handed
+-- the form of the lines of a log, and what files were handed: its own, and those that it relied on
 pub record Handed : Type 0 where
   pub form : NoteForm
   pub files : List (List ℕ)
 
 abbrev pub handed_of : Kept → Handed
-handed_of k = record { form = k.logged.form; files = files_of k.logged }
+handed_of k = record { form = k.logged.form; files = files_of k.logged ++ k.logged.relied }
 
 -- of a log that is kept
 abbrev pub files : Option Kept → Option Handed
 files log = option_map handed_of log
 
--- the line of each note that is to be recorded stands in the bytes, in this form
-abbrev pub HasLines : NoteForm → List Noted → List ℕ → Type 0
-HasLines form notes bytes = (note : Noted) → Wants notes note → HasLine (line_as form note) bytes
-
 -- the line of each note that is to be recorded stands in what one of the files was handed
 abbrev pub HaveLines : List Noted → Handed → Type 0
-HaveLines notes handed = (file : List ℕ) × Contains handed.files file × HasLines handed.form notes file
+HaveLines notes handed = (note : Noted) → Wants notes note → StandsIn (line_as handed.form note) handed.files
 
 -- The response is the answer to the request, of some of these flags.
 pub record IsAnswer (known : List Flags) (request : Request (List ℕ)) (response : Response) : Type 0 where
@@ -151,7 +149,7 @@ pub record IsAnswer (known : List Flags) (request : Request (List ℕ)) (respons
   pub is_moment : moment < 2 ^ 53
   pub sends : Sends (answer_for flags moment (asked_of request)) response
 
--- It is such an answer, and where a log is kept, whose files were handed these bytes, the line of each of its notes, in the form of the log, stands in one of them.
+-- It is such an answer, and where a log is kept, the line of each of its notes, in the form of the log, stands in what one of these files was handed.
 pub record RestsOn (known : List Flags) (handed : Option Handed) (request : Request (List ℕ)) (response : Response) : Type 0 where
   pub answer : IsAnswer known request response
   pub lines : IfSome handed (HaveLines (notes_of (flags_view answer.flags) (answer_for answer.flags answer.moment (asked_of request))))

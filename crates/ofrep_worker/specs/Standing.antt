@@ -1,7 +1,7 @@
 -- What answers rest on stands, and stays: the laws of a worker.
 use Rattle.std.proofs.Common.{◌≡◌, ◌++◌, ◌∷◌, ◌<◌, ◌^◌, ◌||◌, ℕ, Bool, true, false, List, [], Option, Some, None, IfSome, Contains, ap, ◌∙◌, append-nil, append_assoc, sym, subst, refl, inl, inr}
 use Rattle.std.proofs.Math.Logic.{∥∥₁_map, ∥∥₁_map₂}
-use Rattle.std.proofs.lemmas.List.Elements.{Contains-append_left, Contains-append_right, Contains-push, Contains-push_cases}
+use Rattle.std.proofs.lemmas.List.Elements.{Contains-append_cases, Contains-append_left, Contains-append_right, Contains-push, Contains-push_cases}
 use mathlib.Core.List.{IsPrefix}
 use Rattle.flag_defs.specs.Flags.{flags_view}
 use Rattle.flag_defs.specs.declared.flags.Flags.{Flags}
@@ -10,15 +10,17 @@ use Rattle.http_server.specs.declared.response.Response.{Response}
 use Rattle.note_lines.specs.Hashed.{line_as}
 use Rattle.note_lines.specs.Note.{Noted}
 use Rattle.note_lines.specs.declared.form.NoteForm.{NoteForm}
-use Rattle.note_log.specs.Line.{HasLine}
+use Rattle.note_memory.specs.Files.{StandsIn}
+use Rattle.note_memory.specs.Line.{HasLine}
 use Rattle.log_file.specs.declared.journal.Look.{Look}
 use Rattle.log_file.specs.declared.journal.Look.TheVariants.{Stands as Still, Reopened, Lost}
-use Rattle.note_log.specs.Log.{Logged, Records, files_of, logged_after}
-use Rattle.note_log.proofs.Lines.{has_more, not_in}
+use Rattle.note_log.specs.Log.{Logged, Records, begun_anew, files_of, logged_after}
+use Rattle.note_log.proofs.Lines.{has_more}
+use Rattle.note_memory.proofs.Lists.{not_in}
 use Rattle.ofrep_answers.specs.Answer.{Answered}
 use Rattle.snap_share.specs.Known.{Seat, last_of}
 use Rattle.note_log.specs.declared.trouble.Trouble.{Trouble}
-use Rattle.ofrep_worker.specs.Answers.{AllRecorded, Handed, HandsOver, HasLines, HaveLines, IsAnswer, Kept, LooksIn, RecordedFirst, RecordedIn, Responds, RestsOn, Stands, answer_for, files, is_answered}
+use Rattle.ofrep_worker.specs.Answers.{AllRecorded, Handed, HandsOver, HaveLines, IsAnswer, Kept, LooksIn, RecordedFirst, RecordedIn, Responds, RestsOn, Stands, answer_for, files, handed_of, is_answered}
 use Rattle.ofrep_worker.specs.Asked.{asked_of}
 use Rattle.ofrep_worker.specs.Notes.{notes_of}
 use Rattle.ofrep_worker.specs.Sent.{Gives, GivesIn, Sends, unready}
@@ -39,13 +41,27 @@ last_among (x ∷ y ∷ ys) = among_more (last_of (y ∷ ys)) x (y ∷ ys) (last
 is_among : (known : List Flags) (flags : Flags) → last_of known ≡ Some flags → Contains known flags
 is_among known flags last = subst (λ (o : Option Flags). IfSome o (Contains known)) last (last_among known)
 
-all_stand : (notes : List Noted) (old new : Kept) → AllRecorded notes old new → ∥ HasLines new.logged.form notes new.logged.handed ∥₁
+-- recorded in the log's own file, or in one that it relied on
+recorded_in : (notes : List Noted) (old new : Kept) → Records notes old.logged new.logged old.bytes new.bytes true → HaveLines notes (handed_of new)
+recorded_in notes old new r note w =
+    let l = new.logged in
+    let line = line_as old.logged.form note in
+    let stands : StandsIn line (files_of l ++ l.relied) = elim ((r.whole refl).1 note w) [
+      | inl own ↦ (l.handed, Contains-append_left (files_of l) l.relied l.handed (Contains-push l.earlier l.handed), own)
+      | inr s ↦ (
+        s.0,
+        Contains-append_right (files_of l) l.relied s.0 (subst (λ (fs : List (List ℕ)). Contains fs s.0) (sym r.relied) (Contains-append_right old.logged.relied r.shown s.0 s.1)),
+        s.2,
+      )
+    ] in
+    subst (λ (form : NoteForm). StandsIn (line_as form note) (files_of l ++ l.relied)) (sym r.form) stands
+
+all_stand : (notes : List Noted) (old new : Kept) → AllRecorded notes old new → ∥ HaveLines notes (handed_of new) ∥₁
 all_stand notes old new (inl none) = ∣ (λ note w. absurd (not_in note (subst (λ (l : List Noted). Contains l note) none.0 w.0))) ∣₁
-all_stand notes old new (inr records) = ∥∥₁_map records.1 (λ (r : Records notes old.logged new.logged old.bytes new.bytes true). subst (λ (form : NoteForm). HasLines form notes new.logged.handed) (sym r.form) (r.whole refl).1)
+all_stand notes old new (inr records) = ∥∥₁_map records.1 (recorded_in notes old new)
 
 all_stand_in : (notes : List Noted) (old new : Option Kept) → RecordedIn true notes old new → ∥ IfSome (files new) (HaveLines notes) ∥₁
-all_stand_in notes (Some old) (Some new) r =
-    ∥∥₁_map (all_stand notes old new r) (λ (h : HasLines new.logged.form notes new.logged.handed). (new.logged.handed, Contains-push new.logged.earlier new.logged.handed, h))
+all_stand_in notes (Some old) (Some new) r = all_stand notes old new r
 all_stand_in notes (Some old) None r = absurd r
 all_stand_in notes None (Some new) r = absurd r
 all_stand_in notes None None r = ∣ tt ∣₁
@@ -98,22 +114,33 @@ same_in : (handed : Option Handed) → GrowsIn handed handed
 same_in (Some handed) = (refl, same_files handed.files)
 same_in None = tt
 
--- the file that is open has grown
-grown_files : (old new : Logged) → new.earlier ≡ old.earlier → IsPrefix old.handed new.handed → GoOn (files_of old) (files_of new)
-grown_files old new earlier prefix file c = elim (Contains-push_cases old.earlier old.handed file c) [
-  | inl was ↦ (file, Contains-append_left new.earlier (new.handed ∷ []) file (subst (λ (l : List (List ℕ)). Contains l file) (sym earlier) was), ([], append-nil file))
-  | inr same ↦ (new.handed, Contains-push new.earlier new.handed, subst (λ (f : List ℕ). IsPrefix f new.handed) same prefix)
+-- all that a log has to show
+abbrev shown_of : Logged → List (List ℕ)
+shown_of l = files_of l ++ l.relied
+
+-- the file that is open has grown, and more was relied on
+grown_files : (old new : Logged) (shown : List (List ℕ)) → new.earlier ≡ old.earlier → IsPrefix old.handed new.handed → new.relied ≡ old.relied ++ shown → GoOn (shown_of old) (shown_of new)
+grown_files old new shown earlier prefix relied file c = elim (Contains-append_cases (files_of old) old.relied file c) [
+  | inl own ↦ elim (Contains-push_cases old.earlier old.handed file own) [
+    | inl was ↦
+        let there : Contains (files_of new) file = Contains-append_left new.earlier (new.handed ∷ []) file (subst (λ (l : List (List ℕ)). Contains l file) (sym earlier) was) in
+        (file, Contains-append_left (files_of new) new.relied file there, ([], append-nil file))
+    | inr same ↦ (new.handed, Contains-append_left (files_of new) new.relied new.handed (Contains-push new.earlier new.handed), subst (λ (f : List ℕ). IsPrefix f new.handed) same prefix)
+  ]
+  | inr other ↦
+      let there : Contains new.relied file = subst (λ (l : List (List ℕ)). Contains l file) (sym relied) (Contains-append_left old.relied shown file other) in
+      (file, Contains-append_right (files_of new) new.relied file there, ([], append-nil file))
 ]
 
 -- what one of several logs was handed, the later one still, in its form
 abbrev Grown : Logged → Logged → Type 0
-Grown old new = (new.form ≡ old.form) × GoOn (files_of old) (files_of new)
+Grown old new = (new.form ≡ old.form) × GoOn (shown_of old) (shown_of new)
 
 of_records : (notes : List Noted) (old new : Kept) (all : Bool) → Records notes old.logged new.logged old.bytes new.bytes all → Grown old.logged new.logged
-of_records notes old new all r = (r.form, grown_files old.logged new.logged r.earlier (r.more, sym r.handed))
+of_records notes old new all r = (r.form, grown_files old.logged new.logged r.shown r.earlier (r.more, sym r.handed) r.relied)
 
 grown : (notes : List Noted) (old new : Kept) (all : Bool) → RecordedFirst all notes old new → ∥ Grown old.logged new.logged ∥₁
-grown notes old new true (inl none) = ∣ subst (λ (k : Kept). Grown old.logged k.logged) (sym none.1) (refl, same_files (files_of old.logged)) ∣₁
+grown notes old new true (inl none) = ∣ subst (λ (k : Kept). Grown old.logged k.logged) (sym none.1) (refl, same_files (shown_of old.logged)) ∣₁
 grown notes old new true (inr records) = ∥∥₁_map records.1 (of_records notes old new true)
 grown notes old new false records = ∥∥₁_map records.1 (of_records notes old new false)
 
@@ -131,10 +158,11 @@ further without seat seat' request response old new (inl r) =
 further without seat seat' request response old new (inr r) = (r.0.forward, ∣ (subst (λ (k : Option Kept). GrowsIn (files old) (files k)) (sym r.2) (same_in (files old))) ∣₁)
 
 more_lines : (notes : List Noted) (old new : Option Handed) → GrowsIn old new → IfSome old (HaveLines notes) → IfSome new (HaveLines notes)
-more_lines notes (Some old) (Some new) g h =
-    let later = g.1 h.0 h.1 in
-    let lines : HasLines old.form notes later.0 = λ note w. subst (HasLine (line_as old.form note)) later.2.1 (has_more (line_as old.form note) h.0 later.2.0 (h.2 note w)) in
-    (later.0, later.1, subst (λ (form : NoteForm). HasLines form notes later.0) (sym g.0) lines)
+more_lines notes (Some old) (Some new) g h = λ note w.
+    let s = h note w in
+    let later = g.1 s.0 s.1 in
+    let stands : StandsIn (line_as old.form note) new.files = (later.0, later.1, subst (HasLine (line_as old.form note)) later.2.1 (has_more (line_as old.form note) s.0 later.2.0 s.2)) in
+    subst (λ (form : NoteForm). StandsIn (line_as form note) new.files) (sym g.0) stands
 more_lines notes (Some old) None g h = absurd g
 more_lines notes None (Some new) g h = absurd g
 more_lines notes None None g h = tt
@@ -173,16 +201,19 @@ still_stands without without' seat seat' request response old new r earlier told
 
 -- ---- it stays, whatever a look finds
 
-begun_files : (l : Logged) → GoOn (files_of l) (files_of l ++ [] ∷ [])
-begun_files l file c = (file, Contains-append_left (files_of l) ([] ∷ []) file c, ([], append-nil file))
+begun_files : (l : Logged) → GoOn (shown_of l) (shown_of (begun_anew l))
+begun_files l file c = elim (Contains-append_cases (files_of l) l.relied file c) [
+  | inl own ↦ (file, Contains-append_left (files_of l ++ [] ∷ []) l.relied file (Contains-append_left (files_of l) ([] ∷ []) file own), ([], append-nil file))
+  | inr other ↦ (file, Contains-append_right (files_of l ++ [] ∷ []) l.relied file other, ([], append-nil file))
+]
 
 looked_files : (look : Look) (l : Logged) → Grown l (logged_after look l)
-looked_files Still l = (refl, same_files (files_of l))
+looked_files Still l = (refl, same_files (shown_of l))
 looked_files (Reopened loss) l = (refl, begun_files l)
 looked_files (Lost loss fault) l = (refl, begun_files l)
 
 handed_over : (old new : Logged) → HandsOver old new → Grown old new
-handed_over old new h = (h.form, grown_files old new h.earlier (h.more, sym h.handed))
+handed_over old new h = (h.form, grown_files old new h.shown h.earlier (h.more, sym h.handed) h.relied)
 
 then_on : (a b c : List (List ℕ)) → GoOn a b → GoOn b c → GoOn a c
 then_on a b c x y file d =
@@ -196,7 +227,7 @@ looked_in (Some old) (Some new) k =
     let first = looked_files k.0 old.logged in
     ∥∥₁_map k.1 (λ (h : HandsOver seen new.logged).
     let next = handed_over seen new.logged h in
-    (next.0 ∙ first.0, then_on (files_of old.logged) (files_of seen) (files_of new.logged) first.1 next.1))
+    (next.0 ∙ first.0, then_on (shown_of old.logged) (shown_of seen) (shown_of new.logged) first.1 next.1))
 looked_in (Some old) None k = absurd k
 looked_in None (Some new) k = absurd k
 looked_in None None k = ∣ tt ∣₁

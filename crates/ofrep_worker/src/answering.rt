@@ -43,7 +43,7 @@ pub(crate) struct Answering<'a, R> {
 /// `scratch`.
 pub(crate) fn answer_from<R: Clock, F: LogFile>(
     with: &Answering<'_, R>,
-    log: &mut Option<NoteLog<F>>,
+    log: &mut Option<NoteLog<'_, F>>,
     scratch: &mut Scratch,
     request: &Request<Bytes>,
     response: &mut Response,
@@ -88,7 +88,7 @@ impl<R> Answering<'_, R> {
     }
 
     /// Why a log can't be written, where one can't: the worker's own, or else another's.
-    fn trouble<F: LogFile>(&self, log: &Option<NoteLog<F>>) -> Option<Trouble>
+    fn trouble<F: LogFile>(&self, log: &Option<NoteLog<'_, F>>) -> Option<Trouble>
         ensures { is_some (trouble_in (kept_in log.now)) ≡ true → is_some result ≡ true }
     {
         match trouble_in(log) {

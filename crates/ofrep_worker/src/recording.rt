@@ -14,10 +14,11 @@ use note_log::{NoteLog, Trouble};
 use ofrep_answers::Answer;
 use std::alloc::{AllocError, Global};
 
-/// Records the notes of an answer, and says whether all of them stand in the log. Where no log is kept there is nothing to do.
+/// Records the notes of an answer, and says whether all of them stand in the log, or in another of the process. Where no log is kept
+/// there is nothing to do.
 pub(crate) fn record_answer<F: LogFile>(
     alloc: Global,
-    log: &mut Option<NoteLog<F>>,
+    log: &mut Option<NoteLog<'_, F>>,
     flags: &Flags,
     answer: &Answer,
 ) -> Result<bool, AllocError>
@@ -36,7 +37,7 @@ pub(crate) fn record_answer<F: LogFile>(
 /// Records notes, and says whether all of them stand in the log. Where there are none the log is left alone.
 fn record_first<F: LogFile>(
     alloc: Global,
-    log: &mut NoteLog<F>,
+    log: &mut NoteLog<'_, F>,
     notes: &[Note],
 ) -> Result<bool, AllocError>
     ensures records { IfOk result (λ all. RecordedFirst all notes.now (kept_of log.old) (kept_of log.new)) }
@@ -50,15 +51,15 @@ fn record_first<F: LogFile>(
 
 /// Hands over what waits of earlier notes, as far as the file takes it.
 #[tactic(auto, using(crate::proofs::Recorded::handed_over))]
-pub(crate) fn record_waiting<F: LogFile>(alloc: Global, log: &mut NoteLog<F>)
+pub(crate) fn record_waiting<F: LogFile>(alloc: Global, log: &mut NoteLog<'_, F>)
     ensures handed { ∥ HandsOver (logged log.old) (logged log.new) ∥₁ }
-    ensures looks { F.looks log.new.journal.file ≡ F.looks log.old.journal.file }
+    ensures looks { F.looks log.new.journal.journal.file ≡ F.looks log.old.journal.journal.file }
 {
     let _ = log.record(alloc, &[]);
 }
 
 /// Why the log can't be written, where one is kept and it can't.
-pub(crate) fn trouble_in<F: LogFile>(log: &Option<NoteLog<F>>) -> Option<Trouble>
+pub(crate) fn trouble_in<F: LogFile>(log: &Option<NoteLog<'_, F>>) -> Option<Trouble>
     ensures { result ≡ trouble_in (kept_in log.now) }
 {
     match log {

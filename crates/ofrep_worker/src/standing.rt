@@ -7,9 +7,10 @@ use crate::worker::OfrepWorker;
 use log_file::{LogFile, LogPaths};
 use recorded_answers::Recording;
 use snap_share::ShareName;
+use std::sync::Wait;
 use std::time::Clock;
 
-impl<J: ShareName, R: Clock + LogPaths, F: LogFile> Recording for OfrepWorker<'_, J, R, F> {
+impl<J: ShareName, R: Clock + LogPaths + Wait, F: LogFile> Recording for OfrepWorker<'_, J, R, F> {
     ghost stands = { λ worker request response. Stands worker.without_record worker.seat.known (files (kept_in worker.log)) request response };
 
     ghost looked = { λ old new. (new.without_record ≡ old.without_record) × (new.seat ≡ old.seat) × LooksIn (kept_in old.log) (kept_in new.log) × Rises (looks_in old.log) (looks_in new.log) };

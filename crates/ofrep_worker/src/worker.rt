@@ -18,6 +18,7 @@ use note_log::{NoteLog, Trouble};
 use ofrep_guards::CountsStatus;
 use snap_share::{Current, ReadSeat, ShareFault, ShareName};
 use std::alloc::{AllocError, Global};
+use std::sync::Wait;
 use std::time::Clock;
 
 /// Answers requests from the last snapshot that its seat knows, once what the answers rest on is recorded, where it keeps a log.
@@ -26,7 +27,7 @@ pub struct OfrepWorker<'a, J: ShareName, R, F: LogFile> {
     rt: &'a R,
     alloc: Global,
     pub(crate) seat: ReadSeat<J>,
-    pub(crate) log: Option<NoteLog<F>>,
+    pub(crate) log: Option<NoteLog<'a, F>>,
     counts: &'a Counts,
     pub(crate) without_record: WithoutRecord,
     /// The room in which bodies are read.
@@ -44,12 +45,12 @@ impl<'a, J: ShareName, R: Clock, F: LogFile> OfrepWorker<'a, J, R, F> {
         rt: &'a R,
         alloc: Global,
         seat: ReadSeat<J>,
-        log: Option<NoteLog<F>>,
+        log: Option<NoteLog<'a, F>>,
         counts: &'a Counts,
         without_record: WithoutRecord,
     ) -> OfrepWorker<'a, J, R, F>
         ensures seat { result.seat ≡ seat }
-        ensures log { result.log ≡ log }
+        ensures log { result.log ≡ log.entry }
         ensures without { result.without_record ≡ without_record }
     {
         OfrepWorker {
@@ -108,9 +109,9 @@ impl<'a, J: ShareName, R: Clock, F: LogFile> OfrepWorker<'a, J, R, F> {
     }
 }
 
-impl<J: ShareName, R: LogPaths, F: LogFile> OfrepWorker<'_, J, R, F> {
+impl<J: ShareName, R: LogPaths + Wait, F: LogFile> OfrepWorker<'_, J, R, F> {
     /// Looks whether the file of its log, where it keeps one, stands at its path, and is as long as it was left. Where it is not
-    /// the path is opened anew, and nothing is remembered of the file that was lost. Then what waits is handed over.
+    /// the path is opened anew, and no line of the file that was lost counts as remembered. Then what waits is handed over.
     #[tactic(auto, using(crate::proofs::Recorded::looks_kept))]
     pub(crate) fn look_for_log(&mut self)
         ensures seat { self.new.seat ≡ self.old.seat }

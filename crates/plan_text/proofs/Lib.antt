@@ -1,3 +1,4 @@
+mod Kept
 pub mod Lengths
 mod LineEnds
 mod Misfits

@@ -10,12 +10,11 @@ use Rattle.limits.specs.Limits.{file_bytes}
 use Rattle.flag_text.specs.Printing.{text_of}
 use Rattle.flag_text.specs.Readers.{as_whole, as_text, as_list, member_of}
 use Rattle.flag_text.specs.Reading.{tree_of}
-use Rattle.flag_text.specs.Shape.{Shape, whole, text, list, object, Items, no_items, item, no_members, member, is_in_range, is_whole, items_are_whole}
+use Rattle.flag_text.specs.Shape.{Shape, whole, text, list, object, Items, no_items, item, no_members, member, is_whole}
 use Rattle.flag_text.specs.declared.fault.TextFault.{TextFault}
 use Rattle.bucket_core.specs.Reading.{weight_of, bucket_with, rule_of_entries}
 use Rattle.bucket_core.specs.Rule.{Entries}
 use Rattle.price_core.specs.Request.{number_below}
-use Rattle.transport_instance.specs.Certificate.{DualPrices}
 use Rattle.transport_instance.specs.Groups.{GroupKey, group_cmp}
 use Rattle.transport_instance.specs.declared.certificate.CutKind.{CutKind}
 use Rattle.transport_instance.specs.declared.certificate.CutKind.TheVariants.{Over, Under}
@@ -196,6 +195,10 @@ form_in t = option_and_then (form_of t) (option_and_then as_whole (member_of (co
 abbrev pub answer_by : Shape → Form → Option Answer
 answer_by t Rule = emit_in t
 answer_by t (Set kind) = set_in kind t
+
+-- the names of the members that are looked at
+abbrev pub plan_members : List (List ℕ)
+plan_members = codes "alpha" ∷ codes "beta" ∷ codes "cost" ∷ codes "none" ∷ codes "plan" ∷ codes "rule" ∷ codes "side" ∷ []
 
 -- The answer that a tree stands for. Members of other names are passed over.
 abbrev pub planned_of : Shape → Option Answer

@@ -1,12 +1,12 @@
 //! From the bytes of a plan file to the answer that it holds.
-ghost use Rattle.std.specs.Prelude.{◌≡◌, ◌<◌, ◌≤◌, ◌↔◌, ◌^◌, false, IfOk, IsErrOf, length, option_map};
+ghost use Rattle.std.specs.Prelude.{◌≡◌, ◌<◌, ◌≤◌, ◌↔◌, ◌^◌, false, IfOk, IsErrOf, length, map, option_map};
 ghost use Rattle.std.specs.Str.{is_utf8};
 ghost use Rattle.flag_text.specs.Outcome.{GivesUnless};
 ghost use Rattle.flag_text.specs.View.{view, items_view};
 ghost use Rattle.bucket_core.specs.Rule.{entries_view, names_view};
 ghost use Rattle.transport_instance.specs.Certificate.{alpha_view, beta_view};
 ghost use Rattle.plan_text.specs.Answer.{planned_view};
-ghost use Rattle.plan_text.specs.PlanFile.{max_plan, canonical_rule, items_in, alpha_in, beta_in, cost_in, rule_in, names_in, emit_in, set_in, planned_of, IsWhole, if_plan, answer_of};
+ghost use Rattle.plan_text.specs.PlanFile.{max_plan, plan_members, canonical_rule, items_in, alpha_in, beta_in, cost_in, rule_in, names_in, emit_in, set_in, planned_of, IsWhole, if_plan, answer_of};
 
 use crate::fault::PlanFileFault;
 use crate::form::{Form, form_in, has_rule_member};
@@ -15,14 +15,17 @@ use crate::plain::{COSTS, plain_of};
 use crate::planned::Planned;
 use crate::rows::{read_alpha, read_beta, read_entries, read_names};
 use bucket_core::{Rule, RuleFault};
-use flag_text::{Tree, read_tree};
+use flag_text::Tree;
 use limits::FILE_BYTES;
+use named_members::read_named;
 use std::alloc::Global;
 use transport_instance::{Certificate, Cut, CutKind};
 
+const PLAN_MEMBERS: &[&str] = &["alpha", "beta", "cost", "none", "plan", "rule", "side"];
+
 /// The answer that the bytes of a plan file hold: a canonical rule with its certificate, whose groups and names rise
 /// strictly, or a set of names that rise strictly. What is read may be printed. It takes time linear in the bytes; a file
-/// that was printed of a rule is read without a tree.
+/// that was printed of a rule is read without a tree, and members of other names take no memory.
 ///
 /// It refuses more than 67108864 bytes with `TooLarge`, and then all else with `BadPlan`. The first, and the second of bytes
 /// that are not UTF-8, take no memory.
@@ -35,8 +38,15 @@ pub fn read_planned(alloc: Global, bytes: &[u8]) -> Result<Planned, PlanFileFaul
     if let Some(planned) = plain_of(alloc, bytes)? {
         return Ok(planned);
     }
-    let tree = read_tree(alloc, bytes, FILE_BYTES)?;
+    let tree = read_named(alloc, bytes, FILE_BYTES, plan_members())?;
     planned_of(alloc, &tree)
+}
+
+/// The names of the members that are looked at.
+fn plan_members() -> &'static [&'static str]
+    ensures { map (λ n. n.now) result.now ≡ plan_members }
+{
+    PLAN_MEMBERS
 }
 
 fn planned_of(alloc: Global, tree: &Tree) -> Result<Planned, PlanFileFault>

@@ -1,2 +1,3 @@
+mod Objects
 mod Stays
 mod Whole

@@ -1,8 +1,8 @@
 -- A number that grows by a byte, and the texts that are respelled as themselves.
 use Rattle.std.proofs.Common.{◌≡◌, ◌≤◌, ℕ, zero, suc, ◌+◌, Bool, true, false, List, [], ◌∷◌, ◌++◌, length, take, drop, refl, ap, ◌∙◌, sym, arith, inl, inr, append_assoc, append-nil}
 use Rattle.std.proofs.lemmas.Bool.{cases_Bool}
-use Rattle.std.specs.Prelude.{◌==◌, ◌&&◌, if◌then◌else◌}
-use Rattle.sent_numbers.specs.Sent.{Standing, between, in_text, in_escape, in_number, are_whole_from, are_spelled_whole, after, after_in_text, begins_number, begun, continues_number, entered, is_spelled_whole, respelled_from, respelled, spelled}
+use Rattle.std.specs.Prelude.{◌==◌, ◌&&◌, not, if◌then◌else◌, None}
+use Rattle.sent_numbers.specs.Sent.{Standing, between, in_text, in_escape, in_number, are_whole_from, are_spelled_whole, after, after_in_text, begins_number, begun, continues_number, entered, is_other_number, is_signed_number, is_spelled_whole, number_object, respelled_from, respelled, signed_value_of, spelled, spelled_as, whole_number}
 use Rattle.sent_numbers.specs.View.{goes_on, place_view}
 use Rattle.sent_numbers.specs.declared.respelling.Place.{Place}
 use Rattle.sent_numbers.specs.declared.respelling.Place.TheVariants as places
@@ -39,7 +39,10 @@ right true b e = e
 right false b e = absurd (not_both e)
 
 same : (run : List ℕ) → is_spelled_whole run ≡ true → spelled run ≡ run
-same run e = rw e refl
+same run e =
+    let none : whole_number run ≡ None = ap (λ b. if b then None else signed_value_of run) e in
+    let kept : is_other_number run ≡ false = ap (λ b. not b && is_signed_number run) e in
+    ap (spelled_as run) none ∙ ap (λ b. if b then number_object run else run) kept
 
 then_true : (c x y : Bool) → c ≡ true → (if c then x else y) ≡ true → x ≡ true
 then_true c x y t e = let k : (if c then x else y) ≡ x = rw t refl in sym k ∙ e

@@ -1,3 +1,4 @@
 pub mod Law
+pub mod Levels
 pub mod Sent
 pub mod View

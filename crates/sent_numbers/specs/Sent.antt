@@ -1,14 +1,15 @@
--- JSON texts whose whole numbers are spelled in any way (RFC 8259, section 6: `5`, `5.0`, `0.5e1` and `-0` are numbers; their value is decimal).
-use Rattle.std.specs.Prelude.{ℕ, ◌==◌, ℤ, Bool, true, false, not, ◌&&◌, ◌||◌, nat_lt, nat_le, List, [], ◌∷◌, ◌++◌, length, drop, get_or, codes, if◌then◌else◌, Option, Some, None, Result, Ok, Err}
+-- JSON texts whose whole numbers are spelled in any way, and whose other numbers keep their spelling (RFC 8259, section 6: `5`, `5.0`, `0.5e1` and `-0` are numbers; their value is decimal).
+use Rattle.std.specs.Prelude.{ℕ, ◌==◌, ℤ, Bool, true, false, not, ◌&&◌, ◌||◌, nat_lt, nat_le, List, [], ◌∷◌, ◌++◌, length, drop, get_or, codes, is_some, if◌then◌else◌, Option, Some, None, Result, Ok, Err}
 use Rattle.std.specs.Fmt.{signed_decimal}
 use Rattle.std.specs.List.{list_all}
 use Rattle.std.specs.Str.{is_utf8, bytes_eq}
 use Rattle.std.specs.Str.Parse.{digits_value}
 use Rattle.fast_float.specs.Text.{Parts, scan, point_at, whole_of, with_sign}
 use Rattle.flag_text.specs.Reading.{if_json, json_of, max_levels}
-use Rattle.flag_text.specs.Shape.{Shape, is_in_range, levels}
+use Rattle.flag_text.specs.Shape.{Shape, is_in_range}
 use Rattle.flag_text.specs.declared.fault.TextFault.{TextFault}
 use Rattle.flag_text.specs.declared.fault.TextFault.TheVariants.{NotJson, TooDeep, TooLarge}
+use Rattle.sent_numbers.specs.Levels.{sent_levels, without_spelling}
 
 -- ---- one number
 
@@ -23,10 +24,6 @@ begins_number b = (b == 45) || is_digit b
 -- one of those, or a plus, a point, `e` or `E`
 abbrev pub continues_number : ℕ → Bool
 continues_number b = begins_number b || ((b == 43) || ((b == 46) || ((b == 101) || (b == 69))))
-
--- it is spelled as whole numbers are: neither a fraction nor an exponent, and not `-0`
-abbrev pub is_spelled_whole : List ℕ → Bool
-is_spelled_whole run = not (bytes_eq run (codes "-0")) && list_all begins_number run
 
 -- so many bytes are a number of JSON without its sign: `05`, `5.` and `.5` are none
 abbrev pub is_number : Parts → ℕ → Bool
@@ -48,15 +45,41 @@ abbrev pub signed_value_of : List ℕ → Option ℤ
 signed_value_of [] = value_of false []
 signed_value_of (b ∷ bs) = if b == 45 then value_of true bs else value_of false (b ∷ bs)
 
+-- fewer bytes than any whole number beyond the range has, or a value in range
+abbrev pub is_small : List ℕ → Bool
+is_small run = nat_lt (length run) 16 || is_some (signed_value_of run)
+
+-- it is spelled as whole numbers in range are: neither a fraction nor an exponent, and not `-0`
+abbrev pub is_spelled_whole : List ℕ → Bool
+is_spelled_whole run = not (bytes_eq run (codes "-0")) && (list_all begins_number run && is_small run)
+
 -- the whole number that a run stands for, where it is spelled otherwise than whole numbers are
 abbrev pub whole_number : List ℕ → Option ℤ
 whole_number run = if is_spelled_whole run then None else signed_value_of run
 
+abbrev pub is_unsigned_number : List ℕ → Bool
+is_unsigned_number digits = is_number (scan digits) (length digits)
+
+-- the bytes are a number of JSON
+abbrev pub is_signed_number : List ℕ → Bool
+is_signed_number [] = is_unsigned_number []
+is_signed_number (b ∷ bs) = if b == 45 then is_unsigned_number bs else is_unsigned_number (b ∷ bs)
+
+-- a number of JSON that is not spelled as whole numbers in range are
+abbrev pub is_other_number : List ℕ → Bool
+is_other_number run = not (is_spelled_whole run) && is_signed_number run
+
+-- The object that stands for a number which is not whole: its one member is such a number, and is named by a point and the spelling. No other
+-- object of a respelled text has such a member, since each number of it that is not whole stands in an object of its own; and no path leads
+-- to the member, since the names of a path have no points.
+abbrev pub number_object : List ℕ → List ℕ
+number_object run = codes "{\"." ++ (run ++ codes "\":0.5}")
+
 abbrev pub spelled_as : List ℕ → Option ℤ → List ℕ
-spelled_as run None = run
+spelled_as run None = if is_other_number run then number_object run else run
 spelled_as run (Some n) = signed_decimal n
 
--- its value as whole numbers are spelled, where it is whole and in range; else as it is
+-- Its value as whole numbers are spelled, where it is whole and in range; another number as the object that stands for it.
 abbrev pub spelled : List ℕ → List ℕ
 spelled run = spelled_as run (whole_number run)
 
@@ -80,7 +103,7 @@ after_in_text b = if b == 34 then between else (if b == 92 then in_escape else i
 abbrev pub begun : ℕ → (Standing → List ℕ) → List ℕ
 begun b rest = if begins_number b then rest (in_number (b ∷ [])) else b ∷ rest (after b)
 
--- the rest of a text, each of its numbers spelled as whole ones are where it is whole
+-- the rest of a text, each of its numbers spelled as a whole one where it is whole, and as an object where it is not
 abbrev pub respelled_from : Standing → List ℕ → List ℕ
 respelled_from between [] = []
 respelled_from in_text [] = []
@@ -98,7 +121,7 @@ respelled text = respelled_from between text
 abbrev pub entered : ℕ → (Standing → Bool) → Bool
 entered b rest = if begins_number b then rest (in_number (b ∷ [])) else rest (after b)
 
--- each number of the rest of a text is spelled as whole ones are
+-- each number of the rest of a text is spelled as whole ones in range are
 abbrev pub are_whole_from : Standing → List ℕ → Bool
 are_whole_from between [] = true
 are_whole_from in_text [] = true
@@ -115,13 +138,13 @@ are_spelled_whole text = are_whole_from between text
 
 -- ---- the tree of a text
 
--- the tree that the bytes stand for, `other` for each number that is not whole
+-- the tree that the bytes stand for, in which a number that is not whole is the object that stands for it
 abbrev pub sent_of : List ℕ → ℕ → Result Shape TextFault
 sent_of bytes limit = if nat_lt limit (length bytes) then Err TooLarge else (if is_utf8 bytes then if_json (json_of (respelled bytes)) else Err NotJson)
 
--- the same where it is no deeper than a context may be
+-- the same where it is no deeper than a context may be; a number that is not whole is no object there
 abbrev pub if_shallow : Result Shape TextFault → Result Shape TextFault
-if_shallow (Ok t) = if nat_lt max_levels (levels t) then Err TooDeep else Ok t
+if_shallow (Ok t) = if nat_lt max_levels (sent_levels t) then Err TooDeep else Ok (without_spelling t)
 if_shallow (Err e) = Err e
 
 abbrev pub sent_tree_of : List ℕ → ℕ → Result Shape TextFault

@@ -1,7 +1,7 @@
 //! The spelling of one number.
 ghost use Rattle.std.specs.Prelude.{◌≡◌, ◌==◌, ◌&&◌, not, nat_lt, length};
 ghost use Rattle.std.specs.List.{list_all};
-ghost use Rattle.sent_numbers.specs.Sent.{begins_number, is_number, is_spelled_whole, value_of, whole_number};
+ghost use Rattle.sent_numbers.specs.Sent.{begins_number, is_number, is_other_number, is_signed_number, is_small, is_spelled_whole, is_unsigned_number, signed_value_of, value_of, whole_number};
 
 use fast_float::Numeral;
 use flag_text::is_in_range;
@@ -13,17 +13,28 @@ pub(crate) fn whole_number(run: &[u8]) -> Option<i64>
     if is_spelled_whole(run) {
         return None;
     }
-    match run {
-        [b'-', digits @ ..] => value_of(true, digits),
-        digits => value_of(false, digits),
-    }
+    signed_value_of(run)
 }
 
-/// Whether the number is spelled as whole numbers are: by digits alone, perhaps behind a minus, and not as `-0`.
+/// Whether the bytes are a number of JSON that is not spelled as whole numbers in range are.
+pub(crate) fn is_other_number(run: &[u8]) -> bool
+    ensures { result ≡ is_other_number run.now }
+{
+    !is_spelled_whole(run) && is_signed_number(run)
+}
+
+/// Whether the number is spelled as whole numbers in range are: by digits alone, perhaps behind a minus, and not as `-0`.
 pub(crate) fn is_spelled_whole(run: &[u8]) -> bool
     ensures { result ≡ is_spelled_whole run.now }
 {
-    run != b"-0".as_slice() && are_digits(run)
+    run != b"-0".as_slice() && are_digits(run) && is_small(run)
+}
+
+/// Whether it has fewer bytes than any whole number beyond the range, or a value in range.
+fn is_small(run: &[u8]) -> bool
+    ensures { result ≡ is_small run.now }
+{
+    run.len() < 16 || signed_value_of(run).is_some()
 }
 
 /// Whether each byte is a digit or a minus.
@@ -32,6 +43,33 @@ fn are_digits(run: &[u8]) -> bool
 {
     run.iter()
         .all(|byte| *byte == b'-' || byte.is_ascii_digit())
+}
+
+/// The value of a number, where it is a JSON number whose value is whole and in range.
+fn signed_value_of(run: &[u8]) -> Option<i64>
+    ensures { result ≡ signed_value_of run.now }
+{
+    match run {
+        [b'-', digits @ ..] => value_of(true, digits),
+        digits => value_of(false, digits),
+    }
+}
+
+/// Whether the bytes are a number of JSON.
+fn is_signed_number(run: &[u8]) -> bool
+    ensures { result ≡ is_signed_number run.now }
+{
+    match run {
+        [b'-', digits @ ..] => is_unsigned_number(digits),
+        digits => is_unsigned_number(digits),
+    }
+}
+
+/// Whether the bytes are a number of JSON without a sign.
+fn is_unsigned_number(digits: &[u8]) -> bool
+    ensures { result ≡ is_unsigned_number digits.now }
+{
+    is_number(&Numeral::scan(digits), digits.len())
 }
 
 /// The value of a number without its sign, where it is a JSON number whose value is whole and in range.

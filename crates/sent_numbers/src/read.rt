@@ -7,6 +7,7 @@ ghost use Rattle.flag_text.specs.View.{view};
 ghost use Rattle.flag_text.specs.Reading.{if_json, json_of};
 ghost use Rattle.sent_numbers.specs.Sent.{if_shallow, respelled, sent_of, sent_tree_of};
 
+use crate::levels::{fits, without_spelling};
 use crate::respelling::respelled;
 use crate::walk::are_spelled_whole;
 use flag_text::{TREE_LEVELS, TextFault, Tree, read_doc_with};
@@ -14,8 +15,9 @@ use json::Scratch;
 use simdutf8::basic;
 use std::alloc::Global;
 
-/// The tree that the bytes of a JSON text stand for, with `Other` for each number that is not whole. A number whose decimal value
-/// is whole and from -(2^53-1) to 2^53-1 is that whole number however it is spelled. `max` is the most bytes that are read.
+/// The tree that the bytes of a JSON text stand for. A number whose decimal value is whole and from -(2^53-1) to 2^53-1 is that whole
+/// number however it is spelled; any other is an object of one member, `Other`, whose name is a point and the spelling. `max` is the most
+/// bytes that are read.
 ///
 /// Refusals, in this order: `TooLarge`, before anything is read; `NotJson`. The first, and the second of bytes that are not UTF-8,
 /// take no memory.
@@ -74,14 +76,14 @@ pub fn read_sent_tree(alloc: Global, bytes: &[u8], max: usize) -> Result<Tree, T
     shallow(read_sent(alloc, bytes, max)?)
 }
 
-/// The tree, where it has at most 120 levels; else `TooDeep`.
+/// The tree, where it has at most 120 levels; else `TooDeep`. An object that stands for a number is no level, and alone it is `Other`.
 pub fn shallow(tree: Tree) -> Result<Tree, TextFault>
     requires { is_tidy (view tree) ≡ true }
     ensures exact { seen_as view result ≡ if_shallow (Ok (view tree)) }
     ensures tidy { IfOk result (λ t. is_tidy (view t) ≡ true) }
 {
-    if tree.fits(TREE_LEVELS) {
-        Ok(tree)
+    if fits(&tree, TREE_LEVELS) {
+        Ok(without_spelling(tree))
     } else {
         Err(TextFault::TooDeep)
     }

@@ -1,10 +1,10 @@
-//! A text with its numbers spelled as whole ones where their value is whole.
+//! A text with its numbers spelled as whole ones where their value is whole, and as objects where it is not.
 ghost use Rattle.std.specs.Prelude.{◌≡◌, ◌++◌, ℕ, List, [], ◌∷◌, IfOk, OnOk};
-ghost use Rattle.sent_numbers.specs.Sent.{after, after_in_text, begins_number, begun, continues_number, respelled, respelled_from, spelled};
+ghost use Rattle.sent_numbers.specs.Sent.{after, after_in_text, begins_number, begun, continues_number, number_object, respelled, respelled_from, spelled};
 ghost use Rattle.sent_numbers.specs.View.{place_view, shown};
 ghost use Rattle.sent_numbers.specs.declared.respelling.Place.TheVariants as places;
 
-use crate::number::whole_number;
+use crate::number::{is_other_number, whole_number};
 use std::alloc::{AllocError, Global};
 
 /// Where a byte of a JSON text stands.
@@ -32,7 +32,7 @@ pub(crate) struct Respelling {
     place: Place,
 }
 
-/// The text with its numbers spelled as whole ones where their value is whole.
+/// The text with its numbers spelled as whole ones where their value is whole, and as objects where it is not.
 pub(crate) fn respelled(alloc: Global, text: &[u8]) -> Result<Vec<u8>, AllocError>
     ensures { IfOk result (λ bytes. bytes.items ≡ respelled text.now) }
 {
@@ -96,13 +96,15 @@ impl Respelling {
     fn end_number(&mut self) -> Result<(), AllocError>
         ensures { OnOk result (self.new.written.items ≡ self.old.written.items ++ spelled self.old.number.items) }
     {
-        match whole_number(self.number.as_slice()) {
-            Some(value) => {
-                let text = format!(in self.alloc; "{value}")?;
-                Ok(self.written.extend_from_slice(text.as_bytes())?)
-            }
-            None => Ok(self.written.extend_from_slice(self.number.as_slice())?),
+        let number = self.number.as_slice();
+        if let Some(value) = whole_number(number) {
+            let text = format!(in self.alloc; "{value}")?;
+            return Ok(self.written.extend_from_slice(text.as_bytes())?);
         }
+        if is_other_number(number) {
+            return write_object(&mut self.written, number);
+        }
+        Ok(self.written.extend_from_slice(number)?)
     }
 
     /// Ends the text.
@@ -114,6 +116,15 @@ impl Respelling {
         }
         Ok(self.written)
     }
+}
+
+/// Writes the object that stands for a number which is not whole.
+fn write_object(written: &mut Vec<u8>, number: &[u8]) -> Result<(), AllocError>
+    ensures { OnOk result (written.new.items ≡ written.old.items ++ number_object number.now) }
+{
+    written.extend_from_slice(b"{\".".as_slice())?;
+    written.extend_from_slice(number)?;
+    Ok(written.extend_from_slice(b"\":0.5}".as_slice())?)
 }
 
 /// Whether the byte begins a number.

@@ -1,11 +1,10 @@
-use Rattle.std.proofs.Common.{◌-◌, ℕ, List, [], ◌∷◌, Err, Vec, Global, drop, inl, inr, is_ok, length, refl, subst, sym, take}
+use Rattle.std.proofs.Common.{◌-◌, ℕ, List, [], ◌∷◌, Err, Vec, Global, ap, drop, inl, inr, is_ok, length, refl, subst, sym, take, vec_len}
 use Rattle.std.proofs.lemmas.Result.{err_from_is_err_and}
 use Rattle.flag_defs.specs.Flags.{flags_view}
 use Rattle.source_merge.specs.View.{sources_view}
 use Rattle.flagops_streams.specs.Documents.{Gives, MayRefuse, Merges, ServesTo, texts_of}
-use Rattle.flagops_streams.specs.Told.{IsArrival, IsGone, IsOfSubscribers}
 use Rattle.flagops_streams.proofs.Gives.{first_of, first_served, refused_alone}
-use Rattle.flagops_streams.proofs.Told.{lines_as, lines_behind}
+use Rattle.flagops_streams.proofs.Told.{nobody_came, some_came, still_arrivals}
 use Rattle.flagops_streams.proofs.serving.publish_in_turn.Goals as goal
 
 pub returns-in_err-arrived-clause-serves : goal.returns-in_err-arrived-clause-serves
@@ -40,18 +39,20 @@ returns-clause-serves g c =
       rest.2,
     )
 
-pub returns-clause-lines : goal.returns-clause-lines
-returns-clause-lines g c =
-    let are_served = is_ok c.publish_to.result in
-    let Is = IsOfSubscribers c.args.port c.args.subscribers are_served in
-    let came = lines_as (IsArrival c.args.port c.args.subscribers) Is (λ line is. inl is) _ _ _ c.arrivals.ensures.lines in
-    lines_behind Is _ _ _ _ _ c.publish_to.ensures.stays came (lines_as (IsGone are_served) Is (λ line is. inr is) _ _ _ c.publish_to.ensures.lines)
+pub returns-clause-told : goal.returns-clause-told
+returns-clause-told g c =
+    let arrived = c.in_ok-arrived.arrived in
+    (vec_len arrived.streams, arrived.absent, c.in_ok-arrived.ensures.came, (g.E.Outlet.bytes c.arrivals.new.err, still_arrivals _ _ c.publish_to.ensures.stays _ _ _ _ _ c.in_ok-arrived.ensures.told, c.publish_to.ensures.told))
 
--- who came is told of the subscribers
-pub returns-in_err-arrived-clause-lines : goal.returns-in_err-arrived-clause-lines
-returns-in_err-arrived-clause-lines g c =
-    lines_as (IsArrival c.args.port c.args.subscribers) (IsOfSubscribers c.args.port c.args.subscribers (is_ok c.from_residual-in_err-arrived.result)) (λ line is. inl is) _ _ _ c.arrivals.ensures.lines
+-- of those who came where not all did
+pub returns-in_err-arrived-clause-told : goal.returns-in_err-arrived-clause-told
+returns-in_err-arrived-clause-told g c =
+    let p = err_from_is_err_and c.from_residual-in_err-arrived.result c.from_residual-in_err-arrived.ensures.1 in
+    let some = c.in_err-arrived.ensures.some in
+    some_came c.args.port c.args.subscribers some.0 (is_ok c.from_residual-in_err-arrived.result) _ _ _ (ap is_ok p.1) some.1 some.2
 
 -- nothing is told before
-pub returns-in_err-flags-clause-lines : goal.returns-in_err-flags-clause-lines
-returns-in_err-flags-clause-lines g c = ([], refl)
+pub returns-in_err-flags-clause-told : goal.returns-in_err-flags-clause-told
+returns-in_err-flags-clause-told g c =
+    let p = err_from_is_err_and c.from_residual.result c.from_residual.ensures.1 in
+    nobody_came c.args.port c.args.subscribers (is_ok c.from_residual.result) _ _ _ (ap is_ok p.1) refl

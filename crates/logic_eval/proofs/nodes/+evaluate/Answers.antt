@@ -8,22 +8,23 @@ use Rattle.logic_ast.specs.View.{node_view, nodes_view, boxed_view, buckets_view
 use Rattle.logic_ast.proofs.Views.{node_view-fractional}
 use Rattle.logic_eval.specs.Budget.{paid}
 use Rattle.logic_values.specs.Comparison.{bool_eq}
-use Rattle.logic_eval.specs.Evaluation.{meaning, meanings, by_meaning, bucket_meanings, input, pairs, part_of}
+use Rattle.logic_eval.specs.Evaluated.{tested_meanings, tested_operation}
+use Rattle.logic_eval.specs.Evaluation.{meaning, meanings, operands, by_meaning, bucket_meanings, input, pairs, part_of}
 use Rattle.logic_eval.specs.Fractional.{decided}
 use Rattle.logic_eval.specs.Literal.{AreSummed}
-use Rattle.logic_eval.specs.Operators.{values, operated, mapped, kept, occurs, reduced, over_items}
+use Rattle.logic_eval.specs.Operators.{values, asked, operated, mapped, kept, occurs, reduced, over_items}
 use Rattle.logic_values.specs.Truth.{is_true}
 use Rattle.logic_eval.specs.Views.{progress, scope_view, default_view, input_view, weighted_variant_view}
 use Rattle.logic_values.specs.Views.{value_view}
 use Rattle.logic_eval.proofs.Branching.{literal_site}
-use Rattle.logic_eval.proofs.Branches.{node_view-literal, node_view-list, node_view-operation, as_seen, operated-other, conditional_err, conditional_true, conditional_false, conditional_end, first_of_truth_err, first_of_truth_found, first_of_truth_next, first_of_truth_none}
+use Rattle.logic_eval.proofs.Branches.{node_view-literal, node_view-list, node_view-operation, as_seen, operand_seen, operated-other, strict-asked, operand-operation, operand-node, tested-other, conditional_err, conditional_true, conditional_false, conditional_end, first_of_truth_err, first_of_truth_found, first_of_truth_next, first_of_truth_none}
 use Rattle.logic_eval.proofs.Budgets.{bind_ok, bind_err, cost_ok, cost_err, paid-gives}
 use Rattle.logic_eval.proofs.Exits.{exits, gives_same, ended}
 use Rattle.logic_values.proofs.Items.{pushed}
 use Rattle.logic_eval.proofs.Items.{bool_eq-same, bool_eq-other, mapped_ok, mapped_err, kept_true, kept_false, kept_err, occurs_found, occurs_next, occurs_err, reduced_ok, reduced_err, all_of_none, all_of_some, over_items-other, over_short, over_err, over_ok, reduce_short, reduce_err, reduce_start_err, reduce_ok, start_none}
 use Rattle.logic_eval.proofs.Sites.{literal_ok, computed_name_err, computed_weight_err, computed_ok}
 use Rattle.logic_values.proofs.Surfaces.{value_items, value_null, value_bool, value_lent}
-use Rattle.logic_eval.proofs.Values.{values_ok, values_err, prepended, prepended-err, prepended-none, prepended_all, one_more}
+use Rattle.logic_eval.proofs.Values.{values_ok, values_err, values_none, prepended, prepended-err, prepended-none, prepended_all, one_more}
 use Rattle.logic_eval.proofs.Within.{in_nodes, in_name, in_weight, in_by, in_buckets, own_ends}
 use Rattle.logic_eval.proofs.nodes.+evaluate.Goals as goal
 use Rattle.logic_eval.proofs.nodes.+evaluate.Goals.{kept-then-is_true+in_ok-copy+in_ok-push, kept-else-is_true, shares-in-Literal+in_ok-push-in-Literal, shares-in-Computed+in_ok-name-in-Computed+in_ok-weight-in-Computed+in_ok-push-in-Computed}
@@ -41,7 +42,7 @@ conditional-returns-then-is_true t c = let xs = c.args.nodes.now.items in
     let i : ℕ = 2 * c.loop-pair.pair in
     let h : i + 1 < length xs = omega arith in
     let t : is_true (value_view c.in_ok-value.value) ≡ true = sym (ap is_true c.seen.ensures) ∙ (sym c.is_true.ensures ∙ c.if-is_true.true) in record {
-      exact = gives_same _ _ _ _ (c.loop-pair.invariant ∙ conditional_true (default_view c.args.subject) (scope_view c.args.scope) xs i c.index.result.now c.index-then-is_true.result.now (progress c.loop-pair.meter) (progress c.evaluate_node.new.meter) _ h c.index.ensures c.index-then-is_true.ensures c.in_ok-value.ensures.exact t) c.evaluate_node-then-is_true.ensures.exact;
+      exact = gives_same _ _ _ _ (c.loop-pair.invariant ∙ conditional_true (default_view c.args.subject) (scope_view c.args.scope) xs i c.index.result.now c.index-then-is_true.result.now (progress c.loop-pair.meter) (progress c.evaluate_operand.new.meter) _ h c.index.ensures c.index-then-is_true.ensures c.in_ok-value.ensures.exact t) c.evaluate_node.ensures.exact;
     }
 
 pub conditional-loop-pair-preserved : goal.conditional-loop-pair-preserved
@@ -50,7 +51,7 @@ conditional-loop-pair-preserved t c = let xs = c.args.nodes.now.items in
     let h : i + 1 < length xs = omega arith in
     let t : is_true (value_view c.in_ok-value.value) ≡ false = sym (ap is_true c.seen.ensures) ∙ (sym c.is_true.ensures ∙ c.if-is_true.false) in
     let next : 2 * (c.loop-pair.pair + 1) ≡ i + 2 = omega arith in
-    c.loop-pair.invariant ∙ (conditional_false (default_view c.args.subject) (scope_view c.args.scope) xs i c.index.result.now (progress c.loop-pair.meter) (progress c.evaluate_node.new.meter) _ h c.index.ensures c.in_ok-value.ensures.exact t ∙ rw next refl)
+    c.loop-pair.invariant ∙ (conditional_false (default_view c.args.subject) (scope_view c.args.scope) xs i c.index.result.now (progress c.loop-pair.meter) (progress c.evaluate_operand.new.meter) _ h c.index.ensures c.in_ok-value.ensures.exact t ∙ rw next refl)
 
 pub conditional-returns : goal.conditional-returns
 conditional-returns t c = record {
@@ -130,28 +131,61 @@ evaluate_node-returns-then-not-is_empty t c =
 pub evaluate_node-shares-requires : goal.evaluate_node-shares-requires
 evaluate_node-shares-requires t c = (search (rules, the_lemmas), in_buckets c.args.subject c.args.node.now c.in-Fractional.site c.in-Fractional.by c.in-Fractional.buckets c.in-Fractional.is c.requires)
 
+pub evaluate_operand-returns-in_err-pay-in-Operation : goal.evaluate_operand-returns-in_err-pay-in-Operation
+evaluate_operand-returns-in_err-pay-in-Operation t c = record {
+  exact = exits _ _ _ _ c.from_residual.ensures.1
+      (λ n. operand_seen _ _ _ _ _ (ap node_view c.in-Operation.is ∙ node_view-operation _ _) ∙ (ap (λ m. paid (progress c.args.meter.now) (m (scope_view c.args.scope))) (operand-operation _ _ _) ∙ cost_err _ _ _ _ (c.in_err-pay-in-Operation.ensures.exact n)));
+}
+
+pub evaluate_operand-returns-in_ok-pay-in-Operation : goal.evaluate_operand-returns-in_ok-pay-in-Operation
+evaluate_operand-returns-in_ok-pay-in-Operation t c = record {
+  exact = gives_same _ _ _ _ (operand_seen _ _ _ _ _ (ap node_view c.in-Operation.is ∙ node_view-operation _ _)
+      ∙ (ap (λ m. paid (progress c.args.meter.now) (m (scope_view c.args.scope))) (operand-operation _ _ _) ∙ cost_ok _ _ _ _ _ c.in_ok-pay-in-Operation.ensures.exact)) c.operate_tested.ensures.exact;
+}
+
+pub evaluate_operand-returns-in_default : goal.evaluate_operand-returns-in_default
+evaluate_operand-returns-in_default t c = record {
+  exact = gives_same _ _ _ _ (ap (λ m. paid (progress c.args.meter.now) (m (scope_view c.args.scope))) (operand-node (default_view c.args.subject) c.args.node.now c.in_default.not-Operation)) c.evaluate_node.ensures.exact;
+}
+
+pub operate_tested-returns-in_err-values-in-Var : goal.operate_tested-returns-in_err-values-in-Var
+operate_tested-returns-in_err-values-in-Var t c = record {
+  exact = exits _ _ _ _ c.from_residual.ensures.1
+      (λ n. ap (λ o. paid (progress c.args.meter.now) (tested_operation o (default_view c.args.subject) (nodes_view c.args.arguments.now.items) (scope_view c.args.scope))) c.in-Var.is ∙ bind_err _ _ _ _ (c.in_err-values-in-Var.ensures.exact n));
+}
+
+pub operate_tested-returns-in_ok-values-in-Var : goal.operate_tested-returns-in_ok-values-in-Var
+operate_tested-returns-in_ok-values-in-Var t c = record {
+  exact = gives_same _ _ _ _ (ap (λ o. paid (progress c.args.meter.now) (tested_operation o (default_view c.args.subject) (nodes_view c.args.arguments.now.items) (scope_view c.args.scope))) c.in-Var.is ∙ bind_ok _ _ _ _ _ c.in_ok-values-in-Var.ensures.exact) c.variable_or_decimal.ensures.exact;
+}
+
+pub operate_tested-returns-in_default : goal.operate_tested-returns-in_default
+operate_tested-returns-in_default t c = record {
+  exact = gives_same _ _ _ _ (ap (λ r. paid (progress c.args.meter.now) (r (scope_view c.args.scope))) (tested-other c.args.operator (default_view c.args.subject) (nodes_view c.args.arguments.now.items) c.in_default.not-Var)) c.operate.ensures.exact;
+}
+
 -- what is known of the sites below a node
 
-pub evaluate_all-evaluate_node-requires : goal.evaluate_all-evaluate_node-requires
-evaluate_all-evaluate_node-requires t c =
+pub evaluate_all-evaluate_operand_if-requires : goal.evaluate_all-evaluate_operand_if-requires
+evaluate_all-evaluate_operand_if-requires t c =
     let xs = c.deref-node-items.result.now in
     let all : AreSummed c.args.subject (preorder_in (nodes_view xs)) = subst (λ ns. AreSummed c.args.subject (preorder_in (nodes_view ns))) (sym c.deref-node-items.ensures.value) c.requires in
     (search (rules, the_lemmas), in_nodes c.args.subject xs c.loop-node.node-index c.node-item.result (omega arith) c.node-item.is all)
 
-pub conditional-evaluate_node-requires : goal.conditional-evaluate_node-requires
-conditional-evaluate_node-requires t c = (search (rules, the_lemmas), in_nodes c.args.subject c.args.nodes.now.items (2 * c.loop-pair.pair) c.index.result.now (omega arith) c.index.ensures c.requires)
+pub conditional-evaluate_operand-requires : goal.conditional-evaluate_operand-requires
+conditional-evaluate_operand-requires t c = (search (rules, the_lemmas), in_nodes c.args.subject c.args.nodes.now.items (2 * c.loop-pair.pair) c.index.result.now (omega arith) c.index.ensures c.requires)
 
-pub conditional-evaluate_node-requires-then-is_true : goal.conditional-evaluate_node-requires-then-is_true
-conditional-evaluate_node-requires-then-is_true t c = (search (rules, the_lemmas), in_nodes c.args.subject c.args.nodes.now.items (2 * c.loop-pair.pair + 1) c.index-then-is_true.result.now (omega arith) c.index-then-is_true.ensures c.requires)
+pub conditional-evaluate_node-requires : goal.conditional-evaluate_node-requires
+conditional-evaluate_node-requires t c = (search (rules, the_lemmas), in_nodes c.args.subject c.args.nodes.now.items (2 * c.loop-pair.pair + 1) c.index-then-is_true.result.now (omega arith) c.index-then-is_true.ensures c.requires)
 
 pub conditional-evaluate_node-requires-then-len-eq1 : goal.conditional-evaluate_node-requires-then-len-eq1
 conditional-evaluate_node-requires-then-len-eq1 t c = (search (rules, the_lemmas), in_nodes c.args.subject c.args.nodes.now.items _ c.index-then-len-eq1.result.now (omega arith) c.index-then-len-eq1.ensures c.requires)
 
-pub first_of_truth-evaluate_node-requires : goal.first_of_truth-evaluate_node-requires
-first_of_truth-evaluate_node-requires t c = (search (rules, the_lemmas), in_nodes c.args.subject c.args.nodes.now.items c.loop-place.place c.index.result.now (omega arith) c.index.ensures c.requires)
+pub first_of_truth-evaluate_operand_if-requires : goal.first_of_truth-evaluate_operand_if-requires
+first_of_truth-evaluate_operand_if-requires t c = (search (rules, the_lemmas), in_nodes c.args.subject c.args.nodes.now.items c.loop-place.place c.index.result.now (omega arith) c.index.ensures c.requires)
 
-pub first_of_truth-evaluate_node-requires-2 : goal.first_of_truth-evaluate_node-requires-2
-first_of_truth-evaluate_node-requires-2 t c =
+pub first_of_truth-evaluate_node-requires : goal.first_of_truth-evaluate_node-requires
+first_of_truth-evaluate_node-requires t c =
     let some : 0 < length c.args.nodes.now.items = grind arith in
     (search (rules, the_lemmas), in_nodes c.args.subject c.args.nodes.now.items _ c.index-2.result.now (omega (arith, some)) c.index-2.ensures c.requires)
 
@@ -194,7 +228,7 @@ evaluate_node-returns-in_ok-shares-in-Fractional t c = record {
 }
 
 pub evaluate_all-loop-node-init : goal.evaluate_all-loop-node-init
-evaluate_all-loop-node-init t c = sym (ap (λ vs. prepended (map value_view vs) (paid (progress c.args.meter.now) (values (meanings (default_view c.args.subject) (nodes_view c.deref-node-items.result.now)) (scope_view c.args.scope)))) c.new-values.ensures.items ∙ prepended-none _)
+evaluate_all-loop-node-init t c = sym (ap (λ vs. prepended (map value_view vs) (paid (progress c.args.meter.now) (values (tested_meanings c.args.tested (default_view c.args.subject) (nodes_view c.deref-node-items.result.now)) (scope_view c.args.scope)))) c.new-values.ensures.items ∙ prepended-none _)
 
 pub evaluate_all-returns-in_err-value : goal.evaluate_all-returns-in_err-value
 evaluate_all-returns-in_err-value t c = let xs = c.deref-node-items.result.now in
@@ -202,8 +236,8 @@ evaluate_all-returns-in_err-value t c = let xs = c.deref-node-items.result.now i
     let d = default_view c.args.subject in
     let s = scope_view c.args.scope in record {
       exact = exits _ _ _ _ c.from_residual.ensures.1
-          (λ n. ap (λ ns. paid (progress c.args.meter.now) (values (meanings (default_view c.args.subject) (nodes_view ns)) (scope_view c.args.scope))) (sym c.deref-node-items.ensures.value)
-          ∙ (c.loop-node.invariant ∙ (ap (prepended (map value_view c.loop-node.values.items)) (values_err d s xs c.loop-node.node-index c.node-item.result (progress c.loop-node.meter) _ h c.node-item.is (c.in_err-value.ensures.exact n))
+          (λ n. ap (λ ns. paid (progress c.args.meter.now) (values (tested_meanings c.args.tested (default_view c.args.subject) (nodes_view ns)) (scope_view c.args.scope))) (sym c.deref-node-items.ensures.value)
+          ∙ (c.loop-node.invariant ∙ (ap (prepended (map value_view c.loop-node.values.items)) (values_err c.args.tested d s xs c.loop-node.node-index c.node-item.result (progress c.loop-node.meter) _ h c.node-item.is (c.in_err-value.ensures.exact n))
           ∙ prepended-err _ _)));
     }
 
@@ -214,34 +248,34 @@ evaluate_all-loop-node-preserved t c = let xs = c.deref-node-items.result.now in
     let s = scope_view c.args.scope in
     c.loop-node.invariant ∙ one_more (map value_view c.loop-node.values.items) (map value_view c.push.new.self.items) (value_view c.in_ok-value.value) _ _
     (pushed value_view c.loop-node.values.items c.push.new.self.items c.in_ok-value.value _ c.in_ok-push.ensures.ok refl)
-    (values_ok d s xs c.loop-node.node-index c.node-item.result (progress c.loop-node.meter) (progress c.evaluate_node.new.meter) _ h c.node-item.is c.in_ok-value.ensures.exact)
+    (values_ok c.args.tested d s xs c.loop-node.node-index c.node-item.result (progress c.loop-node.meter) (progress c.evaluate_operand_if.new.meter) _ h c.node-item.is c.in_ok-value.ensures.exact)
 
 pub evaluate_all-returns : goal.evaluate_all-returns
 evaluate_all-returns t c = let xs = c.deref-node-items.result.now in
     let end : drop c.loop-node.node-index xs ≡ [] = drop_all c.loop-node.node-index xs (omega arith) in record {
-      exact = ap (λ ns. paid (progress c.args.meter.now) (values (meanings (default_view c.args.subject) (nodes_view ns)) (scope_view c.args.scope))) (sym c.deref-node-items.ensures.value) ∙ (c.loop-node.invariant ∙ (ap (λ ns. prepended (map value_view c.loop-node.values.items) (paid (progress c.loop-node.meter) (values (meanings (default_view c.args.subject) (nodes_view ns)) (scope_view c.args.scope)))) end ∙ prepended_all _ _));
+      exact = ap (λ ns. paid (progress c.args.meter.now) (values (tested_meanings c.args.tested (default_view c.args.subject) (nodes_view ns)) (scope_view c.args.scope))) (sym c.deref-node-items.ensures.value) ∙ (c.loop-node.invariant ∙ (ap (λ ns. prepended (map value_view c.loop-node.values.items) (paid (progress c.loop-node.meter) (values (tested_meanings c.args.tested (default_view c.args.subject) (nodes_view ns)) (scope_view c.args.scope)))) end ∙ (ap (λ r. prepended (map value_view c.loop-node.values.items) (paid (progress c.loop-node.meter) r)) (values_none c.args.tested (default_view c.args.subject) (scope_view c.args.scope)) ∙ prepended_all _ _)));
     }
 
 pub operate-returns-in_err-values-in-Var : goal.operate-returns-in_err-values-in-Var
 operate-returns-in_err-values-in-Var t c = record {
   exact = exits _ _ _ _ c.from_residual.ensures.1
-      (λ n. ap (λ o. paid (progress c.args.meter.now) (operated o (meanings (default_view c.args.subject) (nodes_view c.args.arguments.now.items)) (scope_view c.args.scope))) c.in-Var.is ∙ bind_err _ _ _ _ (c.in_err-values-in-Var.ensures.exact n));
+      (λ n. ap (λ o. paid (progress c.args.meter.now) (operated o (asked o (meanings (default_view c.args.subject) (nodes_view c.args.arguments.now.items)) (operands (default_view c.args.subject) (nodes_view c.args.arguments.now.items))) (scope_view c.args.scope))) c.in-Var.is ∙ bind_err _ _ _ _ (c.in_err-values-in-Var.ensures.exact n));
 }
 
 pub operate-returns-in_ok-values-in-Var : goal.operate-returns-in_ok-values-in-Var
 operate-returns-in_ok-values-in-Var t c = record {
-  exact = gives_same _ _ _ _ (ap (λ o. paid (progress c.args.meter.now) (operated o (meanings (default_view c.args.subject) (nodes_view c.args.arguments.now.items)) (scope_view c.args.scope))) c.in-Var.is ∙ bind_ok _ _ _ _ _ c.in_ok-values-in-Var.ensures.exact) c.variable.ensures.exact;
+  exact = gives_same _ _ _ _ (ap (λ o. paid (progress c.args.meter.now) (operated o (asked o (meanings (default_view c.args.subject) (nodes_view c.args.arguments.now.items)) (operands (default_view c.args.subject) (nodes_view c.args.arguments.now.items))) (scope_view c.args.scope))) c.in-Var.is ∙ bind_ok _ _ _ _ _ c.in_ok-values-in-Var.ensures.exact) c.variable.ensures.exact;
 }
 
 pub operate-returns-in_err-values-in_default : goal.operate-returns-in_err-values-in_default
 operate-returns-in_err-values-in_default t c = record {
   exact = exits _ _ _ _ c.from_residual-in_err-values-in_default.ensures.1
-      (λ n. ap (λ r. paid (progress c.args.meter.now) (r (scope_view c.args.scope))) (operated-other c.args.operator (meanings (default_view c.args.subject) (nodes_view c.args.arguments.now.items)) c.in_default.not-Var c.in_default.not-If c.in_default.not-And c.in_default.not-Or c.in_default.not-Map c.in_default.not-Filter c.in_default.not-AllOf c.in_default.not-SomeOf c.in_default.not-NoneOf c.in_default.not-Reduce) ∙ bind_err _ _ _ _ (c.in_err-values-in_default.ensures.exact n));
+      (λ n. ap (λ r. paid (progress c.args.meter.now) (r (scope_view c.args.scope))) (operated-other c.args.operator _ c.in_default.not-Var c.in_default.not-If c.in_default.not-And c.in_default.not-Or c.in_default.not-Map c.in_default.not-Filter c.in_default.not-AllOf c.in_default.not-SomeOf c.in_default.not-NoneOf c.in_default.not-Reduce) ∙ (ap (paid (progress c.args.meter.now)) (strict-asked c.args.operator (default_view c.args.subject) (nodes_view c.args.arguments.now.items) (scope_view c.args.scope) c.compares-tested.result c.compares-tested.ensures c.in_default.not-If c.in_default.not-And) ∙ bind_err _ _ _ _ (c.in_err-values-in_default.ensures.exact n)));
 }
 
 pub operate-returns-in_ok-values-in_default : goal.operate-returns-in_ok-values-in_default
 operate-returns-in_ok-values-in_default t c = record {
-  exact = gives_same _ _ _ _ (ap (λ r. paid (progress c.args.meter.now) (r (scope_view c.args.scope))) (operated-other c.args.operator (meanings (default_view c.args.subject) (nodes_view c.args.arguments.now.items)) c.in_default.not-Var c.in_default.not-If c.in_default.not-And c.in_default.not-Or c.in_default.not-Map c.in_default.not-Filter c.in_default.not-AllOf c.in_default.not-SomeOf c.in_default.not-NoneOf c.in_default.not-Reduce) ∙ bind_ok _ _ _ _ _ c.in_ok-values-in_default.ensures.exact) (ended _ _ _ _ c.apply.ensures.exact);
+  exact = gives_same _ _ _ _ (ap (λ r. paid (progress c.args.meter.now) (r (scope_view c.args.scope))) (operated-other c.args.operator _ c.in_default.not-Var c.in_default.not-If c.in_default.not-And c.in_default.not-Or c.in_default.not-Map c.in_default.not-Filter c.in_default.not-AllOf c.in_default.not-SomeOf c.in_default.not-NoneOf c.in_default.not-Reduce) ∙ (ap (paid (progress c.args.meter.now)) (strict-asked c.args.operator (default_view c.args.subject) (nodes_view c.args.arguments.now.items) (scope_view c.args.scope) c.compares-tested.result c.compares-tested.ensures c.in_default.not-If c.in_default.not-And) ∙ bind_ok _ _ _ _ _ c.in_ok-values-in_default.ensures.exact)) (ended _ _ _ _ c.apply.ensures.exact);
 }
 
 pub first_of_truth-returns-then-is_empty : goal.first_of_truth-returns-then-is_empty
@@ -262,7 +296,7 @@ first_of_truth-returns-then-is_true-wanted t c = let xs = c.args.nodes.now.items
     let i : ℕ = c.loop-place.place in
     let h : i + 1 < length xs = omega arith in
     let t : bool_eq c.args.wanted (is_true (value_view c.in_ok-value.value)) ≡ true = ap (bool_eq c.args.wanted) (sym (ap is_true c.seen.ensures) ∙ sym c.is_true.ensures) ∙ bool_eq-same c.args.wanted c.is_true.result c.if-is_true-wanted.true in record {
-      exact = c.loop-place.invariant ∙ first_of_truth_found c.args.wanted (default_view c.args.subject) (scope_view c.args.scope) xs i c.index.result.now (progress c.loop-place.meter) (progress c.evaluate_node.new.meter) _ h c.index.ensures c.in_ok-value.ensures.exact t;
+      exact = c.loop-place.invariant ∙ first_of_truth_found c.args.wanted (default_view c.args.subject) (scope_view c.args.scope) xs i c.index.result.now (progress c.loop-place.meter) (progress c.evaluate_operand_if.new.meter) _ h c.index.ensures c.in_ok-value.ensures.exact t;
     }
 
 pub first_of_truth-loop-place-preserved : goal.first_of_truth-loop-place-preserved
@@ -270,7 +304,7 @@ first_of_truth-loop-place-preserved t c = let xs = c.args.nodes.now.items in
     let i : ℕ = c.loop-place.place in
     let h : i + 1 < length xs = omega arith in
     let t : bool_eq c.args.wanted (is_true (value_view c.in_ok-value.value)) ≡ false = ap (bool_eq c.args.wanted) (sym (ap is_true c.seen.ensures) ∙ sym c.is_true.ensures) ∙ bool_eq-other c.args.wanted c.is_true.result c.if-is_true-wanted.false in
-    c.loop-place.invariant ∙ first_of_truth_next c.args.wanted (default_view c.args.subject) (scope_view c.args.scope) xs i c.index.result.now (progress c.loop-place.meter) (progress c.evaluate_node.new.meter) _ h c.index.ensures c.in_ok-value.ensures.exact t
+    c.loop-place.invariant ∙ first_of_truth_next c.args.wanted (default_view c.args.subject) (scope_view c.args.scope) xs i c.index.result.now (progress c.loop-place.meter) (progress c.evaluate_operand_if.new.meter) _ h c.index.ensures c.in_ok-value.ensures.exact t
 
 pub mapped-returns-in_err-value : goal.mapped-returns-in_err-value
 mapped-returns-in_err-value t c = let xs = c.args.items.now in

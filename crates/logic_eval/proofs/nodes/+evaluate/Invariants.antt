@@ -1,7 +1,8 @@
 use Rattle.std.proofs.Common.{◌≡◌, ◌*◌, drop, map}
 use Rattle.logic_ast.specs.View.{node_view, nodes_view, buckets_view}
 use Rattle.logic_eval.specs.Budget.{paid}
-use Rattle.logic_eval.specs.Evaluation.{meaning, meanings, bucket_meanings, pairs}
+use Rattle.logic_eval.specs.Evaluated.{tested_meanings, conditional_meanings, truth_meanings}
+use Rattle.logic_eval.specs.Evaluation.{meaning, bucket_meanings, pairs}
 use Rattle.logic_eval.specs.Operators.{values, conditional, first_of_truth, mapped, kept, occurs, reduced}
 use Rattle.logic_eval.specs.Views.{progress, scope_view, default_view, weighted_variant_view}
 use Rattle.logic_values.specs.Views.{value_view}
@@ -10,18 +11,18 @@ use Rattle.logic_eval.proofs.nodes.+evaluate.Given as goal
 
 abbrev pub invariant-evaluate_all-loop-node : goal.invariant-evaluate_all-loop-node
 invariant-evaluate_all-loop-node l =
-    paid (progress l.fn.meter) (values (meanings (default_view l.subject) (nodes_view l.node-items)) (scope_view l.scope))
-    ≡ prepended (map value_view l.values.items) (paid (progress l.meter) (values (meanings (default_view l.subject) (nodes_view (drop l.node-index l.node-items))) (scope_view l.scope)))
+    paid (progress l.fn.meter) (values (tested_meanings l.tested (default_view l.subject) (nodes_view l.node-items)) (scope_view l.scope))
+    ≡ prepended (map value_view l.values.items) (paid (progress l.meter) (values (tested_meanings l.tested (default_view l.subject) (nodes_view (drop l.node-index l.node-items))) (scope_view l.scope)))
 
 abbrev pub invariant-conditional-loop-pair : goal.invariant-conditional-loop-pair
 invariant-conditional-loop-pair l =
-    paid (progress l.fn.meter) (conditional (meanings (default_view l.subject) (nodes_view l.nodes.items)) (scope_view l.scope))
-    ≡ paid (progress l.meter) (conditional (meanings (default_view l.subject) (nodes_view (drop (2 * l.pair) l.nodes.items))) (scope_view l.scope))
+    paid (progress l.fn.meter) (conditional (conditional_meanings (default_view l.subject) (nodes_view l.nodes.items)) (scope_view l.scope))
+    ≡ paid (progress l.meter) (conditional (conditional_meanings (default_view l.subject) (nodes_view (drop (2 * l.pair) l.nodes.items))) (scope_view l.scope))
 
 abbrev pub invariant-first_of_truth-loop-place : goal.invariant-first_of_truth-loop-place
 invariant-first_of_truth-loop-place l =
-    paid (progress l.fn.meter) (first_of_truth l.wanted (meanings (default_view l.subject) (nodes_view l.nodes.items)) (scope_view l.scope))
-    ≡ paid (progress l.meter) (first_of_truth l.wanted (meanings (default_view l.subject) (nodes_view (drop l.place l.nodes.items))) (scope_view l.scope))
+    paid (progress l.fn.meter) (first_of_truth l.wanted (truth_meanings l.wanted (default_view l.subject) (nodes_view l.nodes.items)) (scope_view l.scope))
+    ≡ paid (progress l.meter) (first_of_truth l.wanted (truth_meanings l.wanted (default_view l.subject) (nodes_view (drop l.place l.nodes.items))) (scope_view l.scope))
 
 abbrev pub invariant-mapped-loop-item : goal.invariant-mapped-loop-item
 invariant-mapped-loop-item l =

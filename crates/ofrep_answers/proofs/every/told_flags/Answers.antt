@@ -1,4 +1,5 @@
-use Rattle.std.proofs.Common.{ℕ, List, ◌++◌, take, Bool, sym, ap, ap₂, ◌∙◌}
+use Rattle.std.proofs.Common.{ℕ, List, ◌++◌, take, Bool, Option, option_map, sym, ap, ap₂, ◌∙◌}
+use Rattle.decimal_reads.specs.Reads.{Reading, read_view}
 use Rattle.flag_defs.specs.Flags.{flags_view}
 use Rattle.flag_defs.specs.Floats.{floats_view}
 use Rattle.flag_defs.specs.Definition.{Definition}
@@ -11,7 +12,7 @@ use Rattle.flag_resolve.specs.Views.{resolution_view}
 use Rattle.flag_text.specs.View.{view}
 use Rattle.logic_eval.specs.Run.{Reach}
 use Rattle.ofrep_answers.proofs.Loops.{flat_step}
-use Rattle.ofrep_answers.specs.Evaluation.{bodies, body_if_told, evaluation, is_spelled, reached_at}
+use Rattle.ofrep_answers.specs.Evaluation.{bodies, body_at, body_if_told, evaluation, is_spelled, reached_at}
 use Rattle.ofrep_answers.proofs.every.told_flags.Goals as goal
 
 pub loop-i-preserved : goal.loop-i-preserved
@@ -23,10 +24,14 @@ loop-i-preserved c =
     let key = c.at.result.0.now in
     let d = flag_view c.at.result.1.now in
     let resolved = c.in_ok-resolution.ensures in
+    let r = resolution_view c.in_ok-resolution.resolution in
+    let told = bodies metadata marked context c.args.moment (take c.loop-i.i fs) in
     record {
-      bodies = c.in_ok-add.ensures.bodies ∙ ap₂ (λ (ys : List (List ℕ)) (b : Bool). ys ++ body_if_told b (metadata key) key (resolution_view c.in_ok-resolution.resolution)) (c.count.ensures.bodies ∙ c.loop-i.invariant.bodies) c.is_spelled-spelled.ensures
-          ∙ ap (λ (r : Resolved). bodies metadata marked context c.args.moment (take c.loop-i.i fs) ++ body_if_told (is_spelled key marked) (metadata key) key r) resolved
-          ∙ sym (flat_step (λ (f : List ℕ × Definition). body_if_told (is_spelled f.0 marked) (metadata f.0) f.0 (evaluation fs f.0 context c.args.moment)) fs c.loop-i.i (key, d) c.at.ensures);
+      bodies = c.in_ok-add.ensures.bodies
+          ∙ ap₂ (λ (ys : List (List ℕ)) (b : Bool). ys ++ body_if_told (option_map read_view c.read_by_flag-read.result) b (metadata key) key r) (c.count.ensures.bodies ∙ c.loop-i.invariant.bodies) c.is_spelled-spelled.ensures
+          ∙ ap (λ (o : Option Reading). told ++ body_if_told o (is_spelled key marked) (metadata key) key r) c.read_by_flag-read.ensures
+          ∙ ap (λ (q : Resolved). told ++ body_at marked metadata context key q) resolved
+          ∙ sym (flat_step (λ (f : List ℕ × Definition). body_at marked metadata context f.0 (evaluation fs f.0 context c.args.moment)) fs c.loop-i.i (key, d) c.at.ensures);
       reached = c.in_ok-add.ensures.reached ∙ ap₂ (λ (ys : List (List ℕ × List Reach)) (r : Resolved). ys ++ reached_at key r.reached) (c.count.ensures.reached ∙ c.loop-i.invariant.reached) resolved
           ∙ sym (flat_step (λ (f : List ℕ × Definition). reached_at f.0 (evaluation fs f.0 context c.args.moment).reached) fs c.loop-i.i (key, d) c.at.ensures);
     }

@@ -3,11 +3,10 @@ use base.Fml.{Lft}
 use denote.Param.{param}
 use denote.Param.Send.{param_send}
 use denote.Ref.{NamedLft}
-use Rattle.std.proofs.Common.{◌≡◌, ◌∙◌, ◌+◌, ℕ, [], ap, arith, is_ok, nat_eq, true, vec_len}
+use Rattle.std.proofs.Common.{◌≡◌, ◌∙◌, ◌+◌, ℕ, [], ap, arith, is_ok, length, true, vec_len}
 use Rattle.flagops_streams.specs.Documents.{missed_of, published_in, told_view}
-use Rattle.flagops_streams.specs.Told.{IsGone}
 use Rattle.flagops_streams.proofs.Gives.{none_missed_at, told_ok, unless_beside}
-use Rattle.flagops_streams.proofs.Told.{gone_as, left_zero, lines_as}
+use Rattle.flagops_streams.proofs.Told.{none_missed}
 use Rattle.flagops_streams.proofs.Crossings.{Attending, attend_send}
 use Rattle.flagops_streams.proofs.serving.fn.serve_in_scope.scope.Goals as goal
 
@@ -25,7 +24,7 @@ spawn-spawned-requires-send-F g c = λ κs within.
 pub overflow_add-missed : goal.overflow_add-missed
 overflow_add-missed g c = omega (arith, c.requires.3, c.tell_gone-unserved.ensures.few, c.len-count.ensures)
 
--- what was published, unless some were missed, and the lines of all that have gone
+-- what was published, unless some were missed, and what is told of all that have gone
 pub returns : goal.returns
 returns g c =
     let unserved = c.tell_gone-unserved.result in
@@ -34,11 +33,13 @@ returns g c =
     let outcome = c.publish_if-outcome.result in
     let result = c.unless_missed.result in
     let ends = c.tell_gone-unserved.ensures.ends in
+    let published = c.published_in-published.result in
     let counts : unserved ≡ missed_of (published_in (told_view outcome)) ends.0 = ends.2 ∙ ap (λ (n : ℕ). missed_of n ends.0) c.published_in-published.ensures in
-    let sent : is_ok result ≡ true → nat_eq unserved 0 ≡ true =
-    λ ok. left_zero unserved absent (none_missed_at missed (told_view outcome) (told_view result) c.unless_missed.ensures (told_ok result ∙ ok)) in
+    let sent : is_ok result ≡ true → missed_of published ends.0 + absent ≡ 0 =
+    λ ok. none_missed unserved absent (missed_of published ends.0) ends.2 (none_missed_at missed (told_view outcome) (told_view result) c.unless_missed.ensures (told_ok result ∙ ok)) in
+    let all : length ends.0 ≡ vec_len c.captures.arrived-streams = omega (arith, ends.1, c.len-count.ensures) in
     record {
-      gives = unless_beside (vec_len c.captures.arrived-streams + absent) absent unserved ends.0 (g.P.Publishing.gives c.captures.publishing) outcome result (omega (arith, ends.1, c.len-count.ensures)) counts c.publish_if-outcome.ensures c.unless_missed.ensures;
-      lines = lines_as (IsGone (nat_eq unserved 0)) (IsGone (is_ok result)) (gone_as (nat_eq unserved 0) (is_ok result) sent) _ _ _ c.tell_gone-unserved.ensures.lines;
+      gives = unless_beside (vec_len c.captures.arrived-streams + absent) absent unserved ends.0 (g.P.Publishing.gives c.captures.publishing) outcome result (omega (arith, all)) counts c.publish_if-outcome.ensures c.unless_missed.ensures;
+      told = (ends.0, all, λ ok. (published, sent ok), ends.3);
       stays = c.tell_gone-unserved.ensures.stays;
     }

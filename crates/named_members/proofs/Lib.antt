@@ -1,0 +1,4 @@
+mod Put
+pub mod Same
+mod Texts
+mod Turns

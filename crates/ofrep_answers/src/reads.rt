@@ -1,0 +1,73 @@
+//! Numbers that are not whole, where a targeting that reads one can't be evaluated.
+ghost use Rattle.std.specs.Prelude.{◌≡◌, true, Some, IfOk, option_map, string_bytes, unwrap_or};
+ghost use Rattle.decimal_reads.specs.Reads.{read_view};
+ghost use Rattle.flag_defs.specs.Flags.{flags_view};
+ghost use Rattle.flag_metadata.specs.Merged.{flag_metadata};
+ghost use Rattle.flag_metadata.specs.View.{metadata_view};
+ghost use Rattle.flag_resolve.specs.Views.{resolution_view};
+ghost use Rattle.flag_text.specs.Printing.{text_of};
+ghost use Rattle.flag_text.specs.Shape.{is_tidy};
+ghost use Rattle.flag_text.specs.View.{view};
+ghost use Rattle.ofrep_answers.specs.Evaluation.{read_by_flag, read_details, read_failure, text_told};
+
+use crate::one::text_or;
+use decimal_reads::{DecimalRead, first_read};
+use flag_defs::Flags;
+use flag_metadata::Metadata;
+use flag_resolve::{Code, Resolution};
+use flag_text::{Tree, print_tree};
+use ofrep_bodies::{evaluation_text, failure_body};
+use std::alloc::{AllocError, Global};
+
+/// The number that is not whole which the targeting of the flag of a key reads, where it can't be evaluated.
+pub(crate) fn read_by_flag<'a>(
+    flags: &'a Flags,
+    key: &str,
+    context: &'a Tree,
+    resolution: &Resolution,
+) -> Option<DecimalRead<'a>>
+    requires context { is_tidy (view context.now) ≡ true }
+    ensures { option_map read_view result ≡ read_by_flag (flags_view flags.entry.now) key.now (view context.entry.now) (resolution_view resolution.now) }
+{
+    match (&resolution.variant, resolution.code) {
+        (None, Some(Code::ParseError)) => first_read(flags.get(key)?.targeting()?, context),
+        _ => None,
+    }
+}
+
+/// The text of the body that tells the evaluation of the flag of a key, or which number that is not whole its targeting reads.
+pub(crate) fn told_text(
+    alloc: Global,
+    metadata: &Metadata,
+    key: &str,
+    read: Option<DecimalRead>,
+    resolution: &Resolution,
+    spelled: bool,
+) -> Result<String, AllocError>
+    ensures { IfOk result (λ s. string_bytes s ≡ text_told (option_map read_view read.entry) spelled (flag_metadata (metadata_view metadata.now) key.now) key.now (resolution_view resolution.now)) }
+{
+    match read {
+        Some(read) => read_text(alloc, key, read),
+        None => evaluation_text(alloc, metadata, key, resolution, spelled),
+    }
+}
+
+fn read_text(alloc: Global, key: &str, read: DecimalRead) -> Result<String, AllocError>
+    ensures { IfOk result (λ s. string_bytes s ≡ text_of (read_failure key.now (read_view read.entry))) }
+{
+    let details = read_details(alloc, read)?;
+    let body = failure_body(alloc, Some(key), Code::ParseError, details.as_str())?;
+    print_tree(alloc, &body)
+}
+
+/// What is said of such a number.
+#[tactic(auto, unfolding(crate::specs::Evaluation::read_details))]
+fn read_details(alloc: Global, read: DecimalRead) -> Result<String, AllocError>
+    ensures { IfOk result (λ s. string_bytes s ≡ read_details (read_view read.entry)) }
+{
+    let path = read.path;
+    let spelling = text_or(read.spelling, "");
+    format!(in alloc;
+        "the targeting reads `{path}`, which is {spelling}: a number that is not whole can be compared and tested, and not used otherwise"
+    )
+}
