@@ -1,5 +1,5 @@
 -- All that the commands of one list come to.
-use Rattle.std.proofs.Common.{◌≡◌, ◌∙◌, ◌×◌, ◌⊎◌, inl, inr, ℕ, Bool, true, false, List, [], ◌∷◌, ◌++◌, codes, map, unwrap_or, Option, Some, None, Result, Ok, Err, refl, sym, ap, ap₂, subst}
+use Rattle.std.proofs.Common.{◌≡◌, ◌∙◌, ◌⊎◌, inl, inr, ℕ, Bool, true, false, List, [], ◌∷◌, ◌++◌, codes, map, unwrap_or, Option, Some, None, Result, Ok, Err, refl, sym, ap, ap₂, subst}
 use Rattle.std.specs.Prelude.{IfSome}
 use Rattle.book_core.specs.Book.{Contents}
 use Rattle.flag_defs.specs.Document.{Definitions}
@@ -53,11 +53,11 @@ module _ (meanings : MeaningsStay) (trees : TreesStay) (none : NoneIsMarked) (st
   outcomes_stay other at after (price old new request keys json) r whole h = h
   outcomes_stay other at after (completions shell) r whole h = h
   outcomes_stay other at after (resolve document key kind default context moment floats) r whole h = resolved_stay meanings none same plain floats other at document key kind default context moment r whole h
-  outcomes_stay other at after (verify document request book file refine strict json floats) r whole h = (h.0, verdicts_stay meanings floats other at document request book file refine strict json h.0 whole h.1, h.2)
+  outcomes_stay other at after (verify document request book answer refine strict json floats) r whole h = (h.0, verdicts_stay meanings floats other at document request book answer refine strict json h.0 whole h.1, h.2)
   outcomes_stay other at after (plan document request book refine strict explain floats) r whole h = (h.0, plans_stay meanings floats other at document request book refine strict explain h.0 whole h.1, h.2)
-  outcomes_stay other at after (apply document file key site strict floats) r whole h = (h.0, applied_stay meanings trees none floats other at document file key site strict h.0 whole h.1, h.2)
-  outcomes_stay other at after (keep document file request book write refine strict floats) r whole h =
-      (h.0, kept_stay meanings trees stay floats other at after document file request book write refine strict h.0 whole h.1, h.2)
+  outcomes_stay other at after (apply document answer key site strict floats) r whole h = (h.0, applied_stay meanings trees none floats other at document answer key site strict h.0 whole h.1, h.2)
+  outcomes_stay other at after (keep document answer request book write refine strict floats) r whole h =
+      (h.0, kept_stay meanings trees stay floats other at after document answer request book write refine strict h.0 whole h.1, h.2)
   outcomes_stay other at after (drive document asks workers book add replace strict json floats) r whole h = driven_stay meanings none drives floats other at after document asks workers book add replace strict json r whole h
 
 -- ---- files
@@ -65,7 +65,7 @@ module _ (meanings : MeaningsStay) (trees : TreesStay) (none : NoneIsMarked) (st
 module _ (meanings : MeaningsStay) (none : NoneIsMarked) where
   -- flags that are read one way are read the other way
   some_flags : {E : Type 0} (f : Marked) (s : Result Marked E) → AreAlike (Ok f) s → (g : Marked) × (s ≡ Ok g) × (f.0 ≡ g.0) × (are_unmarked f.1 ≡ true) × (are_unmarked g.1 ≡ true)
-  some_flags f (Ok g) h = (g, refl, h)
+  some_flags f (Ok g) h = (g, refl, h.0, h.1, h.2)
   some_flags f (Err e) h = absurd h
 
   read_so : (floats other : Bool) (at : Holding) (path : List ℕ) (f : Marked) → IsWholeAt at path → AreFlagsAt floats at path (Ok f)
@@ -73,7 +73,7 @@ module _ (meanings : MeaningsStay) (none : NoneIsMarked) where
   read_so floats other at path f whole h =
       let found = listed_so meanings none floats other at path (Ok f) whole h in
       let g = some_flags f found.0 found.2 in
-      (g.0, subst (λ (s : Result Marked ListedRefusal). AreFlagsAt other at path s) g.1 found.1, g.2)
+      (g.0, subst (λ (s : Result Marked ListedRefusal). AreFlagsAt other at path s) g.1 found.1, g.2, g.3, g.4)
 
   refused_so : (floats other : Bool) (at : Holding) (path : List ℕ) (e : ListedRefusal) → IsWholeAt at path → AreFlagsAt floats at path (Err e) → AreFlagsAt other at path (Err e)
   refused_so floats other at path e whole h = let found = listed_so meanings none floats other at path (Err e) whole h in by found.0 found.1 found.2
@@ -83,7 +83,7 @@ module _ (meanings : MeaningsStay) (none : NoneIsMarked) where
       by (Err d) is like = subst (λ (x : ListedRefusal). AreFlagsAt other at path (Err x)) (sym like) is
 
   are_read : (floats other : Bool) (at : Holding) (path asks book : List ℕ) (add strict : Bool) → IsWholeAt at path → AreRead floats at path asks book add strict → AreRead other at path asks book add strict
-  are_read floats other at path asks book add strict whole h = let g = read_so floats other at path h.0 whole h.1 in (g.0, g.1, h.2)
+  are_read floats other at path asks book add strict whole h = let g = read_so floats other at path h.0 whole h.1 in (g.0, g.1, h.2, h.3, h.4, h.5, h.6, h.7)
 
   book_left : (floats other : Bool) (old new : Option Holding) (path asks : List ℕ) (workers : ℕ) (book : List ℕ) (add strict : Bool) → IfSome old (λ at. IsWholeAt at path)
       → LeavesBook floats old new path asks workers book add strict → LeavesBook other old new path asks workers book add strict
@@ -96,10 +96,10 @@ module _ (meanings : MeaningsStay) (none : NoneIsMarked) where
   files_stay other old new (price o n request keys json) whole h = h
   files_stay other old new (completions shell) whole h = h
   files_stay other old new (resolve document key kind default context moment floats) whole h = h
-  files_stay other old new (verify document request book file refine strict json floats) whole h = h
+  files_stay other old new (verify document request book answer refine strict json floats) whole h = h
   files_stay other old new (plan document request book refine strict explain floats) whole h = h
-  files_stay other old new (apply document file key site strict floats) whole h = h
-  files_stay other old new (keep document file request book write refine strict floats) whole h = h
+  files_stay other old new (apply document answer key site strict floats) whole h = h
+  files_stay other old new (keep document answer request book write refine strict floats) whole h = h
   files_stay other old new (drive document asks workers book add replace strict json floats) whole h = book_left floats other old new document asks workers book add strict whole h
 
   -- ---- remarks
@@ -168,10 +168,10 @@ module _ (meanings : MeaningsStay) (none : NoneIsMarked) where
       remarks_stay other at (price old new request keys json) (Ok report) remark whole h = h
       remarks_stay other at (completions shell) (Ok report) remark whole h = h
       remarks_stay other at (resolve document key kind default context moment floats) (Ok report) remark whole h = h
-      remarks_stay other at (verify document request book file refine strict json floats) (Ok report) remark whole h = (h.0, h.1, doubts_told meanings floats other at document whole request book (Some remark) h.2)
+      remarks_stay other at (verify document request book answer refine strict json floats) (Ok report) remark whole h = (h.0, h.1, doubts_told meanings floats other at document whole request book (Some remark) h.2)
       remarks_stay other at (plan document request book refine strict explain floats) (Ok report) remark whole h =
           (h.0, h.1, plan_told meanings floats other at document whole request book (unwrap_or refine 1) explain report.text (Some remark) h.2)
-      remarks_stay other at (apply document file key site strict floats) (Ok report) remark whole h = (h.0, h.1, applied_told meanings floats other at document whole trees file key site (Some remark) h.2)
-      remarks_stay other at (keep document file request book write refine strict floats) (Ok report) remark whole h = (h.0, h.1, kept_told meanings floats other at document whole file request book (Some remark) h.2)
+      remarks_stay other at (apply document answer key site strict floats) (Ok report) remark whole h = (h.0, h.1, applied_told meanings floats other at document whole trees answer key site (Some remark) h.2)
+      remarks_stay other at (keep document answer request book write refine strict floats) (Ok report) remark whole h = (h.0, h.1, kept_told meanings floats other at document whole answer request book (Some remark) h.2)
       remarks_stay other at (drive document asks workers book add replace strict json floats) (Ok report) remark whole h =
           (h.0, says_so (TellsPrinted floats at document asks book add json report.text) (TellsPrinted other at document asks book add json report.text) (λ lines. printed_so floats other at document asks book add json report.text lines whole) remark h.1, h.2)

@@ -78,12 +78,14 @@ module _ (meanings : MeaningsStay) (none : NoneIsMarked) where
 
   module _ (same : resolving.FloatsChangeNothing) (plain : resolving.NothingIsSpelled) (key : List ℕ) (kind : Kind) (moment : ℕ) where
     report_same : (fs : Definitions) (ms ns : Marks) (d c : Shape) → are_unmarked ms ≡ true → are_unmarked ns ≡ true → report_of (fs, ms) key kind moment d c ≡ report_of (fs, ns) key kind moment d c
+    unfolding report_of spelled_report
     report_same fs ms ns d c one two =
         ap₂ (λ (b : Bool) (r : Resolved). spelled_report b r)
         (plain fs ms key (resolved_with_floats (Some (fs, ms)) kind d c key moment) one ∙ sym (plain fs ns key (resolved_with_floats (Some (fs, ns)) kind d c key moment) two))
         (same fs ms kind d c key moment one ∙ sym (same fs ns kind d c key moment two))
 
     resolved_so : (at : Holding) (default context : List ℕ) (r s : Result Marked ListedRefusal) → AreAlike r s → resolve_with at r key kind default context moment ≡ resolve_with at s key kind default context moment
+    unfolding report_of
     resolved_so at default context (Ok f) (Ok g) h =
         bind-same (λ d. tree_at at context max_text >>= λ c. Ok (report_of f key kind moment d c)) (λ d. tree_at at context max_text >>= λ c. Ok (report_of g key kind moment d c))
         (λ d. bind-same (λ c. Ok (report_of f key kind moment d c)) (λ c. Ok (report_of g key kind moment d c))

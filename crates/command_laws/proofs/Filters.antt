@@ -60,6 +60,7 @@ checked_by r path bytes flags = record {
 }
 
 checked_same : TreesStay → (floats other : Bool) (path bytes : List ℕ) → IsWholeText bytes → (flags : Definitions) → checked floats path bytes flags ≡ checked other path bytes flags
+unfolding checked_by judged_by
 checked_same trees floats other path bytes whole flags = ap (λ (r : Result Shape TextFault). checked_by r path bytes flags) (document_same trees floats other bytes whole)
 
 -- what is printed of documents

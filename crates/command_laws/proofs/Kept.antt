@@ -84,7 +84,7 @@ module _ (meanings : MeaningsStay) (trees : TreesStay) (stay : WholeNumbersStay)
   keep_of floats other at after path write strict refine whole (Err e) answer writable r h = h
   keep_of floats other at after path write strict refine whole (Ok q) (Err e) writable r h = h
   keep_of floats other at after path write strict refine whole (Ok q) (Ok answer) writable r h =
-      (h.0, h.1, (h.2, may_be_kept meanings trees stay h.0 (whole h.0 h.1) floats other q refine answer writable h.2 h.3, h.4))
+      (h.0, h.1, (h.2.0, may_be_kept meanings trees stay h.0 (whole h.0 h.1) floats other q refine answer writable h.2.0 h.2.1, h.2.2))
 
   pub kept_stay : KeptStay
   unfolding IsKeepReport

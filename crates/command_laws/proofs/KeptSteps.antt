@@ -19,13 +19,13 @@ use Rattle.price_core.specs.Request.{Asked}
 use Rattle.ramp.specs.declared.fault.RampFault.{RampFault}
 use Rattle.ramp_steps.specs.Steps.{steps_of}
 use Rattle.ramp_steps.specs.declared.fault.StepsFault.{StepsFault}
-use Rattle.command_laws.specs.Kept.{KeptStepsStay}
-use Rattle.command_laws.specs.Ramps.{verified_as}
+use Rattle.command_laws.specs.Ramps.{KeptStepsStay, verified_as}
 use Rattle.command_laws.specs.Whole.{IsWholeAt}
 use Rattle.float_laws.specs.Whole.{IsWholeText}
 use Rattle.command_laws.proofs.Kept.{kept_at}
 use Rattle.command_laws.proofs.Read.{question_so}
-use Rattle.command_laws.proofs.Writable.{AreWritable, IsWritableAnswer, answers_writable}
+use Rattle.command_laws.proofs.Writable.{IsWritableAnswer}
+use Rattle.command_laws.proofs.WritableSteps.{AreWritable, answers_writable}
 
 all-drop : {X : Type 0} (P : X → Type 0) (n : ℕ) (xs : List X) → AllByRecursion P xs → AllByRecursion P (drop n xs)
 all-drop P zero xs h = h

@@ -5,6 +5,8 @@ mod Evaluated
 mod Filters
 mod Kept
 mod KeptSteps
+mod Pictures
+mod RampRemarks
 mod Ramps
 mod Read
 mod Remarks
@@ -12,3 +14,4 @@ mod Rollouts
 mod Served
 mod Told
 mod Writable
+mod WritableSteps

@@ -1,9 +1,8 @@
 -- The reports of rollouts in steps.
-use Rattle.std.proofs.Common.{◌≡◌, ℕ, Bool, List, Option, Some, None, Result, Ok, Err}
+use Rattle.std.proofs.Common.{◌≡◌, ℕ, Bool, true, List, Option, Some, None, Result, Ok, Err}
 use Rattle.flag_defs.specs.Document.{Definitions}
 use Rattle.flag_defs.specs.Floats.{Marks, are_unmarked}
 use Rattle.flagops_files.specs.declared.refusal.Refusal.{Refusal}
-use Rattle.flagops_pictures.specs.Ramps.{IsRampPicture}
 use Rattle.flagops_ramps.specs.Apply.{IsStepApplied, IsStepOver, IsStepPut, IsStepReport}
 use Rattle.flagops_ramps.specs.Judging.{Found, IsFoundAt}
 use Rattle.flagops_ramps.specs.Ramp.{IsRampReport}
@@ -14,7 +13,7 @@ use Rattle.flagops_ramps.specs.declared.refusal.RampRefusal.{RampRefusal}
 use Rattle.flagops_shell.specs.Files.{Holding}
 use Rattle.plan_text.specs.Answer.{Answer}
 use Rattle.float_laws.specs.Documents.{MeaningsStay, NoneIsMarked, TreesStay}
-use Rattle.command_laws.specs.Ramps.{RampPicturesStay, RampVerdictsStay, RampsStay, StepsStay, verified_as}
+use Rattle.command_laws.specs.Ramps.{RampVerdictsStay, RampsStay, verified_as}
 use Rattle.command_laws.specs.Whole.{IsWholeAt}
 use Rattle.float_laws.specs.Whole.{IsWholeText}
 use Rattle.command_laws.proofs.Applied.{some_marks, told_so}
@@ -25,17 +24,13 @@ module _ (meanings : MeaningsStay) where
   unfolding IsRampReport
   ramps_stay other at a r whole h = (h.0, question_so meanings a.floats other at a.document a.steps a.book h.0 whole h.1, h.2)
 
-  found_so : (other : Bool) (at : Holding) (v : Verifying) (r : Found) → IsWholeAt at v.rollout.document → IsFoundAt at v r → IsFoundAt at (verified_as other v) r
+  pub found_so : (other : Bool) (at : Holding) (v : Verifying) (r : Found) → IsWholeAt at v.rollout.document → IsFoundAt at v r → IsFoundAt at (verified_as other v) r
   unfolding IsFoundAt
   found_so other at v r whole h = (h.0, question_so meanings v.rollout.floats other at v.rollout.document v.rollout.steps v.rollout.book h.0 whole h.1, h.2)
 
   pub ramp_verdicts_stay : RampVerdictsStay
   unfolding IsVerdictReport
   ramp_verdicts_stay other at v r whole h = (h.0, found_so other at v h.0 whole h.1, h.2)
-
-  pub ramp_pictures_stay : RampPicturesStay
-  unfolding IsRampPicture
-  ramp_pictures_stay other at v r whole h = (h.0, found_so other at v h.0 whole h.1, h.2)
 
   module _ (trees : TreesStay) (none : NoneIsMarked) (other : Bool) (at : Holding) (a : Applying) (r : Came) (whole : IsWholeAt at a.document) where
     module _ (document : List ℕ) (text : IsWholeText document) (flags : Definitions) (marks others : Marks) (one : are_unmarked marks ≡ true) (two : are_unmarked others ≡ true) where

@@ -1,16 +1,12 @@
 -- The reports of rollouts on documents whose numbers are all whole.
-use Rattle.std.proofs.Common.{◌≡◌, ℕ, Bool, List, Option, Some, Result, Ok, Err}
+use Rattle.std.proofs.Common.{ℕ, Bool, List, Option, Some, Result, Ok, Err}
 use Rattle.flag_defs.specs.Document.{Definitions}
 use Rattle.flagops_compare.specs.Drawn.{pages_drawn}
 use Rattle.flagops_compare.specs.Loaded as compare
 use Rattle.flagops_compare.specs.Report as compare_report
 use Rattle.flagops_compare.specs.Report.{IsCompareReport, IsWithCompared, IsWithLoaded, IsWithPages}
 use Rattle.flagops_compare.specs.Words.{Comparing}
-use Rattle.flagops_files.specs.Question.{Question}
 use Rattle.flagops_files.specs.declared.refusal.Refusal.{Refusal}
-use Rattle.flagops_pictures.specs.Pictured.{IsPictureReport}
-use Rattle.flagops_pictures.specs.Planning.{IsPlanPicture, IsPlanPictured}
-use Rattle.flagops_pictures.specs.Words.{Planning}
 use Rattle.flagops_rollouts.specs.Apply.{IsApplied, IsApplyReport}
 use Rattle.flagops_rollouts.specs.Plan.{IsPlanReport}
 use Rattle.flagops_rollouts.specs.Verify.{IsVerifyReport}
@@ -22,7 +18,7 @@ use Rattle.page_switches.specs.declared.fault.TallyFault.{TallyFault}
 use Rattle.picture.specs.Spelling.{Pictures}
 use Rattle.plan_text.specs.Answer.{Answer}
 use Rattle.float_laws.specs.Documents.{MeaningsStay, NoneIsMarked, TreesStay}
-use Rattle.command_laws.specs.Rollouts.{AppliedStay, ComparedStay, PicturesStay, PlannedPicturesStay, PlansStay, VerdictsStay}
+use Rattle.command_laws.specs.Rollouts.{AppliedStay, ComparedStay, PlansStay, VerdictsStay}
 use Rattle.command_laws.specs.Whole.{IsWholeAt}
 use Rattle.command_laws.proofs.Applied.{some_marks, told_so}
 use Rattle.command_laws.proofs.Read.{document_so, rolled_document, rolled_question}
@@ -35,20 +31,6 @@ module _ (meanings : MeaningsStay) where
   pub verdicts_stay : VerdictsStay
   unfolding IsVerifyReport
   verdicts_stay floats other at document request book plan refine strict json r whole h = (h.0, rolled_question meanings floats other at document request book h.0 whole h.1, h.2)
-
-  pub pictures_stay : PicturesStay
-  unfolding IsPictureReport
-  pictures_stay other at a r whole h = (h.0, rolled_question meanings a.floats other at a.document a.request a.book h.0 whole h.1, h.2)
-
-  pictured_so : (other : Bool) (at : Holding) (after : Option Holding) (p : Planning) (question : Result Question RolloutRefusal) (r : Result Report RolloutRefusal) → IsPlanPictured at after p question r
-      → IsPlanPictured at after (record p { floats = other }) question r
-  pictured_so other at after p (Err e) r h = h
-  pictured_so other at after p (Ok q) (Ok report) h = h
-  pictured_so other at after p (Ok q) (Err e) h = h
-
-  pub planned_pictures_stay : PlannedPicturesStay
-  unfolding IsPlanPicture
-  planned_pictures_stay other at after p r whole h = (h.0, rolled_question meanings p.floats other at p.document p.request p.book h.0 whole h.1, pictured_so other at after p h.0 r h.2)
 
   pub loaded_so : (floats other : Bool) (at : Holding) (old new book : List ℕ) (r : Result compare.Loaded Refusal) → IsWholeAt at old → IsWholeAt at new
       → compare.IsLoadedAt floats at old new book r → compare.IsLoadedAt other at old new book r

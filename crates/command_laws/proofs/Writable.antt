@@ -1,14 +1,10 @@
--- The rules of plans and of ramps that are read are rules that a document may have.
-use Rattle.std.proofs.Common.{◌≡◌, ◌∙◌, ◌<◌, ◌^◌, ℕ, suc, ℤ, pos, negsuc, ◌==◌, Bool, true, false, cond, nat_lt, List, [], ◌∷◌, length, Option, Some, None, option_and_then, option_map, Result, Ok, Err, refl, sym, ap, arith, codes, true≢false}
+-- The rules of plans that are read are rules that a document may have.
+use Rattle.std.proofs.Common.{◌≡◌, ◌∙◌, ◌<◌, ◌^◌, ℕ, ℤ, pos, negsuc, ◌==◌, Bool, true, false, cond, nat_lt, List, Option, Some, None, option_and_then, option_map, Result, Ok, Err, refl, sym, ap, subst, arith, codes, true≢false}
 use Rattle.std.proofs.lemmas.Bool.{ltb-true}
-use Rattle.std.specs.List.{AllByRecursion, slice_split}
 use Rattle.std.specs.Prelude.{IfSome}
 use Rattle.std.specs.Result.{result_ok}
-use Rattle.book_core.specs.Reading.{is_feed}
-use Rattle.bucket_core.specs.Reading.{rule_of_entries}
 use Rattle.bucket_core.specs.Rule.{Entries, total_weight}
 use Rattle.bucket_core.specs.declared.fault.RuleFault.TheVariants.{NoWeight, TooHeavy}
-use Rattle.flag_text.specs.Printing.{text_of}
 use Rattle.flag_text.specs.Readers.{as_whole, member_of}
 use Rattle.flag_text.specs.Reading.{tree_of}
 use Rattle.flag_text.specs.Shape.{Shape}
@@ -16,18 +12,16 @@ use Rattle.flag_text.specs.declared.fault.TextFault.{TextFault}
 use Rattle.flagops_files.specs.Loading.{max_rule}
 use Rattle.flagops_files.specs.PlanFile as plans
 use Rattle.flagops_files.specs.declared.refusal.Refusal.TheVariants as file
-use Rattle.flagops_ramps.specs.Judging.{answers_at, if_loaded, read_as}
 use Rattle.flagops_rollouts.specs.Loaded.{plan_at}
+use Rattle.flagops_rollouts.specs.declared.refusal.RolloutRefusal.TheVariants as rolling
 use Rattle.flagops_shell.specs.Files.{Holding, load_of}
 use Rattle.flagops_shell.specs.Outcomes.{◌>>=◌, refused_by}
 use Rattle.flagops_shell.specs.declared.files.LoadFault.{LoadFault}
 use Rattle.float_laws.specs.Kept.{IsWritable}
 use Rattle.plan_text.proofs.Orders.{weights_small}
 use Rattle.plan_text.specs.Answer.{Answer, emit, none_exists}
-use Rattle.plan_text.specs.PlanFile.{alpha_in, answer_by, answer_of, beta_in, canonical_rule, cost_in, emit_in, first_form, form_of, has, has_rule_member, if_canonical, if_plan, if_tree, is_canonical, is_under, max_plan, names_in, planned_of, rule_in, second_form, set_in}
-use Rattle.ramp_steps.specs.Lines.{and_more, if_ended, is_step, ramp_of, read_parts, step_in, step_of}
-use Rattle.ramp_steps.specs.declared.fault.RampFileFault.{RampFileFault}
-use Rattle.ramp_steps.specs.declared.fault.RampFileFault.TheVariants.{TooLarge}
+use Rattle.plan_text.specs.PlanFile.{alpha_in, answer_by, answer_of, beta_in, canonical_rule, cost_in, each, emit_in, entry_of, first_form, form_of, has, has_rule_member, if_canonical, if_plan, if_tree, is_canonical, is_under, items_in, max_plan, names_in, planned_of, rule_in, second_form, set_in}
+use Rattle.transport_instance.specs.Groups.{GroupKey}
 use Rattle.transport_instance.specs.declared.certificate.CutKind.{CutKind}
 use Rattle.transport_instance.specs.declared.certificate.CutKind.TheVariants.{Over, Under}
 
@@ -41,20 +35,11 @@ abbrev pub IsWritablePlan : {E : Type 0} → Result Answer E → Type 0
 IsWritablePlan (Ok answer) = IsWritableAnswer answer
 IsWritablePlan (Err e) = Unit {0}
 
--- and of each step of a ramp
-abbrev pub AreWritable : {E : Type 0} → Result (List Answer) E → Type 0
-AreWritable (Ok answers) = AllByRecursion IsWritableAnswer answers
-AreWritable (Err e) = Unit {0}
-
 -- ---- options and results
 
-some_of : {X Y : Type 0} (Q : Y → Type 0) (f : X → Option Y) → ((x : X) → IfSome (f x) Q) → (o : Option X) → IfSome (option_and_then f o) Q
+pub some_of : {X Y : Type 0} (Q : Y → Type 0) (f : X → Option Y) → ((x : X) → IfSome (f x) Q) → (o : Option X) → IfSome (option_and_then f o) Q
 some_of Q f h None = tt
 some_of Q f h (Some x) = h x
-
-some_map : {X Y : Type 0} (P : X → Type 0) (Q : Y → Type 0) (f : X → Y) → ((x : X) → P x → Q (f x)) → (o : Option X) → IfSome o P → IfSome (option_map f o) Q
-some_map P Q f h None p = tt
-some_map P Q f h (Some x) p = h x p
 
 any_map : {X Y : Type 0} (Q : Y → Type 0) (f : X → Y) → ((x : X) → Q (f x)) → (o : Option X) → IfSome (option_map f o) Q
 any_map Q f h None = tt
@@ -86,11 +71,18 @@ canonical_writable r = by (nat_lt 0 (total_weight r)) (nat_lt (total_weight r) (
     by false small e f = tt
 
 rule_writable : (t : Shape) → IfSome (rule_in t) IsWritable
-rule_writable t = some_of IsWritable canonical_rule canonical_writable _
+rule_writable t = some_of IsWritable canonical_rule canonical_writable (option_and_then (each entry_of) (items_in (codes "rule") t))
 
 emit_writable : (t : Shape) → IfSome (emit_in t) IsWritableAnswer
-emit_writable t =
-    some_of IsWritableAnswer _ (λ alpha. some_of IsWritableAnswer _ (λ beta. some_of IsWritableAnswer _ (λ cost. some_map IsWritable IsWritableAnswer _ (λ rule w. w) (rule_in t) (rule_writable t)) (cost_in t)) (beta_in t)) (alpha_in t)
+emit_writable t = by (alpha_in t) (beta_in t) (cost_in t) (rule_in t) (rule_writable t)
+  where
+    by : (a : Option (List (GroupKey × ℤ))) (b : Option (List (List ℕ × ℤ))) (c : Option ℕ) (r : Option Entries) → IfSome r IsWritable
+        → IfSome (option_and_then (λ alpha. option_and_then (λ beta. option_and_then (λ cost. option_map (λ rule. emit rule (record { alpha = alpha; beta = beta; cost = cost })) r) c) b) a) IsWritableAnswer
+    by None b c r w = tt
+    by (Some alpha) None c r w = tt
+    by (Some alpha) (Some beta) None r w = tt
+    by (Some alpha) (Some beta) (Some cost) None w = tt
+    by (Some alpha) (Some beta) (Some cost) (Some rule) w = w
 
 set_writable : (kind : CutKind) (t : Shape) → IfSome (set_in kind t) IsWritableAnswer
 set_writable kind t = by (has_rule_member t)
@@ -101,28 +93,23 @@ set_writable kind t = by (has_rule_member t)
 
 -- of whatever form its file has
 
-module _ {F : Type 0} (g : F → Option Answer) where
-  either : (b : Bool) (x y : F) → IfSome (g x) IsWritableAnswer → IfSome (g y) IsWritableAnswer → IfSome (g (cond b x y)) IsWritableAnswer
-  either true x y h k = h
-  either false x y h k = k
-
-  either_there : (b : Bool) (o p : Option F) → IfSome (option_and_then g o) IsWritableAnswer → IfSome (option_and_then g p) IsWritableAnswer → IfSome (option_and_then g (cond b o p)) IsWritableAnswer
-  either_there true o p h k = h
-  either_there false o p h k = k
-
-  some_if : (b : Bool) (x : F) → IfSome (g x) IsWritableAnswer → IfSome (option_and_then g (cond b (Some x) None)) IsWritableAnswer
-  some_if true x h = h
-  some_if false x h = tt
+split : {F : Type 0} (g : F → Option Answer) (b : Bool) (x y f : F) → f ≡ cond b x y → IfSome (g x) IsWritableAnswer → IfSome (g y) IsWritableAnswer → IfSome (g f) IsWritableAnswer
+split g true x y f e h k = subst (λ z. IfSome (g z) IsWritableAnswer) (sym e) h
+split g false x y f e h k = subst (λ z. IfSome (g z) IsWritableAnswer) (sym e) k
 
 first_writable : (t : Shape) → IfSome (answer_by t (first_form t)) IsWritableAnswer
-first_writable t = either (answer_by t) (has (codes "none") t) _ _ (set_writable Over t) (emit_writable t)
+first_writable t = split (answer_by t) (has (codes "none") t) _ _ (first_form t) refl (set_writable Over t) (emit_writable t)
 
 second_writable : (t : Shape) → IfSome (option_and_then (answer_by t) (second_form t)) IsWritableAnswer
-second_writable t = some_if (answer_by t) (is_under (member_of (codes "side") t)) _ (set_writable Under t)
+second_writable t = split (option_and_then (answer_by t)) (is_under (member_of (codes "side") t)) _ _ (second_form t) refl (set_writable Under t) tt
+
+either : {F : Type 0} (g : F → Option Answer) (b : Bool) (o p : Option F) → IfSome (option_and_then g o) IsWritableAnswer → IfSome (option_and_then g p) IsWritableAnswer → IfSome (option_and_then g (cond b o p)) IsWritableAnswer
+either g true o p h k = h
+either g false o p h k = k
 
 number_writable : (t : Shape) (z : ℤ) → IfSome (option_and_then (answer_by t) (form_of t z)) IsWritableAnswer
 number_writable t (pos n) =
-    either_there (answer_by t) (n == 1) (Some (first_form t)) (cond (n == 2) (second_form t) None) (first_writable t) (either_there (answer_by t) (n == 2) (second_form t) None (second_writable t) tt)
+    either (answer_by t) (n == 1) (Some (first_form t)) (cond (n == 2) (second_form t) None) (first_writable t) (either (answer_by t) (n == 2) (second_form t) None (second_writable t) tt)
 number_writable t (negsuc n) = tt
 
 form_writable : (t : Shape) (o : Option ℤ) → IfSome (option_and_then (answer_by t) (option_and_then (form_of t) o)) IsWritableAnswer
@@ -133,7 +120,7 @@ read_plan : (o : Option Answer) → IfSome o IsWritableAnswer → IsWritablePlan
 read_plan None h = tt
 read_plan (Some answer) h = h
 
-answer_writable : (bytes : List ℕ) → IsWritablePlan (answer_of bytes)
+pub answer_writable : (bytes : List ℕ) → IsWritablePlan (answer_of bytes)
 answer_writable bytes = by (tree_of bytes max_plan)
   where
     by : (r : Result Shape TextFault) → IsWritablePlan (if_tree r)
@@ -146,56 +133,9 @@ loaded_writable at path = by (load_of at path max_rule)
   where
     by : (l : Result (List ℕ) LoadFault) → IsWritablePlan (refused_by file.Load l >>= λ bytes. refused_by file.ReadPlanned (answer_of bytes))
     by (Err e) = tt
-    by (Ok bytes) = refused_so _ (answer_of bytes) (answer_writable bytes)
+    by (Ok bytes) = refused_so file.ReadPlanned (answer_of bytes) (answer_writable bytes)
 
 -- the plan of a file
 pub plan_writable : (at : Holding) (path : List ℕ) → IsWritablePlan (plan_at at path)
 unfolding plan_at
-plan_writable at path = refused_so _ (plans.plan_at at path) (loaded_writable at path)
-
--- ---- a ramp
-
-of_answer : {E : Type 0} (r : Result Answer E) → IsWritablePlan r → IfSome (result_ok r) IsWritableAnswer
-of_answer (Ok answer) h = h
-of_answer (Err e) h = tt
-
-step_writable : (n : ℕ) (line : List ℕ) → IfSome (step_of n line) IsWritableAnswer
-step_writable n line = some_of IsWritableAnswer (step_in n) (λ t. by t (is_step n (member_of (codes "step") t))) (result_ok (tree_of line max_plan))
-  where
-    by : (t : Shape) (b : Bool) → IfSome (cond b (option_and_then (λ plan. result_ok (answer_of (text_of plan))) (member_of (codes "plan") t)) None) IsWritableAnswer
-    by t true = some_of IsWritableAnswer _ (λ plan. of_answer (answer_of (text_of plan)) (answer_writable (text_of plan))) (member_of (codes "plan") t)
-    by t false = tt
-
-more_writable : (n : ℕ) (o : Option Answer) (r : Result (List Answer) RampFileFault) → IfSome o IsWritableAnswer → AreWritable r → AreWritable (and_more n o r)
-more_writable n None r h g = tt
-more_writable n (Some answer) (Err e) h g = tt
-more_writable n (Some answer) (Ok answers) h g = (h, g)
-
-ended_writable : (n : ℕ) (last : List ℕ) → AreWritable (if_ended n last)
-ended_writable n [] = tt
-ended_writable n (b ∷ bs) = tt
-
-parts_writable : (n : ℕ) (parts : List (List ℕ)) → AreWritable (read_parts n parts)
-parts_writable n [] = tt
-parts_writable n (last ∷ []) = ended_writable n last
-parts_writable n (line ∷ next ∷ parts) = more_writable n (step_of n line) (read_parts (suc n) (next ∷ parts)) (step_writable n line) (parts_writable (suc n) (next ∷ parts))
-
-ramp_writable : (bytes : List ℕ) → AreWritable (ramp_of bytes)
-ramp_writable bytes = by (nat_lt max_plan (length bytes))
-  where
-    by : (b : Bool) → AreWritable (cond b (Err TooLarge) (read_parts 1 (slice_split is_feed bytes)))
-    by true = tt
-    by false = parts_writable 1 (slice_split is_feed bytes)
-
-read_so : (r : Result (List Answer) RampFileFault) → AreWritable r → AreWritable (read_as r)
-read_so (Ok answers) h = h
-read_so (Err e) h = tt
-
--- the answers of the file of a ramp
-pub answers_writable : (at : Holding) (path : List ℕ) → AreWritable (answers_at at path)
-unfolding answers_at
-answers_writable at path = by (load_of at path max_rule)
-  where
-    by : (l : Result (List ℕ) LoadFault) → AreWritable (if_loaded (refused_by file.Load l))
-    by (Err e) = tt
-    by (Ok bytes) = read_so (ramp_of bytes) (ramp_writable bytes)
+plan_writable at path = refused_so rolling.Load (plans.plan_at at path) (loaded_writable at path)

@@ -1,11 +1,7 @@
--- The same of the rule that is put into a document: `apply --keep`, and `apply --step --keep`.
+-- The same of the rule that is put into a document: `apply --keep`.
 use Rattle.std.specs.Prelude.{ℕ, Bool, List, Option}
-use Rattle.flagops_ramps.specs.Keep as ramps
-use Rattle.flagops_ramps.specs.Report as ramps_report
-use Rattle.flagops_ramps.specs.Words.{Keeping}
 use Rattle.flagops_rollouts.specs.Keep.{IsKeepReport}
 use Rattle.flagops_shell.specs.Files.{Holding}
-use Rattle.command_laws.specs.Ramps.{verified_as}
 use Rattle.command_laws.specs.Rollouts.{Came}
 use Rattle.command_laws.specs.Whole.{IsWholeAt}
 
@@ -14,9 +10,3 @@ abbrev pub KeptStay : Type 0
 KeptStay =
     (floats other : Bool) (at : Holding) (after : Option Holding) (document plan request book : List ℕ) (write : Bool) (refine : Option ℕ) (strict : Bool) (r : Came) → IsWholeAt at document
     → IsKeepReport floats at after document plan request book write refine strict r → IsKeepReport other at after document plan request book write refine strict r
-
--- of `apply --step --keep`
-abbrev pub KeptStepsStay : Type 0
-KeptStepsStay =
-    (other : Bool) (at : Holding) (after : Option Holding) (k : Keeping) (r : ramps_report.Came) → IsWholeAt at k.answered.rollout.document
-    → ramps.IsKeepReport at after k r → ramps.IsKeepReport at after (record k { answered = verified_as other k.answered }) r

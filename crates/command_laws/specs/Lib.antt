@@ -2,6 +2,8 @@ pub mod Commands
 pub mod Evaluated
 pub mod Filters
 pub mod Kept
+pub mod Pictures
+pub mod RampRemarks
 pub mod Ramps
 pub mod Remarks
 pub mod Rollouts

@@ -3,9 +3,6 @@ use Rattle.std.specs.Prelude.{ℕ, Bool, List, Option, Result}
 use Rattle.flagops_compare.specs.Report as compare
 use Rattle.flagops_compare.specs.Report.{IsCompareReport}
 use Rattle.flagops_compare.specs.Words.{Comparing}
-use Rattle.flagops_pictures.specs.Pictured.{IsPictureReport}
-use Rattle.flagops_pictures.specs.Planning.{IsPlanPicture}
-use Rattle.flagops_pictures.specs.Words.{Picturing, Planning}
 use Rattle.flagops_rollouts.specs.Apply.{IsApplyReport}
 use Rattle.flagops_rollouts.specs.Plan.{IsPlanReport}
 use Rattle.flagops_rollouts.specs.Verify.{IsVerifyReport}
@@ -35,14 +32,6 @@ abbrev pub AppliedStay : Type 0
 AppliedStay =
     (floats other : Bool) (at : Holding) (document plan key : List ℕ) (site : ℕ) (strict : Bool) (r : Came) → IsWholeAt at document
     → IsApplyReport floats at document plan key site strict r → IsApplyReport other at document plan key site strict r
-
--- of `picture`, and of `plan --picture` with the file that it writes
-abbrev pub PicturesStay : Type 0
-PicturesStay = (other : Bool) (at : Holding) (a : Picturing) (r : Came) → IsWholeAt at a.document → IsPictureReport at a r → IsPictureReport at (record a { floats = other }) r
-
-abbrev pub PlannedPicturesStay : Type 0
-PlannedPicturesStay =
-    (other : Bool) (at : Holding) (after : Option Holding) (p : Planning) (r : Came) → IsWholeAt at p.document → IsPlanPicture at after p r → IsPlanPicture at after (record p { floats = other }) r
 
 -- of `compare`, of two documents whose numbers are all whole
 abbrev pub ComparedStay : Type 0

@@ -2,38 +2,27 @@
 ghost use Rattle.command_laws.specs.Commands.{FilesStay, OutcomesStay, RemarksStay};
 ghost use Rattle.command_laws.specs.Evaluated.{DrivenStay, ResolvedStay};
 ghost use Rattle.command_laws.specs.Filters.{ChecksStay, RecordsStay, ServedStay, TalliesStay};
-ghost use Rattle.command_laws.specs.Kept.{KeptStay, KeptStepsStay};
-ghost use Rattle.command_laws.specs.Ramps.{RampPicturesStay, RampVerdictsStay, RampsStay, StepsStay};
-ghost use Rattle.command_laws.specs.Remarks.{CheckRemarksStay, CompareRemarksStay, KeptRemarksStay, PictureRemarksStay, PlannedRemarksStay, RampRemarksStay, StepRemarksStay, VerdictRemarksStay};
-ghost use Rattle.command_laws.specs.Rollouts.{AppliedStay, ComparedStay, PicturesStay, PlannedPicturesStay, PlansStay, VerdictsStay};
+ghost use Rattle.command_laws.specs.Kept.{KeptStay};
+ghost use Rattle.command_laws.specs.Pictures.{PictureRemarksStay, PicturesStay, PlannedPicturesStay, PlannedRemarksStay, RampPicturesStay};
+ghost use Rattle.command_laws.specs.RampRemarks.{KeptRemarksStay, RampRemarksStay, StepRemarksStay, VerdictRemarksStay};
+ghost use Rattle.command_laws.specs.Ramps.{KeptStepsStay, RampVerdictsStay, RampsStay, StepsStay};
+ghost use Rattle.command_laws.specs.Remarks.{CheckRemarksStay, CompareRemarksStay};
+ghost use Rattle.command_laws.specs.Rollouts.{AppliedStay, ComparedStay, PlansStay, VerdictsStay};
 
-/// With `--floats` or without it `plan`, `verify`, `apply`, `picture`, `plan --picture` and `compare` report the same, and write
-/// the same, on documents whose numbers are all whole. A law: it computes nothing.
+/// With `--floats` or without it `plan`, `verify`, `apply` and `compare` report the same on documents whose numbers are all whole.
+/// A law: it computes nothing.
 pub fn floats_change_no_rollout()
     ensures plans { PlansStay }
     ensures verdicts { VerdictsStay }
     ensures applied { AppliedStay }
-    ensures pictures { PicturesStay }
-    ensures planned { PlannedPicturesStay }
     ensures compared { ComparedStay }
 {
     float_laws::documents_stay();
 }
 
-/// The same of `ramp`, `verify-ramp`, `picture --ramp` and `apply --step`. A law: it computes nothing.
-pub fn floats_change_no_ramp()
-    ensures ramps { RampsStay }
-    ensures verdicts { RampVerdictsStay }
-    ensures pictures { RampPicturesStay }
-    ensures steps { StepsStay }
-{
-    float_laws::documents_stay();
-}
-
-/// The same of `apply --keep` and `apply --step --keep`, with the document that they write. A law: it computes nothing.
+/// The same of `apply --keep`, with the document that it writes. A law: it computes nothing.
 pub fn floats_change_no_kept_rule()
-    ensures kept { KeptStay }
-    ensures steps { KeptStepsStay }
+    ensures { KeptStay }
 {
     float_laws::documents_stay();
     float_laws::whole_numbers_stay();
@@ -73,16 +62,44 @@ pub fn floats_change_no_command()
     flag_resolve::floats_are_of_their_kind();
 }
 
-/// What a person may be told beside the reports of the other commands is the same, too. A law: it computes nothing.
+/// What a person may be told beside the reports of `compare` and `check` is the same, too. A law: it computes nothing.
 pub fn floats_change_no_remark()
+    ensures compared { CompareRemarksStay }
+    ensures checks { CheckRemarksStay }
+{
+    float_laws::documents_stay();
+}
+
+/// The same of `ramp`, `verify-ramp`, `apply --step`, and `apply --step --keep` with the document that it writes. A law: it
+/// computes nothing.
+pub fn floats_change_no_ramp()
+    ensures ramps { RampsStay }
+    ensures verdicts { RampVerdictsStay }
+    ensures steps { StepsStay }
+    ensures kept { KeptStepsStay }
+{
+    float_laws::documents_stay();
+    float_laws::whole_numbers_stay();
+}
+
+/// The same of what a person may be told beside their reports. A law: it computes nothing.
+pub fn floats_change_no_ramp_remark()
     ensures ramps { RampRemarksStay }
     ensures verdicts { VerdictRemarksStay }
     ensures steps { StepRemarksStay }
     ensures kept { KeptRemarksStay }
-    ensures pictures { PictureRemarksStay }
-    ensures planned { PlannedRemarksStay }
-    ensures compared { CompareRemarksStay }
-    ensures checks { CheckRemarksStay }
+{
+    float_laws::documents_stay();
+}
+
+/// The same of `picture`, `picture --ramp` and `plan --picture`, and of what a person may be told beside their reports. A law: it
+/// computes nothing.
+pub fn floats_change_no_picture()
+    ensures pictures { PicturesStay }
+    ensures planned { PlannedPicturesStay }
+    ensures ramps { RampPicturesStay }
+    ensures remarks { PictureRemarksStay }
+    ensures planned_remarks { PlannedRemarksStay }
 {
     float_laws::documents_stay();
 }

@@ -11,6 +11,6 @@ mod laws;
 
 pub use laws::{
     floats_change_no_command, floats_change_no_evaluation, floats_change_no_filter,
-    floats_change_no_kept_rule, floats_change_no_ramp, floats_change_no_remark,
-    floats_change_no_rollout,
+    floats_change_no_kept_rule, floats_change_no_picture, floats_change_no_ramp,
+    floats_change_no_ramp_remark, floats_change_no_remark, floats_change_no_rollout,
 };
