@@ -1,10 +1,9 @@
 -- The first of some attempts that is refused is named alike where each is refused alike.
-use Rattle.std.proofs.Common.{◌≡◌, ◌⊎◌, inl, inr, ℕ, Bool, List, [], ◌∷◌, ◌++◌, map, Result, Ok, Err, refl, sym, ap, subst}
+use Rattle.std.proofs.Common.{◌≡◌, inl, inr, ℕ, Bool, List, [], ◌∷◌, ◌++◌, map, Result, Ok, Err, refl, subst}
 use Rattle.flagops_files.specs.Question as questions
 use Rattle.flagops_files.specs.Documents.{IsDocumentAs}
 use Rattle.flagops_files.specs.Loading.{max_text}
 use Rattle.flagops_files.specs.Told.{AllSucceed, Attempt, NamesFirst, NamesSubject, Subject, attempt, attempt_of, file, within}
-use Rattle.flagops_files.specs.declared.refusal.Refusal.{Refusal}
 use Rattle.flagops_files.specs.declared.refusal.Refusal.TheVariants.{Load}
 use Rattle.flagops_rollouts.specs.Attempts as rollouts
 use Rattle.flagops_rollouts.specs.declared.refusal.RolloutRefusal.TheVariants as rolling

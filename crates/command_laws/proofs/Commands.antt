@@ -1,15 +1,13 @@
 -- All that the commands of one list come to.
-use Rattle.std.proofs.Common.{◌≡◌, ◌∙◌, ◌⊎◌, inl, inr, ℕ, Bool, true, false, List, [], ◌∷◌, ◌++◌, codes, map, unwrap_or, Option, Some, None, Result, Ok, Err, refl, sym, ap, ap₂, subst}
+use Rattle.std.proofs.Common.{◌≡◌, ◌∙◌, inl, inr, ℕ, Bool, true, List, [], ◌∷◌, ◌++◌, codes, map, unwrap_or, Option, Some, None, Result, Ok, Err, refl, sym, ap₂, subst}
 use Rattle.std.specs.Prelude.{IfSome}
 use Rattle.book_core.specs.Book.{Contents}
 use Rattle.flag_defs.specs.Document.{Definitions}
-use Rattle.flag_defs.specs.Floats.{Marks, are_unmarked}
+use Rattle.flag_defs.specs.Floats.{are_unmarked}
 use Rattle.flag_resolve.specs.Floats.{Marked}
 use Rattle.flag_resolve.specs.Resolved.{Resolved}
 use Rattle.flag_text.specs.Reading.{tree_of}
-use Rattle.flag_text.specs.Shape.{Shape}
-use Rattle.flagops_commands.specs.Attempts.{attempts_of, remark_of}
-use Rattle.flagops_commands.specs.Commands.{IsOutcome, Leaves}
+use Rattle.flagops_commands.specs.Attempts.{attempts_of}
 use Rattle.flagops_commands.specs.Drive.{AreRead, LeavesBook, before_at}
 use Rattle.flagops_commands.specs.DriveSummary.{TellsPrinted}
 use Rattle.flagops_commands.specs.Loaded.{AreFlagsAt, tree_at}
@@ -30,15 +28,13 @@ use Rattle.flagops_rollouts.specs.Loaded as rolling
 use Rattle.flagops_rollouts.specs.Subjects.{applied_subjects, is_of_answer, is_of_kept_answer, is_of_kept_document, is_of_kept_request, is_of_request, is_of_size, the_plan}
 use Rattle.flagops_shell.specs.Files.{Holding}
 use Rattle.flagops_shell.specs.Outcomes.{refused_by}
-use Rattle.flagops_shell.specs.Report.{Report}
-use Rattle.flagops_shell.specs.declared.refused.Remark.{Remark}
 use Rattle.flagops_words.specs.Asked.{Asked, bucket, price, resolve, verify, plan, apply, keep, drive, completions}
 use Rattle.float_laws.specs.Documents.{MeaningsStay, NoneIsMarked, TreesStay}
 use Rattle.float_laws.specs.Kept.{WholeNumbersStay}
 use Rattle.flag_resolve.specs.Floats as resolving
 use Rattle.command_laws.specs.Commands.{FilesStay, IsWholeFor, OutcomesStay, RemarksStay, asked_as}
 use Rattle.command_laws.specs.Whole.{IsWholeAt}
-use Rattle.command_laws.proofs.Attempted.{AreLike, IsLike, all_within, attempt_so, first_so, itself, rolled_like, says_so, themselves, with_more}
+use Rattle.command_laws.proofs.Attempted.{AreLike, IsLike, all_within, attempt_so, first_so, rolled_like, says_so, themselves, with_more}
 use Rattle.command_laws.proofs.Evaluated.{AreAlike, driven_stay, listed_so, resolved_stay}
 use Rattle.command_laws.proofs.Kept.{kept_stay}
 use Rattle.command_laws.proofs.Read.{rolled_document}

@@ -1,5 +1,5 @@
 -- What `check`, `record`, `tally` and `serve` come to.
-use Rattle.std.proofs.Common.{◌≡◌, ◌∙◌, ◌⊎◌, inl, inr, ℕ, Bool, true, false, List, [], ◌∷◌, map, is_some, Result, Ok, Err, refl, ap}
+use Rattle.std.proofs.Common.{◌≡◌, ◌∙◌, inl, inr, ℕ, Bool, true, false, List, [], ◌∷◌, map, is_some, Result, Ok, Err, refl, ap}
 use Rattle.file_diagnostics.specs.Broken.{document_in}
 use Rattle.flag_defs.specs.Definition.{Definition}
 use Rattle.flag_defs.specs.Document.{Definitions}
@@ -20,7 +20,6 @@ use Rattle.flagops_checks.specs.declared.refusal.CheckRefusal.TheVariants.{Load}
 use Rattle.flagops_files.specs.Loading.{max_text}
 use Rattle.flagops_files.specs.declared.refusal.Refusal.{Refusal}
 use Rattle.flagops_files.specs.declared.refusal.Refusal.TheVariants as file
-use Rattle.flagops_filters.specs.Record.{RecordAnswers}
 use Rattle.flagops_filters.specs.Tally.{IsTallyIn, IsTallyReport}
 use Rattle.flagops_shell.specs.Files.{Holding, load_of}
 use Rattle.flagops_shell.specs.Outcomes.{refused_by}

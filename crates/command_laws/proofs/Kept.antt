@@ -1,5 +1,5 @@
 -- What is made of a document whose numbers are all whole by a rule that is put into it.
-use Rattle.std.proofs.Common.{◌≡◌, ◌∙◌, ◌≤◌, ℕ, ◌-◌, Bool, true, false, List, [], ◌∷◌, drop, Option, Some, None, Result, Ok, Err, refl, sym, ap, subst}
+use Rattle.std.proofs.Common.{◌≡◌, ℕ, Bool, false, List, Option, Some, None, Result, Ok, Err, refl, ap, subst}
 use Rattle.std.specs.Prelude.{option_and_then}
 use Rattle.std.specs.Map.{lookup}
 use Rattle.std.specs.Str.{bytes_eq}
@@ -11,11 +11,11 @@ use Rattle.flag_text.specs.Shape.{Shape}
 use Rattle.flag_text.specs.declared.fault.TextFault.{TextFault}
 use Rattle.float_laws.specs.Documents.{MeaningsStay, TreesStay}
 use Rattle.flagops_files.specs.Question.{Question}
-use Rattle.flagops_rollouts.specs.Keep.{IsEdited, IsEditedTo, IsKeepOf, IsKeepReport, IsKeepWith, IsKeptAt, IsKeptBy, IsKeptWith, Kept, MayBeKept}
+use Rattle.flagops_rollouts.specs.Keep.{IsEdited, IsEditedTo, IsKeepOf, IsKeepReport, IsKeptAt, IsKeptBy, IsKeptWith, Kept, MayBeKept}
 use Rattle.flagops_rollouts.specs.Loaded.{plan_at}
 use Rattle.flagops_rollouts.specs.declared.refusal.RolloutRefusal.{RolloutRefusal}
 use Rattle.flagops_shell.specs.Files.{Holding}
-use Rattle.kept_document.specs.Kept.{IsRefused, KeptAt, in_tree, place_in, tree_as}
+use Rattle.kept_document.specs.Kept.{IsRefused, KeptAt, in_tree, place_in}
 use Rattle.kept_document.specs.declared.fault.KeepFault.{KeepFault}
 use Rattle.kept_document.specs.declared.fault.KeepFault.TheVariants.{WantOfMemory, Shared, TooLong, Differs}
 use Rattle.float_laws.specs.Kept.{IsWritable, WholeNumbersStay}

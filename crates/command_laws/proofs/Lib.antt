@@ -12,6 +12,7 @@ mod Read
 mod Remarks
 mod Rollouts
 mod Served
+mod Shown
 mod Told
 mod Writable
 mod WritableSteps

@@ -1,6 +1,6 @@
 -- What `serve` publishes of documents whose numbers are all whole.
-use Rattle.std.proofs.Common.{◌≡◌, ◌≢◌, ◌⊎◌, inl, inr, ℕ, ◌+◌, ◌++◌, Bool, true, false, List, [], ◌∷◌, length, Result, Ok, Err, refl, subst, sym, ap, ◌∙◌}
-use Rattle.std.specs.Prelude.{MatchBool, decimal}
+use Rattle.std.proofs.Common.{◌≡◌, inl, inr, ℕ, ◌+◌, ◌++◌, Bool, List, [], ◌∷◌, length, Result, Ok, Err, refl, subst}
+use Rattle.std.specs.Prelude.{decimal}
 use Rattle.flag_defs.specs.Document.{Definitions}
 use Rattle.float_laws.specs.Documents.{SourcesStay}
 use Rattle.flagops_shell.specs.Files.{Holding, load_of}
@@ -8,8 +8,7 @@ use Rattle.flagops_shell.specs.Outcomes.{◌>>=◌}
 use Rattle.flagops_shell.specs.declared.files.LoadFault.{LoadFault}
 use Rattle.flagops_shell.specs.declared.files.LoadFault.TheVariants as load
 use Rattle.flagops_streams.specs.Documents.{Answer, Gives, IsAccepted, MayRefuse, Merges, source_added}
-use Rattle.flagops_streams.specs.Loading.{AnswersTo, Loaded, ServesLoaded, loaded_at, loaded_from, loaded_next, text_of}
-use Rattle.flagops_streams.specs.Words.{Serving}
+use Rattle.flagops_streams.specs.Loading.{Loaded, ServesLoaded, loaded_at, loaded_from, loaded_next, text_of}
 use Rattle.flagops_streams.specs.declared.refusal.Refusal.{Refusal}
 use Rattle.flagops_streams.specs.declared.refusal.Refusal.TheVariants.{Add, Unreadable, Unloaded, Set, Merged, Share, Publish, Unbound, NoConnection, NoThread, Unreachable, Unserved, WantOfMemory}
 use Rattle.limits.specs.Limits.{text_bytes}
@@ -22,7 +21,7 @@ use Rattle.float_laws.specs.Whole.{IsWholeText}
 
 -- ---- the texts that are loaded
 
-abbrev AreWhole : List (List ℕ) → Type 0
+abbrev pub AreWhole : List (List ℕ) → Type 0
 AreWhole [] = Unit {0}
 AreWhole (text ∷ texts) = IsWholeText text × AreWhole texts
 
@@ -39,7 +38,7 @@ next_loaded at path d next (Ok sources) (Ok text) is whole before h =
     let same : (let n : Loaded = record { sources = sources; texts = d.texts ++ text ∷ [] } in n) ≡ next = cc in
     subst (λ (n : Loaded). AreWhole n.texts) same (one_more d.texts text before (whole text is))
 
-all_loaded : (at : Holding) (paths : List (List ℕ)) (d e : Loaded) → AreWholeAt at paths → AreWhole d.texts → loaded_from at d paths ≡ Ok e → AreWhole e.texts
+pub all_loaded : (at : Holding) (paths : List (List ℕ)) (d e : Loaded) → AreWholeAt at paths → AreWhole d.texts → loaded_from at d paths ≡ Ok e → AreWhole e.texts
 all_loaded at [] d e whole before h = let same : d ≡ e = cc in subst (λ (n : Loaded). AreWhole n.texts) same before
 all_loaded at (path ∷ paths) d e whole before h =
     let more : (next : Loaded) → AreWhole next.texts → loaded_from at next paths ≡ Ok e → AreWhole e.texts = λ next. all_loaded at paths next e whole.1 in by more (loaded_next at d path) refl h

@@ -1,10 +1,10 @@
 -- What a person is told beside the reports of rollouts.
-use Rattle.std.proofs.Common.{◌≡◌, ℕ, Bool, true, false, List, [], ◌∷◌, ◌++◌, Option, Some, None, Result, Ok, Err, refl, ap, subst}
+use Rattle.std.proofs.Common.{ℕ, Bool, List, ◌++◌, Option, Ok, subst}
 use Rattle.bucket_core.specs.Rule.{total_weight}
 use Rattle.flag_defs.specs.Document.{Definitions}
-use Rattle.flagops_rollouts.specs.Beside.{Part, Tells, part_if}
+use Rattle.flagops_rollouts.specs.Beside.{Tells, part_if}
 use Rattle.flagops_rollouts.specs.Finer.{finer_part, times_at}
-use Rattle.flagops_rollouts.specs.Omitted.{TellsOmitted, is_omitting}
+use Rattle.flagops_rollouts.specs.Omitted.{TellsOmitted}
 use Rattle.flagops_rollouts.specs.Remarks.{TellsAppliedAt, TellsDoubtsAt, TellsKeptAt, TellsPlanAt, applied_parts}
 use Rattle.flagops_shell.specs.Files.{Holding}
 use Rattle.flagops_shell.specs.declared.refused.Remark.{Remark}

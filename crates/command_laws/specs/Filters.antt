@@ -1,5 +1,5 @@
 -- The same of commands that are no rollout: `check`, `record`, `tally` and `serve`.
-use Rattle.std.specs.Prelude.{ℕ, Bool, List, Result}
+use Rattle.std.specs.Prelude.{ℕ, Bool, List, length, Result}
 use Rattle.flagops_checks.specs.Report.{IsCheckReport}
 use Rattle.flagops_checks.specs.Words.{Checking}
 use Rattle.flagops_checks.specs.declared.refusal.CheckRefusal.{CheckRefusal}
@@ -10,8 +10,10 @@ use Rattle.flagops_filters.specs.Words.{Recording, Tallying}
 use Rattle.flagops_shell.specs.Console.{Shown}
 use Rattle.flagops_shell.specs.Files.{Holding}
 use Rattle.flagops_shell.specs.Report.{Report}
-use Rattle.flagops_streams.specs.Documents.{Answer}
-use Rattle.flagops_streams.specs.Loading.{AnswersTo}
+use Rattle.flagops_streams.specs.Documents.{Answer, count_of}
+use Rattle.flagops_streams.specs.Loading.{AnswersTo, IsRefusedOf}
+use Rattle.flagops_streams.specs.Report.{Reports}
+use Rattle.flagops_streams.specs.Told.{TellsServing}
 use Rattle.flagops_streams.specs.Words.{Serving}
 use Rattle.command_laws.specs.Whole.{AreWholeAt, IsWholeAt}
 
@@ -34,3 +36,12 @@ TalliesStay =
 -- of `serve`
 abbrev pub ServedStay : Type 0
 ServedStay = (other : Bool) (at : Holding) (s : Serving) (answer : Answer) → AreWholeAt at s.documents → AnswersTo at s answer → AnswersTo at (record s { floats = other }) answer
+
+-- what `serve` shows of an answer: its line, the lines beside it, and its status
+abbrev pub IsShown : Holding → Serving → Answer → Shown → Shown → ℕ → Type 0
+IsShown at s answer old new status =
+    Reports s.documents (TellsServing s.documents (IsRefusedOf at s) (length s.documents) s.port s.subscribers) (count_of answer) old.printed new.printed new.is_broken old.reported new.reported new.is_mute status
+
+-- of that
+abbrev pub ShownStay : Type 0
+ShownStay = (other : Bool) (old new : Shown) (status : ℕ) (at : Holding) (s : Serving) (answer : Answer) → AreWholeAt at s.documents → IsShown at s answer old new status → IsShown at (record s { floats = other }) answer old new status

@@ -1,7 +1,7 @@
 //! What holds of the definitions of the commands.
 ghost use Rattle.command_laws.specs.Commands.{FilesStay, OutcomesStay, RemarksStay};
 ghost use Rattle.command_laws.specs.Evaluated.{DrivenStay, ResolvedStay};
-ghost use Rattle.command_laws.specs.Filters.{ChecksStay, RecordsStay, ServedStay, TalliesStay};
+ghost use Rattle.command_laws.specs.Filters.{ChecksStay, RecordsStay, ServedStay, ShownStay, TalliesStay};
 ghost use Rattle.command_laws.specs.Kept.{KeptStay};
 ghost use Rattle.command_laws.specs.Pictures.{PictureRemarksStay, PicturesStay, PlannedPicturesStay, PlannedRemarksStay, RampPicturesStay};
 ghost use Rattle.command_laws.specs.RampRemarks.{KeptRemarksStay, RampRemarksStay, StepRemarksStay, VerdictRemarksStay};
@@ -28,12 +28,14 @@ pub fn floats_change_no_kept_rule()
     float_laws::whole_numbers_stay();
 }
 
-/// The same of `check`, `record`, `tally` and `serve`. A law: it computes nothing.
+/// The same of `check`, of `record` with all that it shows, of `tally`, and of `serve` with all that it shows. A law: it computes
+/// nothing.
 pub fn floats_change_no_filter()
     ensures checks { ChecksStay }
     ensures records { RecordsStay }
     ensures tallies { TalliesStay }
     ensures served { ServedStay }
+    ensures shown { ShownStay }
 {
     float_laws::documents_stay();
 }
