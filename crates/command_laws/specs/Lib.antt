@@ -1,2 +1,10 @@
+pub mod Commands
+pub mod Evaluated
+pub mod Filters
+pub mod Kept
+pub mod Pictures
+pub mod RampRemarks
+pub mod Ramps
+pub mod Remarks
 pub mod Rollouts
 pub mod Whole

@@ -1,5 +1,8 @@
 -- That `--floats` changes nothing of a rollout on a document whose numbers are all whole: what is reported with the option or without it may be reported without it or with it.
 use Rattle.std.specs.Prelude.{ℕ, Bool, List, Option, Result}
+use Rattle.flagops_compare.specs.Report as compare
+use Rattle.flagops_compare.specs.Report.{IsCompareReport}
+use Rattle.flagops_compare.specs.Words.{Comparing}
 use Rattle.flagops_rollouts.specs.Apply.{IsApplyReport}
 use Rattle.flagops_rollouts.specs.Plan.{IsPlanReport}
 use Rattle.flagops_rollouts.specs.Verify.{IsVerifyReport}
@@ -29,3 +32,9 @@ abbrev pub AppliedStay : Type 0
 AppliedStay =
     (floats other : Bool) (at : Holding) (document plan key : List ℕ) (site : ℕ) (strict : Bool) (r : Came) → IsWholeAt at document
     → IsApplyReport floats at document plan key site strict r → IsApplyReport other at document plan key site strict r
+
+-- of `compare`, of two documents whose numbers are all whole
+abbrev pub ComparedStay : Type 0
+ComparedStay =
+    (other : Bool) (at : Holding) (after : Option Holding) (a : Comparing) (r : compare.Came) → IsWholeAt at a.old → IsWholeAt at a.new
+    → IsCompareReport at after a r → IsCompareReport at after (record a { floats = other }) r
