@@ -18,7 +18,8 @@ def hidden(data):
     width, count, _ = struct.unpack_from("<HHH", data, 58)
     sections = [list(SECTION.unpack_from(data, table + width * i)) for i in range(count)]
     for section in sections:
-        if section[1] == ADDRESSES and section[5] == 0:  # it names no symbol, and no other does
+        # It lists, by their places, the symbols whose addresses matter. Where a linker finds no such list, those of all do.
+        if section[1] == ADDRESSES:
             section[1] = 1
     assert {section[1] for section in sections} <= PLAIN | {SYMTAB, RELA, GROUP, NO_BITS}, "a section of an unknown kind"
     at = [i for i, section in enumerate(sections) if section[1] == SYMTAB][0]
