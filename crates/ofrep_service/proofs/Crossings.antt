@@ -12,8 +12,11 @@ use Rattle.std.specs.contracts.alloc.Global as Global
 use Rattle.std.specs.contracts.random_state.RandomState as RandomState
 use Rattle.std.specs.contracts.net.tcp.TcpListener as TcpListener
 use Rattle.http_server.proofs.log.Log.TheSendSync as log
+use Rattle.log_file.specs.contracts.journal.Journal as Journal
 use Rattle.log_file.specs.contracts.system.SystemLog as SystemLog
+use Rattle.log_file.specs.declared.file.LogFile.{Ghosts}
 use Rattle.note_memory.proofs.Crossings.{Handed-send, SharedMemory-sync}
+use Rattle.note_memory.specs.contracts.numbered.NumberedJournal as NumberedJournal
 use Rattle.snap_share.specs.declared.history.ShareName as ShareName
 use Rattle.snap_share.specs.contracts.seat.ReadSeat as ReadSeat
 use Rattle.snap_share.proofs.Crossings.{ReadSeat-send}
@@ -66,8 +69,15 @@ TcpListener-send = search (sendable, crosses) depth 40
 SystemLog-send : IsSend SystemLog.the_row
 SystemLog-send = search (sendable, crosses, log.the_send) depth 80
 
+Journal-send : (g : Ghosts (SystemLog.the_row).Denot) → IsSend (Journal.the_row SystemLog.the_row g)
+Journal-send g =
+    declared_send (Journal.the_type SystemLog.the_row g) (SystemLog-send, (search (sendable, crosses) depth 40, (search (sendable, crosses) depth 40, (search (sendable, crosses) depth 40, (Handed-send, tt)))))
+
+NumberedJournal-send : (g : Ghosts (SystemLog.the_row).Denot) → IsSend (NumberedJournal.the_row SystemLog.the_row g)
+NumberedJournal-send g = declared_send (NumberedJournal.the_type SystemLog.the_row g) (Journal-send g, (search (sendable, crosses) depth 40, tt))
+
 Post-send : IsSend Post.the_row
-Post-send = search (sendable, crosses, SystemLog-send, Handed-send) depth 120
+Post-send = declared_send Post.the_type (TcpListener-send, (search (sendable, crosses, NumberedJournal-send) depth 40, tt))
 
 AdminPost-send : IsSend AdminPost.the_row
 AdminPost-send = search (sendable, crosses) depth 120

@@ -1,2 +1,3 @@
 mod Crossings
+mod Recalling
 mod Resting

@@ -20,3 +20,11 @@ paths_of folder (suc workers) = paths_of folder workers ++ path_at folder (worke
 -- where a log is kept, its path
 abbrev pub path_in : {g : Ghosts SystemLog} → Option (NumberedJournal SystemLog g) → Option (List ℕ)
 path_in log = option_map (λ l. string_bytes l.journal.file.path) log
+
+-- where a log is kept, its file, and the last lines that were read of it
+abbrev pub read_in : {g : Ghosts SystemLog} → Option (NumberedJournal SystemLog g) → Option (SystemLog × List ℕ)
+read_in log = option_map {U = SystemLog × List ℕ} (λ l. (l.journal.file, l.journal.last.items)) log
+
+-- the same once these were taken
+abbrev pub taken_of : {g : Ghosts SystemLog} → Option (NumberedJournal SystemLog g) → Option (SystemLog × List ℕ)
+taken_of log = option_map {U = SystemLog × List ℕ} (λ l. (l.journal.file, [])) log

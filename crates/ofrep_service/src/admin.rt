@@ -179,12 +179,12 @@ fn operate<J: ShareName, R: Net + LogPaths + DeskPaths + Clock + Wait>(
     let _ended = answer_operations(rt, alloc, keys, board, sources, seat, desk, post);
 }
 
-fn answer_operations<J: ShareName, R: Net + LogPaths + DeskPaths + Clock + Wait>(
-    rt: &R,
+fn answer_operations<'a, J: ShareName, R: Net + LogPaths + DeskPaths + Clock + Wait>(
+    rt: &'a R,
     alloc: Global,
     keys: RandomState,
-    board: &Board,
-    sources: &PublishedSources<J>,
+    board: &'a Board,
+    sources: &'a PublishedSources<J>,
     seat: ReadSeat<J>,
     desk: ReadSeat<J>,
     post: AdminPost,

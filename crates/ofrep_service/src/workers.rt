@@ -1,11 +1,12 @@
 //! The threads of the workers.
 ghost use denote.Param.Send.{IsSend, IsSync};
-ghost use Rattle.std.specs.Prelude.{◌≡◌, List, [], IfSome, map, option_map, vec_len};
+ghost use Rattle.std.specs.Prelude.{◌≡◌, List, IfSome, map, option_map, vec_len};
 ghost use Rattle.http_server.specs.Exchange.{Call};
 ghost use Rattle.std.specs.List.{flat_map};
 ghost use Rattle.ofrep_guards.specs.Asked.{first_keys, rules_view};
 ghost use Rattle.recorded_answers.specs.Stand.{AllStand, Works};
 ghost use Rattle.ofrep_service.specs.Limits.{HasLimits};
+ghost use Rattle.ofrep_service.specs.Logs.{read_in, taken_of};
 
 use crate::admin::{Operations, operate_beside};
 use crate::board::Board;
@@ -247,7 +248,7 @@ fn serve_recorded<S: Recording, R: Net + Clock>(
 
 /// Has the board's memory remember the last lines that were read of the logs of all posts, before a worker answers.
 pub(crate) fn recall<R: Wait>(rt: &R, alloc: Global, board: &Board, posts: &mut [Post])
-    ensures { map (λ p. option_map (λ j. (j.journal.file, j.journal.last.items)) p.journal) posts.new ≡ map (λ p. option_map (λ j. (j.journal.file, [])) p.journal) posts.old }
+    ensures { map (λ p. read_in p.journal) posts.new ≡ map (λ p. taken_of p.journal) posts.old }
 {
     for post in posts.iter_mut() {
         recall_one(rt, alloc, board, post);
@@ -256,7 +257,7 @@ pub(crate) fn recall<R: Wait>(rt: &R, alloc: Global, board: &Board, posts: &mut 
 
 /// The same of one post.
 fn recall_one<R: Wait>(rt: &R, alloc: Global, board: &Board, post: &mut Post)
-    ensures { option_map (λ j. (j.journal.file, j.journal.last.items)) post.new.journal ≡ option_map (λ j. (j.journal.file, [])) post.old.journal }
+    ensures { read_in post.new.journal ≡ taken_of post.old.journal }
 {
     if let Some(journal) = &mut post.journal {
         journal.recall(rt, alloc, &board.memory);
