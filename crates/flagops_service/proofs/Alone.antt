@@ -1,5 +1,5 @@
 -- A document that is alone, and its source.
-use Rattle.std.proofs.Common.{◌≡◌, ◌∙◌, ◌<◌, ◌+◌, ◌++◌, ◌||◌, ℕ, zero, suc, Bool, true, false, cond, if◌then◌else◌, List, [], ◌∷◌, Option, Some, None, Result, Ok, Err, Vec, Global, ap, append-nil, arith, decimal, get_or, length, map, refl, slice_get, subst, sym, inl, inr}
+use Rattle.std.proofs.Common.{◌≡◌, ◌∙◌, ◌<◌, ◌+◌, ◌++◌, ℕ, zero, suc, Bool, true, false, cond, if◌then◌else◌, List, [], ◌∷◌, Option, Some, None, Result, Ok, Err, Vec, Global, ap, append-nil, arith, decimal, get_or, length, refl, slice_get, subst, sym, inl, inr}
 use Rattle.std.specs.Prelude.{IfErr, IfOk, MatchBool, nat_lt, slice_set}
 use Rattle.std.specs.Str.{bytes_eq, is_utf8}
 use Rattle.std.proofs.lemmas.List.{length-map, length-set}
@@ -10,7 +10,7 @@ use Rattle.flag_text.specs.declared.fault.TextFault.{TextFault}
 use Rattle.flag_text.specs.declared.fault.TextFault.TheVariants as text_fault
 use Rattle.float_variants.specs.Reading.{text_with_floats}
 use Rattle.flag_defs.specs.Changes.{by_key}
-use Rattle.flag_defs.specs.Document.{Definitions, TextMeans, limited, max_bytes}
+use Rattle.flag_defs.specs.Document.{Definitions, TextMeans, max_bytes}
 use Rattle.flag_defs.specs.Flags.{flags_view}
 use Rattle.flag_defs.specs.Floats.{MeansWithFloats}
 use Rattle.flag_defs.specs.declared.fault.DefFault.{DefFault}

@@ -1,5 +1,5 @@
 -- The keys of the file at a path, by what a read of it gives.
-use Rattle.std.proofs.Common.{◌≡◌, ◌≢◌, ◌∙◌, ℕ, List, Option, Some, None, Result, Ok, Err, IfSome, ap, refl}
+use Rattle.std.proofs.Common.{◌≡◌, ◌∙◌, ℕ, List, Option, Some, None, Ok, Err, IfSome, ap, refl}
 use Rattle.clap.specs.Walk.{Text}
 use Rattle.flagops_shell.specs.Files.{Holding, load_of}
 use Rattle.flagops_shell.specs.declared.files.LoadFault.{LoadFault}

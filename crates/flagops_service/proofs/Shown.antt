@@ -1,5 +1,5 @@
 -- What desks are shown of what was published last.
-use Rattle.std.proofs.Common.{◌≡◌, ◌∙◌, Bool, true, false, ℕ, List, [], ◌∷◌, ◌++◌, Option, Some, None, Ok, String, Global, append-nil, append_assoc, length, refl, string_bytes, subst, sym}
+use Rattle.std.proofs.Common.{◌≡◌, Bool, true, false, ℕ, List, [], ◌∷◌, ◌++◌, Option, Some, None, Ok, String, Global, append-nil, append_assoc, length, refl, string_bytes, subst, sym}
 use Rattle.std.specs.Prelude.{IfSome}
 use Rattle.control_desk.specs.Sources.{IsDocumentOf, Source}
 use Rattle.file_diagnostics.specs.Broken.{TellsBroken}

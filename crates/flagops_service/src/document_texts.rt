@@ -66,8 +66,9 @@ fn document_bytes(alloc: Global, texts: &[Vec<u8>], flags: &Flags) -> Result<Vec
     ensures means { IfOk result (λ v. MeansWithFloats v.items (Ok (flags_view flags.now))) }
 {
     match texts {
+        [] => print_flags_with_floats(alloc, flags),
         [text] => text.as_slice().to_vec(alloc),
-        _ => print_flags_with_floats(alloc, flags),
+        [_, _, ..] => print_flags_with_floats(alloc, flags),
     }
 }
 

@@ -38,8 +38,9 @@ pub(crate) fn merge_documents(
     ensures read { IfOk result (λ _. AreRead (texts_of texts.now) (sources_view sources.new)) }
 {
     match texts {
+        [] => unreachable!(),
         [text] => merge_next(alloc, sources, 1, text.as_slice(), true),
-        _ => merge_all(alloc, sources, texts),
+        [_, _, ..] => merge_all(alloc, sources, texts),
     }
 }
 

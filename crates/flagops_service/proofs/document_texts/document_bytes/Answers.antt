@@ -1,9 +1,12 @@
-use Rattle.std.proofs.Common.{◌≡◌, ◌∙◌, ℕ, List, [], ◌∷◌, Ok, Vec, Global, ap, arith, length, subst, sym}
+use Rattle.std.proofs.Common.{◌≡◌, ◌≢◌, ◌∙◌, ℕ, List, [], ◌∷◌, Result, Ok, Vec, Global, ap, arith, length, subst, sym}
 use Rattle.std.specs.Prelude.{IfOk}
+use Rattle.std.specs.declared.alloc.AllocError.{AllocError}
 use Rattle.std.proofs.lemmas.List.{length-map}
 use Rattle.std.proofs.lemmas.Result.{IfOk-weaker}
 use Rattle.flag_defs.specs.Flags.{flags_view}
 use Rattle.flag_defs.specs.Floats.{MeansFlags, MeansWithFloats, floats_view}
+use Rattle.flag_defs.specs.Spelled.{printed_with_floats}
+use Rattle.flag_defs.specs.declared.flags.Flags.{Flags}
 use Rattle.flagops_streams.specs.Documents.{texts_of}
 use Rattle.flagops_service.specs.Shown.{document_text}
 use Rattle.flagops_service.proofs.Alone.{only_item}
@@ -30,14 +33,28 @@ returns-in-len1-clause-means c =
     (λ v equal. subst (λ (bytes : List ℕ). MeansWithFloats bytes (Ok (flags_view c.args.flags.now))) (sym (equal (λ x y same. same) ∙ c.as_slice.ensures.value)) means) c.to_vec.ensures.items_if_clones_equal
 
 -- the flags of others are printed
-pub returns-in_default-clause-bytes : goal.returns-in_default-clause-bytes
-returns-in_default-clause-bytes c =
-    let texts = c.args.texts.now in
-    let flags = c.args.flags.now in
-    let others = text_of_others (texts_of texts) flags ?many in
-    IfOk-weaker c.print_flags_with_floats.result _ (λ (v : Vec ℕ Global). v.items ≡ document_text (texts_of texts) flags) (λ v is. is ∙ sym others) c.print_flags_with_floats.ensures.text
+printed : (texts : List (Vec ℕ Global)) (flags : Flags) (r : Result (Vec ℕ Global) AllocError) → length texts ≢ 1 → IfOk r (λ v. v.items ≡ printed_with_floats (flags_view flags) (floats_view flags))
+    → IfOk r (λ v. v.items ≡ document_text (texts_of texts) flags)
+printed texts flags r other is =
+    let others = text_of_others (texts_of texts) flags (λ one. other (sym (length-map texts (λ (v : Vec ℕ Global). v.items)) ∙ one)) in
+    IfOk-weaker r _ (λ (v : Vec ℕ Global). v.items ≡ document_text (texts_of texts) flags) (λ v same. same ∙ sym others) is
 
-pub returns-in_default-clause-means : goal.returns-in_default-clause-means
-returns-in_default-clause-means c =
-    let flags = c.args.flags.now in
-    IfOk-weaker c.print_flags_with_floats.result _ (λ (v : Vec ℕ Global). MeansWithFloats v.items (Ok (flags_view flags))) (λ v (reads : MeansFlags v.items (flags_view flags) (floats_view flags)). reads.0) c.print_flags_with_floats.ensures.reads_back
+printed_means : (flags : Flags) (r : Result (Vec ℕ Global) AllocError) → IfOk r (λ v. MeansFlags v.items (flags_view flags) (floats_view flags)) → IfOk r (λ v. MeansWithFloats v.items (Ok (flags_view flags)))
+printed_means flags r reads =
+    IfOk-weaker r _ (λ (v : Vec ℕ Global). MeansWithFloats v.items (Ok (flags_view flags))) (λ v (back : MeansFlags v.items (flags_view flags) (floats_view flags)). back.0) reads
+
+pub returns-in-empty-clause-bytes : goal.returns-in-empty-clause-bytes
+returns-in-empty-clause-bytes c =
+    let texts = c.args.texts.now in
+    printed texts c.args.flags.now c.print_flags_with_floats.result (λ one. omega (arith, one, c.in-empty.len_below)) c.print_flags_with_floats.ensures.text
+
+pub returns-in-empty-clause-means : goal.returns-in-empty-clause-means
+returns-in-empty-clause-means c = printed_means c.args.flags.now c.print_flags_with_floats.result c.print_flags_with_floats.ensures.reads_back
+
+pub returns-in-len2-up-clause-bytes : goal.returns-in-len2-up-clause-bytes
+returns-in-len2-up-clause-bytes c =
+    let texts = c.args.texts.now in
+    printed texts c.args.flags.now c.print_flags_with_floats-in-len2-up.result (λ one. omega (arith, one, c.in-len2-up.len_at_least)) c.print_flags_with_floats-in-len2-up.ensures.text
+
+pub returns-in-len2-up-clause-means : goal.returns-in-len2-up-clause-means
+returns-in-len2-up-clause-means c = printed_means c.args.flags.now c.print_flags_with_floats-in-len2-up.result c.print_flags_with_floats-in-len2-up.ensures.reads_back

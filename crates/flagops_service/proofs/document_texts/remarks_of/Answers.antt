@@ -1,4 +1,4 @@
-use Rattle.std.proofs.Common.{◌≡◌, ◌+◌, ◌++◌, ◌∙◌, ℕ, List, ◌∷◌, Vec, Global, ap, arith, drop, string_bytes, subst, sym}
+use Rattle.std.proofs.Common.{◌≡◌, ◌+◌, ◌++◌, ◌∙◌, ℕ, List, ◌∷◌, Vec, Global, ap, arith, drop, string_bytes, true, subst, sym}
 use Rattle.std.proofs.lemmas.List.{drop_all}
 use Rattle.file_diagnostics.specs.Broken.{TellsBroken}
 use Rattle.flagops_streams.specs.Documents.{texts_of}

@@ -1,4 +1,4 @@
-use Rattle.std.proofs.Common.{◌≡◌, ◌++◌, List, ℕ, drop, string_bytes}
+use Rattle.std.proofs.Common.{◌++◌, List, ℕ, drop, string_bytes}
 use Rattle.flagops_streams.specs.Documents.{texts_of}
 use Rattle.flagops_service.specs.Shown.{AreRemarks}
 use Rattle.flagops_service.proofs.document_texts.remarks_of.Given as goal

@@ -1,4 +1,4 @@
-use Rattle.std.proofs.Common.{◌≡◌, ◌∙◌, ℕ, List, Bool, true, false, Vec, Global, ap, is_some, not, string_bytes, subst, sym}
+use Rattle.std.proofs.Common.{◌∙◌, ℕ, List, true, false, Vec, Global, ap, is_some, not, string_bytes, subst, sym}
 use Rattle.flagops_streams.specs.Documents.{texts_of}
 use Rattle.flagops_service.specs.Shown.{IsKnownOf}
 use Rattle.flagops_service.proofs.Alone.{means_merged}

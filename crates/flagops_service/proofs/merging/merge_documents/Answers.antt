@@ -32,5 +32,5 @@ returns-in-len1-clause-read c =
     subst (λ (ts : List (Vec ℕ Global)). IfOk r (λ _. AreRead (texts_of ts) new)) (sym alone) (one_read old new text.items r (c.requires.alone text.items (ap texts_of alone)) merges)
 
 -- there are several
-pub returns-in_default-clause-read : goal.returns-in_default-clause-read
-returns-in_default-clause-read c = several_read c.args.texts.now (sources_view c.merge_all.new.sources) c.merge_all.result ?many
+pub returns-in-len2-up-clause-read : goal.returns-in-len2-up-clause-read
+returns-in-len2-up-clause-read c = several_read c.args.texts.now (sources_view c.merge_all.new.sources) c.merge_all.result c.in-len2-up.len_at_least

@@ -1,4 +1,4 @@
-use Rattle.std.proofs.Common.{◌∙◌, ℕ, Bor, List, [], ◌∷◌, ◌++◌, Option, ap, inl, is_some, map, subst, sym}
+use Rattle.std.proofs.Common.{◌∙◌, ℕ, Bor, List, [], ◌∷◌, ◌++◌, Option, ap, inl, is_some, map, refl, subst, sym}
 use Rattle.control_desk.specs.Sources.{Source}
 use Rattle.flag_defs.specs.declared.flags.Flags.{Flags}
 use Rattle.source_merge.specs.View.{sources_view}
@@ -9,6 +9,10 @@ use Rattle.flagops_service.proofs.Alone.{reads_alone}
 use Rattle.flagops_service.proofs.Reread.{one_turn, reads_as}
 use Rattle.flagops_service.proofs.watching.watch.Goals.{then-waits, else-waits}
 use Rattle.flagops_service.proofs.watching.watch.Goals as goal
+
+-- no turn was made yet
+pub loop-turn-init : goal.loop-turn-init
+loop-turn-init g c = (([], refl), refl, refl, refl, c.requires.read)
 
 -- one turn more
 pub loop-turn-preserved : goal.loop-turn-preserved
