@@ -1,9 +1,8 @@
-use Rattle.std.proofs.Common.{◌≡◌, Ok, Err, length}
+use Rattle.std.proofs.Common.{Err}
 use Rattle.flagops_streams.specs.Documents.{Answer, texts_of}
 use Rattle.flagops_streams.specs.Loading.{documents_view}
 use Rattle.flagops_service.specs.Starting.{numbered}
 use Rattle.flagops_service.specs.Words.{answering_view, seats_of}
-use Rattle.flagops_service.proofs.Numbered.{numbered_texts}
 use Rattle.flagops_service.proofs.Started.{not_started, started_as}
 use Rattle.flagops_service.proofs.command.answer_documents.Goals as goal
 
