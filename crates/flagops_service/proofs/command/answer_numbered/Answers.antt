@@ -39,4 +39,4 @@ merge_documents-requires-clause-alone g c = λ text alone.
 
 -- what was merged has the sources of these texts
 pub answer_merged-requires-clause-read : goal.answer_merged-requires-clause-read
-answer_merged-requires-clause-read g c = subst (λ (ts : List (Vec ℕ Global)). AreRead (texts_of ts) (sources_view c.merge_documents.new.sources)) c.as_slice.ensures.value c.in-Ok.ensures.read
+answer_merged-requires-clause-read g c κs within = subst (λ (ts : List (Vec ℕ Global)). AreRead (texts_of ts) (sources_view c.merge_documents.new.sources)) c.as_slice.ensures.value c.in-Ok.ensures.read

@@ -30,7 +30,7 @@ show_texts-shown-requires g c =
 
 -- these flags are published, and desks are shown what is known of them
 pub attend-was_stopped-requires-clause-published : goal.attend-was_stopped-requires-clause-published
-attend-was_stopped-requires-clause-published g c =
+attend-was_stopped-requires-clause-published g c κs within =
     let begun = c.requires.begun in
     let published = c.tell.new.self in
     let told : c.tell.result ≡ published = c.tell.ensures.told ∙ sym c.tell.ensures.stays in
