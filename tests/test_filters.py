@@ -253,7 +253,7 @@ class FiltersTest(ProgramTest):
         document = compact({"flags": {key: {**flag, "variants": {"red": 1}, "defaultVariant": "red"} for key, flag in flags.items()}})
         no_key, unreached = "{}", '{"targetingKey":"a"}'
         keyless_at_site, number_as_key = '{"age":6}', '{"targetingKey":1,"age":6}'
-        fault, long = '{"targetingKey":"a","age":5.5}', compact({"targetingKey": "k" * 1025, "age": 6})
+        fault, long = '{"targetingKey":"a","age":[5.5]}', compact({"targetingKey": "k" * 1025, "age": 6})
         one_long = "record: 1 inputs have more than 1024 bytes and are not noted\n"
         causes = ["3 without a targetingKey", "1 with no fractional reached", "1 with PARSE_ERROR", "1 with inputs of more than 1024 bytes"]
         for key, lines, told in [
