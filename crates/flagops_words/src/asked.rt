@@ -1,6 +1,6 @@
 use crate::numbers::{Factor, Moment};
 use crate::shell::Shell;
-use flag_resolve::Kind;
+use flag_defs::Kind;
 
 /// A command with its words.
 #[derive(Debug, Drop)]

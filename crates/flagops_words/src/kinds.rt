@@ -2,7 +2,7 @@
 ghost use Rattle.std.specs.Prelude.{◌≡◌};
 ghost use Rattle.flagops_words.specs.Kinds.{kind_spelled};
 
-use flag_resolve::Kind;
+use flag_defs::Kind;
 
 /// The kind of value that a word asks for: flagd's `boolean`, `string` and `integer` beside the words of asks.
 pub fn kind_spelled(word: &str) -> Option<Kind>
