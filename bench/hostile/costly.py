@@ -58,7 +58,7 @@ class Asked(NamedTuple):
         with Service(path, folder) as service:
             service.forget_most()
             before = service.seconds()
-            status, printed = service.ask(self.files["body"], self.path)
+            status, printed = service.ask(self.files["body"], self.path, 600)
             spent = service.seconds() - before if status else 0
             return (0, str(status), printed, spent, service.megabytes("VmHWM")) if status else (-1, "", 0, 0, 0)
 
@@ -342,7 +342,8 @@ def found_before():
 
 
 def at_a_service():
-    """Those of `found_before` that a service answers, and a key that many flags split by."""
+    """Those of `found_before` that a service answers, and what is dear still: texts made of a bucket's name, a split that is walked, and a
+    key that many flags split by."""
     compact = lambda value: json.dumps(value, separators=(",", ":"))
     asked = lambda name, targeting, context, status: Asked(name, {"doc": document({"a": flag(targeting)}), "body": compact({"context": context})}, status)
     mapped = lambda each: {"if": [{"in": ["z", {"map": [{"var": "xs"}, each]}]}, "on", "off"]}
@@ -353,6 +354,11 @@ def at_a_service():
     yield asked("ofrep: 49,000 paths into an object of 300,000 members", {"if": [{"in": [0, {"missing": {"var": "names"}}]}, "on", "off"]}, sought, "200")
     yield asked("ofrep: 16,000 buckets at 24,000 elements", mapped(split(16_000)), {"xs": [0] * 24_000, "targetingKey": "k"}, "")
     yield asked("ofrep: 160 buckets at 24,000 elements", mapped(split(160)), {"xs": [0] * 24_000, "targetingKey": "k"}, "200")
+    named = {"fractional": [["n" * 60_000, 1]]}
+    yield asked("ofrep: cat of a bucket's name of 60 KB at 24,000 elements", mapped({"cat": [named]}), {"xs": [0] * 24_000, "targetingKey": "k"}, "200")
+    yield asked("ofrep: substr of a bucket's name of 60 KB at 12,000 elements", mapped({"substr": [named, 0]}), {"xs": [0] * 12_000, "targetingKey": "k"}, "200")
+    walked = {"fractional": ["k", ["on", {"var": ""}], *split(9_000)["fractional"]]}
+    yield asked("ofrep: 9,000 buckets at 12,000 elements, one with a computed weight", mapped(walked), {"xs": [1] * 12_000}, "200")
     many = {"doc": document({f"f{n}": flag(by_default) for n in range(10_000)}), "body": compact({"context": long})}
     yield Asked("ofrep: every one of 10,000 flags that split by a key of 65 KB", many, "200", "/ofrep/v1/evaluate/flags")
 

@@ -74,9 +74,9 @@ class Service(Measured):
         self.child = subprocess.Popen([PROGRAM, *words], stdout=subprocess.PIPE, stderr=subprocess.DEVNULL, text=True)
         assert select.select([self.child.stdout], [], [], 60)[0] and self.child.stdout.readline() == "serving 1\n"
 
-    def ask(self, body, path="/ofrep/v1/evaluate/flags/a"):
-        """The status of the answer, for one flag or by another path for every flag, and its bytes; 0 where there is none within a minute."""
-        client = http.client.HTTPConnection("127.0.0.1", self.port, timeout=60)
+    def ask(self, body, path="/ofrep/v1/evaluate/flags/a", seconds=60):
+        """The status of the answer, for one flag or by another path for every flag, and its bytes; 0 where there is none within so long."""
+        client = http.client.HTTPConnection("127.0.0.1", self.port, timeout=seconds)
         try:
             client.request("POST", path, body, {"Content-Type": "application/json"})
             answer = client.getresponse()
