@@ -357,6 +357,9 @@ def at_a_service():
     named = {"fractional": [["n" * 60_000, 1]]}
     yield asked("ofrep: cat of a bucket's name of 60 KB at 24,000 elements", mapped({"cat": [named]}), {"xs": [0] * 24_000, "targetingKey": "k"}, "200")
     yield asked("ofrep: substr of a bucket's name of 60 KB at 12,000 elements", mapped({"substr": [named, 0]}), {"xs": [0] * 12_000, "targetingKey": "k"}, "200")
+    yield asked("ofrep: a split by a bucket's name of 60 KB at 24,000 elements", mapped({"fractional": [named, ["on", 1]]}), {"xs": [0] * 24_000, "targetingKey": "k"}, "200")
+    version = {"fractional": [["1.0.0-" + "a" * 29_000, 1]]}
+    yield asked("ofrep: sem_ver of a bucket's name of 29 KB at 24,000 elements", mapped({"sem_ver": [version, ">", "1.0.0"]}), {"xs": [0] * 24_000, "targetingKey": "k"}, "400")
     walked = {"fractional": ["k", ["on", {"var": ""}], *split(9_000)["fractional"]]}
     yield asked("ofrep: 9,000 buckets at 12,000 elements, one with a computed weight", mapped(walked), {"xs": [1] * 12_000}, "200")
     many = {"doc": document({f"f{n}": flag(by_default) for n in range(10_000)}), "body": compact({"context": long})}
