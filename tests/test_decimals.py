@@ -139,7 +139,7 @@ def is_true(value):
 
 
 def of(rule, context, is_tested=False):
-    """The value of a rule; where it is compared or tested, `var` may give another number."""
+    """The value of a rule; where it is compared or tested, `var` may give another number, and so may `and` and `or`."""
     if isinstance(rule, list):
         return [of(it, context) for it in rule]
     if not isinstance(rule, dict):
@@ -167,10 +167,10 @@ def of(rule, context, is_tested=False):
         return of(given[0], context) if given else None
     if name in ("and", "or"):
         for it in given[:-1]:
-            value = of(it, context, name == "and")
+            value = of(it, context, is_tested or name == "and")
             if is_true(value) == (name == "or"):
                 return value
-        return of(given[-1], context)
+        return of(given[-1], context, is_tested)
     assert name == "+"
     values = [order_number(it) if not isinstance(it, bool) else None for it in (of(it, context) for it in given)]
     total = 0
@@ -245,9 +245,17 @@ ROWS = [
     ({"!": {"var": "cart"}}, "no"),
     ({"and": [{"var": "cart"}, {"<": [{"var": "cart"}, 60]}]}, "yes"),
     ({"==": [{"var": "whole"}, 5]}, "yes"),
+    ({"or": [{"var": "cart"}, False]}, "yes"),
+    ({"or": [{"var": "none"}, {"var": "cart"}]}, "yes"),
+    ({"and": [True, {"var": "cart"}]}, "yes"),
+    ({"!": {"and": [{"var": "cart"}, {"or": [False, {"var": "old"}]}]}}, "no"),
+    ({">=": [{"or": [{"var": "none"}, {"var": "cart"}]}, 52]}, "yes"),
+    ({"===": [{"or": [{"var": "cart"}, 1]}, {"and": [True, {"var": "old"}]}]}, "yes"),
     # It is the value of the operation, added to, in a list, or the path leads on: a fault, but for what is not there.
-    ({"or": [{"var": "cart"}, False]}, None),
-    ({"and": [True, {"var": "cart"}]}, None),
+    ({"<": [{"+": [{"or": [{"var": "cart"}, False]}, 1]}, 60]}, None),
+    ({"==": [{"if": [True, {"or": [{"var": "cart"}, 1]}]}, 5]}, None),
+    ({"in": [{"and": [True, {"var": "cart"}]}, [52, 53]]}, None),
+    ({"or": [{"var": "list"}, True]}, None),
     ({"<": [{"+": [{"var": "cart"}, 1]}, 60]}, None),
     ({"==": [{"if": [True, {"var": "cart"}]}, 5]}, None),
     ({"==": [{"var": ["none", {"var": "cart"}]}, 5]}, None),
@@ -306,7 +314,7 @@ class Served(ServiceTest):
         rows = [
             ({"<": [{"+": [{"var": "cart"}, 1]}, 60]}, "cart", "52.1"),
             ({"<": [{"+": [{"var": "list.0"}, 1]}, 60]}, "list.0", "0.5"),
-            ({"or": [{"var": ["old", 1]}, False]}, "old", "52.10"),
+            ({"<": [{"+": [{"or": [{"var": ["old", 1]}, False]}, 1]}, 60]}, "old", "52.10"),
             ({"==": [{"var": "far"}, 1]}, "far", "1e401"),
             ({"and": [{"<": [{"var": "cart"}, 60]}, {"<": [{"+": [{"var": "id"}, 1]}, 60]}]}, "id", "12345678901234567890"),
             ({"==": [{"fractional": [{"var": "cart"}, ["yes", 1]]}, "yes"]}, "cart", "52.1"),
