@@ -309,22 +309,30 @@ class Served(ServiceTest):
         self.assertGreater(faults, 0)
 
     def test_details(self):
-        """An answer names the first number that the targeting reads in another way, by its path and as it is spelled."""
+        """An answer names the first number that the targeting reads in another way, by the way to it and as it is spelled."""
         other = "the flag's definition breaks a rule, or its targeting can't be evaluated"
         rows = [
             ({"<": [{"+": [{"var": "cart"}, 1]}, 60]}, "cart", "52.1"),
             ({"<": [{"+": [{"var": "list.0"}, 1]}, 60]}, "list.0", "0.5"),
-            ({"<": [{"+": [{"or": [{"var": ["old", 1]}, False]}, 1]}, 60]}, "old", "52.10"),
+            ({"==": [{"+": [{"or": [{"var": ["old", 1]}, False]}, 1]}, 60]}, "old", "52.10"),
+            ({"or": [{"var": "far"}, False]}, "far", "1e401"),
             ({"==": [{"var": "far"}, 1]}, "far", "1e401"),
             ({"and": [{"<": [{"var": "cart"}, 60]}, {"<": [{"+": [{"var": "id"}, 1]}, 60]}]}, "id", "12345678901234567890"),
             ({"==": [{"fractional": [{"var": "cart"}, ["yes", 1]]}, "yes"]}, "cart", "52.1"),
-            ({"==": [{"var": "list"}, 1]}, None, None),
+            # In what a variable gives: items from the first on, members in the order of their names.
+            ({"==": [{"var": "list"}, 1]}, "list.0", "0.5"),
+            ({"and": [True, {"in": [2, {"var": "lines"}]}]}, "lines.2.price.net", "2.50"),
+            ({"!": {"var": "lines.2"}}, "lines.2.price.net", "2.50"),
+            ({"if": [{"var": ["none", {"var": "lines.2.price"}]}, 1]}, "lines.2.price.net", "2.50"),
+            ({"!!": {"var": ""}}, "cart", "52.1"),
             ({"+": ["a", {"var": "whole"}]}, None, None),
+            ({"+": ["a", {"var": "lines.1"}]}, None, None),
         ]
+        context = CONTEXT[:-1] + ',"lines":[1,{"a":2},{"price":{"tax":[3.5],"net":2.50,"gross":3},"title":"t"},4.5]}'
         document = {"flags": {f"f{n}": flag_of(condition) for n, (condition, _, _) in enumerate(rows)}}
         self.put("d", json.dumps(document))
         self.start("--workers", "1", "--poll", "0", "--broken", "serve")
-        body = f'{{"context":{CONTEXT}}}'.encode()
+        body = f'{{"context":{context}}}'.encode()
         every = {it["key"]: it for it in json.loads(self.ask("POST", FLAGS, body)[2])["flags"]}
         for n, (condition, path, spelling) in enumerate(rows):
             with self.subTest(json.dumps(condition)):

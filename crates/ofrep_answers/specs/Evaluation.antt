@@ -56,7 +56,7 @@ read_by_flag flags key context r = read_unless_told r.variant r.code context (op
 
 -- what is said of it
 unfoldable pub read_details : Reading → List ℕ
-read_details r = codes "the targeting reads `" ++ (r.path ++ (codes "`, which is " ++ (unwrap_or (text_if r.spelling) [] ++ codes ": a number that is not whole can be compared and tested, and not used otherwise")))
+read_details r = codes "the targeting reads `" ++ (r.way ++ (codes "`, which is " ++ (unwrap_or (text_if r.spelling) [] ++ codes ": a number that is not whole can be compared and tested, and not used otherwise")))
 
 abbrev pub read_failure : List ℕ → Reading → Shape
 read_failure key r = failure (Some key) ParseError (read_details r)
