@@ -176,5 +176,9 @@ fn unless_compared<'a>(path: &'a str, tested: bool, value: &'a Tree) -> Option<D
         return None;
     }
     let spelling = first_spelling(value)?;
-    Some(DecimalRead { path, value, spelling })
+    Some(DecimalRead {
+        path,
+        value,
+        spelling,
+    })
 }

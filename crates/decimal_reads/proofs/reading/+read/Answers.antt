@@ -1,4 +1,4 @@
-use Rattle.std.proofs.Common.{◌≡◌, Option, None, option_map, sym, ap, ◌∙◌}
+use Rattle.std.proofs.Common.{◌≡◌, Option, None, false, option_map, sym, ap, ◌∙◌}
 use Rattle.flag_text.specs.View.{view}
 use Rattle.logic_ast.specs.View.{boxed_view, buckets_view, node_view, nodes_view}
 use Rattle.logic_ast.proofs.Views.{node_view-fractional}

@@ -6,7 +6,7 @@ use Rattle.decimal_reads.proofs.way.+way.Given as goal
 abbrev pub invariant-push_inside_items-loop-place : goal.invariant-push_inside_items-loop-place
 invariant-push_inside_items-loop-place l = record {
   way : string_bytes l.way ≡ string_bytes l.initial.way;
-  rest : inside_items l.fn.separator (items_view l.items.items) 0 ≡ inside_items l.fn.separator (items_view (drop l.place-counter l.items.items)) l.place-counter;
+  rest : inside_items l.fn.separator (items_view l.items.items) 0 ≡ inside_items l.fn.separator (items_view (drop l.place l.items.items)) l.place;
 }
 
 abbrev pub invariant-push_inside_members-loop-name : goal.invariant-push_inside_members-loop-name
