@@ -240,8 +240,8 @@ mutual
   b-operand_meaning default (literal t) k = k
   b-operand_meaning default (ast.list es) k = k
   b-operand_meaning default (operation op.Var es) k = b-operand (meanings default es) (b-meanings default es)
-  b-operand_meaning default (operation op.And es) k scope = b-cost 1 _ (b-first_of_truth false (operands default es) (b-operands default es) scope)
-  b-operand_meaning default (operation op.Or es) k scope = b-cost 1 _ (b-first_of_truth true (operands default es) (b-operands default es) scope)
+  b-operand_meaning default (operation op.And es) k = λ scope. b-cost 1 _ (b-first_of_truth false (operands default es) (b-operands default es) scope)
+  b-operand_meaning default (operation op.Or es) k = λ scope. b-cost 1 _ (b-first_of_truth true (operands default es) (b-operands default es) scope)
   b-operand_meaning default (operation o es) k = k
   b-operand_meaning default (fractional n b bs) k = k
 

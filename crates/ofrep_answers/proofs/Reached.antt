@@ -24,15 +24,17 @@ added old e key all [] m h f g = cc
 added old e key all (site ∷ sites) m h f g =
     map-append reached_view old (e ∷ []) ∙ (ap₂ (λ k ys. map reached_view old ++ (k, map reach_view ys) ∷ []) f g ∙ ap (λ rs. map reached_view old ++ under_key key rs) m)
 
--- what is left of the sites by a test of one after the other
+-- of the sites that are left, what they show
+left_view : (xs : List Reached) → map reach_view (filter (λ x. is_noted (reach_view x)) xs) ≡ filter is_noted (map reach_view xs)
+left_view [] = refl
+left_view (x ∷ xs) = go (is_noted (reach_view x)) (left_view xs)
+  where
+    go : (b : Bool) → map reach_view (filter (λ y. is_noted (reach_view y)) xs) ≡ filter is_noted (map reach_view xs)
+        → map reach_view (cond b (x ∷ filter (λ y. is_noted (reach_view y)) xs) (filter (λ y. is_noted (reach_view y)) xs)) ≡ cond b (reach_view x ∷ filter is_noted (map reach_view xs)) (filter is_noted (map reach_view xs))
+    go true h = ap (λ rs. reach_view x ∷ rs) h
+    go false h = h
+
+-- what is left of them by a test of one after the other
 pub left : {F : Type 0} (R : F → Reached → Bool → F → Type 0) (f : F) (h : (x : Reached) (b : Bool) (f' : F) → R f x b f' → (b ≡ is_noted (reach_view x)) × (f' ≡ f)) → (xs ys : List Reached) → IsFiltered R f xs ys
     → map reach_view ys ≡ filter is_noted (map reach_view xs)
-left R f h xs ys r = ap (map reach_view) (filter_same R (λ x. is_noted (reach_view x)) f h xs ys r) ∙ mapped xs
-  where
-    mapped : (xs : List Reached) → map reach_view (filter (λ x. is_noted (reach_view x)) xs) ≡ filter is_noted (map reach_view xs)
-    mapped [] = refl
-    mapped (x ∷ xs) = go (is_noted (reach_view x))
-      where
-        go : (b : Bool) → map reach_view (cond b (x ∷ filter (λ y. is_noted (reach_view y)) xs) (filter (λ y. is_noted (reach_view y)) xs)) ≡ cond b (reach_view x ∷ filter is_noted (map reach_view xs)) (filter is_noted (map reach_view xs))
-        go true = ap (λ rs. reach_view x ∷ rs) (mapped xs)
-        go false = mapped xs
+left R f h xs ys r = ap (map reach_view) (filter_same R (λ x. is_noted (reach_view x)) f h xs ys r) ∙ left_view xs
