@@ -139,7 +139,7 @@ def is_true(value):
 
 
 def of(rule, context, is_tested=False):
-    """The value of a rule; where it is compared or tested, `var` may give another number."""
+    """The value of a rule; where it is compared or tested, `var` may give another number, and so may `and` and `or`."""
     if isinstance(rule, list):
         return [of(it, context) for it in rule]
     if not isinstance(rule, dict):
@@ -167,10 +167,10 @@ def of(rule, context, is_tested=False):
         return of(given[0], context) if given else None
     if name in ("and", "or"):
         for it in given[:-1]:
-            value = of(it, context, name == "and")
+            value = of(it, context, is_tested or name == "and")
             if is_true(value) == (name == "or"):
                 return value
-        return of(given[-1], context)
+        return of(given[-1], context, is_tested)
     assert name == "+"
     values = [order_number(it) if not isinstance(it, bool) else None for it in (of(it, context) for it in given)]
     total = 0
@@ -245,9 +245,17 @@ ROWS = [
     ({"!": {"var": "cart"}}, "no"),
     ({"and": [{"var": "cart"}, {"<": [{"var": "cart"}, 60]}]}, "yes"),
     ({"==": [{"var": "whole"}, 5]}, "yes"),
+    ({"or": [{"var": "cart"}, False]}, "yes"),
+    ({"or": [{"var": "none"}, {"var": "cart"}]}, "yes"),
+    ({"and": [True, {"var": "cart"}]}, "yes"),
+    ({"!": {"and": [{"var": "cart"}, {"or": [False, {"var": "old"}]}]}}, "no"),
+    ({">=": [{"or": [{"var": "none"}, {"var": "cart"}]}, 52]}, "yes"),
+    ({"===": [{"or": [{"var": "cart"}, 1]}, {"and": [True, {"var": "old"}]}]}, "yes"),
     # It is the value of the operation, added to, in a list, or the path leads on: a fault, but for what is not there.
-    ({"or": [{"var": "cart"}, False]}, None),
-    ({"and": [True, {"var": "cart"}]}, None),
+    ({"<": [{"+": [{"or": [{"var": "cart"}, False]}, 1]}, 60]}, None),
+    ({"==": [{"if": [True, {"or": [{"var": "cart"}, 1]}]}, 5]}, None),
+    ({"in": [{"and": [True, {"var": "cart"}]}, [52, 53]]}, None),
+    ({"or": [{"var": "list"}, True]}, None),
     ({"<": [{"+": [{"var": "cart"}, 1]}, 60]}, None),
     ({"==": [{"if": [True, {"var": "cart"}]}, 5]}, None),
     ({"==": [{"var": ["none", {"var": "cart"}]}, 5]}, None),
@@ -301,22 +309,30 @@ class Served(ServiceTest):
         self.assertGreater(faults, 0)
 
     def test_details(self):
-        """An answer names the first number that the targeting reads in another way, by its path and as it is spelled."""
+        """An answer names the first number that the targeting reads in another way, by the way to it and as it is spelled."""
         other = "the flag's definition breaks a rule, or its targeting can't be evaluated"
         rows = [
             ({"<": [{"+": [{"var": "cart"}, 1]}, 60]}, "cart", "52.1"),
             ({"<": [{"+": [{"var": "list.0"}, 1]}, 60]}, "list.0", "0.5"),
-            ({"or": [{"var": ["old", 1]}, False]}, "old", "52.10"),
+            ({"==": [{"+": [{"or": [{"var": ["old", 1]}, False]}, 1]}, 60]}, "old", "52.10"),
+            ({"or": [{"var": "far"}, False]}, "far", "1e401"),
             ({"==": [{"var": "far"}, 1]}, "far", "1e401"),
             ({"and": [{"<": [{"var": "cart"}, 60]}, {"<": [{"+": [{"var": "id"}, 1]}, 60]}]}, "id", "12345678901234567890"),
             ({"==": [{"fractional": [{"var": "cart"}, ["yes", 1]]}, "yes"]}, "cart", "52.1"),
-            ({"==": [{"var": "list"}, 1]}, None, None),
+            # In what a variable gives: items from the first on, members in the order of their names.
+            ({"==": [{"var": "list"}, 1]}, "list.0", "0.5"),
+            ({"and": [True, {"in": [2, {"var": "lines"}]}]}, "lines.2.price.net", "2.50"),
+            ({"!": {"var": "lines.2"}}, "lines.2.price.net", "2.50"),
+            ({"if": [{"var": ["none", {"var": "lines.2.price"}]}, 1]}, "lines.2.price.net", "2.50"),
+            ({"!!": {"var": ""}}, "cart", "52.1"),
             ({"+": ["a", {"var": "whole"}]}, None, None),
+            ({"+": ["a", {"var": "lines.1"}]}, None, None),
         ]
+        context = CONTEXT[:-1] + ',"lines":[1,{"a":2},{"price":{"tax":[3.5],"net":2.50,"gross":3},"title":"t"},4.5]}'
         document = {"flags": {f"f{n}": flag_of(condition) for n, (condition, _, _) in enumerate(rows)}}
         self.put("d", json.dumps(document))
         self.start("--workers", "1", "--poll", "0", "--broken", "serve")
-        body = f'{{"context":{CONTEXT}}}'.encode()
+        body = f'{{"context":{context}}}'.encode()
         every = {it["key"]: it for it in json.loads(self.ask("POST", FLAGS, body)[2])["flags"]}
         for n, (condition, path, spelling) in enumerate(rows):
             with self.subTest(json.dumps(condition)):

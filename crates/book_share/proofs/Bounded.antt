@@ -21,7 +21,7 @@ use Rattle.logic_values.specs.Comparison.{bool_eq}
 use Rattle.logic_eval.specs.Evaluation.{evaluation_of, part_of, pair, pairs, input, meaning, meanings, operands, operand_meaning, by_meaning, bucket_meaning, bucket_meanings}
 use Rattle.logic_eval.specs.Fractional.{buckets_of, chosen, by_input, by_buckets, given_input, made_input}
 use Rattle.logic_values.specs.Lists.{items_in}
-use Rattle.logic_eval.specs.Operators.{Meaning, values, variable_run, strict, conditional, first_of_truth, mapped, kept, occurs, is_empty, all_of, reduced, over_items, over, start, over_from_start, operand, compares, with_tests, with_early_tests, asked, operated, applied_exactly}
+use Rattle.logic_eval.specs.Operators.{Meaning, values, variable_run, strict, conditional, first_of_truth, mapped, kept, occurs, is_empty, all_of, reduced, over_items, over, start, over_from_start, found_decimal, compares, with_tests, with_early_tests, asked, operated, applied_exactly}
 use Rattle.logic_values.specs.Objects.{reduce_scope}
 use Rattle.logic_eval.specs.Run.{Reach, Run, cost, reach, ends, gives, after, continues, ◌>>=◌, units_of, reached_of, most_units, with_reached}
 use Rattle.logic_eval.specs.Scope.{Situation, root_scope, default_input, size, variable}
@@ -101,8 +101,8 @@ b-strict : (o : Operator) (ms : List Meaning) → AllFit ms → Fits (strict o m
 b-strict o ms ks scope = b-bind 0 _ _ (b-values ms scope ks) (λ vs. b-ends 0 (applied_exactly o scope vs))
 
 -- a `var` that is compared or tested
-b-operand : (ms : List Meaning) (m : Meaning) → AllFit ms → Fits (operand true ms m)
-b-operand ms m ks scope = b-cost 1 _ (b-bind 0 _ _ (b-values ms scope ks) (λ vs. b-bind 0 _ _ (b-cost (size (variable scope vs)) _ (b-ends 0 _)) (λ v. b-ends 0 _)))
+b-operand : (ms : List Meaning) → AllFit ms → Fits (λ scope. after (cost 1) (values ms scope >>= λ vs. found_decimal (variable scope vs)))
+b-operand ms ks scope = b-cost 1 _ (b-bind 0 _ _ (b-values ms scope ks) (λ vs. b-bind 0 _ _ (b-cost (size (variable scope vs)) _ (b-ends 0 _)) (λ v. b-ends 0 _)))
 
 b-conditional : (ms : List Meaning) → AllFit ms → Fits (conditional ms)
 b-conditional [] ks scope = b-ends 0 _
@@ -239,7 +239,9 @@ mutual
   b-operand_meaning : (default : Option (List ℕ)) (e : Expression) → Fits (meaning default e) → Fits (operand_meaning default e)
   b-operand_meaning default (literal t) k = k
   b-operand_meaning default (ast.list es) k = k
-  b-operand_meaning default (operation op.Var es) k = b-operand (meanings default es) (meaning default (operation op.Var es)) (b-meanings default es)
+  b-operand_meaning default (operation op.Var es) k = b-operand (meanings default es) (b-meanings default es)
+  b-operand_meaning default (operation op.And es) k = λ scope. b-cost 1 _ (b-first_of_truth false (operands default es) (b-operands default es) scope)
+  b-operand_meaning default (operation op.Or es) k = λ scope. b-cost 1 _ (b-first_of_truth true (operands default es) (b-operands default es) scope)
   b-operand_meaning default (operation o es) k = k
   b-operand_meaning default (fractional n b bs) k = k
 

@@ -212,6 +212,8 @@ module _ (d : Option (List ℕ)) where
     operand_told (literal t) scope h = h
     operand_told (list es) scope h = h
     operand_told (operation op.Var es) scope h = gives_computed _
+    operand_told (operation op.And es) scope h = runs-cost Anything (IsAmong (arguments false es)) 1 _ (operands_told false es scope)
+    operand_told (operation op.Or es) scope h = runs-cost Anything (IsAmong (arguments true es)) 1 _ (operands_told true es scope)
     operand_told (operation o es) scope h = h
     operand_told (fractional n b bs) scope h = h
 
@@ -220,6 +222,18 @@ module _ (d : Option (List ℕ)) where
     operand_truth_told (list es) scope = truth_told d (list es) scope
     operand_truth_told (operation o es) scope = any _
     operand_truth_told (fractional n b bs) scope = any _
+
+    -- the arguments of `and` or `or` where it is compared or tested
+    operands_told : (w : Bool) (es : Expressions) (scope : Shape) → Gives (IsAmong (arguments w es)) (first_of_truth w (operands d es) scope)
+    operands_told w no_expressions scope = runs-gives Anything (IsAmong []) null refl
+    operands_told w (expression last no_expressions) scope = operand_told last scope (told last scope)
+    operands_told w (expression e (expression next es)) scope =
+        let test = option_map (bool_eq w) (literal_truth e) in
+        let rest = arguments w (expression next es) in
+        let P = IsAmong (outcomes e) in
+        runs-bind Anything (λ v. P v × CountsAs d e v) (IsAmong (by_test test (outcomes e) rest)) _ _ (both P (CountsAs d e) _ (operand_told e scope (told e scope)) (operand_truth_told e scope))
+        (λ v h. by_test_told test (bool_eq w (is_true v)) (outcomes e) rest (gives v) (first_of_truth w (operands d (expression next es)) scope)
+        (counts_wanted w (literal_truth e) (is_true v) h.1) (runs-gives Anything P v h.0) (operands_told w (expression next es) scope))
 
     branches_told : (es : Expressions) (scope : Shape) → Gives (IsAmong (branches es)) (conditional (with_tests (meanings d es) (operands d es)) scope)
     branches_told no_expressions scope = runs-gives Anything (IsAmong []) null refl

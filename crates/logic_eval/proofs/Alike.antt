@@ -460,6 +460,8 @@ module _ (n : ℕ) (old new : Entries) where
         operand-alike d k (literal t) h a one scope = one scope
         operand-alike d k (ast.list es) h a one scope = one scope
         operand-alike d k (operation op.Var es) h a one scope = same-operand (meanings d es) (meanings d (all_with_entries n new es)) (meanings-alike d es (all-alike d k es (right (takes op.Var (expression_count es)) _ h) a)) scope
+        operand-alike d k (operation op.And es) h a one scope = same-cost 1 _ _ (same-first false _ _ (operands-alike d es (all-alike d k es (right (takes op.And (expression_count es)) _ h) a)) scope)
+        operand-alike d k (operation op.Or es) h a one scope = same-cost 1 _ _ (same-first true _ _ (operands-alike d es (all-alike d k es (right (takes op.Or (expression_count es)) _ h) a)) scope)
         operand-alike d k (operation o es) h a one scope = one scope
         operand-alike d k (fractional m b bs) h a one scope = site-operand d m b bs (m == n) scope (one scope)
 

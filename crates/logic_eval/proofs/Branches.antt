@@ -1,5 +1,5 @@
 -- What an expression gives, by its first step.
-use Rattle.std.proofs.Common.{◌≡◌, ◌≢◌, ℕ, ◌+◌, ◌<◌, ◌≤◌, Bool, true, false, not, List, [], ◌∷◌, length, get_or, drop, Option, Ok, Err, Vec, Global, refl, sym, ap, ◌∙◌, arith}
+use Rattle.std.proofs.Common.{◌≡◌, ◌≢◌, ℕ, ◌+◌, ◌<◌, ◌≤◌, ◌||◌, Bool, true, false, not, List, [], ◌∷◌, length, get_or, drop, Option, Ok, Err, Vec, Global, refl, sym, ap, ◌∙◌, arith}
 use Rattle.std.specs.Prelude.{if◌then◌else◌}
 use Rattle.std.proofs.lemmas.List.{drop_all, get_or_default}
 use Rattle.flag_text.specs.declared.tree.Tree.{Tree}
@@ -18,7 +18,7 @@ use Rattle.logic_values.specs.declared.fault.EvalFault.TheVariants.{Arithmetic}
 use Rattle.logic_eval.specs.Budget.{Progress, paid}
 use Rattle.logic_values.specs.Comparison.{bool_eq}
 use Rattle.logic_eval.specs.Evaluated.{tested_meaning, tested_meanings, tested_operation, conditional_meanings, truth_meanings}
-use Rattle.logic_eval.specs.Evaluation.{meaning, meanings, operands, operand_meaning, is_variable}
+use Rattle.logic_eval.specs.Evaluation.{meaning, meanings, operands, operand_meaning}
 use Rattle.logic_eval.specs.Operators.{Meaning, values, applied_exactly, asked, compares, operated, strict, conditional, first_of_truth, found, read, is_unreadable, read_decimal}
 use Rattle.logic_eval.specs.Run.{cost, spends, ends, gives, after, ◌>>=◌}
 use Rattle.logic_eval.specs.Scope.{size}
@@ -91,22 +91,30 @@ strict-asked o d es scope tested is a b = ap (λ ms. strict o ms scope) (asked-o
 
 -- an operation that is compared or tested
 pub operand-operation : (d : Option (List ℕ)) (o : Operator) (es : Expressions) → operand_meaning d (operation o es) ≡ (λ scope. after (cost 1) (tested_operation o d es scope))
-operand-operation d op.Var es = refl
 operand-operation d o es = refl
 
-pub tested-other : (o : Operator) (d : Option (List ℕ)) (es : Expressions) → o ≢ op.Var → tested_operation o d es ≡ operated o (asked o (meanings d es) (operands d es))
-tested-other op.Var d es a = absurd (a refl)
-tested-other _ d es a = refl
+pub tested-other : (o : Operator) (d : Option (List ℕ)) (es : Expressions) → o ≢ op.Var → o ≢ op.And → o ≢ op.Or → tested_operation o d es ≡ operated o (asked o (meanings d es) (operands d es))
+tested-other op.Var d es a b c = absurd (a refl)
+tested-other op.And d es a b c = absurd (b refl)
+tested-other op.Or d es a b c = absurd (c refl)
+tested-other _ d es a b c = refl
 
-operand-other : (d : Option (List ℕ)) (e : Expression) → is_variable e ≡ false → operand_meaning d e ≡ meaning d e
-operand-other d e f = rw f refl
+abbrev is_operation : Expression → Bool
+is_operation (operation o es) = true
+is_operation e = false
+
+operand-other : (d : Option (List ℕ)) (e : Expression) → is_operation e ≡ false → operand_meaning d e ≡ meaning d e
+operand-other d (literal t) f = refl
+operand-other d (ast.list es) f = refl
+operand-other d (operation o es) f = absurd (cc)
+operand-other d (ast.fractional n b bs) f = refl
 
 -- a node that is compared or tested, and is no operation
 operand-layer : (d : Option (List ℕ)) (x : Node-F Node) → ((o : Operator) (v : Vec Node Global) → roll-Node x ≡ node.Operation o v → ⊥) → operand_meaning d (node_view (roll-Node x)) ≡ meaning d (node_view (roll-Node x))
-operand-layer d (Node-F.Literal t) h = operand-other d (node_view (roll-Node (Node-F.Literal t))) (ap is_variable (fold-roll-Node Expression view_step (Node-F.Literal t)))
-operand-layer d (Node-F.List v) h = operand-other d (node_view (roll-Node (Node-F.List v))) (ap is_variable (fold-roll-Node Expression view_step (Node-F.List v)))
+operand-layer d (Node-F.Literal t) h = operand-other d (node_view (roll-Node (Node-F.Literal t))) (ap is_operation (fold-roll-Node Expression view_step (Node-F.Literal t)))
+operand-layer d (Node-F.List v) h = operand-other d (node_view (roll-Node (Node-F.List v))) (ap is_operation (fold-roll-Node Expression view_step (Node-F.List v)))
 operand-layer d (Node-F.Operation o v) h = absurd (h o v (node.rolls-Operation o v))
-operand-layer d (Node-F.Fractional site b bs) h = operand-other d (node_view (roll-Node (Node-F.Fractional site b bs))) (ap is_variable (fold-roll-Node Expression view_step (Node-F.Fractional site b bs)))
+operand-layer d (Node-F.Fractional site b bs) h = operand-other d (node_view (roll-Node (Node-F.Fractional site b bs))) (ap is_operation (fold-roll-Node Expression view_step (Node-F.Fractional site b bs)))
 
 pub operand-node : (d : Option (List ℕ)) (n : Node) → ((o : Operator) (v : Vec Node Global) → n ≡ node.Operation o v → ⊥) → operand_meaning d (node_view n) ≡ meaning d (node_view n)
 operand-node d = ind-Node (λ n. ((o : Operator) (v : Vec Node Global) → n ≡ node.Operation o v → ⊥) → operand_meaning d (node_view n) ≡ meaning d (node_view n)) (λ x y is. operand-layer d x)
@@ -144,39 +152,62 @@ conditional_last d scope xs i x h is = rw (drop_at xs i x (omega arith) is, drop
 pub conditional_end : (d : Option (List ℕ)) (scope : Shape) (xs : List Node) (i : ℕ) → length xs ≤ i → conditional (conditional_meanings d (nodes_view (drop i xs))) scope ≡ gives null
 conditional_end d scope xs i h = rw (drop_all i xs h) refl
 
+-- an argument that may be a decimal early
+pub early_seen : (early k w : Bool) (d : Option (List ℕ)) (scope : Shape) (p : Progress) (x : Node) → early ≡ (k || not w)
+    → paid p (tested_meaning (k || not w) d (node_view x) scope) ≡ paid p (tested_meaning early d (node_view x) scope)
+early_seen early k w d scope p x is = ap (λ b. paid p (tested_meaning b d (node_view x) scope)) (sym is)
+
 -- `and` and `or`, where more than one is left
-pub first_of_truth_err : (w : Bool) (d : Option (List ℕ)) (scope : Shape) (xs : List Node) (i : ℕ) (x : Node) (p : Progress) (e : EvalFault) → i + 1 < length xs → x ≡ get_or xs i x
-    → paid p (tested_meaning (not w) d (node_view x) scope) ≡ Err e
-    → paid p (first_of_truth w (truth_meanings w d (nodes_view (drop i xs))) scope) ≡ Err e
-first_of_truth_err true d scope xs i x p e h is f = rw (two_at xs i x (get_or xs (i + 1) x) h is (other_of xs (i + 1) x h)) (bind_err p _ _ e f)
-first_of_truth_err false d scope xs i x p e h is f = rw (two_at xs i x (get_or xs (i + 1) x) h is (other_of xs (i + 1) x h)) (bind_err p _ _ e f)
+pub first_of_truth_err : (w k : Bool) (d : Option (List ℕ)) (scope : Shape) (xs : List Node) (i : ℕ) (x : Node) (p : Progress) (e : EvalFault) → i + 1 < length xs → x ≡ get_or xs i x
+    → paid p (tested_meaning (k || not w) d (node_view x) scope) ≡ Err e
+    → paid p (first_of_truth w (truth_meanings w k d (nodes_view (drop i xs))) scope) ≡ Err e
+first_of_truth_err true true d scope xs i x p e h is f = rw (two_at xs i x (get_or xs (i + 1) x) h is (other_of xs (i + 1) x h)) (bind_err p _ _ e f)
+first_of_truth_err true false d scope xs i x p e h is f = rw (two_at xs i x (get_or xs (i + 1) x) h is (other_of xs (i + 1) x h)) (bind_err p _ _ e f)
+first_of_truth_err false true d scope xs i x p e h is f = rw (two_at xs i x (get_or xs (i + 1) x) h is (other_of xs (i + 1) x h)) (bind_err p _ _ e f)
+first_of_truth_err false false d scope xs i x p e h is f = rw (two_at xs i x (get_or xs (i + 1) x) h is (other_of xs (i + 1) x h)) (bind_err p _ _ e f)
 
-pub first_of_truth_found : (w : Bool) (d : Option (List ℕ)) (scope : Shape) (xs : List Node) (i : ℕ) (x : Node) (p q : Progress) (v : Shape) → i + 1 < length xs → x ≡ get_or xs i x
-    → paid p (tested_meaning (not w) d (node_view x) scope) ≡ Ok (v, q) → bool_eq w (is_true v) ≡ true
-    → paid p (first_of_truth w (truth_meanings w d (nodes_view (drop i xs))) scope) ≡ Ok (v, q)
-first_of_truth_found true d scope xs i x p q v h is e t = rw (two_at xs i x (get_or xs (i + 1) x) h is (other_of xs (i + 1) x h)) (bind_ok p _ _ v q e ∙ rw t (paid-gives q v))
-first_of_truth_found false d scope xs i x p q v h is e t = rw (two_at xs i x (get_or xs (i + 1) x) h is (other_of xs (i + 1) x h)) (bind_ok p _ _ v q e ∙ rw t (paid-gives q v))
+pub first_of_truth_found : (w k : Bool) (d : Option (List ℕ)) (scope : Shape) (xs : List Node) (i : ℕ) (x : Node) (p q : Progress) (v : Shape) → i + 1 < length xs → x ≡ get_or xs i x
+    → paid p (tested_meaning (k || not w) d (node_view x) scope) ≡ Ok (v, q) → bool_eq w (is_true v) ≡ true
+    → paid p (first_of_truth w (truth_meanings w k d (nodes_view (drop i xs))) scope) ≡ Ok (v, q)
+first_of_truth_found true true d scope xs i x p q v h is e t = rw (two_at xs i x (get_or xs (i + 1) x) h is (other_of xs (i + 1) x h)) (bind_ok p _ _ v q e ∙ rw t (paid-gives q v))
+first_of_truth_found true false d scope xs i x p q v h is e t = rw (two_at xs i x (get_or xs (i + 1) x) h is (other_of xs (i + 1) x h)) (bind_ok p _ _ v q e ∙ rw t (paid-gives q v))
+first_of_truth_found false true d scope xs i x p q v h is e t = rw (two_at xs i x (get_or xs (i + 1) x) h is (other_of xs (i + 1) x h)) (bind_ok p _ _ v q e ∙ rw t (paid-gives q v))
+first_of_truth_found false false d scope xs i x p q v h is e t = rw (two_at xs i x (get_or xs (i + 1) x) h is (other_of xs (i + 1) x h)) (bind_ok p _ _ v q e ∙ rw t (paid-gives q v))
 
-pub first_of_truth_next : (w : Bool) (d : Option (List ℕ)) (scope : Shape) (xs : List Node) (i : ℕ) (x : Node) (p q : Progress) (v : Shape) → i + 1 < length xs → x ≡ get_or xs i x
-    → paid p (tested_meaning (not w) d (node_view x) scope) ≡ Ok (v, q) → bool_eq w (is_true v) ≡ false
-    → paid p (first_of_truth w (truth_meanings w d (nodes_view (drop i xs))) scope) ≡ paid q (first_of_truth w (truth_meanings w d (nodes_view (drop (i + 1) xs))) scope)
-first_of_truth_next true d scope xs i x p q v h is e t =
+pub first_of_truth_next : (w k : Bool) (d : Option (List ℕ)) (scope : Shape) (xs : List Node) (i : ℕ) (x : Node) (p q : Progress) (v : Shape) → i + 1 < length xs → x ≡ get_or xs i x
+    → paid p (tested_meaning (k || not w) d (node_view x) scope) ≡ Ok (v, q) → bool_eq w (is_true v) ≡ false
+    → paid p (first_of_truth w (truth_meanings w k d (nodes_view (drop i xs))) scope) ≡ paid q (first_of_truth w (truth_meanings w k d (nodes_view (drop (i + 1) xs))) scope)
+first_of_truth_next true true d scope xs i x p q v h is e t =
     let y = get_or xs (i + 1) x in
     let js : y ≡ get_or xs (i + 1) y = other_of xs (i + 1) x h in
     let two : i + 1 + 1 ≡ i + 2 = omega arith in
     rw (two_at xs i x y h is js) (bind_ok p _ _ v q e ∙ rw (t, drop_at xs (i + 1) y h js, two) refl)
-first_of_truth_next false d scope xs i x p q v h is e t =
+first_of_truth_next true false d scope xs i x p q v h is e t =
+    let y = get_or xs (i + 1) x in
+    let js : y ≡ get_or xs (i + 1) y = other_of xs (i + 1) x h in
+    let two : i + 1 + 1 ≡ i + 2 = omega arith in
+    rw (two_at xs i x y h is js) (bind_ok p _ _ v q e ∙ rw (t, drop_at xs (i + 1) y h js, two) refl)
+first_of_truth_next false true d scope xs i x p q v h is e t =
+    let y = get_or xs (i + 1) x in
+    let js : y ≡ get_or xs (i + 1) y = other_of xs (i + 1) x h in
+    let two : i + 1 + 1 ≡ i + 2 = omega arith in
+    rw (two_at xs i x y h is js) (bind_ok p _ _ v q e ∙ rw (t, drop_at xs (i + 1) y h js, two) refl)
+first_of_truth_next false false d scope xs i x p q v h is e t =
     let y = get_or xs (i + 1) x in
     let js : y ≡ get_or xs (i + 1) y = other_of xs (i + 1) x h in
     let two : i + 1 + 1 ≡ i + 2 = omega arith in
     rw (two_at xs i x y h is js) (bind_ok p _ _ v q e ∙ rw (t, drop_at xs (i + 1) y h js, two) refl)
 
-pub first_of_truth_last : (w : Bool) (d : Option (List ℕ)) (scope : Shape) (xs : List Node) (i : ℕ) (x : Node) → i + 1 ≡ length xs → x ≡ get_or xs i x
-    → first_of_truth w (truth_meanings w d (nodes_view (drop i xs))) scope ≡ meaning d (node_view x) scope
-first_of_truth_last true d scope xs i x h is = rw (drop_at xs i x (omega arith) is, drop_all (i + 1) xs (omega arith)) refl
-first_of_truth_last false d scope xs i x h is = rw (drop_at xs i x (omega arith) is, drop_all (i + 1) xs (omega arith)) refl
+pub first_of_truth_last : (w k : Bool) (d : Option (List ℕ)) (scope : Shape) (xs : List Node) (i : ℕ) (x : Node) → i + 1 ≡ length xs → x ≡ get_or xs i x
+    → first_of_truth w (truth_meanings w k d (nodes_view (drop i xs))) scope ≡ tested_meaning k d (node_view x) scope
+first_of_truth_last true true d scope xs i x h is = rw (drop_at xs i x (omega arith) is, drop_all (i + 1) xs (omega arith)) refl
+first_of_truth_last true false d scope xs i x h is = rw (drop_at xs i x (omega arith) is, drop_all (i + 1) xs (omega arith)) refl
+first_of_truth_last false true d scope xs i x h is = rw (drop_at xs i x (omega arith) is, drop_all (i + 1) xs (omega arith)) refl
+first_of_truth_last false false d scope xs i x h is = rw (drop_at xs i x (omega arith) is, drop_all (i + 1) xs (omega arith)) refl
 
-pub first_of_truth_none : (w : Bool) (d : Option (List ℕ)) (scope : Shape) (xs : List Node) → length xs ≡ 0 → first_of_truth w (truth_meanings w d (nodes_view xs)) scope ≡ gives null
-first_of_truth_none true d scope [] h = refl
-first_of_truth_none false d scope [] h = refl
-first_of_truth_none w d scope (x ∷ xs) h = absurd (omega arith)
+pub first_of_truth_none : (w k : Bool) (d : Option (List ℕ)) (scope : Shape) (xs : List Node) → length xs ≡ 0 → first_of_truth w (truth_meanings w k d (nodes_view xs)) scope ≡ gives null
+first_of_truth_none true true d scope [] h = refl
+first_of_truth_none true false d scope [] h = refl
+first_of_truth_none false true d scope [] h = refl
+first_of_truth_none false false d scope [] h = refl
+first_of_truth_none w k d scope (x ∷ xs) h = absurd (omega arith)

@@ -8,12 +8,14 @@ use Rattle.logic_ast.specs.Expression.{Expression, literal, operation, fractiona
 use Rattle.logic_ast.specs.Sites.{entries_of}
 use Rattle.logic_values.specs.declared.fault.EvalFault.{EvalFault}
 use Rattle.logic_ast.specs.declared.operator.Operator.TheVariants as op
+use Rattle.logic_values.specs.Comparison.{bool_eq}
+use Rattle.logic_values.specs.Truth.{is_true}
 use Rattle.decimal_values.specs.Decimals.{is_readable}
 use Rattle.logic_values.specs.declared.fault.EvalFault.TheVariants.{Arithmetic}
-use Rattle.logic_eval.specs.Evaluation.{pairs, bucket_meanings, meaning, meanings, operand_meaning}
+use Rattle.logic_eval.specs.Evaluation.{pairs, bucket_meanings, meaning, meanings, operands, operand_meaning}
 use Rattle.logic_eval.specs.Fractional as buckets
 use Rattle.logic_eval.specs.Fractional.{buckets_of, not_too_heavy, by_input, by_buckets, decided}
-use Rattle.logic_eval.specs.Operators.{values, found, found_whole, found_decimal, read, read_decimal}
+use Rattle.logic_eval.specs.Operators.{Meaning, values, found, found_whole, found_decimal, read, read_decimal, first_of_truth, with_early_tests}
 use Rattle.logic_eval.specs.Scope.{variable}
 use Rattle.logic_eval.specs.Run.{Run, cost, ends, gives, after, after_trace, continues, ◌>>=◌}
 use Rattle.logic_eval.specs.Laws.{ReadableOperandsAreAsEver, WithoutDecimalsAsEver, LiteralSiteChooses, TrueTestSkipsTheRest, FalseTestSkipsItsResult, FalseEndsAnd, TrueEndsOr}
@@ -63,12 +65,52 @@ unfolding after
 variable_alike d es scope v e =
     sym (ap (after (cost 1)) (same_if_given (values (meanings d es) scope) (λ vs. found_whole (variable scope vs)) (λ vs. found_decimal (variable scope vs)) v e (λ vs k. found_alike (variable scope vs) v k)))
 
-pub operand_as_ever : ReadableOperandsAreAsEver
-operand_as_ever d (literal t) scope v e = refl
-operand_as_ever d (ast.list es) scope v e = refl
-operand_as_ever d (operation op.Var es) scope v e = variable_alike d es scope v e
-operand_as_ever d (operation o es) scope v e = refl
-operand_as_ever d (fractional n b bs) scope v e = refl
+-- what was given before it went on
+given_before : {A B : Type 0} (r : Run A) (f : A → Run B) (v : B) → (r >>= f).ending ≡ Ok v → (u : A) × (r.ending ≡ Ok u)
+unfolding ◌>>=◌
+given_before {A} {B} r f v e = go r.ending refl e
+  where
+    go : (x : Result A EvalFault) → r.ending ≡ x → (continues r.trace x f).ending ≡ Ok v → (u : A) × (r.ending ≡ Ok u)
+    go (Ok u) is k = (u, is)
+    go (Err x) is k = absurd (cc)
+
+-- the next argument of `and` or `or`, where it is asked for
+next_alike : (b : Bool) (u v : Shape) (r s : Run Shape) → (cond b (gives u) r).ending ≡ Ok v → (r.ending ≡ Ok v → r ≡ s) → cond b (gives u) r ≡ cond b (gives u) s
+next_alike true u v r s e k = refl
+next_alike false u v r s e k = k e
+
+first_alike : (w : Bool) (m n : Meaning) (scope v : Shape) (r s : Run Shape) → (m scope >>= λ u. cond (bool_eq w (is_true u)) (gives u) r).ending ≡ Ok v
+    → ((u : Shape) → (m scope).ending ≡ Ok u → n scope ≡ m scope) → (r.ending ≡ Ok v → s ≡ r)
+    → (n scope >>= λ u. cond (bool_eq w (is_true u)) (gives u) s) ≡ (m scope >>= λ u. cond (bool_eq w (is_true u)) (gives u) r)
+first_alike w m n scope v r s e same rest =
+    let before = given_before (m scope) (λ u. cond (bool_eq w (is_true u)) (gives u) r) v e in
+    ap (λ x. x >>= λ u. cond (bool_eq w (is_true u)) (gives u) s) (same before.0 before.1)
+    ∙ sym (same_if_given (m scope) (λ u. cond (bool_eq w (is_true u)) (gives u) r) (λ u. cond (bool_eq w (is_true u)) (gives u) s) v e (λ u k. next_alike (bool_eq w (is_true u)) u v r s k (λ j. sym (rest j))))
+
+mutual
+  unfolding after
+
+  pub operand_as_ever : ReadableOperandsAreAsEver
+  operand_as_ever d (literal t) scope v e = refl
+  operand_as_ever d (ast.list es) scope v e = refl
+  operand_as_ever d (operation op.Var es) scope v e = variable_alike d es scope v e
+  operand_as_ever d (operation op.And es) scope v e = ap (after (cost 1)) (and_alike d es scope v e)
+  operand_as_ever d (operation op.Or es) scope v e = ap (after (cost 1)) (or_alike d es scope v e)
+  operand_as_ever d (operation o es) scope v e = refl
+  operand_as_ever d (fractional n b bs) scope v e = refl
+
+  or_alike : (d : Option (List ℕ)) (es : Expressions) (scope v : Shape) → (first_of_truth true (meanings d es) scope).ending ≡ Ok v → first_of_truth true (operands d es) scope ≡ first_of_truth true (meanings d es) scope
+  or_alike d no_expressions scope v e = refl
+  or_alike d (expression one no_expressions) scope v e = operand_as_ever d one scope v e
+  or_alike d (expression one (expression next rest)) scope v e =
+      first_alike true (meaning d one) (operand_meaning d one) scope v _ _ e (λ u k. operand_as_ever d one scope u k) (λ k. or_alike d (expression next rest) scope v k)
+
+  and_alike : (d : Option (List ℕ)) (es : Expressions) (scope v : Shape) → (first_of_truth false (with_early_tests (meanings d es) (operands d es)) scope).ending ≡ Ok v
+      → first_of_truth false (operands d es) scope ≡ first_of_truth false (with_early_tests (meanings d es) (operands d es)) scope
+  and_alike d no_expressions scope v e = refl
+  and_alike d (expression one no_expressions) scope v e = operand_as_ever d one scope v e
+  and_alike d (expression one (expression next rest)) scope v e =
+      first_alike false (operand_meaning d one) (operand_meaning d one) scope v _ _ e (λ u k. refl) (λ k. and_alike d (expression next rest) scope v k)
 
 pub without_decimals : WithoutDecimalsAsEver
 without_decimals o scope vs e = rw e refl

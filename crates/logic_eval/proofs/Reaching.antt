@@ -20,9 +20,9 @@ use Rattle.logic_eval.specs.Evaluation.{part_of, pairs, input, meaning, meanings
 use Rattle.logic_eval.specs.Fractional as buckets
 use Rattle.logic_eval.specs.Fractional.{buckets_of, not_too_heavy, chosen, reached, by_input, by_buckets, decided, given_input, made_input}
 use Rattle.logic_values.specs.Lists.{items_in}
-use Rattle.logic_eval.specs.Operators.{Meaning, values, variable_run, strict, conditional, first_of_truth, mapped, kept, occurs, is_empty, all_of, reduced, over_items, over, start, over_from_start, operand, compares, with_tests, with_early_tests, asked, operated, applied_exactly}
+use Rattle.logic_eval.specs.Operators.{Meaning, values, variable_run, strict, conditional, first_of_truth, mapped, kept, occurs, is_empty, all_of, reduced, over_items, over, start, over_from_start, found_decimal, compares, with_tests, with_early_tests, asked, operated, applied_exactly}
 use Rattle.logic_values.specs.Objects.{reduce_scope}
-use Rattle.logic_eval.specs.Run.{Reach, Run, gives}
+use Rattle.logic_eval.specs.Run.{Reach, Run, cost, gives, after, ◌>>=◌}
 use Rattle.logic_eval.specs.Scope.{size, variable}
 use Rattle.logic_values.specs.Truth.{is_true}
 use Rattle.logic_eval.proofs.Choices.{buckets_entries}
@@ -90,8 +90,8 @@ module _ (Q : Reach → Type 0) where
       runs-bind Q IsOperand AreOperands _ _ (ks.0 scope w)
       (λ v p. runs-bind Q AreOperands AreOperands _ _ (keeps-operand_values ms scope ks.1 w) (λ vs ps. runs-gives Q AreOperands (v ∷ vs) (both (is_operand v) _ p ps)))
 
-  keeps-operand_variable : (ms : List Meaning) (m : Meaning) → AllKeep ms → KeepsOperand (operand true ms m)
-  keeps-operand_variable ms m ks scope w =
+  keeps-operand_variable : (ms : List Meaning) → AllKeep ms → KeepsOperand (λ scope. after (cost 1) (values ms scope >>= λ vs. found_decimal (variable scope vs)))
+  keeps-operand_variable ms ks scope w =
       runs-cost Q IsOperand 1 _ (runs-bind Q AreWhole IsOperand _ _ (keeps-values ms scope ks w)
       (λ vs ps. runs-bind Q IsTidy IsOperand _ _ (runs-cost Q IsTidy (size (variable scope vs)) _ (runs-gives Q IsTidy (variable scope vs) (variable-tidy scope vs w ps)))
       (λ v p. runs-ends Q IsOperand _ (read_decimal-operand v p))))
@@ -133,6 +133,17 @@ module _ (Q : Reach → Type 0) where
   keeps-first_of_truth b (last ∷ []) ks scope w = ks.0 scope w
   keeps-first_of_truth b (m ∷ next ∷ rest) ks scope w =
       runs-bind Q IsWhole IsWhole _ _ (ks.0 scope w) (λ v p. keeps-if (bool_eq b (is_true v)) _ _ (runs-gives Q IsWhole v p) (keeps-first_of_truth b (next ∷ rest) ks.1 scope w))
+
+  -- `and` and `or` where they are compared or tested: each argument may give a decimal
+  keeps-operand_if : (b : Bool) (r s : Run Shape) → Runs IsOperand Q r → Runs IsOperand Q s → Runs IsOperand Q (cond b r s)
+  keeps-operand_if true r s h k = h
+  keeps-operand_if false r s h k = k
+
+  keeps-first_operand : (b : Bool) (ms : List Meaning) → AllKeepOperands ms → KeepsOperand (first_of_truth b ms)
+  keeps-first_operand b [] ks scope w = runs-gives Q IsOperand null refl
+  keeps-first_operand b (last ∷ []) ks scope w = ks.0 scope w
+  keeps-first_operand b (m ∷ next ∷ rest) ks scope w =
+      runs-bind Q IsOperand IsOperand _ _ (ks.0 scope w) (λ v p. keeps-operand_if (bool_eq b (is_true v)) _ _ (runs-gives Q IsOperand v p) (keeps-first_operand b (next ∷ rest) ks.1 scope w))
 
   -- the arguments of `and`, of which all but the last may give decimals
   abbrev pub EarlyKeep : List Meaning → Type 0
@@ -342,7 +353,11 @@ module _ (Q : Reach → Type 0) where
     keeps-operand default k (literal t) h a one scope w = as-operand (one scope w)
     keeps-operand default k (ast.list es) h a one scope w = as-operand (one scope w)
     keeps-operand default k (operation op.Var es) h a one scope w =
-        keeps-operand_variable (meanings default es) (meaning default (operation op.Var es)) (keep-meanings default k es (right (takes op.Var (expression_count es)) _ h) a) scope w
+        keeps-operand_variable (meanings default es) (keep-meanings default k es (right (takes op.Var (expression_count es)) _ h) a) scope w
+    keeps-operand default k (operation op.And es) h a one scope w =
+        runs-cost Q IsOperand 1 _ (keeps-first_operand false (operands default es) (keep-operands default k es (right (takes op.And (expression_count es)) _ h) a) scope w)
+    keeps-operand default k (operation op.Or es) h a one scope w =
+        runs-cost Q IsOperand 1 _ (keeps-first_operand true (operands default es) (keep-operands default k es (right (takes op.Or (expression_count es)) _ h) a) scope w)
     keeps-operand default k (operation o es) h a one scope w = as-operand (one scope w)
     keeps-operand default k (fractional n b bs) h a one scope w = as-operand (one scope w)
 

@@ -5,14 +5,12 @@ use Rattle.std.specs.declared.alloc.Global.{Global}
 use Rattle.logic_ast.specs.Expression.{Expression, Expressions}
 use Rattle.logic_ast.specs.View.{node_view, nodes_view, boxed_view, buckets_view}
 use Rattle.logic_ast.specs.declared.operator.Operator.{Operator}
-use Rattle.logic_ast.specs.declared.operator.Operator.TheVariants.{Var}
 use Rattle.logic_ast.specs.declared.node.Bucket.{Bucket}
 use Rattle.logic_ast.specs.declared.node.Node.{Node}
 use Rattle.logic_eval.specs.Budget.{Follows}
 use Rattle.logic_eval.specs.Evaluation.{meaning, meanings, operands, operand_meaning, by_meaning, bucket_meanings}
-use Rattle.logic_eval.specs.Operators.{Meaning, values, found_decimal, with_tests, with_early_tests, asked, operated}
-use Rattle.logic_eval.specs.Run.{Run, ◌>>=◌}
-use Rattle.logic_eval.specs.Scope.{variable}
+use Rattle.logic_eval.specs.Operators.{Meaning, with_tests, with_early_tests, tested_operated}
+use Rattle.logic_eval.specs.Run.{Run}
 use Rattle.logic_eval.specs.Views.{progress, default_view}
 use Rattle.logic_values.specs.declared.fault.EvalFault.{EvalFault}
 use Rattle.logic_eval.specs.declared.meter.Meter.{Meter}
@@ -37,16 +35,19 @@ tested_meanings tested default es = if tested then operands default es else mean
 
 -- an operation that is compared or tested, once it is charged for
 abbrev pub tested_operation : Operator → Option (List ℕ) → Expressions → Meaning
-tested_operation Var default es = λ scope. values (meanings default es) scope >>= λ vs. found_decimal (variable scope vs)
-tested_operation o default es = operated o (asked o (meanings default es) (operands default es))
+tested_operation o default es = tested_operated o (meanings default es) (operands default es)
 
 -- the arguments of `if`
 abbrev pub conditional_meanings : Option (List ℕ) → Expressions → List Meaning
 conditional_meanings default es = with_tests (meanings default es) (operands default es)
 
--- those of `or`, or of `and`
-abbrev pub truth_meanings : Bool → Option (List ℕ) → Expressions → List Meaning
-truth_meanings wanted default es = if wanted then meanings default es else with_early_tests (meanings default es) (operands default es)
+-- those of `or`, or of `and`, where its value is not compared or tested
+abbrev pub untested_truth_meanings : Bool → Option (List ℕ) → Expressions → List Meaning
+untested_truth_meanings wanted default es = if wanted then meanings default es else with_early_tests (meanings default es) (operands default es)
+
+-- or where it is
+abbrev pub truth_meanings : Bool → Bool → Option (List ℕ) → Expressions → List Meaning
+truth_meanings wanted tested default es = if tested then operands default es else untested_truth_meanings wanted default es
 
 abbrev pub operand_of : Subject → Node → Meaning
 operand_of subject node = operand_meaning (default_view subject) (node_view node)
@@ -63,8 +64,8 @@ tested_meanings_of tested subject nodes = tested_meanings tested (default_view s
 abbrev pub conditional_meanings_of : Subject → List Node → List Meaning
 conditional_meanings_of subject nodes = conditional_meanings (default_view subject) (nodes_view nodes)
 
-abbrev pub truth_meanings_of : Bool → Subject → List Node → List Meaning
-truth_meanings_of wanted subject nodes = truth_meanings wanted (default_view subject) (nodes_view nodes)
+abbrev pub truth_meanings_of : Bool → Bool → Subject → List Node → List Meaning
+truth_meanings_of wanted tested subject nodes = truth_meanings wanted tested (default_view subject) (nodes_view nodes)
 
 abbrev pub by_meaning_of : Subject → Option (Box Node Global) → Option Meaning
 by_meaning_of subject by = by_meaning (default_view subject) (boxed_view by)

@@ -1,12 +1,11 @@
 -- What an expression evaluates to: a value, and the sites that were reached, in their order.
-use Rattle.std.specs.Prelude.{ℕ, pos, Bool, true, false, List, [], ◌∷◌, Option, Some, None, Result}
+use Rattle.std.specs.Prelude.{ℕ, pos, List, [], ◌∷◌, Option, Some, None, Result}
 use Rattle.flag_text.specs.Shape.{Shape, whole, text}
 use Rattle.logic_ast.specs.Expression.{Expression, literal, operation, fractional, Expressions, no_expressions, expression, By, no_by, by, Buckets, no_buckets, bucket, Bucket, literal_bucket, computed_bucket}
 use Rattle.logic_ast.specs.Expression as ast
-use Rattle.logic_ast.specs.declared.operator.Operator.TheVariants.{Var}
 use Rattle.logic_values.specs.declared.fault.EvalFault.{EvalFault}
 use Rattle.logic_eval.specs.Fractional.{decided, given_input, made_input}
-use Rattle.logic_eval.specs.Operators.{Meaning, values, as_list, operand, asked, operated}
+use Rattle.logic_eval.specs.Operators.{Meaning, values, as_list, asked, operated, tested_operated}
 use Rattle.logic_eval.specs.Run.{Reach, cost, Run, gives, after, ◌>>=◌, result_of}
 use Rattle.logic_eval.specs.Scope.{Situation, root_scope, default_input, size}
 
@@ -33,10 +32,6 @@ input default (Some m) scope = m scope >>= λ v. gives (given_input v)
 abbrev pub site : Option (List ℕ) → ℕ → Option Meaning → List (Meaning × Meaning) → Meaning
 site default n m ps scope = input default m scope >>= λ i. pairs ps scope >>= decided n i
 
-abbrev pub is_variable : Expression → Bool
-is_variable (operation Var es) = true
-is_variable e = false
-
 -- Each expression is charged for before anything in it is done: a literal by its size, another by one unit.
 abbrev mutual
   pub meaning : Option (List ℕ) → Expression → Meaning
@@ -52,13 +47,14 @@ abbrev mutual
   -- the same where they are compared or tested
   pub operands : Option (List ℕ) → Expressions → List Meaning
   operands default no_expressions = []
-  operands default (expression e es) = operand (is_variable e) (argument_meanings default e) (meaning default e) ∷ operands default es
+  operands default (expression e es) = operand_meaning default e ∷ operands default es
 
-  pub argument_meanings : Option (List ℕ) → Expression → List Meaning
-  argument_meanings default (literal t) = []
-  argument_meanings default (ast.list es) = []
-  argument_meanings default (operation o es) = meanings default es
-  argument_meanings default (fractional n b bs) = []
+  -- an expression where it is compared or tested
+  pub operand_meaning : Option (List ℕ) → Expression → Meaning
+  operand_meaning default (literal t) = λ scope. after (cost (size t)) (gives t)
+  operand_meaning default (ast.list es) = λ scope. after (cost 1) (values (meanings default es) scope >>= as_list)
+  operand_meaning default (operation o es) = λ scope. after (cost 1) (tested_operated o (meanings default es) (operands default es) scope)
+  operand_meaning default (fractional n b bs) = λ scope. after (cost 1) (site default n (by_meaning default b) (bucket_meanings default bs) scope)
 
   pub by_meaning : Option (List ℕ) → By → Option Meaning
   by_meaning default no_by = None
@@ -71,10 +67,6 @@ abbrev mutual
   pub bucket_meaning : Option (List ℕ) → Bucket → Meaning × Meaning
   bucket_meaning default (literal_bucket name weight) = ((λ scope. gives (text name)), (λ scope. gives (whole (pos weight))))
   bucket_meaning default (computed_bucket name weight) = (part_of name (meaning default name), part_of weight (meaning default weight))
-
--- an expression where it is compared or tested
-abbrev pub operand_meaning : Option (List ℕ) → Expression → Meaning
-operand_meaning default e = operand (is_variable e) (argument_meanings default e) (meaning default e)
 
 -- the evaluation of an expression in a situation
 unfoldable pub evaluation_of : Expression → Situation → Result (Shape × List Reach) EvalFault

@@ -123,11 +123,6 @@ read_decimal v = ends (if is_unreadable v then Err Arithmetic else Ok v)
 abbrev pub found_decimal : Shape → Run Shape
 found_decimal v = found v >>= read_decimal
 
--- an argument that is compared or tested: `var` may give a decimal there
-abbrev pub operand : Bool → List Meaning → Meaning → Meaning
-operand true ms m = λ scope. after (cost 1) (values ms scope >>= λ vs. found_decimal (variable scope vs))
-operand false ms m = m
-
 -- the operators that compare or test all their arguments
 abbrev pub compares : Operator → Bool
 compares op.Less = true
@@ -156,8 +151,9 @@ abbrev pub with_early_tests : List Meaning → List Meaning → List Meaning
 with_early_tests (m ∷ ms) (test ∷ tests) = unless_last ms m test ∷ with_early_tests ms tests
 with_early_tests ms tests = ms
 
--- The arguments of an operator, those that it compares or tests as operands. A test of `or` that counts as true is its value, too, and the items
--- at which `filter`, `all`, `some` and `none` test have no decimals, since no value of an evaluation has one.
+-- The arguments of an operator, those that it compares or tests as operands. An argument of `or` that counts as true is its value, too, so it
+-- may be a decimal only where the `or` itself is compared or tested; the items at which `filter`, `all`, `some` and `none` test have no decimals.
+-- For no value of an evaluation has one.
 abbrev pub asked : Operator → List Meaning → List Meaning → List Meaning
 asked op.If ms operands = with_tests ms operands
 asked op.And ms operands = with_early_tests ms operands
@@ -257,3 +253,11 @@ operated op.SomeOf ms = over op.SomeOf ms
 operated op.NoneOf ms = over op.NoneOf ms
 operated op.Reduce ms = over_from_start ms
 operated o ms = strict o ms
+
+-- The same where its value is compared or tested: `var` may give a decimal there, and `and` and `or` give one of their arguments, all of
+-- which may be decimals for that reason.
+abbrev pub tested_operated : Operator → List Meaning → List Meaning → Meaning
+tested_operated op.Var ms operands = λ scope. values ms scope >>= λ vs. found_decimal (variable scope vs)
+tested_operated op.And ms operands = first_of_truth false operands
+tested_operated op.Or ms operands = first_of_truth true operands
+tested_operated o ms operands = operated o (asked o ms operands)

@@ -165,11 +165,26 @@ fn follow<'s, 'a>(place: Place<'s, 'a>, path: &str) -> Option<Place<'s, 'a>>
     }
 }
 
-/// What a path leads to in a part of the context, as `var` follows it: an object's member, or a list's item by its index, step by step.
-pub fn seen_at<'a>(part: Part<'a>, path: &str) -> Option<Seen<'a, 'a>>
-    ensures { option_map seen_view result ≡ follow (view part.entry.tree.now) (slice_split is_dot path.now) }
+// The same in the context, which stays there.
+fn follow_in_part<'a>(part: Part<'a>, path: &str) -> Option<Part<'a>>
+    ensures { option_map (λ p. view p.tree.now) result ≡ follow (view part.entry.tree.now) (slice_split is_dot path.now) }
 {
-    Some(follow(Place::Given(part), path)?.seen())
+    match first_name(path) {
+        (name, None) => step_in_part(part, name),
+        (name, Some(rest)) => follow_in_part(step_in_part(part, name)?, rest),
+    }
+}
+
+/// What a path finds in a part of the context, as `var` follows it: the part where it is empty, else its steps from there on, to an object's
+/// member or a list's item by its index.
+pub fn part_at<'a>(part: Part<'a>, path: &str) -> Option<Part<'a>>
+    ensures { option_map (λ p. view p.tree.now) result ≡ find_text (view part.entry.tree.now) path.now }
+{
+    if path.is_empty() {
+        Some(part)
+    } else {
+        follow_in_part(part, path)
+    }
 }
 
 // The first step of a path, from the scope.

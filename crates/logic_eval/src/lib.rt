@@ -47,7 +47,7 @@ mod variable;
 
 pub use context::Context;
 pub use evaluation::eval;
-pub use find::seen_at;
+pub use find::part_at;
 pub use laws::{
     a_branch_not_taken_is_not_evaluated, a_literal_site_chooses,
     a_rule_that_chooses_alike_changes_nothing_else, decimals_change_nothing_else,

@@ -1,5 +1,5 @@
 //! The walk over an expression, node by node.
-ghost use Rattle.std.specs.Prelude.{◌≡◌, IfOk, map, drop};
+ghost use Rattle.std.specs.Prelude.{◌≡◌, ◌||◌, not, IfOk, map, drop};
 ghost use Rattle.logic_ast.specs.Sites.{preorder, preorder_in, preorder_in_by, preorder_in_buckets};
 ghost use Rattle.logic_ast.specs.View.{node_view, nodes_view, boxed_view, buckets_view};
 ghost use Rattle.logic_eval.specs.Evaluated.{Evaluates, by_meaning_of, bucket_meanings_of, conditional_meanings_of, meaning_of, meanings_of, operand_of, operands_of, tested_meaning_of, tested_meanings_of, tested_operation, truth_meanings_of};
@@ -64,7 +64,7 @@ pub(crate) fn evaluate_node<'s, 'a>(
     }
 }
 
-// The value of a node that is compared or tested: `var` may give a decimal there.
+// The value of a node that is compared or tested: `var`, `and` and `or` may give a decimal there.
 #[cycle(evaluate)]
 #[tactic(auto, using(crate::proofs::Within::in_operation))]
 fn evaluate_operand<'s, 'a>(
@@ -102,6 +102,8 @@ fn operate_tested<'s, 'a>(
             let values = evaluate_all(meter, arguments, false, scope, subject)?;
             variable_or_decimal(meter, scope, values)
         }
+        Operator::And => first_of_truth(meter, arguments, false, true, scope, subject),
+        Operator::Or => first_of_truth(meter, arguments, true, true, scope, subject),
         _ => operate(meter, arguments, operator, scope, subject),
     }
 }
@@ -171,8 +173,8 @@ fn operate<'s, 'a>(
 {
     match operator {
         Operator::If => conditional(meter, arguments, scope, subject),
-        Operator::And => first_of_truth(meter, arguments, false, scope, subject),
-        Operator::Or => first_of_truth(meter, arguments, true, scope, subject),
+        Operator::And => first_of_truth(meter, arguments, false, false, scope, subject),
+        Operator::Or => first_of_truth(meter, arguments, true, false, scope, subject),
         Operator::Map => over(meter, arguments, Operator::Map, scope, subject),
         Operator::Filter => over(meter, arguments, Operator::Filter, scope, subject),
         Operator::AllOf => over(meter, arguments, Operator::AllOf, scope, subject),
@@ -235,31 +237,40 @@ fn conditional<'s, 'a>(
     Ok(Value::Null)
 }
 
-// `and` looks for a value that counts as false, `or` for one that counts as true: the first, else the last. Only what `and` tests may be a
-// decimal, since that counts as true and so is not its value.
+// `and` looks for a value that counts as false, `or` for one that counts as true: the first, else the last. Where that is compared or tested
+// itself, each argument may be a decimal; else only what `and` tests, since that counts as true and so is not its value.
 #[cycle(evaluate)]
 #[tactic(auto, using(crate::proofs::Within::in_nodes))]
 fn first_of_truth<'s, 'a>(
     meter: &mut Meter,
     nodes: &'a Vec<Node>,
     wanted: bool,
+    tested: bool,
     scope: Scope<'s, 'a>,
     subject: Subject<'a>,
 ) -> Result<Value<'a>, EvalFault>
     requires { AreSummed subject (preorder_in (nodes_view nodes.now.items)) }
-    ensures exact { Evaluates value_view meter.old meter.new result (first_of_truth wanted (truth_meanings_of wanted subject.entry nodes.now.items) (scope_view scope.entry)) }
+    ensures exact { Evaluates value_view meter.old meter.new result (first_of_truth wanted (truth_meanings_of wanted tested subject.entry nodes.now.items) (scope_view scope.entry)) }
 {
     if nodes.is_empty() {
         return Ok(Value::Null);
     }
     let last = nodes.len() - 1;
+    let early = tests_early(wanted, tested);
     for place in 0..last {
-        let value = evaluate_operand_if(meter, &nodes[place], !wanted, scope, subject)?;
+        let value = evaluate_operand_if(meter, &nodes[place], early, scope, subject)?;
         if is_true(value.seen()) == wanted {
             return Ok(value);
         }
     }
-    evaluate_node(meter, &nodes[last], scope, subject)
+    evaluate_operand_if(meter, &nodes[last], tested, scope, subject)
+}
+
+// Whether `and` or `or` may have a decimal before its last argument.
+fn tests_early(wanted: bool, tested: bool) -> bool
+    ensures { result ≡ (tested || not wanted) }
+{
+    tested || !wanted
 }
 
 // An operator that runs its second argument over the items of the first.

@@ -18,15 +18,6 @@ pub(crate) struct Batch {
     pub(crate) bytes: BytesMut,
     /// The files that were open when the memory was asked, which only proofs read.
     pub(crate) shown: Log<Files, u8>,
-    /// How many inputs were too long for a note.
-    pub(crate) too_long: u64,
-}
-
-/// The lines of notes, and how many inputs were too long for one.
-#[derive(Drop)]
-struct Printed {
-    lines: Vec<Vec<u8>>,
-    too_long: u64,
 }
 
 /// The lines of these notes in a form that a memory does not know of a file that is open. A note whose input is too long has none.
@@ -39,45 +30,43 @@ pub(crate) fn batch_of(
 ) -> Result<Batch, AllocError>
     ensures { IfOk result (λ batch. ∥ IsBatch form notes.now batch ∥₁) }
 {
-    let printed = lines_of(alloc, form, notes)?;
-    let unknown = memory.unknown(alloc, printed.lines)?;
+    let lines = lines_of(alloc, form, notes)?;
+    let unknown = memory.unknown(alloc, lines)?;
     let bytes = joined(alloc, unknown.lines.as_slice())?;
     Ok(Batch {
         lines: unknown.lines,
         bytes,
         shown: unknown.shown,
-        too_long: printed.too_long,
     })
 }
 
 /// The lines of these notes.
-fn lines_of(alloc: Global, form: NoteForm, notes: &[Note]) -> Result<Printed, AllocError>
-    ensures { IfOk result (λ printed. ArePrinted form notes.now printed.lines.items) }
+fn lines_of(alloc: Global, form: NoteForm, notes: &[Note]) -> Result<Vec<Vec<u8>>, AllocError>
+    ensures { IfOk result (λ lines. ArePrinted form notes.now lines.items) }
 {
-    let mut printed = Printed {
-        lines: Vec::new(alloc),
-        too_long: 0,
-    };
+    let mut lines = Vec::new(alloc);
     for note in notes {
-        printed.add(alloc, form, note)?;
+        add_line(alloc, form, note, &mut lines)?;
     }
-    Ok(printed)
+    Ok(lines)
 }
 
-impl Printed {
-    /// Adds the line of a note, where it has one.
-    fn add(&mut self, alloc: Global, form: NoteForm, note: &Note) -> Result<(), AllocError>
-        ensures { OnOk result (Adds form note.now self.old.lines.items self.new.lines.items) }
-    {
-        if note.input.len() > INPUT_BYTES {
-            self.too_long = self.too_long.saturating_add(1);
-            return Ok(());
-        }
-        let line = line_as(alloc, form, &note.page, note.input.as_str())?;
-        // It may be remembered for long, and was printed into more room than it needs.
-        self.lines.push(Vec::from_slice(alloc, line.as_slice())?)?;
-        Ok(())
+/// Adds the line of a note, where it has one.
+fn add_line(
+    alloc: Global,
+    form: NoteForm,
+    note: &Note,
+    lines: &mut Vec<Vec<u8>>,
+) -> Result<(), AllocError>
+    ensures { OnOk result (Adds form note.now lines.old.items lines.new.items) }
+{
+    if note.input.len() > INPUT_BYTES {
+        return Ok(());
     }
+    let line = line_as(alloc, form, &note.page, note.input.as_str())?;
+    // It may be remembered for long, and was printed into more room than it needs.
+    lines.push(Vec::from_slice(alloc, line.as_slice())?)?;
+    Ok(())
 }
 
 /// The lines, one after the other.

@@ -30,7 +30,6 @@ pub struct NoteLog<'a, F: LogFile> {
     /// The files that were open when the memory was asked, each time that it was relied on, which only proofs read.
     relied: Log<Log<Files, u8>, u8>,
     written: u64,
-    too_long: u64,
     ghost whole: { ∥ EndsLine (handed_in journal.journal.handed.writes.items ++ waiting.items) ∥₁ },
     ghost counted: { IsCounted (sum_by lines_in (earlier_in earlier.items)) (handed_in journal.journal.handed.writes.items) written },
 }
@@ -62,7 +61,6 @@ impl<'a, F: LogFile> NoteLog<'a, F> {
             memory,
             relied: Log::new(),
             written: 0,
-            too_long: 0,
         }
     }
 }
@@ -110,9 +108,7 @@ impl<F: LogFile> NoteLog<'_, F> {
             lines,
             bytes,
             shown,
-            too_long,
         } = batch;
-        self.too_long = self.too_long.saturating_add(too_long);
         self.waiting = bytes;
         if !hand_over(&mut self.journal, &mut self.waiting, &mut self.written) {
             return false;
@@ -164,12 +160,5 @@ impl<F: LogFile> NoteLog<'_, F> {
         } else {
             Some(Trouble::Unwritten)
         }
-    }
-
-    /// How many inputs were too long for a note.
-    pub fn too_long(&self) -> u64
-        ensures { result ≡ self.now.too_long }
-    {
-        self.too_long
     }
 }

@@ -1,5 +1,5 @@
 -- The evaluation of flags for a request (OpenFeature Remote Evaluation Protocol: flag evaluation, bulk evaluation).
-use Rattle.std.specs.Prelude.{ℕ, ◌==◌, Bool, List, [], ◌∷◌, ◌++◌, codes, if◌then◌else◌, is_some, Option, Some, None, option_and_then, unwrap_or}
+use Rattle.std.specs.Prelude.{ℕ, ◌==◌, nat_le, length, filter, Bool, List, [], ◌∷◌, ◌++◌, codes, if◌then◌else◌, is_some, Option, Some, None, option_and_then, unwrap_or}
 use Rattle.std.specs.List.{flat_map}
 use Rattle.std.specs.Map.{lookup}
 use Rattle.std.specs.Str.{bytes_eq}
@@ -13,6 +13,7 @@ use Rattle.flag_resolve.specs.declared.code.Code.{Code}
 use Rattle.flag_resolve.specs.declared.code.Code.TheVariants.{ParseError}
 use Rattle.flag_text.specs.Printing.{text_of}
 use Rattle.flag_text.specs.Shape.{Shape, null}
+use Rattle.limits.specs.Limits.{input_bytes}
 use Rattle.logic_ast.specs.Expression.{Expression}
 use Rattle.logic_eval.specs.Run.{Reach}
 use Rattle.ofrep_answers.specs.Kind.{flag_kind}
@@ -25,10 +26,18 @@ use Rattle.ofrep_requests.specs.Request.{text_if}
 unfoldable pub evaluation : Definitions → List ℕ → Shape → ℕ → Resolved
 evaluation flags key context moment = resolved_by (Some flags) (flag_kind (lookup (bytes_eq key) flags)) null context key moment
 
--- the sites that an evaluation reached, under the flag's key, where there are some
+-- sites under the flag's key, where there are some
+abbrev pub under_key : List ℕ → List Reach → List (List ℕ × List Reach)
+under_key key [] = []
+under_key key (site ∷ sites) = (key, site ∷ sites) ∷ []
+
+-- a note may have the hash input of the site
+abbrev pub is_noted : Reach → Bool
+is_noted r = nat_le (length r.input) input_bytes
+
+-- the sites that an evaluation reached by an input of which there may be a note, under the flag's key
 abbrev pub reached_at : List ℕ → List Reach → List (List ℕ × List Reach)
-reached_at key [] = []
-reached_at key (site ∷ sites) = (key, site ∷ sites) ∷ []
+reached_at key sites = under_key key (filter is_noted sites)
 
 -- the flag of a key has floats: a value of it stands as a text, which is printed as it is
 abbrev pub is_spelled : List ℕ → Marked → Bool
@@ -47,7 +56,7 @@ read_by_flag flags key context r = read_unless_told r.variant r.code context (op
 
 -- what is said of it
 unfoldable pub read_details : Reading → List ℕ
-read_details r = codes "the targeting reads `" ++ (r.path ++ (codes "`, which is " ++ (unwrap_or (text_if r.spelling) [] ++ codes ": a number that is not whole can be compared and tested, and not used otherwise")))
+read_details r = codes "the targeting reads `" ++ (r.way ++ (codes "`, which is " ++ (unwrap_or (text_if r.spelling) [] ++ codes ": a number that is not whole can be compared and tested, and not used otherwise")))
 
 abbrev pub read_failure : List ℕ → Reading → Shape
 read_failure key r = failure (Some key) ParseError (read_details r)

@@ -1,12 +1,13 @@
 //! What a request is answered.
-ghost use Rattle.std.specs.Prelude.{◌≡◌, ◌++◌, map, option_copied, OnOk};
+ghost use Rattle.std.specs.Prelude.{◌≡◌, ◌++◌, filter, map, option_copied, OnOk};
 ghost use Rattle.logic_eval.specs.Views.{reach_view};
 ghost use Rattle.ofrep_answers.specs.Answer.{answer_view, bare, body_view, bytes_of, media_type, reached_view};
 ghost use Rattle.ofrep_answers.specs.Answer as spec;
-ghost use Rattle.ofrep_answers.specs.Evaluation.{reached_at};
+ghost use Rattle.ofrep_answers.specs.Evaluation.{is_noted, reached_at};
 
 use crate::reasons::Reasons;
 use http::StatusCode;
+use limits::INPUT_BYTES;
 use logic_eval::Reached;
 use std::alloc::{AllocError, Global};
 
@@ -25,7 +26,7 @@ pub enum Content {
     Counts,
 }
 
-/// The sites that the evaluation of a flag reached, in their order.
+/// The sites that the evaluation of a flag reached by hash inputs of which there may be a note, in their order.
 #[derive(Drop)]
 pub struct FlagReached {
     /// The key of the flag.
@@ -45,9 +46,9 @@ pub struct Answer {
     pub tag: Option<String>,
     /// The body.
     pub content: Content,
-    /// What the evaluations reached, by flag.
+    /// What the evaluations reached by inputs of which there may be a note, by flag.
     pub reached: Vec<FlagReached>,
-    /// How they ended.
+    /// How they ended, and how many inputs are too long for a note.
     pub reasons: Reasons,
 }
 
@@ -124,7 +125,22 @@ impl Answer {
     }
 }
 
-/// Adds the sites that the evaluation of a flag reached, where there are some.
+/// Whether a note may have the hash input of a site.
+pub(crate) fn is_noted(site: &Reached) -> bool
+    ensures { result ≡ is_noted (reach_view site.now) }
+{
+    site.input.len() <= INPUT_BYTES
+}
+
+/// The sites that were reached by an input of which there may be a note. What no note may have is held no longer, however long it is.
+fn noted(mut reached: Vec<Reached>) -> Vec<Reached>
+    ensures { map reach_view result.items ≡ filter is_noted (map reach_view reached.items) }
+{
+    reached.retain(|site| is_noted(site));
+    reached
+}
+
+/// Adds the sites that the evaluation of a flag reached by an input of which there may be a note, where there are some.
 #[tactic(auto, using(crate::proofs::Reached::kept, crate::proofs::Reached::added))]
 pub(crate) fn push_reached(
     alloc: Global,
@@ -134,10 +150,14 @@ pub(crate) fn push_reached(
 ) -> Result<(), AllocError>
     ensures ok { OnOk result (map reached_view all.new.items ≡ map reached_view all.old.items ++ reached_at key.now (map reach_view reached.items)) }
 {
-    if reached.is_empty() {
+    let noted = noted(reached);
+    if noted.is_empty() {
         return Ok(());
     }
     let flag = String::from_str(alloc, key)?;
-    all.push(FlagReached { flag, reached })?;
+    all.push(FlagReached {
+        flag,
+        reached: noted,
+    })?;
     Ok(())
 }

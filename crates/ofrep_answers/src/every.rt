@@ -24,7 +24,7 @@ use decimal_reads::DecimalRead;
 use entity_tags::{entity_tag, is_listed, opaque_tag};
 use flag_defs::Flags;
 use flag_metadata::Metadata;
-use flag_resolve::{Reason, Resolution};
+use flag_resolve::Resolution;
 use flag_text::Tree;
 use http::StatusCode;
 use json::Scratch;
@@ -88,19 +88,19 @@ fn told_flags(
         let resolution = evaluate(alloc, flags, key, context, moment)?;
         let spelled = is_spelled(flags, key);
         let read = read_by_flag(flags, key, context, &resolution);
-        told.count(resolution.reason);
+        told.count(&resolution);
         told.add(alloc, metadata, key, read, resolution, spelled)?;
     }
     Ok(told)
 }
 
 impl Evaluations {
-    /// Counts an evaluation that ended with this reason.
-    fn count(&mut self, reason: Reason)
+    /// Counts an evaluation that came to this resolution.
+    fn count(&mut self, resolution: &Resolution)
         ensures bodies { map string_bytes self.new.bodies.items ≡ map string_bytes self.old.bodies.items }
         ensures reached { map reached_view self.new.reached.items ≡ map reached_view self.old.reached.items }
     {
-        self.reasons.count(reason);
+        self.reasons.count(resolution);
     }
 
     /// Adds the evaluation of the flag of a key, or what its targeting reads.

@@ -158,7 +158,8 @@ fn one_told(
     ensures { IfOk result (λ a. answer_view a ≡ one_told (option_map read_view read.entry) spelled (flag_metadata (metadata_view metadata.now) key.now) key.now (resolution_view resolution)) }
 {
     let status = status_of(&resolution);
-    let reasons = Reasons::of(resolution.reason);
+    let mut reasons = Reasons::none();
+    reasons.count(&resolution);
     let text = told_text(alloc, metadata, key, read, &resolution, spelled)?.into_bytes();
     let mut reached = Vec::new(alloc);
     push_reached(alloc, &mut reached, key, resolution.reached)?;

@@ -65,9 +65,10 @@ fn read_text(alloc: Global, key: &str, read: DecimalRead) -> Result<String, Allo
 fn read_details(alloc: Global, read: DecimalRead) -> Result<String, AllocError>
     ensures { IfOk result (λ s. string_bytes s ≡ read_details (read_view read.entry)) }
 {
-    let path = read.path;
+    let way = read.way(alloc)?;
+    let way = way.as_str();
     let spelling = text_or(read.spelling, "");
     format!(in alloc;
-        "the targeting reads `{path}`, which is {spelling}: a number that is not whole can be compared and tested, and not used otherwise"
+        "the targeting reads `{way}`, which is {spelling}: a number that is not whole can be compared and tested, and not used otherwise"
     )
 }

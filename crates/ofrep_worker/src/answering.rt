@@ -13,6 +13,7 @@ use crate::counts::Counts;
 use crate::failing::{give, tell_unready};
 use crate::filling::fill;
 use crate::moment::moment_of;
+use crate::notes::tells;
 use crate::recording::{record_answer, trouble_in};
 use crate::unrecorded::WithoutRecord;
 use bytes::{BufMut, Bytes};
@@ -61,7 +62,8 @@ pub(crate) fn answer_from<R: Clock, F: LogFile>(
     let is_given = with.without_record.gives(recorded);
     give(why, is_given, response);
     with.counts.count_given(recorded, is_given);
-    with.counts.count_evaluations(answer.reasons);
+    let has_notes = log.is_some() && tells(answer.status);
+    with.counts.count_evaluations(answer.reasons, has_notes);
     Ok(())
 }
 

@@ -92,8 +92,11 @@ impl Counts {
         self.memory.store(bytes, Ordering::Relaxed);
     }
 
-    /// Counts evaluations that ended with these reasons.
-    pub(crate) fn count_evaluations(&self, reasons: Reasons) {
+    /// Counts evaluations that ended with these reasons, and, where notes of them were to be made, the inputs that are too long for a note.
+    pub(crate) fn count_evaluations(&self, reasons: Reasons, has_notes: bool) {
+        if has_notes {
+            add(&self.inputs_too_long, reasons.inputs_too_long);
+        }
         add(&self.error, reasons.error);
         add(&self.disabled, reasons.disabled);
         add(&self.fixed, reasons.fixed);
@@ -101,10 +104,9 @@ impl Counts {
         add(&self.targeting_match, reasons.targeting_match);
     }
 
-    /// Counts notes that were written, and inputs that were too long for one.
-    pub(crate) fn count_notes(&self, notes: u64, inputs_too_long: u64) {
+    /// Counts notes that were written.
+    pub(crate) fn count_notes(&self, notes: u64) {
         add(&self.notes, notes);
-        add(&self.inputs_too_long, inputs_too_long);
     }
 
     /// Counts an answer that was given without its notes, where it was.

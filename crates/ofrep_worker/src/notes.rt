@@ -32,7 +32,7 @@ pub(crate) fn notes_of(
 }
 
 /// Whether an answer with this status tells something of flags.
-fn tells(status: StatusCode) -> bool
+pub(crate) fn tells(status: StatusCode) -> bool
     ensures { result ≡ (status == 200 || status == 304) }
 {
     status == StatusCode::OK || status == StatusCode::NOT_MODIFIED

@@ -34,7 +34,6 @@ pub struct OfrepWorker<'a, J: ShareName, R, F: LogFile> {
     scratch: Scratch,
     /// What was counted of its log: the notes that were written, the inputs that were too long for one, and why it can't be written.
     notes: u64,
-    too_long: u64,
     trouble: Option<Trouble>,
 }
 
@@ -62,7 +61,6 @@ impl<'a, J: ShareName, R: Clock, F: LogFile> OfrepWorker<'a, J, R, F> {
             without_record,
             scratch: Scratch::new(alloc),
             notes: 0,
-            too_long: 0,
             trouble: None,
         }
     }
@@ -128,11 +126,11 @@ impl<J: ShareName, R: LogPaths + Wait, F: LogFile> OfrepWorker<'_, J, R, F> {
 }
 
 impl<J: ShareName, R, F: LogFile> OfrepWorker<'_, J, R, F> {
-    /// How many notes the log has taken, and how many inputs were too long for one.
-    fn noted(&self) -> (u64, u64) {
+    /// How many notes the log has taken.
+    fn noted(&self) -> u64 {
         match &self.log {
-            Some(log) => (log.written(), log.too_long()),
-            None => (0, 0),
+            Some(log) => log.written(),
+            None => 0,
         }
     }
 
@@ -142,15 +140,11 @@ impl<J: ShareName, R, F: LogFile> OfrepWorker<'_, J, R, F> {
         ensures log { self.new.log ≡ self.old.log }
         ensures without { self.new.without_record ≡ self.old.without_record }
     {
-        let (notes, too_long) = self.noted();
+        let notes = self.noted();
         let trouble = trouble_in(&self.log);
-        self.counts.count_notes(
-            notes.saturating_sub(self.notes),
-            too_long.saturating_sub(self.too_long),
-        );
+        self.counts.count_notes(notes.saturating_sub(self.notes));
         self.counts.count_trouble(self.trouble, trouble);
         self.notes = notes;
-        self.too_long = too_long;
         self.trouble = trouble;
     }
 }

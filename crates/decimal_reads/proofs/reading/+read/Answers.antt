@@ -1,4 +1,4 @@
-use Rattle.std.proofs.Common.{◌≡◌, Option, None, option_map, sym, ap, ◌∙◌}
+use Rattle.std.proofs.Common.{◌≡◌, Option, None, false, option_map, sym, ap, ◌∙◌}
 use Rattle.flag_text.specs.View.{view}
 use Rattle.logic_ast.specs.View.{boxed_view, buckets_view, node_view, nodes_view}
 use Rattle.logic_ast.proofs.Views.{node_view-fractional}
@@ -11,7 +11,7 @@ read_in-returns-in-List t c =
     let context = view c.args.context.tree.now in
     let items = c.in-List.items in
     c.read_in_each.ensures
-    ∙ ap (λ n. read_in_each None n 0 context (nodes_view items.items)) (sym (count_nodes items.items))
+    ∙ ap (λ n. read_in_each None false n 0 context (nodes_view items.items)) (sym (count_nodes items.items))
     ∙ sym (ap (read_in c.args.tested context) (ap node_view c.in-List.is ∙ node_view-list items))
 
 pub read_in-returns-in-None : goal.read_in-returns-in-None

@@ -17,7 +17,7 @@ use Rattle.logic_values.specs.Truth.{is_true}
 use Rattle.logic_eval.specs.Views.{progress, scope_view, default_view, input_view, weighted_variant_view}
 use Rattle.logic_values.specs.Views.{value_view}
 use Rattle.logic_eval.proofs.Branching.{literal_site}
-use Rattle.logic_eval.proofs.Branches.{node_view-literal, node_view-list, node_view-operation, as_seen, operand_seen, operated-other, strict-asked, operand-operation, operand-node, tested-other, conditional_err, conditional_true, conditional_false, conditional_end, first_of_truth_err, first_of_truth_found, first_of_truth_next, first_of_truth_none}
+use Rattle.logic_eval.proofs.Branches.{node_view-literal, node_view-list, node_view-operation, as_seen, operand_seen, operated-other, strict-asked, operand-operation, operand-node, tested-other, conditional_err, conditional_true, conditional_false, conditional_end, first_of_truth_err, first_of_truth_found, first_of_truth_next, first_of_truth_none, early_seen}
 use Rattle.logic_eval.proofs.Budgets.{bind_ok, bind_err, cost_ok, cost_err, paid-gives}
 use Rattle.logic_eval.proofs.Exits.{exits, gives_same, ended}
 use Rattle.logic_values.proofs.Items.{pushed}
@@ -161,7 +161,7 @@ operate_tested-returns-in_ok-values-in-Var t c = record {
 
 pub operate_tested-returns-in_default : goal.operate_tested-returns-in_default
 operate_tested-returns-in_default t c = record {
-  exact = gives_same _ _ _ _ (ap (λ r. paid (progress c.args.meter.now) (r (scope_view c.args.scope))) (tested-other c.args.operator (default_view c.args.subject) (nodes_view c.args.arguments.now.items) c.in_default.not-Var)) c.operate.ensures.exact;
+  exact = gives_same _ _ _ _ (ap (λ r. paid (progress c.args.meter.now) (r (scope_view c.args.scope))) (tested-other c.args.operator (default_view c.args.subject) (nodes_view c.args.arguments.now.items) c.in_default.not-Var c.in_default.not-And c.in_default.not-Or)) c.operate.ensures.exact;
 }
 
 -- what is known of the sites below a node
@@ -184,8 +184,8 @@ conditional-evaluate_node-requires-then-len-eq1 t c = (search (rules, the_lemmas
 pub first_of_truth-evaluate_operand_if-requires : goal.first_of_truth-evaluate_operand_if-requires
 first_of_truth-evaluate_operand_if-requires t c = (search (rules, the_lemmas), in_nodes c.args.subject c.args.nodes.now.items c.loop-place.place c.index.result.now (omega arith) c.index.ensures c.requires)
 
-pub first_of_truth-evaluate_node-requires : goal.first_of_truth-evaluate_node-requires
-first_of_truth-evaluate_node-requires t c =
+pub first_of_truth-evaluate_operand_if-requires-2 : goal.first_of_truth-evaluate_operand_if-requires-2
+first_of_truth-evaluate_operand_if-requires-2 t c =
     let some : 0 < length c.args.nodes.now.items = grind arith in
     (search (rules, the_lemmas), in_nodes c.args.subject c.args.nodes.now.items _ c.index-2.result.now (omega (arith, some)) c.index-2.ensures c.requires)
 
@@ -280,7 +280,7 @@ operate-returns-in_ok-values-in_default t c = record {
 
 pub first_of_truth-returns-then-is_empty : goal.first_of_truth-returns-then-is_empty
 first_of_truth-returns-then-is_empty t c = record {
-  exact = ap (paid (progress c.args.meter.now)) (first_of_truth_none c.args.wanted (default_view c.args.subject) (scope_view c.args.scope) c.args.nodes.now.items (search rules)) ∙ (paid-gives _ _ ∙ ap (λ s. Ok (s, progress c.args.meter.now)) (sym value_null));
+  exact = ap (paid (progress c.args.meter.now)) (first_of_truth_none c.args.wanted c.args.tested (default_view c.args.subject) (scope_view c.args.scope) c.args.nodes.now.items (search rules)) ∙ (paid-gives _ _ ∙ ap (λ s. Ok (s, progress c.args.meter.now)) (sym value_null));
 }
 
 pub first_of_truth-returns-in_err-value : goal.first_of_truth-returns-in_err-value
@@ -288,7 +288,7 @@ first_of_truth-returns-in_err-value t c = let xs = c.args.nodes.now.items in
     let i : ℕ = c.loop-place.place in
     let h : i + 1 < length xs = omega arith in record {
       exact = exits _ _ _ _ c.from_residual.ensures.1
-          (λ n. c.loop-place.invariant ∙ first_of_truth_err c.args.wanted (default_view c.args.subject) (scope_view c.args.scope) xs i c.index.result.now (progress c.loop-place.meter) _ h c.index.ensures (c.in_err-value.ensures.exact n));
+          (λ n. c.loop-place.invariant ∙ first_of_truth_err c.args.wanted c.args.tested (default_view c.args.subject) (scope_view c.args.scope) xs i c.index.result.now (progress c.loop-place.meter) _ h c.index.ensures (early_seen _ _ _ _ _ _ _ c.tests_early-early.ensures ∙ c.in_err-value.ensures.exact n));
     }
 
 pub first_of_truth-returns-then-is_true-wanted : goal.first_of_truth-returns-then-is_true-wanted
@@ -296,7 +296,7 @@ first_of_truth-returns-then-is_true-wanted t c = let xs = c.args.nodes.now.items
     let i : ℕ = c.loop-place.place in
     let h : i + 1 < length xs = omega arith in
     let t : bool_eq c.args.wanted (is_true (value_view c.in_ok-value.value)) ≡ true = ap (bool_eq c.args.wanted) (sym (ap is_true c.seen.ensures) ∙ sym c.is_true.ensures) ∙ bool_eq-same c.args.wanted c.is_true.result c.if-is_true-wanted.true in record {
-      exact = c.loop-place.invariant ∙ first_of_truth_found c.args.wanted (default_view c.args.subject) (scope_view c.args.scope) xs i c.index.result.now (progress c.loop-place.meter) (progress c.evaluate_operand_if.new.meter) _ h c.index.ensures c.in_ok-value.ensures.exact t;
+      exact = c.loop-place.invariant ∙ first_of_truth_found c.args.wanted c.args.tested (default_view c.args.subject) (scope_view c.args.scope) xs i c.index.result.now (progress c.loop-place.meter) (progress c.evaluate_operand_if.new.meter) _ h c.index.ensures (early_seen _ _ _ _ _ _ _ c.tests_early-early.ensures ∙ c.in_ok-value.ensures.exact) t;
     }
 
 pub first_of_truth-loop-place-preserved : goal.first_of_truth-loop-place-preserved
@@ -304,7 +304,7 @@ first_of_truth-loop-place-preserved t c = let xs = c.args.nodes.now.items in
     let i : ℕ = c.loop-place.place in
     let h : i + 1 < length xs = omega arith in
     let t : bool_eq c.args.wanted (is_true (value_view c.in_ok-value.value)) ≡ false = ap (bool_eq c.args.wanted) (sym (ap is_true c.seen.ensures) ∙ sym c.is_true.ensures) ∙ bool_eq-other c.args.wanted c.is_true.result c.if-is_true-wanted.false in
-    c.loop-place.invariant ∙ first_of_truth_next c.args.wanted (default_view c.args.subject) (scope_view c.args.scope) xs i c.index.result.now (progress c.loop-place.meter) (progress c.evaluate_operand_if.new.meter) _ h c.index.ensures c.in_ok-value.ensures.exact t
+    c.loop-place.invariant ∙ first_of_truth_next c.args.wanted c.args.tested (default_view c.args.subject) (scope_view c.args.scope) xs i c.index.result.now (progress c.loop-place.meter) (progress c.evaluate_operand_if.new.meter) _ h c.index.ensures (early_seen _ _ _ _ _ _ _ c.tests_early-early.ensures ∙ c.in_ok-value.ensures.exact) t
 
 pub mapped-returns-in_err-value : goal.mapped-returns-in_err-value
 mapped-returns-in_err-value t c = let xs = c.args.items.now in

@@ -21,8 +21,8 @@ invariant-conditional-loop-pair l =
 
 abbrev pub invariant-first_of_truth-loop-place : goal.invariant-first_of_truth-loop-place
 invariant-first_of_truth-loop-place l =
-    paid (progress l.fn.meter) (first_of_truth l.wanted (truth_meanings l.wanted (default_view l.subject) (nodes_view l.nodes.items)) (scope_view l.scope))
-    ≡ paid (progress l.meter) (first_of_truth l.wanted (truth_meanings l.wanted (default_view l.subject) (nodes_view (drop l.place l.nodes.items))) (scope_view l.scope))
+    paid (progress l.fn.meter) (first_of_truth l.wanted (truth_meanings l.wanted l.tested (default_view l.subject) (nodes_view l.nodes.items)) (scope_view l.scope))
+    ≡ paid (progress l.meter) (first_of_truth l.wanted (truth_meanings l.wanted l.tested (default_view l.subject) (nodes_view (drop l.place l.nodes.items))) (scope_view l.scope))
 
 abbrev pub invariant-mapped-loop-item : goal.invariant-mapped-loop-item
 invariant-mapped-loop-item l =
