@@ -66,7 +66,7 @@ def timed(program, folder, workers, connections, logs, flag):
         spent = server.seconds() - begun
         assert "Non-2xx" not in told, told
         answers = int(re.search(r"(\d+) requests in", told)[1])
-        return float(re.search(r"Requests/sec:\s+([0-9.]+)", told)[1]), re.search(r"99%\s+(\S+)", told)[1], spent / answers * 1e6
+        return float(re.search(r"Requests/sec:\s+([0-9.]+)", told)[1]), re.search(r"(?m)^ +99% +(\S+)", told)[1], spent / answers * 1e6
 
 
 def main():

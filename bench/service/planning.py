@@ -1,17 +1,16 @@
 """What a plan over many recorded inputs takes of a service, and of those who are answered beside it: seconds for GET /flags, GET /record and
 POST /plan, the most memory held, also what is more by each input, and the 99th percentile of answers before and beside these calls, of
-CLIENTS connections that ask one after another. Needs `wrk`. Usage: planning.py [INPUTS ..]   (1,000,000 and 10,000,000)"""
+CLIENTS connections that ask one after another. Usage: planning.py [INPUTS ..]   (1,000,000 and 10,000,000)"""
 import http.client
 import json
+import multiprocessing
 import os
-import re
-import signal
-import subprocess
+import socket
 import sys
 import tempfile
 import time
 
-from service import PATH, Service, free_port
+from service import PATH, Service, body_for, free_port
 
 SIZES = [int(word) for word in sys.argv[1:]] or [1_000_000, 10_000_000]
 CLIENTS, LOGS, PLANS = 4, 4, 5
@@ -19,16 +18,6 @@ CLIENTS, LOGS, PLANS = 4, 4, 5
 # How long answers are timed before the plans, in seconds.
 USUAL = 10
 REQUEST = json.dumps({"plan": 1, "flag": "color", "site": 0, "totals": {"red": 40, "blue": 60}})
-ASK = """
-wrk.method = "POST"
-wrk.headers["Content-Type"] = "application/json"
-local n = 0
-request = function()
-  n = n + 1
-  return wrk.format(nil, nil, nil, string.format('{"context":{"targetingKey":"user-%d"}}', n % 4000))
-end
-function delay() return 1 end
-"""
 
 
 def put_logs(folder, count):
@@ -40,22 +29,35 @@ def put_logs(folder, count):
 
 
 class Asking:
-    """CLIENTS connections that ask for one known key after another, a millisecond after each answer."""
+    """CLIENTS connections that ask for one known key after another, a millisecond after each answer: a process each, since threads of
+    one would wait for one another."""
 
-    def __init__(self, folder, service):
-        with open(os.path.join(folder, "ask.lua"), "w", encoding="utf-8") as file:
-            file.write(ASK)
-        url = f"http://127.0.0.1:{service.port}{PATH}"
-        words = ["wrk", "-t", "1", "-c", str(CLIENTS), "-d", "3600s", "--latency", "-s", file.name, url]
-        self.child = subprocess.Popen(words, stdout=subprocess.PIPE, text=True)
+    def __init__(self, service):
+        self.port, self.is_over, self.told = service.port, multiprocessing.Event(), multiprocessing.Queue()
+        self.clients = [multiprocessing.Process(target=self.ask_on, args=(client,), daemon=True) for client in range(CLIENTS)]
+        for client in self.clients:
+            client.start()
+
+    def ask_on(self, client):
+        took, number = [], 0
+        with socket.create_connection(("127.0.0.1", self.port), 900) as stream:
+            while not self.is_over.is_set():
+                body = body_for(f"user-{client}-{number % 1000}")
+                request = b"POST %s HTTP/1.1\r\nHost: h\r\nContent-Length: %d\r\n\r\n%s" % (PATH.encode(), len(body), body)
+                asked = time.perf_counter()
+                stream.sendall(request)
+                # (an answer comes in one piece: it is short)
+                assert stream.recv(4096).startswith(b"HTTP/1.1 200 ")
+                took.append(1000 * (time.perf_counter() - asked))
+                number += 1
+                time.sleep(0.001)
+        self.told.put(took)
 
     def end(self):
-        """The 99th percentile in milliseconds, and how many answers there were, each 200. (`wrk` tells them as it is interrupted.)"""
-        self.child.send_signal(signal.SIGINT)
-        told = self.child.communicate()[0]
-        assert "Non-2xx" not in told, told
-        number, unit = re.search(r"99%\s+([0-9.]+)(us|ms|s)\b", told).groups()
-        return float(number) * {"us": 0.001, "ms": 1, "s": 1000}[unit], int(re.search(r"(\d+) requests in", told)[1])
+        """The 99th percentile in milliseconds, and how many answers there were."""
+        self.is_over.set()
+        times = sorted(time for _ in self.clients for time in self.told.get())
+        return times[len(times) * 99 // 100], len(times)
 
 
 def called(port, method, path, body=None):
@@ -82,26 +84,25 @@ def measured(count):
         try:
             # (The first answers write their lines, and what was written of the logs just now goes to the disk.)
             os.sync()
-            asking = Asking(folder, service)
+            asking = Asking(service)
             time.sleep(2)
             asking.end()
-            asking = Asking(folder, service)
+            asking = Asking(service)
             time.sleep(USUAL)
             usual, before = asking.end()
             # The workers remember the last notes of their logs by now.
             held = service.kilobytes("VmHWM")
-            asking = Asking(folder, service)
+            asking = Asking(service)
             _, flags = called(admin, "GET", "/flags")
             _, record = called(admin, "GET", "/record?flag=color&site=0")
             plans = [called(admin, "POST", "/plan", REQUEST) for _ in range(PLANS)]
             beside, among = asking.end()
             most = service.kilobytes("VmHWM")
             inputs = json.loads(plans[-1][0])["inputs"]
-            assert count <= inputs <= count + 4000, inputs
+            assert count <= inputs <= count + CLIENTS * 1000, inputs
             print(f"  flags {flags:.2f} s; record {record:.2f} s; plan {min(took for _, took in plans):.2f} to {max(took for _, took in plans):.2f} s; most memory {most / 1024:,.0f} MiB, before {held / 1024:,.0f} MiB: {(most - held) * 1024 / count:.0f} bytes more an input")
             print(f"  99th percentile of answers: {usual:.2f} ms before ({before:,}), {beside:.2f} ms beside the calls ({among:,}), {beside / usual:.2f} times", flush=True)
         finally:
-            asking.child.kill()
             service.kill()
 
 
