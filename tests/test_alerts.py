@@ -18,7 +18,8 @@ ALERTS = [
     ("FlagopsLogFails", 'ofrep_log_failing{instance="a",reason="lost"}', "0 0 1x10 0", "45s", "60s", "195s"),
     ("FlagopsErrors", 'ofrep_requests_total{instance="a",status="500"}', "0x4 1+1x40 41x60", "4m", "8m", "20m"),
     ("FlagopsDocumentRefused", 'flagops_documents_refused{instance="a",place="1"}', "0 0 1x10 0", "75s", "90s", "195s"),
-    ("FlagopsLogReopened", 'ofrep_log_reopened_total{instance="a",reason="missing"}', "0x4 1x500", "45s", "2m", "90m"),
+    ("FlagopsLogReopened", 'ofrep_log_reopened_total{instance="a",reason="shorter"}', "0x4 1x500", "45s", "2m", "90m"),
+    ("FlagopsLogReopened", 'ofrep_log_reopened_total{instance="a",reason="unseen"}', "0x4 1x500", "45s", "2m", "90m"),
     ("FlagopsEvaluationErrors", 'ofrep_evaluations_total{instance="a",reason="ERROR"}', "0x4 1+1x80 81x100", "10m", "15m", "35m"),
 ]
 
@@ -29,6 +30,7 @@ QUIET = [
     ('ofrep_log_failing{instance="a",reason="unwritten"}', "0x10 1 0x400"),
     ('ofrep_requests_total{instance="a",status="404"}', "0+1x400"),
     ('ofrep_log_reopened_total{instance="a",reason="replaced"}', "0+1x400"),
+    ('ofrep_log_reopened_total{instance="a",reason="missing"}', "0+1x400"),
     ('ofrep_evaluations_total{instance="a",reason="STATIC"}', "0+100x400"),
     ('ofrep_evaluations_total{instance="a",reason="ERROR"}', "0+1x400"),
     ('flagops_documents_refused{instance="a",place="1"}', "0x400"),

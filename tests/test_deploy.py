@@ -159,6 +159,9 @@ class Running(ServiceTest):
         with open(rule, "w", encoding="utf-8") as file:
             file.write(text_of("logrotate").replace("/var/lib/flagops/log", os.path.join(self.folder, "log")))
         os.chmod(rule, 0o644)
+        # (of a rule that has a `size` too, logrotate says that it overrides the days)
+        asked = ran(found("logrotate"), "--debug", "--state", state, rule)
+        self.assertIn("after 1 days (30 rotations)", asked.stdout)
         for turn in range(3):
             self.assertEqual(self.flag("color", context(f"user-{turn}"))[0], 200)
             rotated = ran(found("logrotate"), "--force", "--state", state, rule)

@@ -59,6 +59,7 @@ class Libraries(Script):
         self.assertEqual(self.last("costly.py", "evaluation", "levels"), "2 cases, 0 bad")
         self.assertEqual(self.last("costly.py", "evaluations", "at 3,000 sites"), "1 cases, 0 bad")
         self.assertEqual(self.last("costly.py", "rules", "60 MB"), "2 cases, 0 bad")
+        self.assertEqual(self.last("costly.py", "service", "160 buckets"), "1 cases, 0 bad")
 
     def test_a_service_that_lacks_something(self):
         self.none_bad("ofrep.py", 1)

@@ -3,11 +3,12 @@
 
     bench/hostile/costly.py [GROUP [WORD]]
 
-Those of a GROUP (targeting, evaluation, documents, records, rules, evaluations, plans, found) whose names hold a WORD, or all.
+Those of a GROUP (targeting, evaluation, documents, records, rules, evaluations, plans, found, service) whose names hold a WORD, or all.
 A run is bad where it is ended by a signal, answers another than the row's, or takes more than a second of a processor and one for each
-megabyte of what it read and printed, or more than 60 MB and 60 bytes for each byte read or printed, or more than 500 MB. Prints a
-row for each: what it is, the bytes read and printed, the answer, the time and the memory. The last line is 'N cases, M bad'; ends
-with 1 where M is not 0."""
+megabyte of what it read and printed, or more than 60 MB and 60 bytes for each byte read or printed, or more than 500 MB. Those of
+`service` are requests to `ofrep`, each to a process of its own: the time is that of the answer, the memory that which the process held
+at most while it answered. Prints a row for each: what it is, the bytes read and printed, the answer, the time and the memory. The last
+line is 'N cases, M bad'; ends with 1 where M is not 0."""
 import json
 import os
 import sys
@@ -15,6 +16,7 @@ import tempfile
 from typing import NamedTuple
 
 from forks import Forks
+from search import Service
 
 SECONDS, MEGABYTES, PER_BYTE, MOST_MEGABYTES = 1.0, 60, 60, 500
 
@@ -28,6 +30,37 @@ class Row(NamedTuple):
     words: list
     files: dict
     begins: str = ""
+
+    def run(self, forks, folder):
+        """How it ended: its status, the front of its first line, the bytes that it printed and told, the seconds of a processor, and
+        the megabytes that it took at most."""
+        for name, text in self.files.items():
+            with open(os.path.join(folder, name), "w", encoding="utf-8") as file:
+                file.write(text)
+        ran = forks.run(self.words, folder)
+        first = ran.out[:80].decode(errors="replace").split("\n")[0]
+        return ran.status, first, len(ran.out) + len(ran.err), ran.seconds, ran.kilobytes / 1024
+
+
+class Asked(NamedTuple):
+    """A request to a service over the file `doc`, with the file `body`, for the flag `a` or for every flag, and its status."""
+
+    name: str
+    files: dict
+    begins: str
+    path: str = "/ofrep/v1/evaluate/flags/a"
+
+    def run(self, _forks, folder):
+        """How it was answered, as a run ends."""
+        path = os.path.join(folder, "doc")
+        with open(path, "w", encoding="utf-8") as file:
+            file.write(self.files["doc"])
+        with Service(path, folder) as service:
+            service.forget_most()
+            before = service.seconds()
+            status, printed = service.ask(self.files["body"], self.path, 600)
+            spent = service.seconds() - before if status else 0
+            return (0, str(status), printed, spent, service.megabytes("VmHWM")) if status else (-1, "", 0, 0, 0)
 
 
 def flag(targeting, **members):
@@ -308,15 +341,26 @@ def found_before():
         yield Row(f"{words[0]}: a plan with an unread list of 20,000,000 empty lists", words, files)
 
 
-def run(forks, row, folder):
-    """How a run ended: its status, the front of its first line, the bytes that it printed and told, the seconds of a processor, and
-    the megabytes that it took at most."""
-    for name, text in row.files.items():
-        with open(os.path.join(folder, name), "w", encoding="utf-8") as file:
-            file.write(text)
-    ran = forks.run(row.words, folder)
-    first = ran.out[:80].decode(errors="replace").split("\n")[0]
-    return ran.status, first, len(ran.out) + len(ran.err), ran.seconds, ran.kilobytes / 1024
+def at_a_service():
+    """Those of `found_before` that a service answers, and what is dear still: texts made of a bucket's name, a split that is walked, and a
+    key that many flags split by."""
+    compact = lambda value: json.dumps(value, separators=(",", ":"))
+    asked = lambda name, targeting, context, status: Asked(name, {"doc": document({"a": flag(targeting)}), "body": compact({"context": context})}, status)
+    mapped = lambda each: {"if": [{"in": ["z", {"map": [{"var": "xs"}, each]}]}, "on", "off"]}
+    by_default = {"fractional": [["on", 1], ["off", 1]]}
+    long = {"targetingKey": "k" * 65_000}
+    yield asked("ofrep: a key of 65 KB at 24,000 elements", mapped(by_default), {"xs": [0] * 24_000, **long}, "200")
+    sought = {"names": [f"o.x{n}" for n in range(49_000)], "o": {f"m{n}": 0 for n in range(300_000)}}
+    yield asked("ofrep: 49,000 paths into an object of 300,000 members", {"if": [{"in": [0, {"missing": {"var": "names"}}]}, "on", "off"]}, sought, "200")
+    yield asked("ofrep: 16,000 buckets at 24,000 elements", mapped(split(16_000)), {"xs": [0] * 24_000, "targetingKey": "k"}, "")
+    yield asked("ofrep: 160 buckets at 24,000 elements", mapped(split(160)), {"xs": [0] * 24_000, "targetingKey": "k"}, "200")
+    named = {"fractional": [["n" * 60_000, 1]]}
+    yield asked("ofrep: cat of a bucket's name of 60 KB at 24,000 elements", mapped({"cat": [named]}), {"xs": [0] * 24_000, "targetingKey": "k"}, "200")
+    yield asked("ofrep: substr of a bucket's name of 60 KB at 12,000 elements", mapped({"substr": [named, 0]}), {"xs": [0] * 12_000, "targetingKey": "k"}, "200")
+    walked = {"fractional": ["k", ["on", {"var": ""}], *split(9_000)["fractional"]]}
+    yield asked("ofrep: 9,000 buckets at 12,000 elements, one with a computed weight", mapped(walked), {"xs": [1] * 12_000}, "200")
+    many = {"doc": document({f"f{n}": flag(by_default) for n in range(10_000)}), "body": compact({"context": long})}
+    yield Asked("ofrep: every one of 10,000 flags that split by a key of 65 KB", many, "200", "/ofrep/v1/evaluate/flags")
 
 
 GROUPS = {
@@ -328,6 +372,7 @@ GROUPS = {
     "evaluations": costly_evaluations,
     "plans": costly_plans,
     "found": found_before,
+    "service": at_a_service,
 }
 
 
@@ -339,7 +384,7 @@ def main(group="", word=""):
         for row in (row for name in ([group] if group else GROUPS) for row in GROUPS[name]()):
             if word not in row.name:
                 continue
-            status, first, printed, spent, taken = run(forks, row, folder)
+            status, first, printed, spent, taken = row.run(forks, folder)
             read = sum(len(text) for text in row.files.values())
             is_slow = spent > SECONDS + (read + printed) / 1e6
             is_large = taken > min(MOST_MEGABYTES, MEGABYTES + PER_BYTE * (read + printed) / 1e6)

@@ -70,22 +70,26 @@ class Service(Measured):
         with socket.socket() as probe:
             probe.bind(("127.0.0.1", 0))
             self.port = probe.getsockname()[1]
-        words = ["ofrep", "--listen", f"127.0.0.1:{self.port}", "--workers", "1", "--poll", "0", "--log", os.path.join(folder, "log"), "--remember", "0", document]
+        words = ["ofrep", "--listen", f"127.0.0.1:{self.port}", "--workers", "1", "--poll", "0", "--log", os.path.join(folder, "log"), "--remember", "0", "--max-body", "4194304", document]
         self.child = subprocess.Popen([PROGRAM, *words], stdout=subprocess.PIPE, stderr=subprocess.DEVNULL, text=True)
         assert select.select([self.child.stdout], [], [], 60)[0] and self.child.stdout.readline() == "serving 1\n"
 
-    def ask(self, body):
-        """The status of the answer for the flag; 0 where there is none within a minute."""
-        client = http.client.HTTPConnection("127.0.0.1", self.port, timeout=60)
+    def ask(self, body, path="/ofrep/v1/evaluate/flags/a", seconds=60):
+        """The status of the answer, for one flag or by another path for every flag, and its bytes; 0 where there is none within so long."""
+        client = http.client.HTTPConnection("127.0.0.1", self.port, timeout=seconds)
         try:
-            client.request("POST", "/ofrep/v1/evaluate/flags/a", body, {"Content-Type": "application/json"})
+            client.request("POST", path, body, {"Content-Type": "application/json"})
             answer = client.getresponse()
-            answer.read()
-            return answer.status
+            return answer.status, len(answer.read())
         except OSError:
-            return 0
+            return 0, 0
         finally:
             client.close()
+
+    def forget_most(self):
+        """What it held at most begins anew with what it holds now."""
+        with open(f"/proc/{self.child.pid}/clear_refs", "w", encoding="utf-8") as file:
+            file.write("5")
 
 
 # Where it begins: what was found dear before.
@@ -324,7 +328,7 @@ def measured(case, folder):
         file.write(texts[0])
     with Service(os.path.join(folder, "doc"), folder) as service:
         seconds, held = service.seconds(), service.megabytes()
-        status = service.ask(texts[1])
+        status, _ = service.ask(texts[1])
         if status:
             seconds, held = service.seconds() - seconds, service.megabytes("VmHWM") - held
     os.remove(os.path.join(folder, "log", "worker-1.log"))

@@ -41,9 +41,11 @@ class Folder:
             file = open(os.path.join(self.log, f"worker-{number}.log"), encoding="utf-8", errors="replace")
             self.files.setdefault(os.fstat(file.fileno())[1:3], file)
 
-    def reopened(self):
-        """How often a log was opened anew."""
-        return sum(count for series, count in self.service.metrics().items() if series.startswith("ofrep_log_reopened_total"))
+    def reopened(self, reasons):
+        """How often a log was opened anew for one of these reasons, and for any other."""
+        counts = {series.split('"')[1]: count for series, count in self.service.metrics().items() if series.startswith("ofrep_log_reopened_total")}
+        among = sum(counts[reason] for reason in reasons)
+        return among, sum(counts.values()) - among
 
     def end(self):
         """Ends the load and the service: the lines of all files that are or were there."""
@@ -115,17 +117,22 @@ def services(folder):
 
 ACTS = {"mv": mv, "gzip": gzip, "rm": rm, "rm-folder": rm_folder, "sed": sed, "copytruncate": copytruncate, "remount": remount, "services": services}
 
-# How the report of it on the error output begins.
-REPORTS = {"copytruncate": ["a log was cut"], "sed": ["a log was moved or removed", "another file was put in the place of a log"]}
+# How the report of it on the error output begins, and the reasons by which `/metrics` counts it.
+# (Between two file systems the folder below them is seen.)
+EITHER = ["a log was moved or removed", "another file was put in the place of a log"]
+REPORTS = {"copytruncate": ["a log was cut"], "sed": EITHER, "remount": EITHER}
+REASONS = {"copytruncate": ["shorter"], "sed": ["missing", "replaced"], "remount": ["missing", "replaced"]}
 
 
 def round_of(name, folder):
     """One act; then waits until the service has found it, and has all paths again."""
     folder.open_all()
-    before, reported = folder.reopened(), folder.service.reports()
+    reasons = REASONS.get(name, ["missing"])
+    (before, others), reported = folder.reopened(reasons), folder.service.reports()
     ACTS[name](folder)
     if name != "services":
-        wait_until(lambda: folder.reopened() > before, f"{name}: no log is opened anew")
+        wait_until(lambda: folder.reopened(reasons)[0] > before, f"{name}: no log is opened anew")
+        assert folder.reopened(reasons)[1] == others, f"{name}: {folder.service.metrics()}"
         parts = REPORTS.get(name, ["a log was moved or removed"])
         wait_until(lambda: any(part in folder.service.reports()[len(reported) :] for part in parts), f"{name}: nothing is reported")
     for number in range(1, WORKERS + 1):
