@@ -198,8 +198,8 @@ fn answer_operations<'a, J: ShareName, R: Net + LogPaths + DeskPaths + Clock + W
     serve_operations(rt, alloc, keys, board, &post, &mut dated)?.into_outcome()
 }
 
-/// A desk before a worker, which goes by the rules and the keys of a board and answers from the snapshots of a seat, and from what is
-/// known of their documents.
+/// A desk before a worker, which goes by the rules and the keys of a board, gives the console and answers from the snapshots of a seat,
+/// and from what is known of their documents.
 fn desk_of<'a, J: ShareName, R: DeskPaths, S: Drop>(
     rt: &'a R,
     alloc: Global,
@@ -210,6 +210,8 @@ fn desk_of<'a, J: ShareName, R: DeskPaths, S: Drop>(
 ) -> io::Result<ControlDesk<'a, J, R, SystemDeskFiles<'a, R>, S>>
     ensures post { IfOk result (λ desk. desk.post.now ≡ board.now.desks) }
     ensures sources { IfOk result (λ desk. desk.sources ≡ sources.entry) }
+    ensures text { IfOk result (λ desk. desk.page.text.now ≡ page_text) }
+    ensures policy { IfOk result (λ desk. desk.page.policy.bytes ≡ policy_text) }
     ensures keys { IfOk result (λ desk. keys_in desk.keys ≡ first_keys board.now.keys) }
     ensures seat { IfOk result (λ desk. desk.seat ≡ seat) }
     ensures worker { IfOk result (λ desk. desk.service ≡ worker) }
@@ -265,8 +267,8 @@ type OperatingDesk<'a, J, R> = ControlDesk<
     OfrepWorker<'a, J, R, SystemLog>,
 >;
 
-/// Has a desk of the board, which begins with its keys, answer the connections of a post until all threads are to end or the system
-/// fails. Its guard goes by the hosts of the post, and was not asked to stop yet.
+/// Has a desk of the board, which begins with its keys and gives the console with its policy, answer the connections of a post until all
+/// threads are to end or the system fails. Its guard goes by the hosts of the post, and was not asked to stop yet.
 fn serve_operations<'a, J: ShareName, R: Net + LogPaths + DeskPaths + Clock + Wait>(
     rt: &R,
     alloc: Global,
@@ -280,6 +282,8 @@ fn serve_operations<'a, J: ShareName, R: Net + LogPaths + DeskPaths + Clock + Wa
     requires begins { dated.old.service.service.is_stopping ≡ false }
     requires desks { dated.old.service.service.service.post.now ≡ board.now.desks }
     requires keys { keys_in dated.old.service.service.service.keys ≡ first_keys board.now.keys }
+    requires text { dated.old.service.service.service.page.text.now ≡ page_text }
+    requires policy { dated.old.service.service.service.page.policy.bytes ≡ policy_text }
     ensures turns { IfOk result (λ _. (turns : List (List Call)) × Works ⟦<Dated<'a, R, LoggedService<'a, R, AdminGuard<'a, OperatingDesk<'a, J, R>>>> as Service>⟧.answers ⟦<Dated<'a, R, LoggedService<'a, R, AdminGuard<'a, OperatingDesk<'a, J, R>>>> as Recording>⟧.looked dated.old turns dated.new) }
     ensures limits { IfOk result HasUsualLimits }
 {
