@@ -8,5 +8,4 @@ pub mod Page
 pub mod PageOrder
 pub mod Printing
 pub mod Reading
-pub mod Site
 pub mod Union

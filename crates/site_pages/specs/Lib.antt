@@ -1,4 +1,5 @@
 pub mod Keyed
 pub mod Pages
+pub mod Site
 pub mod Sites
 pub mod Text
