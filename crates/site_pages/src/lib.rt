@@ -16,8 +16,8 @@
 //! ```
 //!
 //! Proved, over the definitions of `specs/`: there is a page for each site, in the sites' order, and it is the page of the
-//! site of its number (`Pages`); [`page_of_site`] makes the page of one site (`Site`), and [`page_at`] that of a site of the flag of a
-//! key (`Keyed`).
+//! site of its number (`Pages`); [`page_of_site`] makes the page of one site (`Site`), and [`page_at`] that of a site of the
+//! flag of a key (`Keyed`).
 #![tactic(auto)]
 
 mod keyed;
