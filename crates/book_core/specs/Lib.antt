@@ -1,6 +1,7 @@
+pub use Rattle.exposures.specs.Counts
+pub use Rattle.exposures.specs.Exposure
 pub mod Book
 pub mod Calls
-pub mod Counts
 pub mod Fault
 pub mod Lines
 pub mod Listing
@@ -8,4 +9,5 @@ pub mod Page
 pub mod PageOrder
 pub mod Printing
 pub mod Reading
+pub mod Site
 pub mod Union

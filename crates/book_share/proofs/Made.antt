@@ -14,7 +14,7 @@ use Rattle.logic_ast.specs.Expression.{Expression}
 use Rattle.logic_ast.specs.Writing.{by_text_at}
 use Rattle.logic_ast.specs.declared.fault.LogicFault.{LogicFault}
 use Rattle.book_core.specs.Page.{PageName}
-use Rattle.site_pages.specs.Site.{page_at, with_by}
+use Rattle.book_core.specs.Site.{page_at, with_by}
 use Rattle.site_pages.specs.Pages.{ArePages, or_no_site}
 use Rattle.site_pages.specs.Keyed.{page_of, targeting_of, text_in}
 use Rattle.book_share.specs.Known.{AreKnown, AreSitePages, Entry}

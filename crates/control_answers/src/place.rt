@@ -15,7 +15,6 @@ use bucket_core::total_weight;
 use flag_defs::Flags;
 use logic_ast::{Site, site};
 use rollout_checks::{RequestFile, RolloutFault};
-use site_pages::page_of_site;
 use std::alloc::Global;
 use tally_core::MOST_POINTS;
 
@@ -82,6 +81,6 @@ fn place_of(alloc: Global, flags: &Flags, key: &str, number: u32) -> Result<Plac
         return Err(RolloutFault::NoSite);
     };
     let Site { entries, .. } = site(alloc, targeting, number)?;
-    let page = page_of_site(alloc, key, targeting, number)?;
+    let page = Page::of(alloc, key, targeting, number)?;
     Ok(Place { entries, page })
 }

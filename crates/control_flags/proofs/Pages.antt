@@ -1,7 +1,7 @@
 -- The pages of a targeting are those of its sites in preorder.
 use Rattle.std.proofs.Common.{◌≡◌, ◌+◌, ◌∙◌, ℕ, suc, List, [], ◌∷◌, Ok, Err, Result, ap, arith, refl, slice_get, sym}
 use Rattle.book_core.specs.Page.{PageName}
-use Rattle.site_pages.specs.Site.{page_at, with_by}
+use Rattle.book_core.specs.Site.{page_at, with_by}
 use Rattle.logic_ast.specs.Expression.{Expression}
 use Rattle.logic_ast.specs.Sites.{Site, if_site, preorder}
 use Rattle.logic_ast.specs.Writing.{by_text}

@@ -40,7 +40,6 @@ use line_batches::Inlet;
 use logic_ast::{Site, site};
 use note_streams::{StreamTally, TallyStop, tally_stream};
 use rollout_checks::RolloutFault;
-use site_pages::page_of_site;
 use std::alloc::{AllocError, Global};
 use std::convert::AsStr;
 use tally_core::PageTally;
@@ -346,6 +345,6 @@ fn place_of(alloc: Global, flags: &Flags, key: &str, number: u32) -> Result<Plac
         return Err(RolloutFault::NoSite);
     };
     let Site { entries, .. } = site(alloc, targeting, number)?;
-    let page = page_of_site(alloc, key, targeting, number)?;
+    let page = Page::of(alloc, key, targeting, number)?;
     Ok(Place { entries, page })
 }

@@ -25,7 +25,6 @@ use logic_ast::LogicFault;
 use page_tally::BookFile;
 use price_core::{PriceFault, Request};
 use rollout_diagnostics::{of_empty_tally, of_foreign, of_unrecorded};
-use site_pages::page_of_site;
 use std::alloc::{AllocError, Global};
 use std::thread::Threads;
 use tally_core::PageTally;
@@ -125,7 +124,7 @@ fn page_in(
     let Some(targeting) = flag.targeting() else {
         return Ok(None);
     };
-    match page_of_site(alloc, key, targeting, site) {
+    match Page::of(alloc, key, targeting, site) {
         Ok(page) => Ok(Some(page)),
         Err(LogicFault::WantOfMemory) => Err(AllocError),
         Err(_) => Ok(None),

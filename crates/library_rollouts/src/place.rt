@@ -12,7 +12,6 @@ use flag_defs::Flags;
 use logic_ast::{Site, site};
 use price_core::Request;
 use rollout_checks::RolloutFault;
-use site_pages::page_of_site;
 use std::alloc::Global;
 use tally_core::MOST_POINTS;
 
@@ -70,6 +69,6 @@ fn place_of(alloc: Global, flags: &Flags, key: &str, number: u32) -> Result<Plac
         return Err(RolloutFault::NoSite);
     };
     let Site { entries, .. } = site(alloc, targeting, number)?;
-    let page = page_of_site(alloc, key, targeting, number)?;
+    let page = Page::of(alloc, key, targeting, number)?;
     Ok(Place { entries, page })
 }

@@ -10,7 +10,7 @@ use Rattle.logic_eval.specs.Run.{Reach}
 use Rattle.flag_defs.specs.Document.{Definitions}
 use Rattle.flag_defs.specs.Flag.{targeting_in}
 use Rattle.book_core.specs.Page.{PageName}
-use Rattle.site_pages.specs.Site.{page_at}
+use Rattle.book_core.specs.Site.{page_at}
 use Rattle.note_lines.specs.Note.{most_noted, note_line}
 
 -- the targeting of the flag of a key

@@ -6,12 +6,12 @@ ghost use Rattle.logic_eval.specs.Views.{reach_view};
 ghost use Rattle.kept_lines.specs.View.{lines_view};
 ghost use Rattle.library_seat.specs.Lines.{line_of, lines_in, lines_of, targeting_of};
 
+use book_core::Page;
 use flag_defs::Flags;
 use limits::INPUT_BYTES;
 use logic_ast::{Expr, LogicFault};
 use logic_eval::Reached;
 use note_lines::note_line;
-use site_pages::page_of_site;
 use std::alloc::{AllocError, Global};
 
 /// The note lines of what the evaluation of a flag reached, in its order.
@@ -72,7 +72,7 @@ fn push_line(
     if input.len() > INPUT_BYTES {
         return Ok(());
     }
-    let page = match page_of_site(alloc, key, targeting, reach.site) {
+    let page = match Page::of(alloc, key, targeting, reach.site) {
         Ok(page) => page,
         Err(LogicFault::WantOfMemory) => return Err(AllocError),
         Err(_) => return Ok(()),

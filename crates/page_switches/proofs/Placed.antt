@@ -1,7 +1,7 @@
 -- The rule of a targeting at the site of a page.
 use Rattle.std.proofs.Common.{◌≡◌, ◌≢◌, true, Result, Ok, Err, IfOk, sym, ap, ◌∙◌}
 use Rattle.book_core.specs.Page.{PageName, page_eq}
-use Rattle.site_pages.specs.Site.{page_at}
+use Rattle.book_core.specs.Site.{page_at}
 use Rattle.bucket_core.specs.Reading.{rule_of_entries}
 use Rattle.bucket_core.specs.Rule.{Entries}
 use Rattle.flag_text.specs.Outcome.{GivesUnless}

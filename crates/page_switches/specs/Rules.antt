@@ -3,7 +3,7 @@ use Rattle.std.specs.Prelude.{Option, Some, None, Result, Ok, Err, if◌then◌e
 use Rattle.std.specs.Map.{lookup}
 use Rattle.std.specs.Str.{bytes_eq}
 use Rattle.book_core.specs.Page.{PageName, page_eq}
-use Rattle.site_pages.specs.Site.{page_at}
+use Rattle.book_core.specs.Site.{page_at}
 use Rattle.bucket_core.specs.Reading.{rule_of_entries}
 use Rattle.bucket_core.specs.Rule.{Entries}
 use Rattle.bucket_core.specs.declared.fault.RuleFault.{RuleFault}

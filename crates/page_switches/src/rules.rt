@@ -13,7 +13,6 @@ use book_core::Page;
 use bucket_core::Rule;
 use flag_defs::Flags;
 use logic_ast::{Expr, Site, site};
-use site_pages::page_of_site;
 use std::alloc::{AllocError, Global};
 
 /// The rules of both documents at the site of a page, or why there is none.
@@ -69,7 +68,7 @@ fn rule_on(alloc: Global, flags: &Flags, page: &Page) -> Result<Rule, NoRule>
 fn rule_in(alloc: Global, targeting: &Expr, page: &Page) -> Result<Rule, NoRule>
     ensures { GivesUnless NoRule.WantOfMemory (λ r. r) result (rule_in page.now (view targeting.now)) }
 {
-    let other = page_of_site(alloc, page.flag.as_str(), targeting, page.site)?;
+    let other = Page::of(alloc, page.flag.as_str(), targeting, page.site)?;
     if *page != other {
         return Err(NoRule::OtherExpression);
     }

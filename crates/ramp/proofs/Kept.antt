@@ -44,7 +44,7 @@ use Rattle.rollout_checks.specs.Refined.{problem_refined}
 use Rattle.rollout_checks.specs.declared.fault.RolloutFault.{RolloutFault}
 use Rattle.rollout_checks.specs.declared.fault.RolloutFault.TheVariants.{NoSite, NoWeight, UnknownFlag, UnknownVariant}
 use Rattle.rollout_checks.specs.declared.refining.Refining.TheVariants.{Times}
-use Rattle.site_pages.specs.Site.{page_at}
+use Rattle.book_core.specs.Site.{page_at}
 use Rattle.ramp.specs.Laws.{AsksAt, ForbidsLeaving, NeverLost, rules_of}
 use Rattle.ramp.specs.Ramp.{ArePlans, IsStep, Standing, in_book, with_rule}
 use Rattle.ramp.proofs.Sites.{parts_again}

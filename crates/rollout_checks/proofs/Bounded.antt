@@ -18,7 +18,7 @@ use Rattle.flag_defs.specs.Document.{Definitions}
 use Rattle.flag_defs.specs.Flag.{member_names, variant_names, targeting_in, is_definition}
 use Rattle.flag_defs.specs.Flags.{AreFlags}
 use Rattle.book_core.specs.Book.{Contents, Inputs, inputs_on}
-use Rattle.site_pages.specs.Site.{page_at}
+use Rattle.book_core.specs.Site.{page_at}
 use Rattle.price_core.specs.Limits.{Limits, limits_of}
 use Rattle.price_core.specs.Request.{Asked, limits_on, all_known}
 use Rattle.price_core.specs.declared.fault.PriceFault.TheVariants as price

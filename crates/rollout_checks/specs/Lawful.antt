@@ -14,7 +14,7 @@ use Rattle.flag_defs.specs.Flag.{flag_view, variant_of, variant_names, targeting
 use Rattle.book_core.specs.Book.{Contents, Inputs, inputs_on, most_inputs}
 use Rattle.book_core.specs.Counts.{counts_of}
 use Rattle.book_core.specs.Page.{PageName}
-use Rattle.site_pages.specs.Site.{page_at}
+use Rattle.book_core.specs.Site.{page_at}
 use Rattle.price_core.specs.Limits.{Limits, AreLimits}
 use Rattle.price_core.specs.Pricing.{Pricing}
 use Rattle.price_core.specs.Request.{Asked, asked_of, totals_of}

@@ -11,7 +11,6 @@ use book_core::Page;
 use flag_defs::{Flag, Flags};
 use logic_ast::{Site, site};
 use price_core::{Request, Totals};
-use site_pages::page_of_site;
 use std::alloc::Global;
 
 /// A site of a flag: its entries, and the page of its inputs.
@@ -39,7 +38,7 @@ pub(crate) fn place_of<'a>(
         return Err(RolloutFault::NoSite);
     };
     let Site { entries, .. } = site(alloc, targeting, number)?;
-    let page = page_of_site(alloc, key, targeting, number)?;
+    let page = Page::of(alloc, key, targeting, number)?;
     Ok(Place {
         flag,
         entries,

@@ -9,7 +9,6 @@ use file_diagnostics::{Lines, Opening};
 use flag_defs::Flags;
 use logic_ast::LogicFault;
 use rollout_checks::RequestFile;
-use site_pages::page_of_site;
 use std::alloc::{AllocError, Global};
 use tally_core::PageTally;
 
@@ -62,7 +61,7 @@ fn put_asked(lines: &mut Lines, place: Place<'_>) -> Result<(), AllocError> {
     let Some(targeting) = place.targeting() else {
         return Ok(());
     };
-    match page_of_site(lines.alloc, place.key, targeting, place.number) {
+    match Page::of(lines.alloc, place.key, targeting, place.number) {
         Ok(page) => write!(
             lines,
             "  the request is for {}, at {} points (with --refine M: M times as many)\n",

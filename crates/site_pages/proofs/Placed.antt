@@ -13,7 +13,7 @@ use Rattle.logic_ast.proofs.Places.{found-at}
 use Rattle.logic_ast.proofs.WellFormed.{is_whole-written}
 use Rattle.logic_ast.proofs.Written.{left, right}
 use Rattle.book_core.specs.Page.{PageName}
-use Rattle.site_pages.specs.Site.{page_at, with_by}
+use Rattle.book_core.specs.Site.{page_at, with_by}
 use Rattle.site_pages.specs.Pages.{ArePages, or_no_site, page_with}
 use Rattle.site_pages.specs.Sites.{by_view, place_of, place_view}
 use Rattle.site_pages.specs.Text.{by_is_whole}

@@ -5,7 +5,7 @@ use Rattle.logic_ast.specs.Writing.{by_text}
 use Rattle.logic_ast.specs.declared.fault.LogicFault.{LogicFault}
 use Rattle.logic_ast.specs.declared.fault.LogicFault.TheVariants.{NoSite}
 use Rattle.book_core.specs.Page.{PageName}
-use Rattle.site_pages.specs.Site.{page_at}
+use Rattle.book_core.specs.Site.{page_at}
 
 abbrev pub or_no_site : Option PageName → Result PageName LogicFault
 or_no_site None = Err NoSite

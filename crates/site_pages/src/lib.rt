@@ -2,7 +2,7 @@
 //!
 //! Each `fractional` operation of a targeting is a site, and has a page of a book: the flag's key, the site's number and the
 //! text of its bucketing expression. [`pages_of`] makes those of a targeting in one walk, for whoever notes many inputs:
-//! the page of one site, by [`page_of_site`] or [`page_at`], is a walk for itself.
+//! the page of one site, by [`page_at`] or `book_core`'s `Page::of`, is a walk for itself.
 //!
 //! ```rust
 //! use flag_text::read_tree;
@@ -16,16 +16,13 @@
 //! ```
 //!
 //! Proved, over the definitions of `specs/`: there is a page for each site, in the sites' order, and it is the page of the
-//! site of its number (`Pages`); [`page_of_site`] makes the page of one site (`Site`), and [`page_at`] that of a site of the
-//! flag of a key (`Keyed`).
+//! site of its number (`Pages`); and [`page_at`] makes the page of a site of the flag of a key (`Keyed`).
 #![tactic(auto)]
 
 mod keyed;
 mod pages;
-mod site;
 mod sites;
 mod text;
 
 pub use keyed::{page_at, targeting_of};
 pub use pages::pages_of;
-pub use site::page_of_site;

@@ -15,8 +15,8 @@ use book_core::Page;
 use logic_ast::{Expr, Node};
 use std::alloc::{AllocError, Global};
 
-/// The pages of the sites of a flag's targeting, at the sites' numbers: each is as [`crate::page_of_site`] makes it. It fails
-/// only where memory runs out. Cost: a walk over the targeting, and the texts of the bucketing expressions.
+/// The pages of the sites of a flag's targeting, at the sites' numbers: each is as `Page::of` makes it. It fails only where
+/// memory runs out. Cost: a walk over the targeting, and the texts of the bucketing expressions.
 pub fn pages_of(alloc: Global, flag: &str, targeting: &Expr) -> Result<Vec<Page>, AllocError>
     ensures { IfOk result (λ pages. ArePages flag.now (view targeting.now) pages.items) }
 {

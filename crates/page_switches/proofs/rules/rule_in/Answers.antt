@@ -1,7 +1,7 @@
 use Rattle.std.proofs.Common.{rules, ◌≡◌, ◌∙◌, true, Ok, sym}
 use Rattle.std.proofs.lemmas.Bool.{not-false}
 use Rattle.book_core.specs.Page.{page_eq}
-use Rattle.site_pages.specs.Site.{page_at}
+use Rattle.book_core.specs.Site.{page_at}
 use Rattle.bucket_core.specs.Reading.{rule_of_entries}
 use Rattle.flag_text.specs.Outcome.{GivesUnless}
 use Rattle.logic_ast.specs.Expr.{view}
