@@ -3,8 +3,10 @@ pub use Rattle.exposures.specs.Exposure
 pub mod Book
 pub mod Calls
 pub mod Fault
+pub mod Hashed
 pub mod Lines
 pub mod Listing
+pub mod Note
 pub mod Page
 pub mod PageOrder
 pub mod Printing

@@ -20,12 +20,14 @@
 //! of inputs is that of all pages, and the counts at each point are those of the hash (`Counts`, in `exposures`); which book the bytes
 //! of a file stand for, or which line is at fault first and how (`Reading`); what is printed of a book, and that it
 //! reads as the book (`Printing`); the union of two books has the inputs of both and no other, and is refused with PageFull
-//! only where there is none (`Union`). A refused note leaves the book as it was.
+//! only where there is none (`Union`). A note's line, with its input or with the input's hash, is defined here for the crates
+//! that make, read and count such lines (`Note`, `Hashed`, [`has_hash`]). A refused note leaves the book as it was.
 #![tactic(auto)]
 
 mod book;
 mod fault;
 mod inputs;
+mod kind;
 mod laws;
 mod line;
 mod listing;
@@ -40,6 +42,7 @@ mod union;
 pub use book::Book;
 pub use exposures::{Exposure, counts};
 pub use fault::{BookFault, BookFileFault};
+pub use kind::has_hash;
 pub use laws::a_book_is_its_calls;
 pub use line::{Line, cut_line, feed_at, is_header, read_as_tree};
 pub use members::{by_of, page_in, site_of};
