@@ -19,5 +19,5 @@ pub returns : goal.returns
 returns c =
     let p : Progress = (100000, map reach_view c.new.result.items) in record {
       exact = given_by-paid c.args.tested (node_view c.args.node.now) (inspected c.args.self.now) p (ap (λ rs. let q : Progress = (100000, map reach_view rs) in q) c.new.ensures.items)
-      ∙ ap outcome c.in_ok-tree.ensures.exact;
+          ∙ ap outcome c.in_ok-tree.ensures.exact;
     }
