@@ -104,7 +104,7 @@ fn sentence_of(refusal: &ControlRefusal) -> &'static str {
         // The fault of each of these says more.
         ControlRefusal::Rollout(_) => "the request is refused",
         ControlRefusal::Logs(_) => "the logs have no tally of the page",
-        ControlRefusal::ReadPlan(_) => "what was sent is no plan",
+        ControlRefusal::ReadPlan(_) => "what was sent is not a plan",
         ControlRefusal::PrintPlan(_) => "the plan is too large for a file",
         ControlRefusal::Check(_) => "the plan is not right",
     }

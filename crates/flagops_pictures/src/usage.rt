@@ -8,8 +8,8 @@ ghost use Rattle.flagops_words.specs.Words.{flag, floats_flag, required, strict_
 
 use clap::{Arg, Command};
 use flagops_ramps::with_steps;
-use flagops_words::about;
 use flagops_words::arguments::{flag, floats, refine, required, strict};
+use flagops_words::{about, example};
 use std::alloc::{AllocError, Global};
 
 /// What the book of a rollout is.
@@ -35,7 +35,8 @@ fn drawn<'a>(alloc: Global) -> Result<Command<'a>, AllocError>
     let plan = required(alloc, "PLAN", "The plan file, as 'flagops plan' prints it");
     let command = Command::new(alloc, "picture")
         .bin_name("flagops picture")?
-        .about(about::PICTURE);
+        .about(about::PICTURE)
+        .after_help(example::PICTURE);
     rollout(alloc, command)?.arg(plan)
 }
 
@@ -67,9 +68,12 @@ fn drawn_in_steps<'a>(alloc: Global) -> Result<Command<'a>, AllocError>
 pub(crate) fn plan<'a>(alloc: Global) -> Result<Command<'a>, AllocError>
     ensures { IfOk result (λ c. app_of c ≡ plan_app) }
 {
-    let command = Command::new(alloc, "plan").bin_name("flagops plan")?.about(
-        "Prints the rule that a rollout request asks for and that switches the fewest users, and writes its picture",
-    );
+    let command = Command::new(alloc, "plan")
+        .bin_name("flagops plan")?
+        .about(
+            "Prints the rule that a rollout request asks for and that switches the fewest users, and writes its picture",
+        )
+        .after_help(example::PLAN_PICTURE);
     let picture = picture_file(alloc);
     let command = rollout(alloc, command)?
         .arg(picture)?
@@ -106,7 +110,8 @@ fn steps<'a>(alloc: Global) -> Result<Command<'a>, AllocError>
 {
     let command = Command::new(alloc, "picture")
         .bin_name("flagops picture")?
-        .about("Draws the steps of a rollout as SVG: what each moves, and what it costs");
+        .about("Draws the steps of a rollout as SVG: what each moves, and what it costs")
+        .after_help(example::PICTURE_RAMP);
     with_steps(alloc, command, BOOK)
 }
 
