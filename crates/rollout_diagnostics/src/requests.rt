@@ -104,7 +104,7 @@ fn put_misshaped(lines: &mut Lines, tree: &Tree) -> Result<(), AllocError> {
     }
     write!(
         lines,
-        "\n  it looks like {LOOK}; docs/FORMATS.md has all of it",
+        "\n  a request looks like {LOOK}; docs/FORMATS.md has all of it",
     );
     Ok(())
 }
