@@ -107,7 +107,7 @@ pub(crate) fn counted_lines(
     let torn = line_if(
         alloc,
         counted.torn,
-        "the last line has no end and is passed over",
+        "the last line has no line feed and is skipped",
     )?;
     format!(in alloc; "{clock}{siteless}{empty}{why}{long}{torn}")
 }

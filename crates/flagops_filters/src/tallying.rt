@@ -203,9 +203,9 @@ fn beside(alloc: Global, empty: bool, none: bool, torn: bool) -> Option<Remark>
         )),
         (false, true, true) => Some(note(
             alloc,
-            "no line is of the page of this site, and nothing is counted; the last line has no end and is passed over",
+            "no line is of the page of this site, and nothing is counted; the last line has no line feed and is skipped",
         )),
-        (false, false, true) => Some(note(alloc, "the last line has no end and is passed over")),
+        (false, false, true) => Some(note(alloc, "the last line has no line feed and is skipped")),
         (false, false, false) => None,
     }
 }
