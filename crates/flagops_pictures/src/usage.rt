@@ -13,10 +13,14 @@ use flagops_words::{about, example};
 use std::alloc::{AllocError, Global};
 
 /// What the book of a rollout is.
-const BOOK: &str = "The book of recorded inputs";
+const BOOK: &str = "The book of the hash inputs that were recorded, or a tally of them";
 
 /// What `--refine` says of a plan that is drawn.
 const REFINED: &str = "The factor that the plan was made with";
+
+/// What `--refine` does to a rollout that is planned.
+const PLANNED: &str =
+    "Plan in finer points: multiply each weight of the rule by M first; 10 gives tenths of a percent";
 
 /// The command `picture`. The first of its words is its own name.
 #[tactic(auto, unfolding(crate::specs::Words::picture_app))]
@@ -77,7 +81,7 @@ pub(crate) fn plan<'a>(alloc: Global) -> Result<Command<'a>, AllocError>
     let picture = picture_file(alloc);
     let command = rollout(alloc, command)?
         .arg(picture)?
-        .arg(refine(alloc, REFINED))?;
+        .arg(refine(alloc, PLANNED))?;
     told(alloc, command)
 }
 

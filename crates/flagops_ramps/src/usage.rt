@@ -12,7 +12,7 @@ use flagops_words::{LARGEST_32, about, example};
 use std::alloc::{AllocError, Global};
 
 /// What the book of a rollout is.
-const BOOK: &str = "The book of the hash inputs that were recorded";
+const BOOK: &str = "The book of the hash inputs that were recorded, or a tally of them";
 
 /// What the file of the answers is.
 const RAMP: &str = "The file that ramp printed";

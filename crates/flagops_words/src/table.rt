@@ -29,7 +29,10 @@ const DOCUMENT: Word = Word::Text("DOC", "The flag document");
 
 const REQUEST: Word = Word::Text("REQUEST", "The file of the rollout request");
 
-const BOOK: Word = Word::Text("BOOK", "The book of the hash inputs that were recorded");
+const BOOK: Word = Word::Text(
+    "BOOK",
+    "The book of the hash inputs that were recorded, or a tally of them",
+);
 
 /// What `--strict` does to a command that tells what it doubts.
 pub const STRICT_HELP: &str =
@@ -134,7 +137,7 @@ const QUESTION: &[Word] = &[
     ),
     Word::Text(
         "DEFAULT",
-        "What to return where the flag gives nothing, as JSON",
+        "What to return if the flag gives no value, as JSON",
     ),
     Word::Text("CONTEXT", "The file of the evaluation context"),
     Word::Number(
