@@ -189,6 +189,21 @@ ADVISED = [
     ),
 ]
 
+LOOK = 'a request looks like {"plan":1,"flag":"KEY","site":0,"totals":{"NAME":n,..}}; docs/FORMATS.md has all of it'
+MISSING = 'error: the request "f": "plan" is missing, which is 1 or 2'
+
+# Files in the place of a request or a plan, and the lines on each.
+ADVISED += [
+    ("request", '{"book":1}\n', [MISSING, f"the file looks like a book: {ORDER}", LOOK]),
+    ("request", DOCUMENT, [MISSING, f"the file looks like a flag document: {ORDER}", LOOK]),
+    (
+        "plan",
+        '{"plan":1,"flag":"a","totals":{}}',
+        ['error: "f" is not a plan: "alpha" is missing', f"it looks like a rollout request: {ORDER}"],
+    ),
+    ("plan", DOCUMENT, ['error: "f" is not a plan: "plan" is missing', f"it looks like a flag document: {ORDER}"]),
+]
+
 # The targeting of a flag, and what is told of it where its flag is broken.
 TARGETINGS = [
     (
