@@ -1,2 +1,3 @@
 -- A note and its line, as `book_core` has them.
-unfoldable pub use Rattle.book_core.specs.Note.{Noted, IsNote, most_noted, parts_shape, note_shape, note_line}
+pub use Rattle.book_core.specs.Note.{Noted, IsNote, most_noted, parts_shape, note_shape}
+unfoldable pub use Rattle.book_core.specs.Note.{note_line}
