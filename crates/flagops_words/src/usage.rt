@@ -118,7 +118,9 @@ fn command<'a>(alloc: Global, usage: &Usage) -> Result<Command<'a>, AllocError>
     ensures app { IfOk result (λ c. app_of c ≡ app_for usage.now) }
     ensures local { IfOk result (λ c. (out-Command c).has_globals ≡ false) }
 {
-    let mut command = Command::new(alloc, usage.name).about(usage.about);
+    let mut command = Command::new(alloc, usage.name)
+        .about(usage.about)
+        .after_help(usage.after);
     for word in usage.words {
         command = command.arg(argument(alloc, word))?;
     }
