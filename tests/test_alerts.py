@@ -20,6 +20,7 @@ ALERTS = [
     ("FlagopsDocumentRefused", 'flagops_documents_refused{instance="a",place="1"}', "0 0 1x10 0", "75s", "90s", "195s"),
     ("FlagopsLogReopened", 'ofrep_log_reopened_total{instance="a",reason="shorter"}', "0x4 1x500", "45s", "2m", "90m"),
     ("FlagopsLogReopened", 'ofrep_log_reopened_total{instance="a",reason="unseen"}', "0x4 1x500", "45s", "2m", "90m"),
+    ("FlagopsLogReopened", 'ofrep_log_reopened_total{instance="a",reason="removed"}', "0x4 1x500", "45s", "2m", "90m"),
     ("FlagopsEvaluationErrors", 'ofrep_evaluations_total{instance="a",reason="ERROR"}', "0x4 1+1x80 81x100", "10m", "15m", "35m"),
 ]
 

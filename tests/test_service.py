@@ -125,6 +125,17 @@ class ServiceTest(unittest.TestCase):
             self.assertNotEqual(lines[-1], "", lines)
         return "".join(lines)
 
+    def levels(self, told):
+        """The level and the text of each line, which begins with its time and a level."""
+        lines = [re.fullmatch(r"\d{4}-[01]\d-[0-3]\dT[0-2]\d:[0-5]\d:[0-5]\d\.\d{3}Z (INFO|WARN|ERROR) (.*)", line) for line in told.splitlines()]
+        self.assertNotIn(None, lines, told)
+        return [line.groups() for line in lines]
+
+    def reopened(self):
+        """How often a log was opened anew, by the reasons for which one was."""
+        text = self.ask("GET", "/metrics")[2].decode()
+        return {reason: int(count) for reason, count in re.findall(r'^ofrep_log_reopened_total{reason="(\w+)"} ([1-9]\d*)$', text, re.MULTILINE)}
+
     def notes(self, folder="log"):
         """The lines of all logs, which are whole."""
         lines = []
@@ -543,7 +554,7 @@ class Keys(ServiceTest):
         self.put("k", self.OTHER)
         wait_until(lambda: self.asked(X_API_Key=self.OTHER)[0] == 200, "the new key is not taken")
         wait_until(lambda: self.asked(X_API_Key=self.ONE)[0] == 401, "the old key is taken still")
-        for text, part in ((f"{self.ONE}\nshort\n", 'ofrep: line 2 of "k" is not a key'), ("", 'ofrep: "k" has no keys')):
+        for text, part in ((f"{self.ONE}\nshort\n", 'error: line 2 of "k" is not a key'), ("", 'error: "k" has no keys')):
             self.put("k", text)
             self.told(child, part)
             self.told(child, "the keys that were read last stay in use")
@@ -732,17 +743,22 @@ class Operations(ServiceTest):
         self.assertEqual(lines.count({"method": "POST", "path": f"{FLAGS}/nobody", "status": 404}), 5)
         self.assertIn({"method": "GET", "path": "/healthz", "status": 200}, lines)
 
-    def test_what_is_told_has_its_time_and_level(self):
+    def test_each_line_has_its_time_and_level(self):
+        """Lines that go on with a report have its level."""
         child = self.operated()
-        told = self.told(child, "answers from snapshot 1")
-        lines = [line for line in told.splitlines() if "ofrep: " in line]
-        self.assertGreater(len(lines), 1)
-        for line in lines:
-            self.assertRegex(line, r"\A\d{4}-[01]\d-[0-3]\dT[0-2]\d:[0-5]\d:[0-5]\d\.\d{3}Z INFO ofrep: ")
+        told, level = self.levels(self.told(child, "answers from snapshot 1")), None
+        self.assertEqual({found for found, _ in told}, {"INFO", "WARN"})
+        for found, line in told:
+            level = {"ofrep": "INFO", "note": "WARN", "error": "ERROR"}.get(line.partition(": ")[0], level)
+            self.assertEqual(found, level, line)
 
-    def test_a_refusal_is_an_error(self):
-        told = run(["ofrep", "--cors", "nowhere", "d"], {"d": compact(DOCUMENT)})
-        self.assertRegex(told.err, r"\A\d{4}-[01]\d-[0-3]\dT[0-2]\d:[0-5]\d:[0-5]\d\.\d{3}Z ERROR error: ")
+    def test_each_line_of_a_refusal_is_an_error(self):
+        for words in (["--cors", "nowhere", "d"], ["--wrong", "d"]):
+            with self.subTest(words):
+                told = self.levels(run(["ofrep", *words], {"d": compact(DOCUMENT)}).err)
+                self.assertGreater(len(told), 1)
+                self.assertTrue(told[0][1].startswith("error: "), told)
+                self.assertEqual({level for level, _ in told}, {"ERROR"})
 
     def test_no_line_without_it(self):
         child = self.operated()
@@ -982,23 +998,38 @@ class Logs(ServiceTest):
         return self.notes()
 
     def test_a_log_that_is_moved_is_opened_anew(self):
-        notes = self.lost(lambda path: os.rename(path, path + ".1"), "a log was moved or removed")
+        notes = self.lost(lambda path: os.rename(path, path + ".1"), "INFO ofrep: a log was moved; its path is opened anew")
         self.assertEqual(notes, [self.note("early"), self.note("late"), self.note("early")])
+        self.assertEqual(self.reopened(), {"missing": 1})
 
     def test_a_log_that_is_removed_is_opened_anew(self):
-        notes = self.lost(os.remove, "a log was moved or removed")
+        notes = self.lost(os.remove, "WARN note: a log was removed, with the lines that stood in it; its path is opened anew")
         self.assertEqual(notes, [self.note("early"), self.note("late")])
+        self.assertEqual(self.reopened(), {"removed": 1})
 
     def test_a_log_that_is_replaced_is_written_to(self):
+        """The file of before has another name."""
+
         def replace(path):
+            os.link(path, os.path.join(self.folder, "kept"))
             self.put("log/worker-1.log", self.note("other") + "\n")
 
         notes = self.lost(replace, "another file was put in the place of a log")
         self.assertEqual(notes, [self.note("other"), self.note("early"), self.note("late")])
+        self.assertEqual(self.reopened(), {"replaced": 1})
+
+    def test_a_log_that_another_file_is_put_over_is_removed(self):
+        def replace(path):
+            self.put("log/worker-1.log", self.note("other") + "\n")
+
+        notes = self.lost(replace, "a log was removed")
+        self.assertEqual(notes, [self.note("other"), self.note("early"), self.note("late")])
+        self.assertEqual(self.reopened(), {"removed": 1})
 
     def test_a_log_that_is_cut_is_written_again(self):
-        notes = self.lost(lambda path: os.truncate(path, 0), "a log was cut")
+        notes = self.lost(lambda path: os.truncate(path, 0), "WARN note: a log was cut")
         self.assertEqual(notes, [self.note("early"), self.note("late")])
+        self.assertEqual(self.reopened(), {"shorter": 1})
 
     def test_a_folder_that_is_removed_is_made_again(self):
         def remove(path):
@@ -1006,7 +1037,8 @@ class Logs(ServiceTest):
             os.rename(os.path.dirname(path), gone)
             shutil.rmtree(gone)
 
-        notes = self.lost(remove, "a log was moved or removed")
+        # (the service may look between the two steps)
+        notes = self.lost(remove, "; its path is opened anew")
         self.assertEqual(notes, [self.note("early"), self.note("late")])
         self.assertEqual(self.modes("log", "log/worker-1.log"), [0o700, 0o600])
 
@@ -1105,7 +1137,8 @@ class Logs(ServiceTest):
     def test_it_is_told_when_a_log_fails_and_when_it_is_written_again(self):
         child = self.failing("--without-record", "refuse")
         self.assertEqual(self.flag("color", context("mallory"))[0], 500)
-        self.told(child, "is answered with status 500")
+        told = self.levels(self.told(child, "is answered with status 500"))
+        self.assertEqual(told[-2:], [("ERROR", "error: a log cannot be written"), ("ERROR", "  what it should record is answered with status 500")])
         os.remove(os.path.join(self.folder, "log", "worker-1.log"))
         self.told(child, "all logs can be written again")
 
@@ -1353,6 +1386,16 @@ class BadEdits(Changing):
     def test_the_member_and_the_rule_are_told(self):
         wrong = {**self.GOOD["color"], "defaultVariant": "green"}
         self.edited(lambda: self.put_flags(color=wrong), "broken: flags.color.defaultVariant")
+
+    def test_each_line_of_a_refused_edit_is_an_error(self):
+        wrong = {**self.GOOD["color"], "defaultVariant": "green"}
+        child = self.start("--poll", "1")
+        self.told(child, "answers from snapshot 1")
+        self.put_flags(color=wrong)
+        told = self.levels(self.told(child, KEPT))
+        self.assertEqual({level for level, _ in told}, {"ERROR"})
+        self.assertTrue(told[0][1].startswith('error: "d" is refused: it breaks the flag "color"'), told)
+        self.assertGreater(len(told), 2)
 
     def test_a_flag_that_the_text_has_still_is_not_lost(self):
         """It moved into its neighbour, where nobody reads it."""

@@ -92,7 +92,7 @@ class Wire(ServiceTest):
         for status, more in rows:
             with self.subTest(status=status, length=len(more)), self.connect() as stream:
                 stream.sendall(b"GET /healthz HTTP/1.1\r\nHost: h\r\nConnection: close\r\n" + more + b"\r\n")
-                self.assertTrue(self.until_closed(stream).startswith(b"HTTP/1.1 %d " % status))
+                self.assertRegex(self.until_closed(stream).decode(), rf"\AHTTP/1\.1 {status} [^\r]*\r\n(.*\r\n)*date: {DATE}\r\n")
         self.assertEqual(self.counted('ofrep_requests_total{status="431"}'), 2)
 
     def test_what_is_no_request_is_counted(self):
@@ -111,9 +111,27 @@ class Wire(ServiceTest):
         for status, request in rows:
             with self.subTest(request), self.connect() as stream:
                 stream.sendall(request)
-                self.assertTrue(self.until_closed(stream).startswith(b"HTTP/1.1 %d " % status))
+                self.assertRegex(self.until_closed(stream).decode(), self.refusal(status))
                 counts[status] = counts.get(status, 0) + 1
                 self.assertEqual(self.counted(f'ofrep_requests_total{{status="{status}"}}'), counts[status])
+
+    def refusal(self, status):
+        """The whole of an answer that ends its connection, with its date."""
+        return rf"\AHTTP/1\.1 {status} [A-Z][A-Za-z ]*\r\ndate: {DATE}\r\nconnection: close\r\ncontent-length: 0\r\n\r\n\Z"
+
+    def test_what_is_no_request_behind_others(self):
+        """They are answered first, however much that is, and the refusal has its date too."""
+        self.start("--workers", "1")
+        body = context("mallory")
+        good = COLOR + b"Content-Type: application/json\r\nContent-Length: %d\r\n\r\n" % len(body) + body
+        for count in (1, 40, 400):
+            with self.subTest(count), self.connect() as stream:
+                stream.sendall(good * count + b"NONSENSE\r\n\r\n")
+                told = re.split(r"(?=HTTP/1\.1 )", self.until_closed(stream).decode())[1:]
+                self.assertEqual(len(told), count + 1)
+                for answer in told[:-1]:
+                    self.assertTrue(answer.startswith("HTTP/1.1 200 "), answer)
+                self.assertRegex(told[-1], self.refusal(400))
 
     def test_the_time_to_answer_is_a_histogram(self):
         self.start("--workers", "1")
@@ -133,7 +151,7 @@ class Wire(ServiceTest):
         self.start("--workers", "1")
         with self.connect() as stream:
             stream.sendall(COLOR)
-            self.assertTrue(self.until_closed(stream).startswith(b"HTTP/1.1 408 "))
+            self.assertRegex(self.until_closed(stream).decode(), self.refusal(408))
         self.assertEqual(self.counted('ofrep_requests_total{status="408"}'), 1)
         self.assertEqual(self.counted('ofrep_connections_closed_total{reason="late"}'), 1)
 

@@ -117,23 +117,23 @@ def services(folder):
 
 ACTS = {"mv": mv, "gzip": gzip, "rm": rm, "rm-folder": rm_folder, "sed": sed, "copytruncate": copytruncate, "remount": remount, "services": services}
 
-# How the report of it on the error output begins, and the reasons by which `/metrics` counts it.
+# How the report of it on the error output begins, and the reasons by which `/metrics` counts it. Any other act removes the file.
 # (Between two file systems the folder below them is seen.)
-EITHER = ["a log was moved or removed", "another file was put in the place of a log"]
-REPORTS = {"copytruncate": ["a log was cut"], "sed": EITHER, "remount": EITHER}
-REASONS = {"copytruncate": ["shorter"], "sed": ["missing", "replaced"], "remount": ["missing", "replaced"]}
+MOVED = "a log was moved"
+REPORTS = {"mv": [MOVED], "copytruncate": ["a log was cut"], "remount": [MOVED, "another file was put in the place of a log"]}
+REASONS = {"mv": ["missing"], "copytruncate": ["shorter"], "remount": ["missing", "replaced"]}
 
 
 def round_of(name, folder):
     """One act; then waits until the service has found it, and has all paths again."""
     folder.open_all()
-    reasons = REASONS.get(name, ["missing"])
+    reasons = REASONS.get(name, ["removed"])
     (before, others), reported = folder.reopened(reasons), folder.service.reports()
     ACTS[name](folder)
     if name != "services":
         wait_until(lambda: folder.reopened(reasons)[0] > before, f"{name}: no log is opened anew")
         assert folder.reopened(reasons)[1] == others, f"{name}: {folder.service.metrics()}"
-        parts = REPORTS.get(name, ["a log was moved or removed"])
+        parts = REPORTS.get(name, ["a log was removed"])
         wait_until(lambda: any(part in folder.service.reports()[len(reported) :] for part in parts), f"{name}: nothing is reported")
     for number in range(1, WORKERS + 1):
         path = os.path.join(folder.log, f"worker-{number}.log")

@@ -1,8 +1,8 @@
 //! The date of answers.
-ghost use Rattle.std.specs.Prelude.{◌≡◌, ◌<◌, ◌++◌, IfOk, OnOk};
+ghost use Rattle.std.specs.Prelude.{◌≡◌, ◌<◌, ◌++◌, IfOk, OnOk, min};
 ghost use Rattle.http_server.specs.Response.{fields_of};
 ghost use Rattle.dated_answers.specs.Date.{AreOfSecond, Dates, date_fields, fields_in};
-ghost use Rattle.httpdate.specs.Date.{date_text};
+ghost use Rattle.httpdate.specs.Date.{date_text, unix_secs};
 
 use http::header::DATE;
 use http::{HeaderValue, StatusCode};
@@ -10,9 +10,31 @@ use http_header::HeaderValueError;
 use http_server::Response;
 use httpdate::HttpDate;
 use std::alloc::{AllocError, Global};
+use std::time::{Clock, SystemTime, UNIX_EPOCH};
 
 /// The first second of the year 10000, which has no date.
 const END: u64 = 253_402_300_800;
+
+/// The date of a second since 1970, or of the last one that has a date.
+pub fn date_at(second: u64) -> HttpDate
+    ensures { unix_secs result ≡ min second 253_402_300_799 }
+{
+    match HttpDate::from_unix_secs(second.min(END - 1)) {
+        Ok(date) => date,
+        Err(_) => unreachable!(),
+    }
+}
+
+/// The second since 1970: 0 where the clock can't be read or is set before.
+pub fn second_of<R: Clock>(rt: &R) -> u64 {
+    let Ok(now) = SystemTime::now(rt) else {
+        return 0;
+    };
+    match now.duration_since(UNIX_EPOCH) {
+        Ok(since) => since.as_secs(),
+        Err(_) => 0,
+    }
+}
 
 /// The date of a second since 1970, as the value of a field.
 #[derive(Drop)]

@@ -4,14 +4,14 @@ ghost use Rattle.http_server.specs.declared.response.Response.{Response};
 ghost use Rattle.dated_answers.specs.Date.{Dates, fields_in};
 ghost use Rattle.dated_answers.specs.Dated.{Stands, dated, dated_stays, looked_stays};
 
-use crate::date::DateField;
+use crate::date::{DateField, second_of};
 use bytes::Bytes;
 use http::Request;
 use http_server::{Response, Service};
 use recorded_answers::Recording;
 use std::alloc::{AllocError, Global};
 use std::io;
-use std::time::{Clock, Instant, SystemTime, UNIX_EPOCH};
+use std::time::{Clock, Instant};
 use traffic::{Times, Traffic};
 
 /// A service whose answers have their date, and of which is counted how long they take.
@@ -109,15 +109,4 @@ impl<R: Clock, S: Recording> Recording for Dated<'_, R, S> {
     ghost stays = { λ old request response new is. dated_stays S.answers S.stands S.stays (fields_in old.date.value) old.service request response new.service is.1 };
 
     ghost looked_stays = { λ old new is. looked_stays S.looked S.stands S.looked_stays old.service new.service is };
-}
-
-/// The second since 1970: 0 where the clock can't be read or is set before.
-fn second_of<R: Clock>(rt: &R) -> u64 {
-    let Ok(now) = SystemTime::now(rt) else {
-        return 0;
-    };
-    match now.duration_since(UNIX_EPOCH) {
-        Ok(since) => since.as_secs(),
-        Err(_) => 0,
-    }
 }

@@ -11,4 +11,5 @@
 mod date;
 mod dated;
 
+pub use date::{date_at, second_of};
 pub use dated::Dated;

@@ -15,6 +15,7 @@ pub(crate) struct LogNews {
     replaced: u64,
     shorter: u64,
     unseen: u64,
+    removed: u64,
     /// How often a log that could be written began to fail, and why one fails now.
     failures: u64,
     trouble: Option<Trouble>,
@@ -30,6 +31,7 @@ impl LogNews {
             replaced: 0,
             shorter: 0,
             unseen: 0,
+            removed: 0,
             failures: 0,
             trouble: None,
             left_out: 0,
@@ -43,6 +45,7 @@ impl LogNews {
             replaced: board.logs_reopened(Loss::Replaced),
             shorter: board.logs_reopened(Loss::Shorter),
             unseen: board.logs_reopened(Loss::Unseen),
+            removed: board.logs_reopened(Loss::Removed),
             failures: board.log_failures(),
             trouble: board.log_trouble(),
             left_out: left_out(rt, board),
@@ -66,11 +69,21 @@ pub(crate) fn tell_news<R: Wait, E: Outlet>(
     err: &mut E,
 ) -> LogNews {
     let news = LogNews::now(rt, board);
-    if news.missing != told.missing {
+    tell_losses(told, news, err);
+    if news.left_out != told.left_out {
         say(
             err,
-            "ofrep: a log was moved or removed; its path is opened anew\n",
+            "note: lines of requests were left out, since they are not taken as fast as they come\n",
         );
+    }
+    tell_trouble(board.without_record(), told, news, err);
+    news
+}
+
+/// Tells of logs whose paths were opened anew, a line for each kind of loss.
+fn tell_losses<E: Outlet>(told: LogNews, news: LogNews, err: &mut E) {
+    if news.missing != told.missing {
+        say(err, "ofrep: a log was moved; its path is opened anew\n");
     }
     if news.replaced != told.replaced {
         say(
@@ -81,23 +94,21 @@ pub(crate) fn tell_news<R: Wait, E: Outlet>(
     if news.shorter != told.shorter {
         say(
             err,
-            "ofrep: a log was cut; what stood in it is written again as it comes\n",
+            "note: a log was cut; what stood in it is written again as it comes\n",
         );
     }
     if news.unseen != told.unseen {
         say(
             err,
-            "ofrep: the system did not say what is in the place of a log; its path is opened anew\n",
+            "note: the system did not say what is in the place of a log; its path is opened anew\n",
         );
     }
-    if news.left_out != told.left_out {
+    if news.removed != told.removed {
         say(
             err,
-            "ofrep: lines of requests were left out, since they are not taken as fast as they come\n",
+            "note: a log was removed, with the lines that stood in it; its path is opened anew\n",
         );
     }
-    tell_trouble(board.without_record(), told, news, err);
-    news
 }
 
 /// Tells the lines of requests that wait.
@@ -132,8 +143,8 @@ fn tell_trouble<E: Outlet>(
 /// Why a log fails.
 fn why_failing(trouble: Option<Trouble>) -> &'static str {
     match trouble {
-        Some(Trouble::Lost) => "ofrep: a log is lost, and its path cannot be opened\n",
-        Some(Trouble::Unwritten) | None => "ofrep: a log cannot be written\n",
+        Some(Trouble::Lost) => "error: a log is lost, and its path cannot be opened\n",
+        Some(Trouble::Unwritten) | None => "error: a log cannot be written\n",
     }
 }
 

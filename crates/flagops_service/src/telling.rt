@@ -129,7 +129,7 @@ pub(crate) fn say_ended<E: Outlet>(err: &mut E, was_stopped: bool) {
     } else {
         say(
             err,
-            "ofrep: the system made no thread for a worker, or memory ran out; the service has ended\n",
+            "error: the system made no thread for a worker, or memory ran out; the service has ended\n",
         );
     }
 }
@@ -172,7 +172,7 @@ pub(crate) fn say_broken<E: Outlet>(alloc: Global, err: &mut E, path: &str, text
     }
     say_made(
         err,
-        format!(in alloc; "ofrep: \"{path}\" has broken flags, which are answered as errors\n"),
+        format!(in alloc; "note: \"{path}\" has broken flags, which are answered as errors\n"),
     );
     say(err, lines.as_str());
 }
@@ -186,7 +186,7 @@ pub(crate) fn say_broken_metadata<E: Outlet>(alloc: Global, err: &mut E, path: &
         say_made(
             err,
             format!(in alloc;
-                "ofrep: the metadata of \"{path}\" is broken and left out of answers: it is not an object, or has a value that is not a boolean, a number or a text\n"
+                "note: the metadata of \"{path}\" is broken and left out of answers: it is not an object, or has a value that is not a boolean, a number or a text\n"
             ),
         );
     }
@@ -199,7 +199,7 @@ pub(crate) fn say_broken_metadata<E: Outlet>(alloc: Global, err: &mut E, path: &
 fn of_broken_metadata(alloc: Global, path: &str, key: &str) -> Result<String, AllocError> {
     let key = quoted_name(alloc, key)?;
     format!(in alloc;
-        "ofrep: the metadata of the flag {key} of \"{path}\" is broken and left out of answers: it is not an object, or has a value that is not a boolean, a number or a text\n"
+        "note: the metadata of the flag {key} of \"{path}\" is broken and left out of answers: it is not an object, or has a value that is not a boolean, a number or a text\n"
     )
 }
 
@@ -232,7 +232,7 @@ pub(crate) fn say_keys_kept<E: Outlet>(err: &mut E, why: Result<String, AllocErr
 /// Why what a file has are no keys.
 pub(crate) fn say_keys_refused<E: Outlet>(alloc: Global, err: &mut E, path: &str, fault: KeyFault) {
     let why = match of_bad_keys(alloc, path, fault) {
-        Ok(why) => format!(in alloc; "ofrep: {why}\n"),
+        Ok(why) => format!(in alloc; "error: {why}\n"),
         Err(AllocError) => Err(AllocError),
     };
     say_keys_kept(err, why);
@@ -285,7 +285,7 @@ fn of_refused(
         SourceFault::Refused(fault) => of_document(alloc, path, text, fault),
         _ => {
             let name = fault.name();
-            format!(in alloc; "ofrep: \"{path}\" is refused ({name})\n")
+            format!(in alloc; "error: \"{path}\" is refused ({name})\n")
         }
     }
 }
@@ -302,13 +302,13 @@ fn of_harm(
             let key = quoted_name(alloc, key.as_str())?;
             let lines = of_definition_errors(alloc, text, true)?;
             format!(in alloc;
-                "ofrep: \"{path}\" is refused: it breaks the flag {key}, which is good now\n{lines}"
+                "error: \"{path}\" is refused: it breaks the flag {key}, which is good now\n{lines}"
             )
         }
         Regression::Lost(key) => {
             let key = quoted_name(alloc, key.as_str())?;
             format!(in alloc;
-                "ofrep: \"{path}\" is refused: it still has {key}, but no flag of this key\n"
+                "error: \"{path}\" is refused: it still has {key}, but no flag of this key\n"
             )
         }
     }
@@ -316,5 +316,5 @@ fn of_harm(
 
 /// What can't be read again, since a read might wait for ever.
 pub(crate) fn of_device(alloc: Global, path: &str) -> Result<String, AllocError> {
-    format!(in alloc; "ofrep: \"{path}\" is not a plain file, so it is not read again\n")
+    format!(in alloc; "note: \"{path}\" is not a plain file, so it is not read again\n")
 }

@@ -113,7 +113,7 @@ fn publish<J: ShareName, R: Clock + Wait, E: Outlet>(
             say_made(
                 err,
                 format!(in watched.alloc;
-                    "ofrep: the documents together are refused ({name}); the last snapshot stays\n"
+                    "error: the documents together are refused ({name}); the last snapshot stays\n"
                 ),
             );
             return matches!(fault, SourceFault::WantOfMemory);
@@ -133,7 +133,7 @@ fn publish<J: ShareName, R: Clock + Wait, E: Outlet>(
         Err(fault) => {
             say(
                 err,
-                "ofrep: the documents were not published; the last snapshot stays\n",
+                "error: the documents were not published; the last snapshot stays\n",
             );
             matches!(fault, ShareFault::WantOfMemory)
         }

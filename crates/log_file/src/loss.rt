@@ -1,6 +1,6 @@
 //! How a log's file is lost.
 ghost use Rattle.std.specs.Prelude.{◌≡◌};
-ghost use Rattle.log_file.specs.Loss.{loss_of};
+ghost use Rattle.log_file.specs.Loss.{loss_of, loss_with_links};
 
 /// How a log's file is lost.
 #[derive(Clone, Copy, Debug, PartialEq, Eq)]
@@ -13,6 +13,8 @@ pub enum Loss {
     Shorter,
     /// The system does not say what is at its path.
     Unseen,
+    /// It has no name any more: what stands in it is gone once it is closed.
+    Removed,
 }
 
 /// What tells a file from others (the device that it is on, and its number there), and how many bytes it has.
@@ -33,5 +35,15 @@ pub(crate) fn loss_of(held: FileMark, at_path: FileMark, len: u64) -> Option<Los
         Some(Loss::Shorter)
     } else {
         None
+    }
+}
+
+/// How a file is lost that has so many names, where the number is known, and is lost so by what is at its path.
+pub(crate) fn loss_with_links(loss: Loss, links: Option<u64>) -> Loss
+    ensures { result ≡ loss_with_links loss links }
+{
+    match links {
+        Some(0) => Loss::Removed,
+        _ => loss,
     }
 }

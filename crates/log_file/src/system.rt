@@ -4,7 +4,7 @@ ghost use Rattle.std.specs.Fs.{metadata_len};
 
 use crate::fault::{LogFault, fault_of};
 use crate::file::LogFile;
-use crate::loss::{FileMark, Loss, loss_of};
+use crate::loss::{FileMark, Loss, loss_of, loss_with_links};
 use crate::paths::{FILE_MODE, FOLDER_MODE, LogPaths};
 use http_server::Log;
 use persistent_io::PersistentOutput;
@@ -95,7 +95,10 @@ impl LogFile for SystemLog {
             Err(error) => Some(loss_by(error.kind())),
         };
         self.stands = loss.is_none();
-        loss
+        match loss {
+            Some(loss) => Some(loss_with_links(loss, links_of(&self.file))),
+            None => None,
+        }
     }
 
     fn reopen<P: LogPaths>(&mut self, paths: &P) -> Result<(), LogFault> {
@@ -141,6 +144,14 @@ fn mark_of_file(file: &File) -> Result<FileMark, LogFault> {
     match file.metadata() {
         Ok(metadata) => Ok(mark_of(&metadata)),
         Err(error) => Err(fault_of(&error)),
+    }
+}
+
+/// How many names a file has, where the system says it.
+fn links_of(file: &File) -> Option<u64> {
+    match file.metadata() {
+        Ok(metadata) => Some(metadata.nlink()),
+        Err(_) => None,
     }
 }
 

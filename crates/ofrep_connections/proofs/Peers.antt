@@ -37,16 +37,17 @@ module _ {S T : Type 0} (stands : S → Request (List ℕ) → Response → Type
       → PeersStand stands contents s old → PeersStand stands contents s (with_value old key other)
   replaced old key peer other is h p = updated old (with_value old key other) key (Some other) (Updates-with_value old key other (rw is refl)) h p
 
-  same_peer : (peer other : Peer T) → other.connection ≡ peer.connection → contents other.socket ≡ contents peer.socket → PeerStands stands contents s peer → PeerStands stands contents s other
-  same_peer peer other c g h = (
+  same_peer : (peer other : Peer T) → other.connection ≡ peer.connection → (other.dropping ≡ None → contents other.socket ≡ contents peer.socket) → (other.dropping ≡ None → peer.dropping ≡ None)
+      → PeerStands stands contents s peer → PeerStands stands contents s other
+  same_peer peer other c g d h = (
     subst (λ (k : Connection). AllStand stands s (history k).calls) (sym c) h.0,
-    subst (λ (to : Option (List ℕ)). IsTied to (history other.connection).sent) (sym g) (subst (λ (k : Connection). IsTied (contents peer.socket) (history k).sent) (sym c) h.1),
+    λ none. subst (λ (to : Option (List ℕ)). IsTied to (history other.connection).sent) (sym (g none)) (subst (λ (k : Connection). IsTied (contents peer.socket) (history k).sent) (sym c) (h.1 (d none))),
   )
 
-  -- the peer at the key has neither answered nor been given anything
-  pub kept : (old : Slab (Peer T)) (key : ℕ) (peer other : Peer T) → get old key ≡ Some peer → other.connection ≡ peer.connection → contents other.socket ≡ contents peer.socket
-      → PeersStand stands contents s old → PeersStand stands contents s (with_value old key other)
-  kept old key peer other is c g p = replaced old key peer other is (same_peer peer other c g (p key peer is)) p
+  -- the peer at the key has not answered, and been given nothing unless what comes from it is dropped now
+  pub kept : (old : Slab (Peer T)) (key : ℕ) (peer other : Peer T) → get old key ≡ Some peer → other.connection ≡ peer.connection → (other.dropping ≡ None → contents other.socket ≡ contents peer.socket)
+      → (other.dropping ≡ None → peer.dropping ≡ None) → PeersStand stands contents s old → PeersStand stands contents s (with_value old key other)
+  kept old key peer other is c g d p = replaced old key peer other is (same_peer peer other c g d (p key peer is)) p
 
   pub inserted : {E : Type 0} (r : Result ℕ E) (old new : Slab (Peer T)) (peer : Peer T) → IfOk r (λ key. Updates old new key (Some peer)) → OnErr r (new ≡ record old { capacity = new.capacity })
       → PeerStands stands contents s peer → PeersStand stands contents s old → PeersStand stands contents s new

@@ -1,5 +1,5 @@
 -- What goes over a socket, step after step.
-use Rattle.std.proofs.Common.{◌≡◌, ℕ, List, [], ◌++◌, length, take, arith, Option, Some, None, Result, Ok, Err, IfOk, OnErr, ap, append-nil, append_assoc, refl, sym, subst, ◌∙◌}
+use Rattle.std.proofs.Common.{◌≡◌, ℕ, List, [], ◌++◌, ◌≤◌, length, take, arith, Option, Some, None, Result, Ok, Err, IfOk, OnErr, ap, append-nil, append_assoc, refl, sym, subst, ◌∙◌}
 use Rattle.std.specs.Io.KnownBytes.{append_known, prepend_known}
 use Rattle.http.specs.declared.request.Request.{Request}
 use Rattle.http_server.specs.declared.response.Response.{Response}
@@ -7,7 +7,9 @@ use Rattle.http_server.specs.Connection.{history}
 use Rattle.http_server.specs.History.{History, IsQuiet, after_read, after_sent}
 use Rattle.http_server.specs.declared.connection.Connection.{Connection}
 use Rattle.recorded_answers.specs.Stand.{AllStand}
+use Rattle.std.proofs.lemmas.List.{take-take}
 use Rattle.ofrep_connections.specs.Socket.{Exchanges, IsTied}
+use Rattle.ofrep_connections.specs.Waiting.{IsFront}
 
 append_none : (known : Option (List ℕ)) → known ≡ append_known known []
 append_none None = refl
@@ -71,19 +73,20 @@ pub read_calls : {E : Type 0} (r : Result ℕ E) (old new : Connection) (from fr
 read_calls (Ok n) old new from from' ok err = ap (λ (h : History). h.calls) ok.3
 read_calls (Err e) old new from from' ok err = ap (λ (h : History). h.calls) err.0
 
-pub of_sent : {E : Type 0} (r : Result ℕ E) (old new : Connection) (from from' to to' : Option (List ℕ))
-    → IfOk r (λ n. (history new ≡ after_sent (history old) n) × (to' ≡ append_known to (take n (history old).pending)))
-    → OnErr r ((new ≡ old) × (to' ≡ to)) → from' ≡ from → Exchanges (history old) (history new) from from' to to'
-of_sent (Ok n) old new from from' to to' ok err same = record {
+-- what is first of a front is first of all
+pub given_front : (to to' : Option (List ℕ)) (front all : List ℕ) (n : ℕ) → IsFront front all → n ≤ length front → to' ≡ append_known to (take n front) → to' ≡ append_known to (take n all)
+given_front to to' front all n f few given = given ∙ ap (λ (l : List ℕ). append_known to l) (ap (take n) f.1 ∙ take-take n (length front) all few)
+
+-- the socket was given a front of what was pending, which has been handed out
+pub exchanges_given : (old new : History) (from from' to to' : Option (List ℕ)) (n : ℕ) → new ≡ after_sent old n → to' ≡ append_known to (take n old.pending) → from' ≡ from → Exchanges old new from from' to to'
+exchanges_given old new from from' to to' n is given same = record {
   more = [];
-  told = take n (history old).pending;
-  received = ap (λ (h : History). h.received) ok.0 ∙ sym (append-nil (history old).received);
+  told = take n old.pending;
+  received = ap (λ (h : History). h.received) is ∙ sym (append-nil old.received);
   came = sym same ∙ prepend_none from';
-  sent = ap (λ (h : History). h.sent) ok.0;
-  given = ok.1;
+  sent = ap (λ (h : History). h.sent) is;
+  given = given;
 }
-of_sent (Err e) old new from from' to to' ok err same =
-    exchanges_none (history old) (history new) from from' to to' (ap (λ (c : Connection). (history c).received) err.0) (ap (λ (c : Connection). (history c).sent) err.0) same err.1
 
 tied_more : (to : Option (List ℕ)) (old new : History) (told : List ℕ) → new.sent ≡ old.sent ++ told → IsTied to old.sent → IsTied (append_known to told) new.sent
 tied_more None old new told sent h = tt

@@ -9,6 +9,7 @@ use Rattle.http1.specs.declared.error.ReadError.TheVariants.{Parse, BareLineFeed
 use Rattle.http1.specs.ReadError.{is_too_large, status_of}
 use Rattle.http_server.specs.Refusal.{bad_request, part_status, read_status, refusal_status, too_many_headers, uri_too_long}
 use Rattle.http_server.specs.declared.state.Refusal.{Refusal}
+use Rattle.ofrep_connections.specs.Refused.{status_text}
 
 -- ---- numbers
 
@@ -74,3 +75,34 @@ other_part HeaderName name size uri = absurd (name refl)
 other_part HeaderValue name size uri = bad
 other_part MaxSizeReached name size uri = absurd (size refl)
 other_part OutOfMemory name size uri = bad
+
+-- ---- the whole text
+
+-- of a URI which is refused
+abbrev pub uri_text : Bool → List ℕ
+uri_text is_too_long = if is_too_long then uri_too_long else bad_request
+
+of_size_text : (b : Bool) → status_text (if b then 431 else 400) ≡ (if b then too_many_headers else bad_request)
+of_size_text true = refl
+of_size_text false = refl
+
+pub unreadable_text : (e : ReadError) → status_text (status_of e) ≡ read_status e
+unreadable_text UriTooLong = refl
+unreadable_text (Parse e) = of_size_text (is_too_large (Parse e))
+unreadable_text BareLineFeed = refl
+unreadable_text TooLarge = refl
+unreadable_text Host = refl
+unreadable_text (Framing e) = refl
+unreadable_text (Chunk e) = refl
+unreadable_text UnexpectedEof = refl
+unreadable_text UnexpectedResponse = refl
+
+pub other_part_text : (e : Error) → (e ≡ HeaderName → ⊥) → (e ≡ MaxSizeReached → ⊥) → ((uri : _) → e ≡ Uri uri → ⊥) → status_text 400 ≡ part_status e
+other_part_text StatusCode name size uri = refl
+other_part_text Method name size uri = refl
+other_part_text (Uri u) name size uri = absurd (uri u refl)
+other_part_text (UriParts u) name size uri = refl
+other_part_text HeaderName name size uri = absurd (name refl)
+other_part_text HeaderValue name size uri = refl
+other_part_text MaxSizeReached name size uri = absurd (size refl)
+other_part_text OutOfMemory name size uri = refl

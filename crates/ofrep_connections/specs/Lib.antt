@@ -1,3 +1,4 @@
 pub mod Socket
 pub mod Stand
 pub mod Refused
+pub mod Waiting

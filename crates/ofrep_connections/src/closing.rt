@@ -2,23 +2,24 @@
 ghost use Rattle.ofrep_connections.specs.Stand.{PeersStand};
 
 use crate::admission::MAX_PEERS;
+use crate::moment::Moment;
 use crate::patience::Patience;
-use crate::peer::{Peer, Stay};
+use crate::peer::{LATE_STATUS, Peer, Stay};
 use crate::refusals::{refusal_in, status_of};
 use crate::socket::Socket;
+use crate::waiting::is_over;
 use crate::work::Making;
 use http_server::Refusal;
+use httpdate::HttpDate;
 use mio::Registry;
 use recorded_answers::Recording;
 use slab::Slab;
+use std::alloc::Global;
 use std::time::Instant;
 use traffic::Closing;
 
 /// Once a request was refused, its client has so many seconds to read the refusal.
 const DROPPING_SECONDS: u64 = 2;
-
-/// The status of the answer to a request that did not come whole in time.
-const LATE_STATUS: u16 = 408;
 
 /// What becomes of a connection where nothing comes from its client.
 #[derive(Clone, Copy)]
@@ -36,7 +37,7 @@ enum Expiry {
 /// Closes the connections that have had nothing to do for long, and those whose requests are late.
 pub(crate) fn leave_due<S: Recording, T: Socket + Drop>(
     making: Making<'_>,
-    now: Instant,
+    now: Moment,
     registry: &Registry,
     service: &S,
     peers: &mut Slab<Peer<T>>,
@@ -52,7 +53,7 @@ pub(crate) fn leave_due<S: Recording, T: Socket + Drop>(
 /// Closes the connection of a peer where that is due.
 fn leave_if_due<S: Recording, T: Socket + Drop>(
     making: Making<'_>,
-    now: Instant,
+    now: Moment,
     registry: &Registry,
     service: &S,
     peers: &mut Slab<Peer<T>>,
@@ -61,7 +62,7 @@ fn leave_if_due<S: Recording, T: Socket + Drop>(
     requires { PeersStand S.stands T.contents service.now peers.old }
     ensures { PeersStand S.stands T.contents service.now peers.new }
 {
-    match expiry_of(peers.get(key), now, making.patience) {
+    match expiry_of(peers.get(key), now.instant, making.patience) {
         Expiry::Kept => {}
         Expiry::Dropped => leave(registry, service, peers, key),
         Expiry::Idle => {
@@ -71,7 +72,7 @@ fn leave_if_due<S: Recording, T: Socket + Drop>(
         Expiry::Late => {
             making.traffic.count_closing(Closing::Late);
             making.traffic.count_status(LATE_STATUS);
-            leave_late(registry, service, peers, key);
+            leave_late(making.alloc, now.date(), registry, service, peers, key);
         }
     }
 }
@@ -170,6 +171,8 @@ pub(crate) fn leave<S: Recording, T: Socket + Drop>(
 
 /// Tells a peer that its request did not come whole in time, and closes its connection.
 fn leave_late<S: Recording, T: Socket + Drop>(
+    alloc: Global,
+    date: HttpDate,
     registry: &Registry,
     service: &S,
     peers: &mut Slab<Peer<T>>,
@@ -181,7 +184,7 @@ fn leave_late<S: Recording, T: Socket + Drop>(
     // The contract alone names the service.
     let _ = service;
     if let Some(mut peer) = peers.try_remove(key) {
-        let _ = peer.give_late();
+        let _ = peer.give_late(alloc, date);
         let _ = peer.socket.deregister(registry);
     }
 }
@@ -190,6 +193,7 @@ fn leave_late<S: Recording, T: Socket + Drop>(
 /// refusal.
 pub(crate) fn part<S: Recording, T: Socket + Drop>(
     making: Making<'_>,
+    now: Moment,
     registry: &Registry,
     service: &S,
     peers: &mut Slab<Peer<T>>,
@@ -199,30 +203,30 @@ pub(crate) fn part<S: Recording, T: Socket + Drop>(
     ensures { PeersStand S.stands T.contents service.now peers.new }
 {
     match refusal_of(peers.get(key)) {
-        Some(why) => {
-            making.traffic.count_status(status_of(why));
-            begin_dropping(registry, service, peers, key);
-        }
+        Some(why) => refuse(making, now, registry, service, peers, key, why),
         None => leave(registry, service, peers, key),
     }
 }
 
-/// Why a peer that has nothing more to send has refused a request, where it has.
+/// Why a peer that has no more answers to send has refused a request, where it has.
 fn refusal_of<T>(peer: Option<&Peer<T>>) -> Option<Refusal> {
     let peer = peer?;
-    if peer.connection.is_done() {
+    if is_over(&peer.connection) {
         refusal_in(peer.connection.state())
     } else {
         None
     }
 }
 
-/// Begins to drop what still comes from a peer.
-fn begin_dropping<S: Recording, T: Socket>(
+/// Tells a peer that its request is refused, counts that, and begins to drop what still comes.
+fn refuse<S: Recording, T: Socket>(
+    making: Making<'_>,
+    now: Moment,
     registry: &Registry,
     service: &S,
     peers: &mut Slab<Peer<T>>,
     key: usize,
+    why: Refusal,
 )
     requires { PeersStand S.stands T.contents service.now peers.old }
     ensures { PeersStand S.stands T.contents service.now peers.new }
@@ -230,8 +234,16 @@ fn begin_dropping<S: Recording, T: Socket>(
     // The contract alone names the service.
     let _ = service;
     if let Some(peer) = peers.get_mut(key) {
-        peer.begin_dropping();
-        peer.come_again(registry, key, Stay::Yields);
+        let stay = peer.refuse(making.alloc, now.date(), why);
+        count_refusal(making, stay, why);
+        peer.come_again(registry, key, stay);
+    }
+}
+
+/// Counts a refusal, unless the peer waits to be told of it.
+fn count_refusal(making: Making<'_>, stay: Stay, why: Refusal) {
+    if stay == Stay::Yields {
+        making.traffic.count_status(status_of(why));
     }
 }
 

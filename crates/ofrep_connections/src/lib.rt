@@ -4,10 +4,12 @@
 //! connections of a listener by readiness (`mio`), each a `Connection` of `http_server`: nothing is handed to a socket unless
 //! what every answer of the connection rests on stands by then. Workers that share a listener take its connections in turn by
 //! what they hold of their common [`Load`]. How long connections are kept is their [`Patience`]; a request that does not come whole in
-//! time is answered 408. After a refusal what still comes is dropped for a moment, so that the client sees the refusal.
+//! time is answered 408. A request that is none is refused with the date behind the answers of those before it, and what still comes is
+//! dropped for a moment, so that the client sees the refusal.
 //!
 //! Proved: the one function that writes answers to a socket has this as its condition, so that each write meets it; a socket is given
-//! what its own connection sends and, where nothing else is being sent, the text of 408, and what the connection received came from it;
+//! what its own connection sends and, where nothing else is being sent, the text of 408, or behind it that of the refusal, each with its
+//! date, and what the connection received came from it;
 //! and what the service did is turns, each a look and then answers. `http_server` proves of each connection that its bytes answer the
 //! requests that it read.
 #![tactic(auto)]
@@ -15,11 +17,13 @@
 mod admission;
 mod closing;
 mod load;
+mod moment;
 mod patience;
 mod peer;
 mod refusals;
 mod served;
 mod socket;
+mod waiting;
 mod work;
 
 pub use load::Load;

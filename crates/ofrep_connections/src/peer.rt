@@ -1,17 +1,23 @@
 //! One connection over a socket that does not block.
-ghost use Rattle.std.specs.Prelude.{◌≡◌, ◌<◌, List, length, take, IfOk, OnErr};
+ghost use Rattle.std.specs.Prelude.{◌≡◌, ◌<◌, List, None, length, take, IfOk, OnErr};
 ghost use Rattle.std.specs.Io.KnownBytes.{append_known};
 ghost use Rattle.http_server.specs.Connection.{config_of, history};
 ghost use Rattle.http_server.specs.Exchange.{Call, Chain};
 ghost use Rattle.http_server.specs.History.{IsServed, after_sent};
+ghost use Rattle.http_server.specs.Refusal.{refusal_status};
+ghost use Rattle.httpdate.specs.Date.{date_text};
 ghost use Rattle.recorded_answers.specs.Stand.{AllStand};
-ghost use Rattle.ofrep_connections.specs.Refused.{late_text};
+ghost use Rattle.ofrep_connections.specs.Refused.{closing_text, status_text};
 ghost use Rattle.ofrep_connections.specs.Socket.{Exchanges};
 
+use crate::refusals::{closing_text, status_of};
 use crate::socket::Socket;
-use http_server::Connection;
+use crate::waiting::{is_over, next_answers, waiting_refusal};
+use http_server::{Connection, Refusal};
+use httpdate::HttpDate;
 use mio::Registry;
 use recorded_answers::Recording;
+use std::alloc::Global;
 use std::io;
 use std::io::ErrorKind;
 use std::time::Instant;
@@ -19,9 +25,8 @@ use std::time::Instant;
 /// How often a connection is read or written before others have their turn.
 const MOST_TURNS: u32 = 4;
 
-/// The answer to a request that did not come whole in time.
-const LATE: &[u8] =
-    b"HTTP/1.1 408 Request Timeout\r\nconnection: close\r\ncontent-length: 0\r\n\r\n";
+/// The status of the answer to a request that did not come whole in time.
+pub(crate) const LATE_STATUS: u16 = 408;
 
 /// Once a request was refused, so many bytes are still read and dropped: a socket that is closed before they are may take the refusal
 /// from its client.
@@ -59,6 +64,7 @@ impl<T: Socket> Peer<T> {
         ensures stand { AllStand S.stands service.new (history self.new.connection).calls }
         ensures chain { (calls : List Call) × Chain S.answers service.old calls service.new }
         ensures exchanges { Exchanges (history self.old.connection) (history self.new.connection) (T.remaining self.old.socket) (T.remaining self.new.socket) (T.contents self.old.socket) (T.contents self.new.socket) }
+        ensures dropping { self.new.dropping ≡ self.old.dropping }
     {
         let mut is_read = false;
         for _ in 0..MOST_TURNS {
@@ -79,7 +85,7 @@ impl<T: Socket> Peer<T> {
             }
             self.connection.advance(service);
             self.begun = begun_after(self.begun, comes, self.connection.wants_write(), now);
-            if self.connection.is_done() {
+            if is_over(&self.connection) {
                 return Stay::Leaves;
             }
             is_read = is_read || all && self.connection.wants_write();
@@ -92,19 +98,40 @@ impl<T: Socket> Peer<T> {
         self.begun.is_some() || self.dropping.is_some() || self.connection.wants_write()
     }
 
-    /// Sends nothing more, and begins to drop what still comes.
-    pub(crate) fn begin_dropping(&mut self)
+    /// Tells that a request is refused, where that is not told yet, sends nothing more, and begins to drop what still comes. Where the
+    /// socket takes nothing for now the peer waits.
+    pub(crate) fn refuse(&mut self, alloc: Global, date: HttpDate, why: Refusal) -> Stay
         ensures connection { self.new.connection ≡ self.old.connection }
-        ensures contents { T.contents self.new.socket ≡ T.contents self.old.socket }
+        ensures contents { self.new.dropping ≡ None → T.contents self.new.socket ≡ T.contents self.old.socket }
+        ensures dropping { self.new.dropping ≡ None → self.old.dropping ≡ None }
     {
+        if waiting_refusal(&self.connection).is_some() {
+            match self.give_refusal(alloc, date, why) {
+                Err(e) if e.kind() == ErrorKind::WouldBlock => return Stay::Waits,
+                _ => {}
+            }
+        }
         self.dropping = Some(MOST_DROPPED);
         let _ = self.socket.end_output();
+        Stay::Yields
+    }
+
+    /// Tells why a request is refused.
+    fn give_refusal(&mut self, alloc: Global, date: HttpDate, why: Refusal) -> io::Result<usize>
+        ensures given { IfOk result (λ n. T.contents self.new.socket ≡ append_known (T.contents self.old.socket) (take n (closing_text (refusal_status why) (date_text date)))) }
+        ensures ungiven { OnErr result (T.contents self.new.socket ≡ T.contents self.old.socket) }
+        ensures connection { self.new.connection ≡ self.old.connection }
+        ensures dropping { self.new.dropping ≡ self.old.dropping }
+    {
+        let text = closing_text(alloc, status_of(why), date)?;
+        self.socket.give(text.as_bytes())
     }
 
     /// Drops what has come, as far as that is still done.
     pub(crate) fn drop_input(&mut self) -> Stay
         ensures connection { self.new.connection ≡ self.old.connection }
         ensures contents { T.contents self.new.socket ≡ T.contents self.old.socket }
+        ensures dropping { self.new.dropping ≡ None → self.old.dropping ≡ None }
     {
         let left = self.dropping.unwrap_or(0);
         if left == 0 {
@@ -123,21 +150,23 @@ impl<T: Socket> Peer<T> {
     }
 
     /// Tells that a request did not come whole in time, where nothing else is being sent.
-    pub(crate) fn give_late(&mut self) -> io::Result<usize>
-        ensures given { IfOk result (λ n. T.contents self.new.socket ≡ append_known (T.contents self.old.socket) (take n late_text)) }
+    pub(crate) fn give_late(&mut self, alloc: Global, date: HttpDate) -> io::Result<usize>
+        ensures given { IfOk result (λ n. T.contents self.new.socket ≡ append_known (T.contents self.old.socket) (take n (closing_text (status_text 408) (date_text date)))) }
         ensures ungiven { OnErr result (T.contents self.new.socket ≡ T.contents self.old.socket) }
         ensures pending { 0 < length (history self.old.connection).pending → T.contents self.new.socket ≡ T.contents self.old.socket }
     {
         if self.connection.wants_write() {
             return Err(ErrorKind::WouldBlock.into());
         }
-        self.socket.give(LATE)
+        let text = closing_text(alloc, LATE_STATUS, date)?;
+        self.socket.give(text.as_bytes())
     }
 
     /// Has the system tell once more what the socket is ready for, where the peer yields to others.
     pub(crate) fn come_again(&mut self, registry: &Registry, key: usize, stay: Stay)
         ensures connection { self.new.connection ≡ self.old.connection }
         ensures contents { T.contents self.new.socket ≡ T.contents self.old.socket }
+        ensures dropping { self.new.dropping ≡ self.old.dropping }
     {
         if stay == Stay::Yields {
             let _ = self.socket.register_again(registry, key);
@@ -151,6 +180,7 @@ impl<T: Socket> Peer<T> {
         requires stand { AllStand S.stands service.now (history self.old.connection).calls }
         ensures calls { (history self.new.connection).calls ≡ (history self.old.connection).calls }
         ensures exchanges { Exchanges (history self.old.connection) (history self.new.connection) (T.remaining self.old.socket) (T.remaining self.new.socket) (T.contents self.old.socket) (T.contents self.new.socket) }
+        ensures dropping { self.new.dropping ≡ self.old.dropping }
     {
         if !self.connection.wants_write() {
             let count = receive(&mut self.connection, &mut self.socket)?;
@@ -191,7 +221,8 @@ fn receive<T: Socket>(connection: &mut Connection, socket: &mut T) -> io::Result
     socket.receive(connection)
 }
 
-/// Writes once. What is pending answers calls of the connection, and what each of their answers rests on stands already.
+/// Writes once, all but the text of a refusal. What is pending answers calls of the connection, and what each of their answers rests on stands already.
+#[tactic(auto, using(crate::proofs::Sockets::exchanges_none))]
 fn send<S: Recording, T: Socket>(
     connection: &mut Connection,
     service: &S,
@@ -207,5 +238,7 @@ fn send<S: Recording, T: Socket>(
 {
     // The contract alone names the service.
     let _ = service;
-    socket.send(connection)
+    let count = socket.give(next_answers(connection))?;
+    connection.sent(count);
+    Ok(count)
 }

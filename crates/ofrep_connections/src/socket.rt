@@ -1,8 +1,9 @@
 //! The socket of a peer.
 ghost use Rattle.std.specs.Prelude.{◌≡◌, ℕ, List, None, Option, IfOk, OnErr, length, take};
+ghost use Rattle.std.specs.Io.{WritesAtMost};
 ghost use Rattle.std.specs.Io.KnownBytes.{append_known, prepend_known};
 ghost use Rattle.http_server.specs.Connection.{history};
-ghost use Rattle.http_server.specs.History.{after_read, after_sent};
+ghost use Rattle.http_server.specs.History.{after_read};
 
 use http_server::Connection;
 use mio::net::TcpStream;
@@ -14,8 +15,7 @@ use std::net::Shutdown;
 /// The most bytes that are dropped at once.
 const DROPPED_AT_ONCE: usize = 8_192;
 
-/// A socket that does not block. All that a connection reads comes from it, and all that it is given is what a connection sends and,
-/// where a request did not come whole in time, a last text that says so.
+/// A socket that does not block. All that a connection reads comes from it.
 pub(crate) trait Socket {
     // The bytes that are still to come from it, where they are known.
     ghost remaining: { Self → Option (List ℕ) };
@@ -30,17 +30,12 @@ pub(crate) trait Socket {
         ensures unreceived { OnErr result ((history connection.new ≡ history connection.old) × (remaining self.new ≡ remaining self.old)) }
         ensures contents { contents self.new ≡ contents self.old };
 
-    /// Has a connection send once.
-    fn send(&mut self, connection: &mut Connection) -> io::Result<usize>
-        ensures sent { IfOk result (λ n. (history connection.new ≡ after_sent (history connection.old) n)
-            × (contents self.new ≡ append_known (contents self.old) (take n (history connection.old).pending))) }
-        ensures unsent { OnErr result ((connection.new ≡ connection.old) × (contents self.new ≡ contents self.old)) }
+    /// Is given a front of these bytes, and says of how many.
+    fn give(&mut self, bytes: &[u8]) -> io::Result<usize>
+        ensures bound { WritesAtMost result bytes.now }
+        ensures given { IfOk result (λ n. contents self.new ≡ append_known (contents self.old) (take n bytes.now)) }
+        ensures ungiven { OnErr result (contents self.new ≡ contents self.old) }
         ensures remaining { remaining self.new ≡ remaining self.old };
-
-    /// Is given a text once.
-    fn give(&mut self, text: &[u8]) -> io::Result<usize>
-        ensures given { IfOk result (λ n. contents self.new ≡ append_known (contents self.old) (take n text.now)) }
-        ensures ungiven { OnErr result (contents self.new ≡ contents self.old) };
 
     /// Reads once, and drops what was read.
     fn drop_input(&mut self) -> io::Result<usize>
@@ -74,12 +69,8 @@ impl Socket for TcpStream {
         connection.read_from(self)
     }
 
-    fn send(&mut self, connection: &mut Connection) -> io::Result<usize> {
-        connection.write_to(self)
-    }
-
-    fn give(&mut self, text: &[u8]) -> io::Result<usize> {
-        self.write(text)
+    fn give(&mut self, bytes: &[u8]) -> io::Result<usize> {
+        self.write(bytes)
     }
 
     fn drop_input(&mut self) -> io::Result<usize> {

@@ -7,6 +7,7 @@ ghost use Rattle.ofrep_connections.specs.Stand.{PeersStand};
 use crate::admission::{MAX_PEERS, Queue, admit};
 use crate::closing::{drop_input, is_dropping, leave_due, leave_free, part};
 use crate::load::{Load, LoadShare};
+use crate::moment::Moment;
 use crate::patience::Patience;
 use crate::peer::{Peer, Stay};
 use crate::served::Served;
@@ -216,11 +217,18 @@ fn turn<S: Recording, R: Clock>(
         share.tell(peers.len());
         let registry = poll.registry();
         queue = admit(
-            making, now, registry, listener, share, queue, service, peers,
+            making,
+            now.instant,
+            registry,
+            listener,
+            share,
+            queue,
+            service,
+            peers,
         );
-        if now.duration_since(swept).as_secs() > 0 {
+        if now.instant.duration_since(swept).as_secs() > 0 {
             leave_due(making, now, registry, service, peers);
-            swept = now;
+            swept = now.instant;
         }
     }
     Ok(())
@@ -250,7 +258,7 @@ fn end<S: Recording, R: Clock>(
         let now = answer_ready(
             rt, making, poll, events, END_MILLIS, &mut queue, peers, service,
         )?;
-        if now.duration_since(begun).as_secs() >= END_SECONDS {
+        if now.instant.duration_since(begun).as_secs() >= END_SECONDS {
             return Ok(());
         }
     }
@@ -267,13 +275,13 @@ fn answer_ready<S: Recording, R: Clock>(
     queue: &mut Queue,
     peers: &mut Slab<Peer<TcpStream>>,
     service: &mut S,
-) -> io::Result<Instant>
+) -> io::Result<Moment>
     requires { PeersStand S.stands ⟦<TcpStream as Socket>⟧.contents service.old peers.old }
     ensures turns { (turns : List (List Call)) × Works S.answers S.looked service.old turns service.new }
     ensures stand { PeersStand S.stands ⟦<TcpStream as Socket>⟧.contents service.new peers.new }
 {
     poll.poll(events, Some(Duration::from_millis(pause_millis)))?;
-    let now = Instant::now(rt)?;
+    let now = Moment::now(rt)?;
     service.look();
     for event in events.iter() {
         answer_event(making, now, poll.registry(), queue, peers, event, service);
@@ -284,7 +292,7 @@ fn answer_ready<S: Recording, R: Clock>(
 /// Does what a socket is ready for.
 fn answer_event<S: Recording, T: Socket + Drop>(
     making: Making<'_>,
-    now: Instant,
+    now: Moment,
     registry: &Registry,
     queue: &mut Queue,
     peers: &mut Slab<Peer<T>>,
@@ -297,7 +305,7 @@ fn answer_event<S: Recording, T: Socket + Drop>(
 {
     let Token(key) = event.token();
     if key == LISTENER {
-        *queue = queue.called(now);
+        *queue = queue.called(now.instant);
     } else {
         let room = making.room(event);
         attend(making, now, registry, peers, key, room, service);
@@ -307,7 +315,7 @@ fn answer_event<S: Recording, T: Socket + Drop>(
 /// Goes on with one peer, and closes its connection where it leaves.
 fn attend<S: Recording, T: Socket + Drop>(
     making: Making<'_>,
-    now: Instant,
+    now: Moment,
     registry: &Registry,
     peers: &mut Slab<Peer<T>>,
     key: usize,
@@ -320,8 +328,8 @@ fn attend<S: Recording, T: Socket + Drop>(
 {
     if is_dropping(peers.get(key)) {
         drop_input(registry, service, peers, key);
-    } else if visit(now, registry, peers, key, room, service) == Stay::Leaves {
-        part(making, registry, service, peers, key);
+    } else if visit(now.instant, registry, peers, key, room, service) == Stay::Leaves {
+        part(making, now, registry, service, peers, key);
     }
 }
 

@@ -22,6 +22,7 @@ pub struct Counts {
     pub(crate) replaced: AtomicU64,
     pub(crate) shorter: AtomicU64,
     pub(crate) unseen: AtomicU64,
+    pub(crate) removed: AtomicU64,
     pub(crate) unopened: AtomicU64,
     /// How many logs can't be written now, by the reason, and how often one began to fail.
     pub(crate) lost: AtomicU64,
@@ -54,6 +55,7 @@ impl Counts {
             replaced: AtomicU64::new(0),
             shorter: AtomicU64::new(0),
             unseen: AtomicU64::new(0),
+            removed: AtomicU64::new(0),
             unopened: AtomicU64::new(0),
             lost: AtomicU64::new(0),
             unwritten: AtomicU64::new(0),
@@ -179,6 +181,7 @@ impl Counts {
             Loss::Replaced => &self.replaced,
             Loss::Shorter => &self.shorter,
             Loss::Unseen => &self.unseen,
+            Loss::Removed => &self.removed,
         }
     }
 

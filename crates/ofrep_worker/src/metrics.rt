@@ -78,6 +78,7 @@ impl Counts {
         push_loss(text, "replaced", &self.replaced)?;
         push_loss(text, "shorter", &self.shorter)?;
         push_loss(text, "unseen", &self.unseen)?;
+        push_loss(text, "removed", &self.removed)?;
         push_counter(
             text,
             "ofrep_log_unopened_total",

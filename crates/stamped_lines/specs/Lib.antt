@@ -1,1 +1,3 @@
 pub mod Level
+pub mod Line
+pub mod Stamped

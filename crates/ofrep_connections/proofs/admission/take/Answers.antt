@@ -8,5 +8,5 @@ use Rattle.ofrep_connections.proofs.admission.take.Goals as goal
 pub welcome-requires-clause-own : goal.welcome-requires-clause-own
 welcome-requires-clause-own g c = (
   subst (λ (h : History). AllStand g.S.Recording.stands c.args.service.now h.calls) (sym c.new-connection.ensures.history) (nothing_stands g.S.Recording.stands c.args.service.now),
-  subst (λ (h : History). IsTied (g.T.Socket.contents c.register.new.self) h.sent) (sym c.new-connection.ensures.history) (tied_new (g.T.Socket.contents c.register.new.self)),
+  λ _. subst (λ (h : History). IsTied (g.T.Socket.contents c.register.new.self) h.sent) (sym c.new-connection.ensures.history) (tied_new (g.T.Socket.contents c.register.new.self)),
 )

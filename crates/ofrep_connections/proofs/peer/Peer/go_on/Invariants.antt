@@ -1,3 +1,4 @@
+use Rattle.std.proofs.Common.{◌≡◌}
 use Rattle.http_server.specs.Connection.{history}
 use Rattle.recorded_answers.specs.Stand.{AllStand}
 use Rattle.recorded_answers.proofs.Standing.{Leads}
@@ -8,3 +9,4 @@ abbrev pub invariant-loop : goal.invariant-loop
 invariant-loop g l =
     Leads g.S.Service.answers l.fn.service l.service × AllStand g.S.Recording.stands l.service (history l.self.connection).calls
     × Exchanges (history l.fn.self.connection) (history l.self.connection) (g.T.Socket.remaining l.fn.self.socket) (g.T.Socket.remaining l.self.socket) (g.T.Socket.contents l.fn.self.socket) (g.T.Socket.contents l.self.socket)
+    × (l.self.dropping ≡ l.fn.self.dropping)
