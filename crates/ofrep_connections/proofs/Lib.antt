@@ -1,4 +1,5 @@
 mod Peers
 mod Sockets
+mod Fronts
 mod Turns
 mod Statuses

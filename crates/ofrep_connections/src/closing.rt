@@ -234,7 +234,7 @@ fn refuse<S: Recording, T: Socket>(
     // The contract alone names the service.
     let _ = service;
     if let Some(peer) = peers.get_mut(key) {
-        let stay = peer.refuse(making.alloc, now.date(), why);
+        let stay = peer.refuse(making.alloc, now.date());
         count_refusal(making, stay, why);
         peer.come_again(registry, key, stay);
     }

@@ -8,10 +8,9 @@
 //! dropped for a moment, so that the client sees the refusal.
 //!
 //! Proved: the one function that writes answers to a socket has this as its condition, so that each write meets it; a socket is given
-//! what its own connection sends and, where nothing else is being sent, the text of 408, or behind it that of the refusal, each with its
-//! date, and what the connection received came from it;
-//! and what the service did is turns, each a look and then answers. `http_server` proves of each connection that its bytes answer the
-//! requests that it read.
+//! what its own connection sends, and then at most, with its date, the text of 408, where nothing else is being sent, or that of the
+//! refusal, where no answer waits before it (`TellsRefusal`); what the connection received came from its socket; and what the service
+//! did is turns, each a look and then answers. `http_server` proves of each connection that its bytes answer the requests that it read.
 #![tactic(auto)]
 
 mod admission;

@@ -8,6 +8,7 @@ ghost use Rattle.http_server.specs.Refusal.{refusal_status};
 ghost use Rattle.httpdate.specs.Date.{date_text};
 ghost use Rattle.recorded_answers.specs.Stand.{AllStand};
 ghost use Rattle.ofrep_connections.specs.Refused.{closing_text, status_text};
+ghost use Rattle.ofrep_connections.specs.Waiting.{TellsRefusal};
 ghost use Rattle.ofrep_connections.specs.Socket.{Exchanges};
 
 use crate::refusals::{closing_text, status_of};
@@ -100,20 +101,35 @@ impl<T: Socket> Peer<T> {
 
     /// Tells that a request is refused, where that is not told yet, sends nothing more, and begins to drop what still comes. Where the
     /// socket takes nothing for now the peer waits.
-    pub(crate) fn refuse(&mut self, alloc: Global, date: HttpDate, why: Refusal) -> Stay
+    pub(crate) fn refuse(&mut self, alloc: Global, date: HttpDate) -> Stay
+        ensures told { TellsRefusal (history self.old.connection) (date_text date) (T.contents self.old.socket) (T.contents self.new.socket) }
         ensures connection { self.new.connection ≡ self.old.connection }
         ensures contents { self.new.dropping ≡ None → T.contents self.new.socket ≡ T.contents self.old.socket }
         ensures dropping { self.new.dropping ≡ None → self.old.dropping ≡ None }
     {
-        if waiting_refusal(&self.connection).is_some() {
-            match self.give_refusal(alloc, date, why) {
-                Err(e) if e.kind() == ErrorKind::WouldBlock => return Stay::Waits,
-                _ => {}
-            }
+        if self.tell_refusal(alloc, date) == Stay::Waits {
+            return Stay::Waits;
         }
         self.dropping = Some(MOST_DROPPED);
         let _ = self.socket.end_output();
         Stay::Yields
+    }
+
+    /// Tells that a request is refused, where nothing else waits to be sent and the socket takes something.
+    fn tell_refusal(&mut self, alloc: Global, date: HttpDate) -> Stay
+        ensures told { TellsRefusal (history self.old.connection) (date_text date) (T.contents self.old.socket) (T.contents self.new.socket) }
+        ensures waits { result ≡ Stay.Waits → T.contents self.new.socket ≡ T.contents self.old.socket }
+        ensures connection { self.new.connection ≡ self.old.connection }
+        ensures dropping { self.new.dropping ≡ self.old.dropping }
+    {
+        let Some(why) = waiting_refusal(&self.connection) else {
+            return Stay::Yields;
+        };
+        match self.give_refusal(alloc, date, why) {
+            Ok(_) => Stay::Yields,
+            Err(e) if e.kind() == ErrorKind::WouldBlock => Stay::Waits,
+            Err(_) => Stay::Yields,
+        }
     }
 
     /// Tells why a request is refused.

@@ -1,6 +1,7 @@
 //! What of a connection waits to be sent.
-ghost use Rattle.std.specs.Prelude.{◌≡◌, IfSome, Some};
+ghost use Rattle.std.specs.Prelude.{◌≡◌, ◌++◌, true, IfSome, Some};
 ghost use Rattle.http_server.specs.Connection.{history};
+ghost use Rattle.http_server.specs.Refusal.{refusal_text};
 ghost use Rattle.ofrep_connections.specs.Refused.{refusal_in};
 ghost use Rattle.ofrep_connections.specs.Waiting.{IsFront};
 
@@ -26,12 +27,14 @@ pub(crate) fn next_answers(connection: &Connection) -> &[u8]
 
 /// Why a connection has refused a request, where nothing waits but the text that says so.
 pub(crate) fn waiting_refusal(connection: &Connection) -> Option<Refusal>
-    ensures { IfSome result (λ why. refusal_in (history connection.now).state ≡ Some why) }
+    ensures state { IfSome result (λ why. refusal_in (history connection.now).state ≡ Some why) }
+    ensures waits { IfSome result (λ why. IsFront (refusal_text why) (history connection.now).pending) }
 {
     let why = refusal_in(connection.state())?;
-    match before_refusal(connection.output(), why) {
-        Some(front) if front.is_empty() => Some(why),
-        _ => None,
+    if is_refusal(connection.output(), why) {
+        Some(why)
+    } else {
+        None
     }
 }
 
@@ -40,17 +43,22 @@ pub(crate) fn is_over(connection: &Connection) -> bool {
     connection.is_done() || waiting_refusal(connection).is_some()
 }
 
+/// Whether these bytes are the text of a refusal.
+fn is_refusal(waiting: &[u8], why: Refusal) -> bool
+    ensures { result ≡ true → waiting.now ≡ refusal_text why }
+{
+    match before_refusal(waiting, why) {
+        Some(front) => front.is_empty(),
+        None => false,
+    }
+}
+
 /// The bytes before the text of a refusal, where that ends what waits.
 fn before_refusal(waiting: &[u8], why: Refusal) -> Option<&[u8]>
-    ensures { IfSome result (λ front. IsFront front.now waiting.now) }
+    ensures front { IfSome result (λ front. IsFront front.now waiting.now) }
+    ensures text { IfSome result (λ front. waiting.now ≡ front.now ++ refusal_text why) }
 {
-    let status = status_text(status_of(why)).as_bytes();
-    let len = waiting
-        .len()
-        .checked_sub(START.len() + status.len() + END.len())?;
-    let (front, text) = waiting.split_at(len);
-    match text.strip_prefix(START) {
-        Some(rest) if rest.starts_with(status) && rest.ends_with(END) => Some(front),
-        _ => None,
-    }
+    let rest = waiting.strip_suffix(END)?;
+    let rest = rest.strip_suffix(status_text(status_of(why)).as_bytes())?;
+    rest.strip_suffix(START)
 }

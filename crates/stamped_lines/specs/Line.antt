@@ -1,6 +1,6 @@
 -- The lines of what is written (JSON Lines, https://jsonlines.org): each ends with a line feed.
-use Rattle.std.specs.Prelude.{◌≡◌, ◌≤◌, ◌==◌, ◌+◌, ◌&&◌, ℕ, Bool, true, List, [], ◌∷◌, codes, length, nat_eq, not, take, Option, Some, None, if◌then◌else◌}
-use Rattle.std.specs.List.{ends_with, position, starts_with}
+use Rattle.std.specs.Prelude.{◌==◌, ◌+◌, ◌&&◌, ℕ, Bool, List, codes, length, nat_eq, not, Option, Some, None, if◌then◌else◌}
+use Rattle.std.specs.List.{position, starts_with}
 
 abbrev pub is_feed : ℕ → Bool
 is_feed byte = byte == 10

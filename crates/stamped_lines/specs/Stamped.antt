@@ -1,5 +1,5 @@
--- What is known of a writer behind a write: whether it is amid a line, and the level of the line that was begun last.
-use Rattle.std.specs.Prelude.{◌==◌, ◌&&◌, ◌||◌, ℕ, Bool, List, [], ◌∷◌, length, nat_eq, nat_lt, not, take, if◌then◌else◌}
+-- What is written before a line, and what is known of a writer behind a write: whether it is amid a line, and the level of the line that was begun last.
+use Rattle.std.specs.Prelude.{◌==◌, ◌&&◌, ◌||◌, ◌++◌, ℕ, Bool, List, [], ◌∷◌, codes, length, nat_eq, nat_lt, not, take, if◌then◌else◌}
 use Rattle.std.specs.List.{ends_with}
 use Rattle.stamped_lines.specs.Level.{level_of}
 use Rattle.stamped_lines.specs.Line.{is_json, piece_length}
@@ -15,3 +15,7 @@ level_after has_stamps is_begun level text = if begins is_begun text then level_
 -- n bytes of the text were taken
 abbrev pub begun_after : Bool → List ℕ → ℕ → Bool
 begun_after is_begun text n = if n == 0 then is_begun || begins is_begun text else not (ends_with nat_eq (take n text) (10 ∷ []))
+
+-- the text of a moment (RFC 3339) and the name of a level
+unfoldable pub stamp_text : List ℕ → List ℕ → List ℕ
+stamp_text moment level = moment ++ (codes " " ++ (level ++ codes " "))

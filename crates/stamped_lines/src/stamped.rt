@@ -1,15 +1,15 @@
 //! A writer that stamps lines.
-ghost use Rattle.std.specs.Prelude.{◌≡◌, ◌≤◌, false, true, IfOk, is_some, length};
+ghost use Rattle.std.specs.Prelude.{◌≡◌, ◌≤◌, false, true, IfOk, is_some, length, string_bytes};
 ghost use Rattle.std.specs.Io.{WritesAtMost};
 ghost use Rattle.std.specs.Io.KnownBytes.{WriteAppends};
-ghost use Rattle.stamped_lines.specs.Level.{level_of};
+ghost use Rattle.stamped_lines.specs.Level.{level_name, level_of};
 ghost use Rattle.stamped_lines.specs.Line.{piece_length};
-ghost use Rattle.stamped_lines.specs.Stamped.{begun_after, level_after};
+ghost use Rattle.stamped_lines.specs.Stamped.{begun_after, level_after, stamp_text};
 
 use crate::level::{Level, level_of};
 use crate::line::{begins, piece};
 use jiff::Timestamp;
-use std::alloc::Global;
+use std::alloc::{AllocError, Global};
 use std::io::{self, Write};
 use std::time::Clock;
 
@@ -68,11 +68,28 @@ impl<'a, R: Clock, S: Write, W: Write> StampedLines<'a, R, S, W> {
         let Ok(now) = Timestamp::now(self.rt) else {
             return;
         };
-        let level = self.level.name();
-        if let Ok(stamp) = format!(in self.alloc; "{now:.3} {level} ") {
+        let Ok(moment) = format!(in self.alloc; "{now:.3}") else {
+            return;
+        };
+        if let Ok(stamp) = stamp_of(self.alloc, moment.as_str(), self.level) {
             let _ = stamps.write_all(stamp.as_bytes());
         }
     }
+}
+
+/// The stamp of a line that begins at a moment.
+fn stamp_of(alloc: Global, moment: &str, level: Level) -> Result<String, AllocError>
+    ensures { IfOk result (λ stamp. string_bytes stamp ≡ stamp_text moment.now (level_name level)) }
+{
+    stamp_with(alloc, moment, level.name())
+}
+
+/// The stamp of a moment and the name of a level.
+#[tactic(auto, unfolding(crate::specs::Stamped::stamp_text))]
+fn stamp_with(alloc: Global, moment: &str, level: &str) -> Result<String, AllocError>
+    ensures { IfOk result (λ stamp. string_bytes stamp ≡ stamp_text moment.now level.now) }
+{
+    format!(in alloc; "{moment} {level} ")
 }
 
 impl<R: Clock, S: Write, W: Write> Write for StampedLines<'_, R, S, W> {
