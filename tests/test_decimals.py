@@ -333,7 +333,6 @@ class Served(ServiceTest):
             ({"in": [1, {"map": [{"var": "list"}, {"var": ""}]}]}, "list.0", "0.5"),
             ({"==": [{"fractional": [["yes", {"var": "cart"}]]}, "yes"]}, "cart", "52.1"),
             ({"+": [{"-": ["a", 1]}, {"var": "cart"}]}, None, None),
-            ({"<": [{"var": "cart"}, "1e9999"]}, None, None),
             # By whatever path.
             ({"+": [{"var": {"cat": ["list", ".", 0]}}, 1]}, "list.0", "0.5"),
             ({"+": [{"var": {"if": [{"==": [{"var": "cart"}, "52.1"]}, "old", "cart"]}}, 1]}, "old", "52.10"),

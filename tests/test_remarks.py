@@ -1,5 +1,6 @@
 """What a person is told of a file that is refused, or of a flag that is broken: the place in it, and what stands there."""
 import json
+import re
 import subprocess
 import tempfile
 import unittest
@@ -409,6 +410,11 @@ def chained(last):
     return f'{{"$evaluators":{{{evaluators}}},"flags":{{{flags}}}}}'
 
 
+def unstamped(told):
+    """What a service reports, without the time and the level of each line."""
+    return re.sub(r"^\S+Z (?:ERROR|WARN|INFO) ", "", told, flags=re.M)
+
+
 class Remarks(ProgramTest):
     def assert_told(self, ran, told):
         """The first line that is told."""
@@ -466,7 +472,7 @@ class Remarks(ProgramTest):
             with self.subTest(words=words):
                 ran = run(["ofrep", "d", *words], {"d": SHARED}, stdin=subprocess.DEVNULL)
                 self.assertEqual((ran.status, ran.out.startswith("refused ")), (1, True))
-                self.assertIn(told, ran.err)
+                self.assertIn(told, unstamped(ran.err))
 
     def test_of_lines_of_other_pages(self):
         ran = run(["tally", "d", "a", "0"], {"d": SHARED}, input='["b",0,null,"bann"]\n')
@@ -567,7 +573,7 @@ class Remarks(ProgramTest):
             with self.subTest(words=words):
                 ran = run(words, {"d": SHOP, "c": "{}"}, stdin=subprocess.DEVNULL)
                 self.assertEqual((ran.status, ran.out), (2, ""))
-                self.assertTrue(ran.err.endswith("\n" + told), ran.err)
+                self.assertTrue(unstamped(ran.err).endswith("\n" + told), ran.err)
 
     def test_of_sites_that_are_doubted(self):
         for targeting, doubt in DOUBTS:
