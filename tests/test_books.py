@@ -397,7 +397,7 @@ class Notes(ProgramTest):
                 for words in (["n"], ["--torn", "n"]):
                     told = self.assert_booked(words, {"n": cut}, len(texts), book_of(pages))
                     self.assertEqual(told != "", cut != "" and not cut.endswith("\n"), told)
-                    self.assertTrue(told == "" or told.startswith('note: "n": the last line has no end'), told)
+                    self.assertTrue(told == "" or told.startswith('note: "n": the last line has no line feed'), told)
 
     def test_lines_without_end(self):
         """Reading ends with the piece of 16,777,216 bytes in whose beginning a line is no note."""

@@ -309,7 +309,7 @@ class Served(ServiceTest):
         self.assertGreater(faults, 0)
 
     def test_details(self):
-        """An answer names the first number that the targeting reads in another way, by the way to it and as it is spelled."""
+        """An answer names the number at which the evaluation ends, by the way to it and as it is spelled."""
         other = "the flag's definition breaks a rule, or its targeting can't be evaluated"
         rows = [
             ({"<": [{"+": [{"var": "cart"}, 1]}, 60]}, "cart", "52.1"),
@@ -325,6 +325,19 @@ class Served(ServiceTest):
             ({"!": {"var": "lines.2"}}, "lines.2.price.net", "2.50"),
             ({"if": [{"var": ["none", {"var": "lines.2.price"}]}, 1]}, "lines.2.price.net", "2.50"),
             ({"!!": {"var": ""}}, "cart", "52.1"),
+            # In the branches that are taken, and up to where the evaluation ends.
+            ({"if": [False, {"+": [{"var": "cart"}, 1]}, {"+": [{"var": "far"}, 1]}]}, "far", "1e401"),
+            ({"if": [{"<": [{"var": "cart"}, 60]}, {"+": [{"var": "old"}, 1]}, {"+": [{"var": "cart"}, 1]}]}, "old", "52.10"),
+            ({"and": [{"or": [{"<": [{"var": "cart"}, 60]}, {"+": [{"var": "far"}, 1]}]}, {"+": [{"var": "id"}, 1]}]}, "id", "12345678901234567890"),
+            ({"in": [1, {"reduce": [[1], {"var": "current"}, {"var": "cart"}]}]}, "cart", "52.1"),
+            ({"in": [1, {"map": [{"var": "list"}, {"var": ""}]}]}, "list.0", "0.5"),
+            ({"==": [{"fractional": [["yes", {"var": "cart"}]]}, "yes"]}, "cart", "52.1"),
+            ({"+": [{"-": ["a", 1]}, {"var": "cart"}]}, None, None),
+            ({"<": [{"var": "cart"}, "1e9999"]}, None, None),
+            # By whatever path.
+            ({"+": [{"var": {"cat": ["list", ".", 0]}}, 1]}, "list.0", "0.5"),
+            ({"+": [{"var": {"if": [{"==": [{"var": "cart"}, "52.1"]}, "old", "cart"]}}, 1]}, "old", "52.10"),
+            ({"!!": {"var": [None]}}, "cart", "52.1"),
             ({"+": ["a", {"var": "whole"}]}, None, None),
             ({"+": ["a", {"var": "lines.1"}]}, None, None),
         ]

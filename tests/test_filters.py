@@ -101,7 +101,7 @@ class WorkersTest(ProgramTest):
         self.assertEqual(self.assert_same(long, 1), "")
         self.assertEqual(self.assert_same(long + "".join(short), 4), "")
         self.assertEqual(self.assert_same(long + "\n" * 100_000 + "".join(short), 4), "")
-        self.assertIn("no end", self.assert_same(long + "".join(short) + "{", 4))
+        self.assertIn("no line feed", self.assert_same(long + "".join(short) + "{", 4))
 
     def test_long_inputs(self):
         """Inputs above 1,024 bytes are counted over all workers."""
@@ -156,10 +156,10 @@ class FiltersTest(ProgramTest):
             self.assertEqual(record(lines), (note("a") + note("b"), "", 0, {"d": DOCUMENT}))
             torn = record(lines + '{"key":"c"}')
             self.assertEqual((torn.out, torn.status), (note("a") + note("b"), 0))
-            self.assertIn("no end", torn.err)
+            self.assertIn("no line feed", torn.err)
         torn = tally(note("a") + note("b")[:-1])
         self.assertEqual((torn.out, torn.status), (printed([note("a")], TOTAL), 0))
-        self.assertIn("no end", torn.err)
+        self.assertIn("no line feed", torn.err)
 
     def test_long_inputs(self):
         """An input above 1,024 bytes is not noted; their number is told."""
@@ -270,7 +270,7 @@ class FiltersTest(ProgramTest):
                 with self.subTest(key=key, lines=lines, workers=workers):
                     ran = record("".join(line + "\n" for line in lines), "--workers", workers, document=document, key=key)
                     self.assertEqual((ran.err, ran.out == "", ran.status), (told or "", told is not None, 0))
-        torn = "record: the last line has no end and is passed over\n"
+        torn = "record: the last line has no line feed and is skipped\n"
         self.assertEqual(record(unreached, document=document, key="mixed").err, why(0) + torn)
 
     def test_unreadable(self):

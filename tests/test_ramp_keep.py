@@ -62,7 +62,7 @@ class KeepSteps(ProgramTest):
                     else:
                         self.assertEqual((ran.status, ran.out[:8], ran.files), (1, "refused ", there))
                         if before != step and not ran.out.startswith("refused apply"):
-                            stands = f"has the rule that step {before} left, and not that of step {step - 1}" if before else f"has not the rule that step {step - 1} left, nor that of another step"
+                            stands = f"has the rule that step {before} left, and not that of step {step - 1}" if before else f"has neither the rule that step {step - 1} left nor that of another step"
                             self.assertIn(stands, ran.err)
 
     def test_another_rule_of_the_same_users(self):

@@ -33,7 +33,7 @@ class ShippedTest(unittest.TestCase):
         # The path has the shell and coreutils alone.
         self.path = os.path.join(folder.name, "bin")
         os.mkdir(self.path)
-        for tool in ["sh", "cat", "cut", "dirname", "mkdir", "mv", "sha256sum", "sort", "stat", "uname"]:
+        for tool in ["sh", "cat", "cut", "dirname", "mkdir", "mv", "readlink", "sha256sum", "sort", "stat", "uname"]:
             os.symlink(shutil.which(tool), os.path.join(self.path, tool))
         self.ship()
 
@@ -58,9 +58,9 @@ class ShippedTest(unittest.TestCase):
         program = self.shell('sum_of "$shipped"')
         self.write("release/BUILT-FROM", f"kit a kit\nprogram {program}\nsources {self.sum()}\n")
 
-    def run_it(self):
+    def run_it(self, command=None):
         return subprocess.run(
-            [os.path.join(self.top, "flagops"), "one", "two words"],
+            [command or os.path.join(self.top, "flagops"), "one", "two words"],
             capture_output=True, text=True, check=False, env={"PATH": self.path}, timeout=SECONDS,
         )
 
@@ -77,6 +77,14 @@ class ShippedTest(unittest.TestCase):
     def test_runs_with_a_shell_and_coreutils(self):
         self.assert_runs()
         self.assert_runs()
+
+    def test_runs_through_links(self):
+        folder = os.path.dirname(self.top)
+        os.symlink(os.path.join(self.top, "flagops"), os.path.join(folder, "link"))
+        os.symlink("link", os.path.join(folder, "link-of-link"))
+        for link in ["link", "link-of-link"]:
+            ran = self.run_it(os.path.join(folder, link))
+            self.assertEqual((ran.stdout, ran.stderr, ran.returncode), ("shipped one two words\n", "", 3))
 
     def test_the_sum_is_that_of_the_sources(self):
         before = self.sum()

@@ -189,12 +189,29 @@ ADVISED = [
     ),
 ]
 
+LOOK = 'a request looks like {"plan":1,"flag":"KEY","site":0,"totals":{"NAME":n,..}}; docs/FORMATS.md has all of it'
+MISSING = 'error: the request "f": "plan" is missing, which is 1 or 2'
+
+# Files in the place of a request or a plan, and the lines on each.
+ADVISED += [
+    ("request", '{"book":1}\n', [MISSING, f"the file looks like a book: {ORDER}", LOOK]),
+    ("request", DOCUMENT, [MISSING, f"the file looks like a flag document: {ORDER}", LOOK]),
+    (
+        "plan",
+        '{"plan":1,"flag":"a","totals":{}}',
+        ['error: "f" is not a plan: "alpha" is missing', f"it looks like a rollout request: {ORDER}"],
+    ),
+    ("plan", DOCUMENT, ['error: "f" is not a plan: "plan" is missing', f"it looks like a flag document: {ORDER}"]),
+]
+
 # The targeting of a flag, and what is told of it where its flag is broken.
 TARGETINGS = [
     (
         '{"fractional":[["on",5.5]]}',
         "fractional[0][1] is 5.5, a number that is not whole; multiply all weights alike until each is whole (TargetingPart)",
     ),
+    ('{"fractional":[["on",5.0]]}', "fractional[0][1] is 5.0: write 5 (TargetingPart)"),
+    ('{"fractional":[["on",1e1]]}', "fractional[0][1] is 1e1, a number with an exponent: write its digits (TargetingPart)"),
     ('{"if":[{"==":[1,1.0]},"on"]}', 'if[0]["=="][1] is 1.0: write 1 (TargetingPart)'),
     (
         '{"if":[{"==":[1,10000000000000000000]},"on"]}',
@@ -223,7 +240,17 @@ INPUTS = [
     (["record", "d", "a"], b"[1]\n", ["error: the standard input: line 1 is a list, not a context", CONTEXT]),
     (["record", "d", "a"], b"{}\n7\n", ["error: the standard input: line 2 is 7, not a context", CONTEXT]),
     (["record", "d", "a"], b'{}\n{"a":1,}\n', [f"error: the standard input: line 2, {UNREAD}", COMMAS, CONTEXT]),
-    (["record", "d", "a"], b'{\n"flags":{}}\n', [f"error: the standard input: line 1, {UNREAD}", COMMAS, CONTEXT]),
+    (["record", "d", "a"], b"1.5\n", ["error: the standard input: line 1 is a number that is not whole, not a context", CONTEXT]),
+    (
+        ["record", "d", "a"],
+        b'{\n"flags":{}}\n',
+        ["error: the standard input: line 1 is only the beginning of a JSON text", CONTEXT],
+    ),
+    (
+        ["tally", "d", "A", "0"],
+        b"",
+        ['error: "d": the flag "A": no such flag', 'similar keys: "a"'],
+    ),
     (
         ["record", "d", "a"],
         b"\x1f\x8b\x08\x00\n",
@@ -297,6 +324,35 @@ DOUBTS = [
     ('{"fractional":[{"cat":[{"var":"$flagd.flagKey"},"salt"]},["on",10],["off",90]]}', "Constant"),
     ('{"fractional":[{"cat":[{"var":"$flagd.flagKey"},{"var":"email"}]},["on",10],["off",90]]}', None),
     ('{"if":[{"==":[{"var":"tier"},"pro"]},{"fractional":[["on",50],["off",49]]}]}', "Total"),
+]
+
+# The targeting of a flag that is good, and the note on what is hardly meant.
+NOTES = [
+    (
+        '{"fractional":[["on",10]],"if":[true,"on"]}',
+        "targeting is an object of 2 members; an operation has one, its operator (Variant)",
+    ),
+    ('{"fractional":[["on","5"]]}', 'fractional[0][1] is "5", a text: write the number alone, without quotes or sign; weights are '),
+    ('{"fractional":[["on","5%"]]}', 'fractional[0][1] is "5%", a text: write the number alone, without quotes or sign; weights are '),
+    ('{"fractional":[["on",-5]]}', "fractional[0][1] is -5, below 0; weights are whole numbers from 0 to 2147483647 (Weight)"),
+]
+
+# Contexts of which nothing is recorded, and why.
+UNRECORDED = [
+    ("{}\n", "record: nothing is recorded: contexts 1, 1 without a targetingKey\n"),
+    ('{"a":1}\n{}\n', "record: nothing is recorded: contexts 2, 2 without a targetingKey\n"),
+    ("", "record: the standard input is empty, and nothing is recorded\n"),
+]
+
+# The words of a service that does not start, and the lines that say why.
+SHAPE = "  ADDRESS is an IP address or localhost, as 127.0.0.1:8016 or [::1]:8016; PORT is from 0 to 65535\n"
+STARTS = [
+    *((["--listen", address], f'the address "{address}" of --listen is not ADDRESS:PORT\n{SHAPE}')
+      for address in ["8016", ":27330", "127.0.0.1:80000", "127.0.0.1", "example.com:80", "localhost:x"]),
+    (["--listen", "192.0.2.1:8016"], 'the address "192.0.2.1:8016" of --listen is not an address of this machine\n'),
+    (["--admin", "8016", "--listen", "127.0.0.1:0"], f'the address "8016" of --admin is not ADDRESS:PORT\n{SHAPE}'),
+    (["--log", "d", "--listen", "127.0.0.1:0"], 'the folder "d" of --log cannot be used: File exists (os error 17)\n'),
+    (["--keys", "k", "--listen", "127.0.0.1:0"], 'the file "k" cannot be read: No such file or directory (os error 2)\n'),
 ]
 
 # Evaluators, and what is told of a flag that refers to `e`.
@@ -390,6 +446,27 @@ class Remarks(ProgramTest):
                 lines = [line.strip() for line in ran.err.splitlines()[: len(told)]]
                 self.assertTrue(lines[0].startswith(told[0]), ran.err)
                 self.assertEqual(lines[1:], told[1:])
+
+    def test_of_targetings_that_are_hardly_meant(self):
+        for targeting, told in NOTES:
+            with self.subTest(targeting=targeting):
+                flag = f'{{"state":"ENABLED","variants":{{"on":1}},"targeting":{targeting}}}'
+                ran = run(["check", "f"], {"f": f'{{"flags":{{"a":{flag}}}}}'})
+                self.assertEqual((ran.status, ran.out), (0, '"a" good\n'))
+                self.assertIn(told, ran.err)
+
+    def test_of_contexts_that_reach_nothing(self):
+        for contexts, told in UNRECORDED:
+            with self.subTest(contexts=contexts):
+                ran = run(["record", "d", "a"], {"d": SHARED}, input=contexts)
+                self.assertEqual((ran.status, ran.out, ran.err), (0, "", told))
+
+    def test_of_services_that_do_not_start(self):
+        for words, told in STARTS:
+            with self.subTest(words=words):
+                ran = run(["ofrep", "d", *words], {"d": SHARED}, stdin=subprocess.DEVNULL)
+                self.assertEqual((ran.status, ran.out.startswith("refused ")), (1, True))
+                self.assertIn(told, ran.err)
 
     def test_of_lines_of_other_pages(self):
         ran = run(["tally", "d", "a", "0"], {"d": SHARED}, input='["b",0,null,"bann"]\n')

@@ -1,6 +1,8 @@
 """Words that ask for nothing, for help, and for the completion of a shell."""
 import os
+import pty
 import re
+import select
 import shlex
 import shutil
 import subprocess
@@ -56,6 +58,21 @@ HELP = [
 COMMANDS = (
     "bucket price resolve plan verify apply drive completions check compare book ramp verify-ramp picture record tally join ofrep serve follow help"
 ).split()
+
+# Forms of commands that an option makes, whose help is their own.
+OTHER_FORMS = [["plan", "--picture", "f"], ["apply", "--step", "1"], ["apply", "--step", "1", "--keep"], ["picture", "--ramp"]]
+
+# The files of the examples, and the commands in an order in which each finds the files that it reads.
+FILES_OF_EXAMPLES = [
+    ("rule.json", "rule.json"), ("price/old.json", "old.json"), ("price/new.json", "new.json"), ("price/keys.json", "keys.json"),
+    ("flags/shop.json", "shop.json"), ("flags/shop.json", "edited.json"), ("flags/ann.json", "context.json"),
+    ("rollout/request.json", "request.json"), ("rollout/book.txt", "book.txt"), ("rollout/book.txt", "logs/worker-1.log"),
+    ("ramp/steps.json", "steps.json"), ("drive/asks.json", "asks.json"), ("records/contexts.jsonl", "contexts.jsonl"),
+]
+EXAMPLES = [
+    ["bucket"], ["price"], ["resolve"], ["plan"], ["plan", "--picture", "f"], ["verify"], ["picture"], ["drive"], ["book"], ["compare"], ["ramp"],
+    ["verify-ramp"], ["picture", "--ramp"], ["apply", "--step", "1"], ["record"], ["tally"], ["completions"], ["apply"],
+]
 
 # A word that begins with `-` and is longer follows `--`; `-` alone is a plain word.
 WITH_A_MINUS = [
@@ -119,7 +136,7 @@ class Words(ProgramTest):
             (["flagops", "bo"], ["book"]),
             (["flagops", "completions", "f"], ["fish"]),
             (["flagops", "resolve", "d", "k", "wh"], ["whole"]),
-            (["flagops", "check", "READM"], ["README.md"]),
+            (["flagops", "check", "READM"], []),
         ]:
             script = (
                 f"source <({shlex.quote(PROGRAM)} completions bash); COMP_WORDS=({' '.join(line)}); COMP_CWORD={len(line) - 1}; "
@@ -130,16 +147,44 @@ class Words(ProgramTest):
 
     @unittest.skipUnless(shutil.which("bash"), "no bash is here")
     def test_bash_completes_names_with_blanks(self):
+        """On a terminal, as whoever types them: bash itself completes and quotes the names of files."""
         with tempfile.TemporaryDirectory() as folder:
-            with open(os.path.join(folder, "two words.json"), "w", encoding="utf-8"):
-                pass
-            for line in (["flagops", "check", "two"], ["flagops", "resolve", "two"]):
-                script = (
-                    f"source <({shlex.quote(PROGRAM)} completions bash); COMP_WORDS=({' '.join(line)}); COMP_CWORD={len(line) - 1}; "
-                    "_flagops; printf '%s\\n' \"${COMPREPLY[@]}\""
-                )
-                ran = subprocess.run(["bash", "-c", script], cwd=folder, capture_output=True, text=True, timeout=SECONDS, check=True)
-                self.assertEqual(ran.stdout, "two words.json\n", line)
+            for name in ["two words.json", "it's.json", "three words.json"]:
+                with open(os.path.join(folder, name), "w", encoding="utf-8"):
+                    pass
+            for typed, word in [
+                ("check tw", "two words.json"),
+                ("check two\\ w", "two words.json"),
+                ("check 'two w", "two words.json"),
+                ("resolve three", "three words.json"),
+                ("check it", "it's.json"),
+                ("completions z", "zsh"),
+            ]:
+                with self.subTest(typed=typed):
+                    self.assertIn(f"<{word}>", last_word(folder, typed))
+
+    def test_each_help_ends_with_an_example(self):
+        for words in [[command] for command in COMMANDS if command != "help"] + OTHER_FORMS:
+            with self.subTest(words=words):
+                ran = run([*words, "--help"], {})
+                self.assertRegex(ran.out, r"\n\nExample:\n  (?:source <\()?flagops " + re.escape(" ".join(words[:2])) + r"[^\n]*\n$")
+
+    @unittest.skipUnless(shutil.which("bash"), "no bash is here")
+    def test_the_examples_run(self):
+        """One after the other, on the demo files, under the names that the examples give them."""
+        with tempfile.TemporaryDirectory() as folder:
+            os.symlink(PROGRAM, os.path.join(folder, "flagops"))
+            os.mkdir(os.path.join(folder, "logs"))
+            for path, name in FILES_OF_EXAMPLES:
+                shutil.copy(os.path.join(ROOT, "demo", path), os.path.join(folder, name))
+            for words in EXAMPLES:
+                with self.subTest(words=words):
+                    example = run([*words, "--help"], {}).out.partition("\nExample:\n")[2]
+                    ran = subprocess.run(
+                        ["bash", "-c", example], cwd=folder, env={**os.environ, "PATH": f"{folder}:{os.environ['PATH']}"},
+                        capture_output=True, text=True, timeout=SECONDS, check=False,
+                    )
+                    self.assertEqual((ran.returncode, "error:" in ran.stderr), (0, False), example + ran.stderr)
 
     def test_the_man_page_has_each_word(self):
         with open(os.path.join(ROOT, "release", "flagops.1"), encoding="utf-8") as file:
@@ -151,6 +196,30 @@ class Words(ProgramTest):
 def commands_of_help():
     """The commands of the program, as its help lists them."""
     return re.findall(r"^  ([a-z-]+)  ", run(["--help"], {}).out, re.M)
+
+
+def last_word(folder, typed):
+    """What bash on a terminal shows of the last word of a command line, between angle brackets, once a tab has completed it."""
+    with tempfile.TemporaryDirectory() as home:
+        start = os.path.join(home, "start")
+        with open(start, "w", encoding="utf-8") as file:
+            file.write(f"source <({shlex.quote(PROGRAM)} completions bash)\nflagops() {{ printf '<%s>' \"${{@: -1}}\"; }}\n")
+        ours, theirs = pty.openpty()
+        with subprocess.Popen(
+            ["bash", "--noprofile", "--rcfile", start, "-i"], cwd=folder, stdin=theirs, stdout=theirs, stderr=theirs,
+            start_new_session=True, env={**os.environ, "TERM": "dumb"},
+        ) as shell:
+            os.close(theirs)
+            os.write(ours, f"flagops {typed}\t\nexit\n".encode())
+            shown = b""
+            try:
+                while select.select([ours], [], [], SECONDS)[0]:
+                    shown += os.read(ours, 4096)
+            except OSError:
+                pass  # the shell has ended
+            shell.kill()
+        os.close(ours)
+    return shown.decode()
 
 
 def words_of_help():

@@ -1,12 +1,12 @@
 -- What a book holds, and what it answers to an input.
-use Rattle.std.specs.Prelude.{ℕ, ◌<◌, ◌≤◌, List, [], length, map, sum_by, Bool, if◌then◌else◌, nat_lt, unwrap_or, Result, Ok, Err, string_bytes}
+use Rattle.std.specs.Prelude.{ℕ, ◌<◌, List, [], length, map, sum_by, Bool, if◌then◌else◌, nat_lt, unwrap_or, Result, Ok, Err, string_bytes}
 use Rattle.std.specs.List.{list_any, AllByRecursion}
 use Rattle.std.specs.List.Sorted.{IsStrictlySortedBy}
 use Rattle.std.specs.Map.{lookup, keys_of}
 use Rattle.std.specs.Str.{bytes_eq}
 use Rattle.std.specs.BTreeMap.{is_at, insert_entry}
 use Rattle.std.specs.BTreeSet.{insert_key}
-use Rattle.limits.specs.Limits.{page_inputs, input_bytes}
+pub use Rattle.exposures.specs.Exposure.{Inputs, IsExposure, most_inputs, most_bytes}
 use Rattle.book_core.specs.Page.{PageName, bytes_cmp, page_cmp}
 use Rattle.book_core.specs.declared.inputs.PageInputs.{PageInputs}
 use Rattle.book_core.specs.declared.inputs.PageInputs.TheVariants.{Listed, Gathered}
@@ -15,21 +15,9 @@ use Rattle.book_core.specs.declared.noted.Noted.TheVariants.{New, Again}
 use Rattle.book_core.specs.declared.fault.BookFault.{BookFault}
 use Rattle.book_core.specs.declared.fault.BookFault.TheVariants.{PageFull, InputTooLong}
 
--- the texts that are noted on a page, each once, in order
-abbrev pub Inputs : Type 0
-Inputs = List (List ℕ)
-
 -- the pages in order, each with its inputs
 abbrev pub Contents : Type 0
 Contents = List (PageName × Inputs)
-
--- the most inputs that a page takes
-abbrev pub most_inputs : ℕ
-most_inputs = page_inputs
-
--- the most bytes that an input has
-abbrev pub most_bytes : ℕ
-most_bytes = input_bytes
 
 -- whether the input is one of these
 abbrev pub is_among : List ℕ → Inputs → Bool
@@ -58,13 +46,7 @@ reply_to book page input = page_reply (inputs_on book page) input
 unfoldable pub with_input : Contents → PageName → List ℕ → Contents
 with_input book page input = insert_entry page_cmp book page (insert_key bytes_cmp (inputs_on book page) input)
 
--- no more inputs than a page takes, none of them too long, in strictly rising order
-pub record IsExposure (inputs : Inputs) : Type 0 where
-  pub few : length inputs ≤ most_inputs
-  pub short : AllByRecursion (λ input. length input ≤ most_bytes) inputs
-  pub rising : IsStrictlySortedBy bytes_cmp inputs
-
--- the same, and an input at least
+-- an exposure with an input at least
 pub record IsFilled (inputs : Inputs) : Type 0 where
   pub some : 0 < length inputs
   pub lawful : IsExposure inputs

@@ -1,9 +1,12 @@
+pub use Rattle.exposures.specs.Counts
+pub use Rattle.exposures.specs.Exposure
 pub mod Book
 pub mod Calls
-pub mod Counts
 pub mod Fault
+pub mod Hashed
 pub mod Lines
 pub mod Listing
+pub mod Note
 pub mod Page
 pub mod PageOrder
 pub mod Printing

@@ -3,17 +3,13 @@ use Rattle.std.specs.Prelude.{ℕ, List, Option, Bool}
 use Rattle.std.specs.declared.cmp.Ordering.{Ordering}
 use Rattle.std.specs.Ordering.{nat_cmp, ordering_then, is_eq}
 use Rattle.std.specs.Option.{option_cmp}
-use Rattle.std.specs.Cmp.Lexicographic.{slice_cmp}
+pub use Rattle.exposures.specs.Exposure.{bytes_cmp}
 
 -- a flag's key, the number of the operation in its targeting from 0 in preorder, and the text of its bucketing expression
 pub record PageName : Type 0 where
   pub flag : List ℕ
   pub site : ℕ
   pub by : Option (List ℕ)
-
--- texts in the order of their bytes
-abbrev pub bytes_cmp : List ℕ → List ℕ → Ordering
-bytes_cmp = slice_cmp nat_cmp
 
 -- by flag, then by site, then by bucketing expression, none first
 abbrev pub page_cmp : PageName → PageName → Ordering

@@ -3,13 +3,13 @@ ghost use Rattle.flag_text.specs.Outcome.{GivesUnless};
 ghost use Rattle.book_core.specs.Book.{IsBook, contents_view, inputs_on, input_count, is_among, reply_to, with_input};
 ghost use Rattle.book_core.specs.Union.{Unites};
 
-use crate::exposure::Exposure;
 use crate::fault::BookFault;
 use crate::inputs::PageInputs;
 use crate::noted::Noted;
 use crate::page::Page;
 use crate::pages::{count_inputs, has_input, inputs_of, note_in};
 use crate::union::with_pages;
+use exposures::Exposure;
 use std::alloc::{AllocError, Global};
 use std::collections::BTreeMap;
 use std::marker::Model;

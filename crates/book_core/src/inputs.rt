@@ -6,7 +6,7 @@ ghost use Rattle.book_core.specs.Book.{IsExposure, inputs_view, is_among};
 ghost use Rattle.book_core.specs.Page.{bytes_cmp};
 ghost use Rattle.book_core.specs.Reading.{is_above};
 
-use crate::exposure::Exposure;
+use exposures::Exposure;
 use std::alloc::{AllocError, Global};
 use std::cmp::Ordering;
 use std::collections::BTreeSet;

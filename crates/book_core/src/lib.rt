@@ -17,17 +17,17 @@
 //! Proved, over the definitions of `specs/`: which answer a note is given, and that the book then holds what it held
 //! and that input (`Book`); that a book is its calls, so that each answer follows from the calls before it and the
 //! contents are what was accepted (`Calls`); an exposure is the page's contents in strictly rising order, the number
-//! of inputs is that of all pages, and the counts at each point are those of the hash (`Counts`); which book the bytes
+//! of inputs is that of all pages, and the counts at each point are those of the hash (`Counts`, in `exposures`); which book the bytes
 //! of a file stand for, or which line is at fault first and how (`Reading`); what is printed of a book, and that it
 //! reads as the book (`Printing`); the union of two books has the inputs of both and no other, and is refused with PageFull
-//! only where there is none (`Union`). A refused note leaves the book as it was.
+//! only where there is none (`Union`). A note's line, with its input or with the input's hash, is defined here for the crates
+//! that make, read and count such lines (`Note`, `Hashed`, [`has_hash`]). A refused note leaves the book as it was.
 #![tactic(auto)]
 
 mod book;
-mod counting;
-mod exposure;
 mod fault;
 mod inputs;
+mod kind;
 mod laws;
 mod line;
 mod listing;
@@ -40,9 +40,9 @@ mod read;
 mod union;
 
 pub use book::Book;
-pub use counting::counts;
-pub use exposure::Exposure;
+pub use exposures::{Exposure, counts};
 pub use fault::{BookFault, BookFileFault};
+pub use kind::has_hash;
 pub use laws::a_book_is_its_calls;
 pub use line::{Line, cut_line, feed_at, is_header, read_as_tree};
 pub use members::{by_of, page_in, site_of};

@@ -7,11 +7,11 @@ ghost use Rattle.flag_text.specs.Outcome.{GivesUnless};
 ghost use Rattle.book_core.specs.Page.{bytes_cmp, page_cmp};
 ghost use Rattle.book_core.specs.Book.{IsBook, input_count, inputs_on, is_among, page_reply, reply_to, with_input, inputs_view, contents_view};
 
-use crate::exposure::Exposure;
 use crate::fault::BookFault;
 use crate::inputs::PageInputs;
 use crate::noted::Noted;
 use crate::page::Page;
+use exposures::Exposure;
 use limits::{INPUT_BYTES, PAGE_INPUTS};
 use std::alloc::{AllocError, Global};
 use std::collections::BTreeMap;

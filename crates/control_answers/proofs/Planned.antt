@@ -8,8 +8,8 @@ use Rattle.plan_text.specs.declared.fault.PlanFileFault.TheVariants as plan_faul
 use Rattle.plan_text.specs.declared.planned.Planned.{Planned}
 use Rattle.price_core.specs.Request.{Asked, asked_of}
 use Rattle.price_core.specs.declared.fault.PriceFault.{PriceFault}
-use Rattle.rollout.specs.Tallied.{IsTallyPlanned}
 use Rattle.rollout_checks.specs.Lawful.{and_then, by_price}
+use Rattle.rollout_checks.specs.Plan.{IsTallyPlanned}
 use Rattle.rollout_checks.specs.Tallied.{tally_problem_asked, tally_problem_of}
 use Rattle.rollout_checks.specs.declared.fault.RolloutFault.{RolloutFault}
 use Rattle.rollout_checks.specs.declared.refining.Refining.TheVariants.{Times}

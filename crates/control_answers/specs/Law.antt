@@ -7,8 +7,8 @@ use Rattle.note_lines.specs.Hashed.{hash_of}
 use Rattle.flag_defs.specs.Document.{Definitions}
 use Rattle.plan_text.specs.Answer.{Answer}
 use Rattle.plan_text.specs.PlanFile.{answer_of}
-use Rattle.rollout.specs.Planned.{IsPlan}
 use Rattle.rollout_checks.specs.Lawful.{IsLawful}
+use Rattle.rollout_checks.specs.Plan.{IsPlan}
 use Rattle.rollout_checks.specs.Tallied.{AreTallied, TallyProblem, tally_problem_of, with_inputs}
 use Rattle.rollout_checks.specs.Verified.{Shows, refining_for}
 use Rattle.rollout_checks.specs.declared.refining.Refining.TheVariants.{Times}

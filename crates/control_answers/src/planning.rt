@@ -6,7 +6,7 @@ ghost use Rattle.limits.specs.Limits.{tally_inputs};
 ghost use Rattle.log_tallies.specs.Lines.{files_view};
 ghost use Rattle.plan_text.specs.Answer.{planned_view};
 ghost use Rattle.price_core.specs.Request.{max_request};
-ghost use Rattle.rollout.specs.Tallied.{IsTallyPlanned};
+ghost use Rattle.rollout_checks.specs.Plan.{IsTallyPlanned};
 ghost use Rattle.rollout_checks.specs.Tallied.{tally_problem_of};
 ghost use Rattle.rollout_checks.specs.declared.refining.Refining.TheVariants.{Times};
 ghost use Rattle.rule_switches.specs.Switches.{rows_view};

@@ -80,7 +80,7 @@ fn details_of_logs(
         LogTallyFault::Line(place, line) => match files.get(place) {
             Some(file) => {
                 let name = file.name;
-                format!(in alloc; "line {line} of the log \"{name}\" is that of no note")
+                format!(in alloc; "line {line} of the log \"{name}\" is not a note line")
             }
             None => format!(in alloc; "{fault}"),
         },
@@ -92,10 +92,10 @@ fn details_of_logs(
 fn sentence_of(refusal: &ControlRefusal) -> &'static str {
     match refusal {
         ControlRefusal::NoRecord => "the service keeps no log: --log FOLDER names a folder for it",
-        ControlRefusal::BadToken => "what was sent is not what a plan was answered with",
+        ControlRefusal::BadToken => "the body is not the token of a plan",
         ControlRefusal::OtherDocument => "the document has changed since this was planned",
         ControlRefusal::NoDocument => "the plan has no rule: none fits what was asked",
-        ControlRefusal::OtherTally => "the rule that stands at the site has another total by now",
+        ControlRefusal::OtherTally => "the site's rule has another total by now",
         ControlRefusal::Keep(_) => "the document does not take the rule at this site",
         ControlRefusal::Unread =>
             "a member of the request is passed over: it may ask something else than was meant",
@@ -104,7 +104,7 @@ fn sentence_of(refusal: &ControlRefusal) -> &'static str {
         // The fault of each of these says more.
         ControlRefusal::Rollout(_) => "the request is refused",
         ControlRefusal::Logs(_) => "the logs have no tally of the page",
-        ControlRefusal::ReadPlan(_) => "what was sent is no plan",
+        ControlRefusal::ReadPlan(_) => "the body has no valid plan",
         ControlRefusal::PrintPlan(_) => "the plan is too large for a file",
         ControlRefusal::Check(_) => "the plan is not right",
     }

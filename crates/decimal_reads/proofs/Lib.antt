@@ -1,1 +1,2 @@
-mod Nodes
+mod Booleans
+mod Steps

@@ -1,184 +1,308 @@
-//! The variables of a targeting that give numbers which are not whole.
-ghost use Rattle.std.specs.Prelude.{◌≡◌, ◌<◌, IfOk, true, length, option_copied, option_map, string_bytes};
-ghost use Rattle.decimal_reads.specs.Reads.{is_tested, path_of, read_at, read_by, read_in, read_in_buckets, read_in_by, read_in_each, read_in_operation, read_view, unless_compared};
-ghost use Rattle.decimal_reads.specs.Reads as spec;
-ghost use Rattle.flag_text.specs.Shape.{is_tidy};
-ghost use Rattle.flag_text.specs.View.{view};
+//! Where an evaluation ends at a number that is not whole.
+ghost use Rattle.std.specs.Prelude.{◌≡◌, ◌||◌, not, IfOk, option_map};
 ghost use Rattle.logic_ast.specs.Expr.{view as expr_view};
+ghost use Rattle.logic_ast.specs.Sites.{preorder, preorder_in, preorder_in_buckets, preorder_in_by};
 ghost use Rattle.logic_ast.specs.View.{boxed_view, buckets_view, node_view, nodes_view};
+ghost use Rattle.logic_eval.specs.Evaluation.{evaluation_of};
+ghost use Rattle.logic_eval.specs.Parts.{AreInspected, inspected};
+ghost use Rattle.logic_eval.specs.Views.{situation};
+ghost use Rattle.decimal_reads.specs.Course.{course_view};
+ghost use Rattle.decimal_reads.specs.Reads.{is_arithmetic, course, course_by, course_in_buckets, courses, read_in, read_in_conditional, read_in_items, read_in_operation, read_in_reduce, read_in_truth, read_view, truth_of};
+ghost use Rattle.decimal_reads.specs.Reads as spec;
 
-use crate::way::{first_spelling, way_of};
-use decimal_values::is_readable;
-use flag_text::Tree;
+use crate::course::Course;
+use crate::variable::read_by;
 use logic_ast::{Bucket, Expr, Node, Operator};
-use logic_eval::{compares, part_at};
-use logic_values::{Part, seen_tree};
+use logic_eval::{Context, EvalFault, Inspection, compares, eval};
+use logic_values::seen_tree;
+use logic_values::truth::is_true;
 use std::alloc::{AllocError, Global};
 
-/// A number of a context that is not whole, as a targeting reads it.
-#[derive(Clone, Copy)]
-pub struct DecimalRead<'a> {
-    /// The path of the variable that gives it.
-    pub path: &'a str,
-    /// What the path leads to: the number, or a list or an object in which it is the first such number.
-    pub value: &'a Tree,
+/// A number of a context that is not whole, at which an evaluation ended.
+#[derive(Drop)]
+pub struct DecimalRead {
+    /// The way to the number from the whole context, as `var` spells it: `order.items.0`.
+    pub way: String,
     /// Its spelling in the context.
-    pub spelling: &'a [u8],
+    pub spelling: Vec<u8>,
 }
 
-impl<'a> DecimalRead<'a> {
-    /// The way to the number from the whole context, as `var` spells it: `order.items.0`.
-    pub fn way(self, alloc: Global) -> Result<String, AllocError>
-        ensures way { IfOk result (λ way. string_bytes way ≡ (read_view self.entry).way) }
-    {
-        way_of(alloc, self.path, self.value)
+/// The number of the context at which the evaluation of a targeting ends: one that is not whole, which a variable gives where it is neither
+/// compared nor tested, or can't be, or the first such number in a list or an object that a variable gives.
+///
+/// None where the evaluation gives a value, or ends for another reason. It fails only where memory runs out. What comes before such a number
+/// is evaluated once more for each level of the targeting that it stands in.
+pub fn ended_at(
+    alloc: Global,
+    expr: &Expr,
+    context: &Context,
+) -> Result<Option<DecimalRead>, AllocError>
+    ensures exact { IfOk result (λ r. option_map read_view r ≡ spec.ended_at (expr_view expr.now) (situation context.now)) }
+{
+    if ends_arithmetically(alloc, expr, context)? {
+        read_in(alloc, &Inspection::of(expr, context), expr.root(), false)
+    } else {
+        Ok(None)
     }
 }
 
-/// The first variable of a targeting, in the order in which it is written, that gives a number of the context which is not whole, where it
-/// is neither compared nor tested, or can't be, or that gives a list or an object with such a number. The variable has a literal path.
-pub fn first_read<'a>(expr: &'a Expr, context: &'a Tree) -> Option<DecimalRead<'a>>
-    requires tidy { is_tidy (view context.now) ≡ true }
-    ensures exact { option_map read_view result ≡ spec.first_read (view context.entry.now) (expr_view expr.entry.now) }
+/// Whether an evaluation ends for the sake of a number.
+fn ends_arithmetically(alloc: Global, expr: &Expr, context: &Context) -> Result<bool, AllocError>
+    ensures { IfOk result (λ b. b ≡ is_arithmetic (evaluation_of (expr_view expr.now) (situation context.now))) }
 {
-    read_in(expr.root(), false, Part { tree: context })
+    match eval(alloc, expr, context) {
+        Ok((_value, _reached)) => Ok(false),
+        Err(EvalFault::WantOfMemory) => Err(AllocError),
+        Err(fault) => Ok(fault == EvalFault::Arithmetic),
+    }
 }
 
 #[cycle(read)]
-fn read_in<'a>(node: &'a Node, tested: bool, context: Part<'a>) -> Option<DecimalRead<'a>>
-    ensures { option_map read_view result ≡ read_in tested (view context.entry.tree.now) (node_view node.entry.now) }
+#[tactic(auto, using(logic_eval::proofs::Within::in_list, logic_eval::proofs::Within::in_operation, logic_eval::proofs::Within::in_by, logic_eval::proofs::Within::in_buckets))]
+fn read_in(
+    alloc: Global,
+    inspection: &Inspection,
+    node: &Node,
+    tested: bool,
+) -> Result<Option<DecimalRead>, AllocError>
+    requires known { AreInspected inspection.now (preorder (node_view node.now)) }
+    ensures { IfOk result (λ r. option_map read_view r ≡ read_in tested (inspected inspection.now) (node_view node.now)) }
 {
     match node {
-        Node::Literal(_) => None,
-        Node::List(items) => read_in_each(None, false, items, context),
+        Node::Literal(_) => Ok(None),
+        Node::List(items) => Ok(courses(alloc, inspection, items, false)?.reading()),
         Node::Operation(operator, arguments) => {
-            read_in_operation(*operator, arguments, tested, context)
+            read_in_operation(alloc, inspection, *operator, arguments, tested)
         }
-        Node::Fractional { by, buckets, .. } => match read_in_by(by, context) {
-            Some(read) => Some(read),
-            None => read_in_buckets(buckets, context),
+        Node::Fractional { by, buckets, .. } => match course_by(alloc, inspection, by)? {
+            Course::Ends(reading) => Ok(reading),
+            Course::GoesOn => Ok(course_in_buckets(alloc, inspection, buckets)?.reading()),
         },
     }
 }
 
 #[cycle(read)]
-#[tactic(auto, using(crate::proofs::Nodes::count_nodes))]
-fn read_in_operation<'a>(
+fn read_in_operation(
+    alloc: Global,
+    inspection: &Inspection,
     operator: Operator,
-    arguments: &'a Vec<Node>,
+    arguments: &Vec<Node>,
     tested: bool,
-    context: Part<'a>,
-) -> Option<DecimalRead<'a>>
-    ensures { option_map read_view result ≡ read_in_operation operator tested (view context.entry.tree.now) (nodes_view arguments.entry.now.items) }
+) -> Result<Option<DecimalRead>, AllocError>
+    requires known { AreInspected inspection.now (preorder_in (nodes_view arguments.now.items)) }
+    ensures { IfOk result (λ r. option_map read_view r ≡ read_in_operation operator tested (inspected inspection.now) (nodes_view arguments.now.items)) }
 {
-    match read_by(operator, arguments, tested, context) {
-        Some(read) => Some(read),
-        None => read_in_each(Some(operator), tested, arguments, context),
+    match operator {
+        Operator::If => read_in_conditional(alloc, inspection, arguments),
+        Operator::And => read_in_truth(alloc, inspection, arguments, false, tested),
+        Operator::Or => read_in_truth(alloc, inspection, arguments, true, tested),
+        Operator::Map => read_in_items(alloc, inspection, arguments),
+        Operator::Filter => read_in_items(alloc, inspection, arguments),
+        Operator::AllOf => read_in_items(alloc, inspection, arguments),
+        Operator::SomeOf => read_in_items(alloc, inspection, arguments),
+        Operator::NoneOf => read_in_items(alloc, inspection, arguments),
+        Operator::Reduce => read_in_reduce(alloc, inspection, arguments),
+        Operator::Var => match courses(alloc, inspection, arguments, false)? {
+            Course::Ends(reading) => Ok(reading),
+            Course::GoesOn => read_by(alloc, inspection, arguments, tested),
+        },
+        _ => Ok(courses(alloc, inspection, arguments, compares(operator))?.reading()),
+    }
+}
+
+/// The course of an evaluation after a part: a literal ends none.
+#[cycle(read)]
+fn course(
+    alloc: Global,
+    inspection: &Inspection,
+    node: &Node,
+    tested: bool,
+) -> Result<Course, AllocError>
+    requires known { AreInspected inspection.now (preorder (node_view node.now)) }
+    ensures { IfOk result (λ c. course_view c ≡ course tested (inspected inspection.now) (node_view node.now)) }
+{
+    if let Node::Literal(_) = node {
+        return Ok(Course::GoesOn);
+    }
+    match truth_of(alloc, inspection, node, tested)? {
+        Some(_) => Ok(Course::GoesOn),
+        None => Ok(Course::Ends(read_in(alloc, inspection, node, tested)?)),
+    }
+}
+
+/// Whether what a part gives counts as true; none where the evaluation ends in it.
+fn truth_of(
+    alloc: Global,
+    inspection: &Inspection,
+    node: &Node,
+    tested: bool,
+) -> Result<Option<bool>, AllocError>
+    requires known { AreInspected inspection.now (preorder (node_view node.now)) }
+    ensures { IfOk result (λ t. t ≡ truth_of tested (inspected inspection.now) (node_view node.now)) }
+{
+    match inspection.eval(alloc, node, tested) {
+        Ok((value, _reached)) => Ok(Some(is_true(seen_tree(&value)))),
+        Err(EvalFault::WantOfMemory) => Err(AllocError),
+        Err(_) => Ok(None),
     }
 }
 
 #[cycle(read)]
-fn read_in_each<'a>(
-    operator: Option<Operator>,
+#[tactic(auto, using(logic_eval::proofs::Within::in_nodes))]
+fn courses(
+    alloc: Global,
+    inspection: &Inspection,
+    nodes: &Vec<Node>,
     tested: bool,
-    nodes: &'a Vec<Node>,
-    context: Part<'a>,
-) -> Option<DecimalRead<'a>>
-    ensures { option_map read_view result ≡ read_in_each operator tested (length nodes.entry.now.items) 0 (view context.entry.tree.now) (nodes_view nodes.entry.now.items) }
+) -> Result<Course, AllocError>
+    requires known { AreInspected inspection.now (preorder_in (nodes_view nodes.now.items)) }
+    ensures { IfOk result (λ c. course_view c ≡ courses tested (inspected inspection.now) (nodes_view nodes.now.items)) }
 {
-    for place in 0..nodes.len() {
-        let is_operand = is_tested(operator, tested, nodes.len(), place);
-        if let Some(read) = read_in(&nodes[place], is_operand, context) {
-            return Some(read);
+    for node in nodes {
+        if let Course::Ends(reading) = course(alloc, inspection, node, tested)? {
+            return Ok(Course::Ends(reading));
         }
     }
-    None
+    Ok(Course::GoesOn)
 }
 
+/// `if`: pairs of a test and a result, and a last result.
 #[cycle(read)]
-fn read_in_by<'a>(by: &'a Option<Box<Node>>, context: Part<'a>) -> Option<DecimalRead<'a>>
-    ensures { option_map read_view result ≡ read_in_by (view context.entry.tree.now) (boxed_view by.entry.now) }
+#[tactic(auto, using(logic_eval::proofs::Within::in_nodes))]
+fn read_in_conditional(
+    alloc: Global,
+    inspection: &Inspection,
+    nodes: &Vec<Node>,
+) -> Result<Option<DecimalRead>, AllocError>
+    requires known { AreInspected inspection.now (preorder_in (nodes_view nodes.now.items)) }
+    ensures { IfOk result (λ r. option_map read_view r ≡ read_in_conditional (inspected inspection.now) (nodes_view nodes.now.items)) }
 {
-    match by {
-        None => None,
-        Some(by) => read_in(by, false, context),
+    let pairs = nodes.len() / 2;
+    for pair in 0..pairs {
+        let test = &nodes[2 * pair];
+        match truth_of(alloc, inspection, test, true)? {
+            Some(true) => return read_in(alloc, inspection, &nodes[2 * pair + 1], false),
+            Some(false) => (),
+            None => return read_in(alloc, inspection, test, true),
+        }
+    }
+    if nodes.len() % 2 == 1 {
+        return read_in(alloc, inspection, &nodes[2 * pairs], false);
+    }
+    Ok(None)
+}
+
+/// `and` looks for a value that counts as false, `or` for one that counts as true.
+#[cycle(read)]
+#[tactic(auto, using(logic_eval::proofs::Within::in_nodes))]
+fn read_in_truth(
+    alloc: Global,
+    inspection: &Inspection,
+    nodes: &Vec<Node>,
+    wanted: bool,
+    tested: bool,
+) -> Result<Option<DecimalRead>, AllocError>
+    requires known { AreInspected inspection.now (preorder_in (nodes_view nodes.now.items)) }
+    ensures { IfOk result (λ r. option_map read_view r ≡ read_in_truth wanted tested (inspected inspection.now) (nodes_view nodes.now.items)) }
+{
+    if nodes.is_empty() {
+        return Ok(None);
+    }
+    let last = nodes.len() - 1;
+    let early = tests_early(wanted, tested);
+    for place in 0..last {
+        let node = &nodes[place];
+        match truth_of(alloc, inspection, node, early)? {
+            Some(truth) if truth == wanted => return Ok(None),
+            Some(_) => (),
+            None => return read_in(alloc, inspection, node, early),
+        }
+    }
+    read_in(alloc, inspection, &nodes[last], tested)
+}
+
+/// Whether `and` or `or` may have such a number before its last argument.
+fn tests_early(wanted: bool, tested: bool) -> bool
+    ensures { result ≡ (tested || not wanted) }
+{
+    tested || !wanted
+}
+
+/// The list that `map` and its like go over.
+#[cycle(read)]
+#[tactic(auto, using(logic_eval::proofs::Within::in_nodes))]
+fn read_in_items(
+    alloc: Global,
+    inspection: &Inspection,
+    arguments: &Vec<Node>,
+) -> Result<Option<DecimalRead>, AllocError>
+    requires known { AreInspected inspection.now (preorder_in (nodes_view arguments.now.items)) }
+    ensures { IfOk result (λ r. option_map read_view r ≡ read_in_items (inspected inspection.now) (nodes_view arguments.now.items)) }
+{
+    if arguments.len() < 2 {
+        return Ok(None);
+    }
+    read_in(alloc, inspection, &arguments[0], false)
+}
+
+/// The list of `reduce`, then its start value.
+#[cycle(read)]
+#[tactic(auto, using(logic_eval::proofs::Within::in_nodes))]
+fn read_in_reduce(
+    alloc: Global,
+    inspection: &Inspection,
+    arguments: &Vec<Node>,
+) -> Result<Option<DecimalRead>, AllocError>
+    requires known { AreInspected inspection.now (preorder_in (nodes_view arguments.now.items)) }
+    ensures { IfOk result (λ r. option_map read_view r ≡ read_in_reduce (inspected inspection.now) (nodes_view arguments.now.items)) }
+{
+    if arguments.len() < 2 {
+        return Ok(None);
+    }
+    match course(alloc, inspection, &arguments[0], false)? {
+        Course::Ends(reading) => Ok(reading),
+        Course::GoesOn if arguments.len() > 2 => read_in(alloc, inspection, &arguments[2], false),
+        Course::GoesOn => Ok(None),
     }
 }
 
+/// The bucketing expression of a site.
 #[cycle(read)]
-fn read_in_buckets<'a>(buckets: &'a Vec<Bucket<Node>>, context: Part<'a>) -> Option<DecimalRead<'a>>
-    ensures { option_map read_view result ≡ read_in_buckets (view context.entry.tree.now) (buckets_view buckets.entry.now.items) }
+#[tactic(auto, using(logic_eval::proofs::Within::in_boxed))]
+fn course_by(
+    alloc: Global,
+    inspection: &Inspection,
+    by: &Option<Box<Node>>,
+) -> Result<Course, AllocError>
+    requires known { AreInspected inspection.now (preorder_in_by (boxed_view by.now)) }
+    ensures { IfOk result (λ c. course_view c ≡ course_by (inspected inspection.now) (boxed_view by.now)) }
+{
+    match by {
+        None => Ok(Course::GoesOn),
+        Some(node) => course(alloc, inspection, node, false),
+    }
+}
+
+/// The names and weights of its buckets.
+#[cycle(read)]
+#[tactic(auto, using(logic_eval::proofs::Within::in_name, logic_eval::proofs::Within::in_weight))]
+fn course_in_buckets(
+    alloc: Global,
+    inspection: &Inspection,
+    buckets: &Vec<Bucket<Node>>,
+) -> Result<Course, AllocError>
+    requires known { AreInspected inspection.now (preorder_in_buckets (buckets_view buckets.now.items)) }
+    ensures { IfOk result (λ c. course_view c ≡ course_in_buckets (inspected inspection.now) (buckets_view buckets.now.items)) }
 {
     for bucket in buckets {
         if let Bucket::Computed(name, weight) = bucket {
-            if let Some(read) = read_in(name, false, context) {
-                return Some(read);
+            if let Course::Ends(reading) = course(alloc, inspection, name, false)? {
+                return Ok(Course::Ends(reading));
             }
-            if let Some(read) = read_in(weight, false, context) {
-                return Some(read);
+            if let Course::Ends(reading) = course(alloc, inspection, weight, false)? {
+                return Ok(Course::Ends(reading));
             }
         }
     }
-    None
-}
-
-/// Whether an operator compares or tests its argument at a place, where the operation itself is `tested` or not; nothing else does.
-fn is_tested(operator: Option<Operator>, tested: bool, count: usize, place: usize) -> bool
-    requires { place < count }
-    ensures { result ≡ is_tested operator tested count place }
-{
-    match operator {
-        None => false,
-        Some(Operator::If) => place % 2 == 0 && place + 1 < count,
-        Some(Operator::And) => tested || place + 1 < count,
-        Some(Operator::Or) => tested,
-        Some(operator) => compares(operator),
-    }
-}
-
-/// What a variable of these arguments reads.
-fn read_by<'a>(
-    operator: Operator,
-    arguments: &'a Vec<Node>,
-    tested: bool,
-    context: Part<'a>,
-) -> Option<DecimalRead<'a>>
-    ensures { option_map read_view result ≡ read_by operator tested (view context.entry.tree.now) (nodes_view arguments.entry.now.items) }
-{
-    match operator {
-        Operator::Var => read_at(path_of(arguments)?, tested, context),
-        _ => None,
-    }
-}
-
-/// The literal path of a variable.
-fn path_of<'a>(arguments: &'a Vec<Node>) -> Option<&'a str>
-    ensures { option_copied result ≡ path_of (nodes_view arguments.entry.now.items) }
-{
-    match arguments.as_slice() {
-        [Node::Literal(Tree::Text(path)), ..] => Some(path.as_str()),
-        _ => None,
-    }
-}
-
-/// The first such number in what a path leads to.
-fn read_at<'a>(path: &'a str, tested: bool, context: Part<'a>) -> Option<DecimalRead<'a>>
-    ensures { option_map read_view result ≡ read_at tested (view context.entry.tree.now) path.entry.now }
-{
-    unless_compared(path, tested, part_at(context, path)?.tree)
-}
-
-/// The same in the value that the path leads to, unless this is such a number itself and may be compared or tested.
-fn unless_compared<'a>(path: &'a str, tested: bool, value: &'a Tree) -> Option<DecimalRead<'a>>
-    ensures { option_map read_view result ≡ unless_compared tested path.entry.now (view value.entry.now) }
-{
-    if tested && is_readable(seen_tree(value)) {
-        return None;
-    }
-    let spelling = first_spelling(value)?;
-    Some(DecimalRead {
-        path,
-        value,
-        spelling,
-    })
+    Ok(Course::GoesOn)
 }

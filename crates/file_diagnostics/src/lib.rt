@@ -48,7 +48,7 @@ pub use ends::Ends;
 pub use files::{of_long_book, of_rule, of_unreadable, of_unwritable, put_weight_fault};
 pub use lines::{Lines, Opening};
 pub use listing::{Listed, NameList};
-pub use looks::look_of;
+pub use looks::{look_of, look_of_tree};
 pub use parts::{Name, Step, Value};
 pub use plans::of_plan_file;
 pub use quoting::{quoted, quoted_name};

@@ -58,14 +58,12 @@ fn is_yaml_line(line: &str) -> bool {
     }
 }
 
-/// What a JSON text looks like that is not a flag document, and what to do with it, where that is known.
-pub(crate) fn look_of_tree(tree: &Tree) -> Option<&'static str> {
+/// What a JSON text looks like that is not of the form that is wanted, and what to do with it, where that is known.
+pub fn look_of_tree(tree: &Tree) -> Option<&'static str> {
     if tree.member("plan").is_some() {
-        if tree.member("rule").is_some() || tree.member("none").is_some() {
-            Some("a plan: check the order of the arguments")
-        } else {
-            Some("a rollout request: check the order of the arguments")
-        }
+        look_of_plan(tree)
+    } else if tree.member("flags").is_some() {
+        Some("a flag document: check the order of the arguments")
     } else if tree.member("book").is_some() {
         Some("a book: check the order of the arguments")
     } else if tree.member("tally").is_some() {
@@ -74,6 +72,17 @@ pub(crate) fn look_of_tree(tree: &Tree) -> Option<&'static str> {
         Some("the definition of one flag: put it into \"flags\", under its key")
     } else if tree.member("targetingKey").is_some() {
         Some("an evaluation context: check the order of the arguments")
+    } else {
+        None
+    }
+}
+
+/// The same of one with the member `plan`, which plans and requests have.
+fn look_of_plan(tree: &Tree) -> Option<&'static str> {
+    if tree.member("rule").is_some() || tree.member("none").is_some() {
+        Some("a plan: check the order of the arguments")
+    } else if tree.member("totals").is_some() || tree.member("steps").is_some() {
+        Some("a rollout request: check the order of the arguments")
     } else {
         None
     }

@@ -74,6 +74,14 @@ pub(crate) fn put_number(lines: &mut Lines, spelled: Option<&str>) {
     }
 }
 
+/// Whether a number that is spelled so, or in a way that is not known, may be one with a fraction.
+pub(crate) fn may_have_fraction(spelled: Option<&str>) -> bool {
+    match spelled {
+        Some(spelled) => matches!(NumberFault::of(spelled), NumberFault::Fraction),
+        None => true,
+    }
+}
+
 /// How the number at a path is spelled in a JSON text.
 pub(crate) fn spelled_at<'a>(
     alloc: Global,

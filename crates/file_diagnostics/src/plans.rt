@@ -3,6 +3,7 @@ ghost use Rattle.std.specs.Prelude.{IfOk, string_bytes};
 ghost use Rattle.file_diagnostics.specs.Named.{Names};
 
 use crate::lines::{Lines, Opening};
+use crate::looks::look_of_tree;
 use crate::texts::of_text;
 use flag_text::{Tree, read_tree};
 use limits::FILE_BYTES;
@@ -22,7 +23,7 @@ pub fn of_plan_file(
     write!(lines, " is not a plan: ");
     if fault == PlanFileFault::BadPlan {
         match read_tree(alloc, bytes, FILE_BYTES) {
-            Ok(tree) => put_misfit(&mut lines, &tree),
+            Ok(tree) => put_other(&mut lines, &tree),
             Err(fault) => return of_text(alloc, path, bytes, FILE_BYTES, fault),
         }
     } else {
@@ -33,6 +34,16 @@ pub fn of_plan_file(
         "\n  give a file that \"flagops plan\" printed; it has at most 67,108,864 bytes\n",
     );
     lines.headed(Opening::Error, path)
+}
+
+/// What keeps a tree from being a plan, and what it looks like where it has nothing of one.
+fn put_other(lines: &mut Lines, tree: &Tree) {
+    put_misfit(lines, tree);
+    if tree.member("rule").is_none() && tree.member("none").is_none() {
+        if let Some(look) = look_of_tree(tree) {
+            write!(lines, "\n  it looks like {look}");
+        }
+    }
 }
 
 /// What keeps a tree from being a plan.

@@ -1,7 +1,7 @@
 //! The diagnostic of what is wrong in a flag's member, or in the evaluators that it refers to.
 use crate::evaluators::{Causes, references};
 use crate::lines::Lines;
-use crate::numbers::{put_number, spelled_at};
+use crate::numbers::{may_have_fraction, put_number, spelled_at};
 use crate::search::{Sought, Wrong, first_wrong};
 use crate::way::Way;
 use flag_text::Tree;
@@ -127,8 +127,9 @@ impl<'a> Referred<'a> {
             Wrong::Number => {
                 let path = way.path(lines.alloc, path)?;
                 write!(lines, "{which}");
-                self.put_number(lines, path.as_slice())?;
-                if way.ends_at_weight() {
+                let spelled = self.spelling_at(lines.alloc, path.as_slice())?;
+                put_number(lines, spelled);
+                if way.ends_at_weight() && may_have_fraction(spelled) {
                     write!(lines, "; multiply all weights alike until each is whole");
                 }
             }
@@ -144,18 +145,26 @@ impl<'a> Referred<'a> {
         Ok(())
     }
 
+    /// How the number at a path of the document is spelled, of as many numbers as are looked for.
+    fn spelling_at(
+        &mut self,
+        alloc: Global,
+        path: &[Step<'_>],
+    ) -> Result<Option<&'a str>, AllocError> {
+        if self.spellings == 0 {
+            return Ok(None);
+        }
+        self.spellings -= 1;
+        spelled_at(alloc, self.bytes, path)
+    }
+
     /// Why the number at a path of the document is not taken.
     pub(crate) fn put_number(
         &mut self,
         lines: &mut Lines,
         path: &[Step<'_>],
     ) -> Result<(), AllocError> {
-        let spelled = if self.spellings > 0 {
-            self.spellings -= 1;
-            spelled_at(lines.alloc, self.bytes, path)?
-        } else {
-            None
-        };
+        let spelled = self.spelling_at(lines.alloc, path)?;
         put_number(lines, spelled);
         Ok(())
     }

@@ -13,13 +13,13 @@ NamesFile path lines = (rest : List ℕ) × (lines ≡ codes "error: " ++ (text_
 
 -- the line on what was passed over in the file at a path: so many lines, and perhaps bytes behind the last one
 unfoldable pub passed_line : List ℕ → ℕ → Bool → List ℕ
-passed_line path passed false = codes "note: " ++ (text_of (text path) ++ (codes ": lines that are no note, passed over: " ++ (decimal passed ++ codes "\n")))
+passed_line path passed false = codes "note: " ++ (text_of (text path) ++ (codes ": lines that are not notes, skipped: " ++ (decimal passed ++ codes "\n")))
 passed_line path passed true =
     codes "note: "
     ++ (text_of (text path)
     ++ (if passed == 0
-    then codes ": the last line has no end and is passed over\n"
-    else codes ": lines that are no note, passed over: " ++ (decimal passed ++ codes ", and the last line, which has no end\n")))
+    then codes ": the last line has no line feed and is skipped\n"
+    else codes ": lines that are not notes, skipped: " ++ (decimal passed ++ codes ", and the last line, which has no line feed\n")))
 
 -- what a person is told of the file: that line where something was passed over, and else nothing
 abbrev pub passed_text : List ℕ → ℕ → Bool → List ℕ

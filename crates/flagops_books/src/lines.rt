@@ -59,12 +59,12 @@ fn passed_line(alloc: Global, path: &str, passed: u64, torn: bool) -> Result<Str
 {
     let name = quoted(alloc, path)?;
     if !torn {
-        format!(in alloc; "note: {name}: lines that are no note, passed over: {passed}\n")
+        format!(in alloc; "note: {name}: lines that are not notes, skipped: {passed}\n")
     } else if passed == 0 {
-        format!(in alloc; "note: {name}: the last line has no end and is passed over\n")
+        format!(in alloc; "note: {name}: the last line has no line feed and is skipped\n")
     } else {
         format!(in alloc;
-            "note: {name}: lines that are no note, passed over: {passed}, and the last line, which has no end\n"
+            "note: {name}: lines that are not notes, skipped: {passed}, and the last line, which has no line feed\n"
         )
     }
 }

@@ -4,8 +4,8 @@ ghost use Rattle.clap.specs.Words.{app_of};
 ghost use Rattle.flagops_books.specs.Words.{book_app, book_begun};
 
 use clap::Command;
-use flagops_words::about;
 use flagops_words::arguments::{flag, required, some_words};
+use flagops_words::{about, example};
 use std::alloc::{AllocError, Global};
 
 /// The command `book`. The first of its words is its own name.
@@ -28,7 +28,8 @@ fn begun<'a>(alloc: Global) -> Result<Command<'a>, AllocError>
 {
     let command = Command::new(alloc, "book")
         .bin_name("flagops book")?
-        .about(about::BOOK);
+        .about(about::BOOK)
+        .after_help(example::BOOK);
     let out = required(alloc, "OUT", "The book file that is written");
     let files = some_words(
         alloc,

@@ -6,8 +6,8 @@ ghost use Rattle.flagops_words.specs.Words.{some_words, strict_flag};
 ghost use Rattle.flagops_checks.specs.Words.{check_app};
 
 use clap::Command;
-use flagops_words::about;
 use flagops_words::arguments::{flag, floats, some_words};
+use flagops_words::{about, example};
 use std::alloc::{AllocError, Global};
 
 /// The command `check`. The first of its words is its own name.
@@ -36,6 +36,7 @@ fn begun<'a>(alloc: Global) -> Result<Command<'a>, AllocError>
     Command::new(alloc, "check")
         .bin_name("flagops check")?
         .about(about::CHECK)
+        .after_help(example::CHECK)
         .arg(documents)?
         .arg(strict)
 }

@@ -5,8 +5,8 @@ ghost use Rattle.clap.specs.Words.{app_of, rule_of};
 ghost use Rattle.flagops_compare.specs.Words.{compare_app, compare_begun, compare_files, flag_option, picture_option};
 
 use clap::{Arg, Command};
-use flagops_words::about;
 use flagops_words::arguments::{flag, floats, required};
+use flagops_words::{about, example};
 use std::alloc::{AllocError, Global};
 
 /// The command `compare`. The first of its words is its own name.
@@ -19,7 +19,7 @@ pub(crate) fn usage<'a>(alloc: Global) -> Result<Command<'a>, AllocError>
         "strict",
         "End with status 1 where a page has no rules to compare, or KEY has no page",
     );
-    let json = flag(alloc, "json", "Print the answer as JSON, in a line");
+    let json = flag(alloc, "json", "Print the result as JSON, on one line");
     begun(alloc)?.arg(strict)?.arg(json)?.arg(floats(alloc))
 }
 
@@ -35,7 +35,7 @@ fn files<'a>(alloc: Global) -> Result<Command<'a>, AllocError>
     ensures app { IfOk result (λ c. app_of c ≡ compare_files) }
 {
     let old = required(alloc, "OLD", "The flag document before the edit");
-    let new = required(alloc, "NEW", "The flag document after it");
+    let new = required(alloc, "NEW", "The flag document after the edit");
     let book = required(
         alloc,
         "BOOK",
@@ -44,6 +44,7 @@ fn files<'a>(alloc: Global) -> Result<Command<'a>, AllocError>
     Command::new(alloc, "compare")
         .bin_name("flagops compare")?
         .about(about::COMPARE)
+        .after_help(example::COMPARE)
         .arg(old)?
         .arg(new)?
         .arg(book)

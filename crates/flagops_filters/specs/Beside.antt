@@ -14,7 +14,7 @@ Reads text lines = lines ≡ text
 
 -- the last line has no end
 abbrev pub torn_words : List ℕ
-torn_words = codes "the last line has no end and is passed over"
+torn_words = codes "the last line has no line feed and is skipped"
 
 -- ---- `tally`
 
@@ -27,7 +27,7 @@ none_words = codes "no line is of the page of this site, and nothing is counted;
 
 -- the same, where the last line is torn
 abbrev pub none_torn_words : List ℕ
-none_torn_words = codes "no line is of the page of this site, and nothing is counted; the last line has no end and is passed over"
+none_torn_words = codes "no line is of the page of this site, and nothing is counted; the last line has no line feed and is skipped"
 
 -- where the standard input is empty, has no line of the page, or has a torn line
 abbrev pub tally_lines : Bool → Bool → Bool → List ℕ

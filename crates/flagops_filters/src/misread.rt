@@ -27,6 +27,9 @@ pub(crate) fn no_context_lines(
 /// What a line is that is not a context, where it is known.
 fn put_no_context(lines: &mut Lines, line: Option<&[u8]>) -> Result<(), AllocError> {
     match line {
+        Some(line) if begins_text(line) => {
+            write!(lines, " is only the beginning of a JSON text\n")
+        }
         Some(line) => match read_doc(lines.alloc, line, line.len()) {
             Ok(tree) => write!(lines, " is {}, not a context\n", lines.value(&tree)),
             Err(fault) => {
@@ -41,6 +44,17 @@ fn put_no_context(lines: &mut Lines, line: Option<&[u8]>) -> Result<(), AllocErr
         "  a context is a JSON object, each on a line of its own\n"
     );
     Ok(())
+}
+
+/// Whether nothing but a bracket stands on a line, as on the first one of a text that is laid out over several.
+fn begins_text(line: &[u8]) -> bool {
+    match line.split_first() {
+        Some((first, rest)) => {
+            (*first == b'{' || *first == b'[')
+                && rest.iter().all(|byte| *byte == b' ' || *byte == b'\r')
+        }
+        None => false,
+    }
 }
 
 /// Why the line of a number, from 1, is not a note line.

@@ -20,7 +20,9 @@ use crate::clock::second;
 use crate::misread::no_context_lines;
 use crate::opening::Opening;
 use crate::refusal::FilterRefusal;
-use crate::remarks::{clock_line, counted_lines, flag_line, input_line, is_noted, marked_line};
+use crate::remarks::{
+    clock_line, counted_lines, flag_line, input_line, is_noted, marked_line, unknown_lines,
+};
 use crate::start::Start;
 use crate::words::read_record;
 use file_diagnostics::Ends as FileEnds;
@@ -28,7 +30,6 @@ use flag_defs::Flags;
 use flag_text::Outlet;
 use flagops_files::load_flags_as;
 use flagops_shell::{Console, FileSet, Refused, Remark, refuse, report_usage, tell};
-use key_diagnostics::known_keys;
 use line_batches::Inlet;
 use note_streams::{Counted, RecordStop, record_stream};
 use record_lines::{RecordFault, Recorder};
@@ -220,7 +221,7 @@ fn unrecorded_line(
 {
     match fault {
         RecordFault::WantOfMemory => flag_line(alloc, asked.document, asked.key, "out of memory"),
-        RecordFault::UnknownFlag => unknown_lines(alloc, asked, flags),
+        RecordFault::UnknownFlag => unknown_lines(alloc, asked.document, flags, asked.key),
         RecordFault::Broken => flag_line(
             alloc,
             asked.document,
@@ -228,15 +229,6 @@ fn unrecorded_line(
             "it is broken\n  \"flagops check\" says why",
         ),
     }
-}
-
-/// The lines on a key that no flag has, and the keys that may be meant.
-fn unknown_lines(alloc: Global, asked: &Recording<'_>, flags: &Flags) -> Result<String, AllocError>
-    ensures { IfOk result (λ s. NamesPath asked.now.document.now (string_bytes s)) }
-{
-    let known = known_keys(alloc, flags, asked.key)?;
-    let reason = format!(in alloc; "no such flag\n  {known}")?;
-    flag_line(alloc, asked.document, asked.key, reason.as_str())
 }
 
 fn fault_of(fault: RecordFault) -> RolloutFault

@@ -8,7 +8,9 @@ ghost use Rattle.record_lines.specs.View.{outcomes_view};
 
 use crate::start::Start;
 use crate::unrecorded::{is_unrecorded, why_line};
+use flag_defs::Flags;
 use flagops_files::quoted;
+use key_diagnostics::known_keys;
 use note_streams::Counted;
 use std::alloc::{AllocError, Global};
 
@@ -27,6 +29,20 @@ pub(crate) fn flag_line(
     let name = quoted(alloc, path)?;
     let flag = quoted(alloc, key)?;
     format!(in alloc; "error: {name}: the flag {flag}: {reason}\n")
+}
+
+/// The lines on a key that no flag of a document has, and the keys that may be meant.
+pub(crate) fn unknown_lines(
+    alloc: Global,
+    path: &str,
+    flags: &Flags,
+    key: &str,
+) -> Result<String, AllocError>
+    ensures { IfOk result (λ s. NamesFile path.now (string_bytes s)) }
+{
+    let known = known_keys(alloc, flags, key)?;
+    let reason = format!(in alloc; "no such flag\n  {known}")?;
+    flag_line(alloc, path, key, reason.as_str())
 }
 
 /// A line on the standard input.
@@ -91,7 +107,7 @@ pub(crate) fn counted_lines(
     let torn = line_if(
         alloc,
         counted.torn,
-        "the last line has no end and is passed over",
+        "the last line has no line feed and is skipped",
     )?;
     format!(in alloc; "{clock}{siteless}{empty}{why}{long}{torn}")
 }

@@ -23,7 +23,7 @@ use crate::asked::Tallying;
 use crate::misread::no_note_lines;
 use crate::opening::Opening;
 use crate::refusal::FilterRefusal;
-use crate::remarks::{flag_line, input_line, marked_line};
+use crate::remarks::{flag_line, input_line, marked_line, unknown_lines};
 use crate::target::Target;
 use crate::words::read_tally;
 use book_core::Page;
@@ -137,7 +137,7 @@ fn within<I: Inlet + Opening>(
 {
     match target_of(alloc, flags, asked.key, asked.site, factor_of(asked.refine)) {
         Ok(target) => over(alloc, target, input),
-        Err(fault) => Err(untallied(alloc, asked, fault)),
+        Err(fault) => Err(untallied(alloc, asked, flags, fault)),
     }
 }
 
@@ -203,9 +203,9 @@ fn beside(alloc: Global, empty: bool, none: bool, torn: bool) -> Option<Remark>
         )),
         (false, true, true) => Some(note(
             alloc,
-            "no line is of the page of this site, and nothing is counted; the last line has no end and is passed over",
+            "no line is of the page of this site, and nothing is counted; the last line has no line feed and is skipped",
         )),
-        (false, false, true) => Some(note(alloc, "the last line has no end and is passed over")),
+        (false, false, true) => Some(note(alloc, "the last line has no line feed and is skipped")),
         (false, false, false) => None,
     }
 }
@@ -272,23 +272,32 @@ fn stop_line(
 
 /// A site that is not tallied at.
 #[tactic(auto, using(flagops_files::proofs::Told::says))]
-fn untallied(alloc: Global, asked: &Tallying<'_>, fault: RolloutFault) -> Refused<FilterRefusal>
+fn untallied(
+    alloc: Global,
+    asked: &Tallying<'_>,
+    flags: &Flags,
+    fault: RolloutFault,
+) -> Refused<FilterRefusal>
     ensures refusal { result.refusal ≡ Flag fault }
     ensures names { Says (NamesPath asked.now.document.now) result.remark }
 {
     Refused {
         refusal: FilterRefusal::Flag(fault),
-        remark: Remark::of(refusal_line(alloc, asked, fault)),
+        remark: Remark::of(refusal_lines(alloc, asked, flags, fault)),
     }
 }
 
-fn refusal_line(
+fn refusal_lines(
     alloc: Global,
     asked: &Tallying<'_>,
+    flags: &Flags,
     fault: RolloutFault,
 ) -> Result<String, AllocError>
     ensures { IfOk result (λ s. NamesPath asked.now.document.now (string_bytes s)) }
 {
+    if matches!(fault, RolloutFault::UnknownFlag) {
+        return unknown_lines(alloc, asked.document, flags, asked.key);
+    }
     let reason = format!(in alloc; "{fault}")?;
     flag_line(alloc, asked.document, asked.key, reason.as_str())
 }

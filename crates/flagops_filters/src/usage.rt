@@ -7,8 +7,8 @@ ghost use Rattle.flagops_words.specs.Words.{option_number, required};
 ghost use Rattle.flagops_filters.specs.Words.{join_app, max_workers, record_app, tally_app};
 
 use clap::{Arg, Command};
-use flagops_words::about;
 use flagops_words::arguments::{floats, option_number, refine, required, site, some_words};
+use flagops_words::{about, example};
 use limits::LATEST_MOMENT;
 use std::alloc::{AllocError, Global};
 
@@ -37,6 +37,7 @@ fn record_begun<'a>(alloc: Global) -> Result<Command<'a>, AllocError>
     Command::new(alloc, "record")
         .bin_name("flagops record")?
         .about(about::RECORD)
+        .after_help(example::RECORD)
         .arg(document)?
         .arg(key)
 }
@@ -66,6 +67,7 @@ fn tally_begun<'a>(alloc: Global) -> Result<Command<'a>, AllocError>
     Command::new(alloc, "tally")
         .bin_name("flagops tally")?
         .about(about::TALLY)
+        .after_help(example::TALLY)
         .arg(document)?
         .arg(key)
 }
@@ -77,7 +79,8 @@ pub fn join<'a>(alloc: Global) -> Result<Command<'a>, AllocError>
 {
     let command = Command::new(alloc, "join")
         .bin_name("flagops join")?
-        .about(about::JOIN);
+        .about(about::JOIN)
+        .after_help(example::JOIN);
     let tallies = some_words(
         alloc,
         "TALLY",

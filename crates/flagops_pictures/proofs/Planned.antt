@@ -24,9 +24,8 @@ use Rattle.plan_text.specs.PlanFile.{plan_line}
 use Rattle.plan_text.specs.declared.fault.PlanFileFault.{PlanFileFault}
 use Rattle.plan_text.specs.declared.planned.Planned.{Planned}
 use Rattle.ramp.specs.Right.{IsStepShown}
-use Rattle.rollout.specs.Planned.{IsPlanned}
-use Rattle.rollout.specs.Tallied.{IsTallyPlanned}
 use Rattle.rollout_checks.specs.Lawful.{Problem}
+use Rattle.rollout_checks.specs.Plan.{IsPlanned, IsTallyPlanned}
 use Rattle.rollout_checks.specs.Refined.{problem_refined}
 use Rattle.rollout_checks.specs.Tallied.{IsTallyShown, TallyProblem, tally_problem_of}
 use Rattle.rollout_checks.specs.Verified.{IsShown}

@@ -8,15 +8,19 @@ ghost use Rattle.flagops_words.specs.Words.{flag, floats_flag, required, strict_
 
 use clap::{Arg, Command};
 use flagops_ramps::with_steps;
-use flagops_words::about;
 use flagops_words::arguments::{flag, floats, refine, required, strict};
+use flagops_words::{about, example};
 use std::alloc::{AllocError, Global};
 
 /// What the book of a rollout is.
-const BOOK: &str = "The book of recorded inputs";
+const BOOK: &str = "The book of the hash inputs that were recorded, or a tally of them";
 
 /// What `--refine` says of a plan that is drawn.
 const REFINED: &str = "The factor that the plan was made with";
+
+/// What `--refine` does to a rollout that is planned.
+const PLANNED: &str =
+    "Plan in finer points: multiply each weight of the rule by M first; 10 gives tenths of a percent";
 
 /// The command `picture`. The first of its words is its own name.
 #[tactic(auto, unfolding(crate::specs::Words::picture_app))]
@@ -35,7 +39,8 @@ fn drawn<'a>(alloc: Global) -> Result<Command<'a>, AllocError>
     let plan = required(alloc, "PLAN", "The plan file, as 'flagops plan' prints it");
     let command = Command::new(alloc, "picture")
         .bin_name("flagops picture")?
-        .about(about::PICTURE);
+        .about(about::PICTURE)
+        .after_help(example::PICTURE);
     rollout(alloc, command)?.arg(plan)
 }
 
@@ -67,13 +72,16 @@ fn drawn_in_steps<'a>(alloc: Global) -> Result<Command<'a>, AllocError>
 pub(crate) fn plan<'a>(alloc: Global) -> Result<Command<'a>, AllocError>
     ensures { IfOk result (λ c. app_of c ≡ plan_app) }
 {
-    let command = Command::new(alloc, "plan").bin_name("flagops plan")?.about(
-        "Prints the rule that a rollout request asks for and that switches the fewest users, and writes its picture",
-    );
+    let command = Command::new(alloc, "plan")
+        .bin_name("flagops plan")?
+        .about(
+            "Prints the rule that a rollout request asks for and that switches the fewest users, and writes its picture",
+        )
+        .after_help(example::PLAN_PICTURE);
     let picture = picture_file(alloc);
     let command = rollout(alloc, command)?
         .arg(picture)?
-        .arg(refine(alloc, REFINED))?;
+        .arg(refine(alloc, PLANNED))?;
     told(alloc, command)
 }
 
@@ -106,7 +114,8 @@ fn steps<'a>(alloc: Global) -> Result<Command<'a>, AllocError>
 {
     let command = Command::new(alloc, "picture")
         .bin_name("flagops picture")?
-        .about("Draws the steps of a rollout as SVG: what each moves, and what it costs");
+        .about("Draws the steps of a rollout as SVG: what each moves, and what it costs")
+        .after_help(example::PICTURE_RAMP);
     with_steps(alloc, command, BOOK)
 }
 

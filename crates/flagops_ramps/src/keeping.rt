@@ -51,7 +51,7 @@ use std::thread::Threads;
 
 /// What is the matter with a document where another rule stands at the site.
 const OTHER_RULE: &str =
-    "the site has another rule than the one that the step before left; put the steps in one after the other";
+    "the site has another rule than the one that the step before left; apply the steps one after the other";
 
 impl<'w, R: Threads + Sync, F: FileSet> Command<'w, R, F> for Keeping<'w> {
     type Refusal = RampRefusal;

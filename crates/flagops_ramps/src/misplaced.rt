@@ -51,11 +51,11 @@ fn step_of(
 fn other_place(alloc: Global, before: u32, stands: u32) -> Result<String, AllocError> {
     if stands == 0 {
         format!(in alloc;
-            "\n  the site has not the rule that step {before} left, nor that of another step; put the steps in one after the other"
+            "\n  the site has neither the rule that step {before} left nor that of another step; apply the steps one after the other"
         )
     } else {
         format!(in alloc;
-            "\n  the site has the rule that step {stands} left, and not that of step {before}; put the steps in one after the other"
+            "\n  the site has the rule that step {stands} left, and not that of step {before}; apply the steps one after the other"
         )
     }
 }

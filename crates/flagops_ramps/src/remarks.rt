@@ -69,8 +69,7 @@ pub(crate) fn advice_on(fault: RolloutFault) -> &'static str {
         RolloutFault::WantOfMemory => "",
         RolloutFault::Request(_) => "\n  docs/FORMATS.md says what the totals of a step look like",
         RolloutFault::UnknownFlag => "\n  'check' lists the keys of a document",
-        RolloutFault::NoSite =>
-            "\n  sites count from 0, in the order in which they stand in the targeting",
+        RolloutFault::NoSite => "\n  sites are counted from 0, in the order of the text",
         RolloutFault::Computed => "\n  steps are planned on literal buckets alone",
         RolloutFault::UnknownVariant => {
             "\n  each name in its totals, and in the prices and changes, has to be a variant of the flag"

@@ -8,11 +8,11 @@ ghost use Rattle.flagops_ramps.specs.Words.{keep_app, kept_put, kept_step, kept_
 use clap::builder::ValueParser;
 use clap::{Arg, Command};
 use flagops_words::arguments::{flag, floats, refine, required, site, strict};
-use flagops_words::{LARGEST_32, about};
+use flagops_words::{LARGEST_32, about, example};
 use std::alloc::{AllocError, Global};
 
 /// What the book of a rollout is.
-const BOOK: &str = "The book of the hash inputs that were recorded";
+const BOOK: &str = "The book of the hash inputs that were recorded, or a tally of them";
 
 /// What the file of the answers is.
 const RAMP: &str = "The file that ramp printed";
@@ -41,7 +41,8 @@ fn ramped<'a>(alloc: Global) -> Result<Command<'a>, AllocError>
 {
     let command = Command::new(alloc, "ramp")
         .bin_name("flagops ramp")?
-        .about(about::RAMP);
+        .about(about::RAMP)
+        .after_help(example::RAMP);
     let factor = refine(alloc, REFINED);
     with_steps(alloc, command, BOOK)?.arg(factor)
 }
@@ -63,7 +64,8 @@ fn verified<'a>(alloc: Global) -> Result<Command<'a>, AllocError>
 {
     let command = Command::new(alloc, "verify-ramp")
         .bin_name("flagops verify-ramp")?
-        .about(about::VERIFY_RAMP);
+        .about(about::VERIFY_RAMP)
+        .after_help(example::VERIFY_RAMP);
     let answers = required(alloc, "RAMP", RAMP);
     with_steps(alloc, command, BOOK)?.arg(answers)
 }
@@ -96,6 +98,7 @@ fn applied<'a>(alloc: Global) -> Result<Command<'a>, AllocError>
         .about(
             "Prints a document with the rule that a step of a rollout left at a site of a flag; with --keep nothing else of its text changes",
         )
+        .after_help(example::APPLY_STEP)
         .arg(document)?
         .arg(ramp)?
         .arg(flag)
@@ -160,6 +163,7 @@ fn kept_files<'a>(alloc: Global) -> Result<Command<'a>, AllocError>
     Command::new(alloc, "apply")
         .bin_name("flagops apply")?
         .about("Puts the rule of a step of a rollout into a document of which nothing else changes")
+        .after_help(example::KEEP_STEP)
         .arg(document)?
         .arg(ramp)
 }

@@ -21,9 +21,9 @@ use Rattle.plan_text.specs.Answer.{Answer, planned_view}
 use Rattle.plan_text.specs.declared.planned.Planned.{Planned}
 use Rattle.price_core.specs.Request.{Asked, asked_of}
 use Rattle.price_core.specs.declared.fault.PriceFault.{PriceFault}
-use Rattle.rollout.specs.Planned.{IsPlanned}
-use Rattle.rollout.specs.Tallied.{IsTallyPlanned, PlansAreByCounts, TalliesAskAsBooks}
+use Rattle.rollout.specs.Tallied.{PlansAreByCounts, TalliesAskAsBooks}
 use Rattle.rollout_checks.specs.Lawful.{Place, Problem, and_then, by_logic, by_price, or_refuse, place_in, problem_of}
+use Rattle.rollout_checks.specs.Plan.{IsPlanned, IsTallyPlanned}
 use Rattle.rollout_checks.specs.Tallied.{AreTallied, IsTallyOutcome, IsTallyShown, TallyProblem, tally_problem_of, with_inputs}
 use Rattle.rollout_checks.specs.Verified.{IsOutcome, IsShown, refining_for}
 use Rattle.rollout_checks.specs.declared.fault.RolloutFault.{RolloutFault}

@@ -21,8 +21,7 @@ use Rattle.plan_text.specs.Answer.{Answer, emit, none_exists, planned_view}
 use Rattle.transport_instance.specs.Certificate.{DualPrices}
 use Rattle.plan_text.specs.declared.planned.Planned.{Planned}
 use Rattle.rollout_checks.specs.Lawful.{Place, Problem, and_then, by_price, factor, limits_for, place_of, problem_at, sized, weighed}
-use Rattle.rollout.specs.Planned.{IsPlanned}
-use Rattle.rollout.specs.Tallied.{IsTallyPlanned}
+use Rattle.rollout_checks.specs.Plan.{IsPlanned, IsTallyPlanned}
 use Rattle.rollout_checks.specs.Refined.{problem_checked, problem_refined}
 use Rattle.rollout_checks.specs.Tallied.{AreTallied, IsTallyOutcome, TallyProblem, tally_problem_of, with_inputs}
 use Rattle.rollout_checks.specs.Verified.{IsOutcome, Proves, refining_for}

@@ -3,8 +3,7 @@ use Rattle.std.specs.Prelude.{◌≡◌, ◌||◌, ℕ, Bool, false, List, unwra
 use Rattle.plan_text.specs.Answer.{Answer, emit, none_exists, IsOrdered, planned_view}
 use Rattle.plan_text.specs.PlanFile.{IsWhole, answer_of, plan_line}
 use Rattle.flag_defs.specs.Document.{Definitions}
-use Rattle.rollout.specs.Planned.{IsPlanned}
-use Rattle.rollout.specs.Tallied.{IsTallyPlanned}
+use Rattle.rollout_checks.specs.Plan.{IsPlanned, IsTallyPlanned}
 use Rattle.rollout_checks.specs.Refined.{problem_refined}
 use Rattle.rollout_checks.specs.Tallied.{tally_problem_of}
 use Rattle.rollout_checks.specs.declared.fault.RolloutFault.{RolloutFault}

@@ -106,7 +106,10 @@ fn say_recording<E: Outlet>(alloc: Global, err: &mut E, answering: &Answering<'_
                 format!(in alloc; "ofrep: records {what} in the folder \"{folder}\"\n"),
             );
             if let WithoutRecord::Answer = answering.without_record {
-                say(err, "ofrep: answers even where they cannot be recorded\n");
+                say(
+                    err,
+                    "ofrep: answers requests even if they cannot be recorded\n",
+                );
             }
         }
         None => say(

@@ -5,7 +5,7 @@ ghost use Rattle.flagops_service.specs.Words.{ofrep_app, ofrep_begun, ofrep_chos
 
 use clap::{Arg, ArgAction, Command};
 use flagops_words::arguments::{flag, option_number, some_words};
-use flagops_words::{LARGEST_PORT, about};
+use flagops_words::{LARGEST_PORT, about, example};
 use std::alloc::{AllocError, Global};
 
 /// The most workers.
@@ -124,7 +124,7 @@ fn operated<'a>(alloc: Global) -> Result<Command<'a>, AllocError>
     let stop = flag(
         alloc,
         "allow-stop",
-        "Let POST /stop at the address of --admin end the service, once each answer under way is sent",
+        "Let POST /stop at the address of --admin end the service, once every response under way has been sent",
     );
     let apply = flag(
         alloc,
@@ -201,6 +201,7 @@ fn begun<'a>(alloc: Global) -> Result<Command<'a>, AllocError>
     Command::new(alloc, "ofrep")
         .bin_name("flagops ofrep")?
         .about(about::OFREP)
+        .after_help(example::OFREP)
         .arg(documents)?
         .arg(listen)?
         .arg(log)

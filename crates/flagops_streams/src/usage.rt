@@ -5,7 +5,7 @@ ghost use Rattle.flagops_streams.specs.Words.{follow_app, serve_app, serve_begun
 
 use clap::{Arg, Command};
 use flagops_words::arguments::{floats, number, option_number, some_words};
-use flagops_words::{LARGEST_PORT, about};
+use flagops_words::{LARGEST_PORT, about, example};
 use std::alloc::{AllocError, Global};
 
 /// The most subscribers.
@@ -57,6 +57,7 @@ fn serve_begun<'a>(alloc: Global) -> Result<Command<'a>, AllocError>
     Command::new(alloc, "serve")
         .bin_name("flagops serve")?
         .about(about::SERVE)
+        .after_help(example::SERVE)
         .arg(port)?
         .arg(subscribers)?
         .arg(documents)
@@ -84,6 +85,7 @@ pub fn follow<'a>(alloc: Global) -> Result<Command<'a>, AllocError>
     Command::new(alloc, "follow")
         .bin_name("flagops follow")?
         .about(about::FOLLOW)
+        .after_help(example::FOLLOW)
         .arg(port)?
         .arg(turns)?
         .arg(wait(

@@ -25,6 +25,7 @@
 pub mod about;
 pub mod arguments;
 mod asked;
+pub mod example;
 mod kinds;
 pub mod matches;
 mod numbers;

@@ -67,14 +67,12 @@ _flagops() {
         resolve:*)
             if [ "$COMP_CWORD" -eq 4 ]; then
                 COMPREPLY=($(compgen -W "bool text whole object float boolean string integer" -- "$word"))
-            else
-                mapfile -t COMPREPLY < <(compgen -f -- "$word")
             fi
             ;;
-        *) mapfile -t COMPREPLY < <(compgen -f -- "$word") ;;
     esac
+    # Where nothing fits, bash completes the name of a file, and quotes it.
 }
-complete -o filenames -F _flagops flagops
+complete -o default -F _flagops flagops
 "#;
 
 const FISH: &str = r#"# fish completion of flagops: flagops completions fish | source

@@ -1,7 +1,7 @@
 //! The commands of `flagops_commands` with their words, as the help of the program lists them.
 
-use crate::about;
 use crate::numbers::{LARGEST_16, LARGEST_32, LATEST_MOMENT};
+use crate::{about, example};
 
 /// A command with its words.
 pub struct Usage {
@@ -9,6 +9,8 @@ pub struct Usage {
     /// What it does.
     pub about: &'static str,
     pub words: &'static [Word],
+    /// What its help ends with.
+    pub after: &'static str,
 }
 
 /// A word of a command: the name by which it is read, and what it is.
@@ -27,7 +29,10 @@ const DOCUMENT: Word = Word::Text("DOC", "The flag document");
 
 const REQUEST: Word = Word::Text("REQUEST", "The file of the rollout request");
 
-const BOOK: Word = Word::Text("BOOK", "The book of the hash inputs that were recorded");
+const BOOK: Word = Word::Text(
+    "BOOK",
+    "The book of the hash inputs that were recorded, or a tally of them",
+);
 
 /// What `--strict` does to a command that tells what it doubts.
 pub const STRICT_HELP: &str =
@@ -90,6 +95,7 @@ const BUCKET: Usage = Usage {
         Word::Text("KEY", "The hash input, as a targeting key"),
         JSON,
     ],
+    after: example::BUCKET,
 };
 
 const PRICE: Usage = Usage {
@@ -102,12 +108,14 @@ const PRICE: Usage = Usage {
         Word::Text("KEYS", "The file of hash inputs, a list of texts"),
         JSON,
     ],
+    after: example::PRICE,
 };
 
 const RESOLVE: Usage = Usage {
     name: "resolve",
     about: RESOLVES,
     words: QUESTION,
+    after: example::RESOLVE,
 };
 
 /// The command outside the program, with the program's name before its own.
@@ -115,6 +123,7 @@ pub const RESOLVE_ALONE: Usage = Usage {
     name: "flagops resolve",
     about: RESOLVES,
     words: QUESTION,
+    after: example::RESOLVE,
 };
 
 const RESOLVES: &str = "Prints what the flag of a key resolves to in a context";
@@ -128,7 +137,7 @@ const QUESTION: &[Word] = &[
     ),
     Word::Text(
         "DEFAULT",
-        "What to return where the flag gives nothing, as JSON",
+        "What to return if the flag gives no value, as JSON",
     ),
     Word::Text("CONTEXT", "The file of the evaluation context"),
     Word::Number(
@@ -143,6 +152,7 @@ const PLAN: Usage = Usage {
     name: "plan",
     about: "Prints the rule that a rollout request asks for and that switches the fewest users; plan --picture FILE draws it, too",
     words: &[DOCUMENT, REQUEST, BOOK, REFINE, STRICT, EXPLAIN, FLOATS],
+    after: example::PLAN,
 };
 
 const VERIFY: Usage = Usage {
@@ -151,12 +161,14 @@ const VERIFY: Usage = Usage {
     words: &[
         DOCUMENT, REQUEST, BOOK, PLAN_FILE, REFINE, STRICT, JSON, FLOATS,
     ],
+    after: example::VERIFY,
 };
 
 const APPLY: Usage = Usage {
     name: "apply",
     about: APPLIES,
     words: RULE_AND_PLACE,
+    after: example::APPLY,
 };
 
 /// The command outside the program, with the program's name before its own.
@@ -164,6 +176,7 @@ pub const APPLY_ALONE: Usage = Usage {
     name: "flagops apply",
     about: APPLIES,
     words: RULE_AND_PLACE,
+    after: example::APPLY,
 };
 
 const APPLIES: &str =
@@ -224,12 +237,14 @@ const DRIVE: Usage = Usage {
         JSON,
         FLOATS,
     ],
+    after: example::DRIVE,
 };
 
 const COMPLETIONS: Usage = Usage {
     name: "completions",
     about: COMPLETES,
     words: SHELL,
+    after: example::COMPLETIONS,
 };
 
 /// The command outside the program, with the program's name before its own.
@@ -237,6 +252,7 @@ pub const COMPLETIONS_ALONE: Usage = Usage {
     name: "flagops completions",
     about: COMPLETES,
     words: SHELL,
+    after: example::COMPLETIONS,
 };
 
 const COMPLETES: &str = "Prints the completion script of a shell";
@@ -247,70 +263,82 @@ const LISTED_CHECK: Usage = Usage {
     name: "check",
     about: about::CHECK,
     words: &[],
+    after: example::CHECK,
 };
 
 const LISTED_COMPARE: Usage = Usage {
     name: "compare",
     about: about::COMPARE,
     words: &[],
+    after: example::COMPARE,
 };
 
 const LISTED_BOOK: Usage = Usage {
     name: "book",
     about: about::BOOK,
     words: &[],
+    after: example::BOOK,
 };
 
 const LISTED_RAMP: Usage = Usage {
     name: "ramp",
     about: about::RAMP,
     words: &[],
+    after: example::RAMP,
 };
 
 const LISTED_VERIFY_RAMP: Usage = Usage {
     name: "verify-ramp",
     about: about::VERIFY_RAMP,
     words: &[],
+    after: example::VERIFY_RAMP,
 };
 
 const LISTED_PICTURE: Usage = Usage {
     name: "picture",
     about: about::PICTURE,
     words: &[],
+    after: example::PICTURE,
 };
 
 const LISTED_RECORD: Usage = Usage {
     name: "record",
     about: about::RECORD,
     words: &[],
+    after: example::RECORD,
 };
 
 const LISTED_TALLY: Usage = Usage {
     name: "tally",
     about: about::TALLY,
     words: &[],
+    after: example::TALLY,
 };
 
 const LISTED_JOIN: Usage = Usage {
     name: "join",
     about: about::JOIN,
     words: &[],
+    after: example::JOIN,
 };
 
 const LISTED_OFREP: Usage = Usage {
     name: "ofrep",
     about: about::OFREP,
     words: &[],
+    after: example::OFREP,
 };
 
 const LISTED_SERVE: Usage = Usage {
     name: "serve",
     about: about::SERVE,
     words: &[],
+    after: example::SERVE,
 };
 
 const LISTED_FOLLOW: Usage = Usage {
     name: "follow",
     about: about::FOLLOW,
     words: &[],
+    after: example::FOLLOW,
 };

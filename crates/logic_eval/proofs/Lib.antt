@@ -18,9 +18,9 @@ mod Sites
 mod Sizes
 mod Values
 mod WholeValues
-mod Within
 pub mod Budgets
 pub mod Choices
 pub mod Replacing
 pub mod Runs
 pub mod Tidy
+pub mod Within

@@ -1,12 +1,14 @@
 -- The result of a run is what one who pays for it sees.
-use Rattle.std.proofs.Common.{◌≡◌, ℕ, List, [], ◌++◌, ◌-◌, Option, Result, Ok, Err, refl, inl, inr}
+use Rattle.std.proofs.Common.{◌≡◌, ℕ, Bool, List, [], ◌++◌, ◌-◌, Option, Result, Ok, Err, refl, inl, inr}
 use Rattle.std.specs.Prelude.{nat_lt}
 use Rattle.std.proofs.lemmas.Bool.{cases_Bool}
 use Rattle.flag_text.specs.Shape.{Shape}
 use Rattle.logic_ast.specs.Expression.{Expression}
 use Rattle.logic_values.specs.declared.fault.EvalFault.{EvalFault}
 use Rattle.logic_eval.specs.Budget.{Progress, paid, with_progress}
+use Rattle.logic_eval.specs.Evaluated.{tested_meaning}
 use Rattle.logic_eval.specs.Evaluation.{evaluation_of, meaning}
+use Rattle.logic_eval.specs.Parts.{given_by}
 use Rattle.logic_eval.specs.Run.{Reach, Run, result_of, units_of, reached_of, with_reached, most_units}
 use Rattle.logic_eval.specs.Scope.{Situation, default_input, root_scope}
 
@@ -31,3 +33,9 @@ pub evaluation_of-paid : (e : Expression) (s : Situation) (d : Option (List ℕ)
     → evaluation_of e s ≡ outcome (paid p (meaning d x scope))
 unfolding evaluation_of
 evaluation_of-paid e s d scope p x f g h i = rw (f, g, h, i) (result_of-paid (meaning (default_input s) e (root_scope s)))
+
+-- that of a part of one
+pub given_by-paid : (tested : Bool) (e : Expression) (s : Situation) (p : Progress) → p ≡ (most_units, [])
+    → given_by tested e s ≡ outcome (paid p (tested_meaning tested (default_input s) e (root_scope s)))
+unfolding given_by
+given_by-paid tested e s p is = rw is (result_of-paid (tested_meaning tested (default_input s) e (root_scope s)))

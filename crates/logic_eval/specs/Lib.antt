@@ -15,6 +15,7 @@ pub mod Fractional
 pub mod Laws
 pub mod Literal
 pub mod Operators
+pub mod Parts
 pub mod Run
 pub mod Scalar
 pub mod Scope

@@ -30,6 +30,7 @@ impl<'a> Context<'a> {
     ghost use Rattle.logic_eval.specs.Literal.{AreSummed};
     ghost use Rattle.logic_eval.specs.Scope.{flagd, root_scope, default_input};
     ghost use Rattle.logic_eval.specs.Views.{scope_view, default_view, situation};
+    ghost use Rattle.logic_values.specs.Views.{root_view};
 
     /// The context is an object, and the moment is at most 2^53-1.
     pub fn make(context: &'a Tree, flag: &'a str, moment: u64) -> Context<'a>
@@ -65,10 +66,18 @@ impl<'a> Context<'a> {
         requires { view made.now ≡ flagd (situation self.now) }
         ensures { scope_view result ≡ root_scope (situation self.now) }
     {
-        Scope::Root(Root {
+        Scope::Root(self.root(made))
+    }
+
+    /// The members of the context, with what stands in place of `$flagd`.
+    pub(crate) fn root<'s>(&'s self, made: &'s Tree) -> Root<'s>
+        requires { view made.now ≡ flagd (situation self.now) }
+        ensures { root_view result ≡ root_scope (situation self.now) }
+    {
+        Root {
             members: self.members,
             flagd: made,
-        })
+        }
     }
 
     /// What the sites of an expression are decided by.

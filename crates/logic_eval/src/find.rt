@@ -1,11 +1,12 @@
 //! What a path finds in a scope.
-ghost use Rattle.std.specs.Prelude.{◌≡◌, IfOk, map, option_map, option_and_then, slice_get, ◌∷◌, ◌<◌, length, IfSome};
+ghost use Rattle.std.specs.Prelude.{◌≡◌, false, IfOk, map, option_map, option_and_then, slice_get, ◌∷◌, ◌<◌, length, IfSome};
 ghost use Rattle.flag_text.specs.Shape.{object};
 ghost use Rattle.flag_text.specs.View.{view, members_view};
 ghost use Rattle.logic_values.specs.Number.{below};
 ghost use Rattle.logic_values.specs.Objects.{reduce_scope, with_flagd};
 ghost use Rattle.logic_eval.specs.Scope.{step, follow, index_of, find_text, find, is_dot};
-ghost use Rattle.logic_values.specs.Views.{seen_view, value_view};
+ghost use Rattle.logic_values.specs.Truth.{is_empty_text};
+ghost use Rattle.logic_values.specs.Views.{root_view, seen_view, value_view};
 ghost use Rattle.logic_eval.specs.Views.{scope_view, place_view, found_view, names_after};
 ghost use Rattle.std.specs.List.{slice_split};
 
@@ -184,6 +185,17 @@ pub fn part_at<'a>(part: Part<'a>, path: &str) -> Option<Part<'a>>
         Some(part)
     } else {
         follow_in_part(part, path)
+    }
+}
+
+/// What a path that is not empty finds in the scope of a whole expression.
+pub(crate) fn part_in<'a>(root: Root<'a>, path: &str) -> Option<Part<'a>>
+    requires { is_empty_text path.now ≡ false }
+    ensures { option_map (λ p. view p.tree.now) result ≡ find_text (root_view root.entry) path.now }
+{
+    match first_name(path) {
+        (name, None) => at_root(root, name),
+        (name, Some(rest)) => follow_in_part(at_root(root, name)?, rest),
     }
 }
 

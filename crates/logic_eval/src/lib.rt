@@ -22,7 +22,7 @@
 //!
 //! Proved, over the definitions in `specs/`: value, reached list and fault are those of `evaluation_of` (`Evaluation`,
 //! `Operators`, `Scope`, `Fractional`, `Run`), for every expression and context; the value is whole; what is reached is of the
-//! expression's sites. [`eval_scalar`] gives the same of a value that is a text, a boolean or null (`Scalar`).
+//! expression's sites. An [`Inspection`] evaluates parts of an expression by themselves (`Parts`). [`eval_scalar`] gives the same of a value that is a text, a boolean or null (`Scalar`).
 //! [`a_literal_site_chooses`], [`a_branch_not_taken_is_not_evaluated`], [`decimals_change_nothing_else`] and
 //! [`a_rule_that_chooses_alike_changes_nothing_else`] say what the definition amounts to (`Laws`).
 #![tactic(auto)]
@@ -35,6 +35,7 @@ mod exact;
 mod find;
 mod fractional;
 mod hashed;
+mod inspection;
 mod laws;
 mod literal;
 mod meter;
@@ -48,6 +49,7 @@ mod variable;
 pub use context::Context;
 pub use evaluation::eval;
 pub use find::part_at;
+pub use inspection::Inspection;
 pub use laws::{
     a_branch_not_taken_is_not_evaluated, a_literal_site_chooses,
     a_rule_that_chooses_alike_changes_nothing_else, decimals_change_nothing_else,

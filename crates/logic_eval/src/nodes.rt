@@ -108,9 +108,9 @@ fn operate_tested<'s, 'a>(
     }
 }
 
-// The value of a node that is compared or tested, or of one that is not.
+/// The value of a node that is compared or tested, or of one that is not.
 #[cycle(evaluate)]
-fn evaluate_operand_if<'s, 'a>(
+pub(crate) fn evaluate_operand_if<'s, 'a>(
     meter: &mut Meter,
     node: &'a Node,
     tested: bool,

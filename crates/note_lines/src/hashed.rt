@@ -1,7 +1,7 @@
 //! Notes without their inputs, and their lines.
 ghost use Rattle.std.specs.Prelude.{◌≡◌, ◌≢◌, ◌↔◌, ℕ, [], ◌∷◌, ◌++◌, List, None, Ok, IfOk, OnOk, IfSome, IsTrue};
 ghost use Rattle.flag_text.specs.View.{view};
-ghost use Rattle.note_lines.specs.Hashed.{Hashed, IsHashed, has_hash, hashed_line, hashed_shape};
+ghost use Rattle.note_lines.specs.Hashed.{Hashed, IsHashed, hashed_line, hashed_shape};
 ghost use Rattle.note_lines.specs.Reading.{ReadsHashed, shape_hashed};
 
 use crate::parts::page_and_last;
@@ -31,7 +31,7 @@ impl Model for HashedNote {
 
 /// The line of a note without its input: the compact JSON text `[FLAG,SITE,BY,HASH]` and a line feed. Want of memory is its
 /// one fault.
-#[tactic(auto, unfolding(crate::specs::Hashed::hashed_line))]
+#[tactic(auto, unfolding(book_core::specs::Hashed::hashed_line))]
 pub fn hashed_line(alloc: Global, page: &Page, hash: u32) -> Result<Vec<u8>, AllocError>
     ensures text { IfOk result (λ line. line.items ≡ hashed_line (record { page = page.now; hash = hash })) }
     ensures note { OnOk result (IsHashed (record { page = page.now; hash = hash })) }
@@ -90,12 +90,4 @@ fn has_line(alloc: Global, note: &HashedNote, line: &[u8]) -> Result<bool, Alloc
 {
     let own = hashed_line(alloc, &note.page, note.hash)?;
     Ok(own.as_slice() == line)
-}
-
-/// Whether a line is of the kind with a hash in the place of the input, where it is the line of a note at all. It takes no
-/// memory.
-pub fn has_hash(line: &[u8]) -> bool
-    ensures { result ≡ has_hash line.now }
-{
-    !line.ends_with(b"\"]\n")
 }

@@ -29,8 +29,9 @@ mod parts;
 mod print;
 mod read;
 
+pub use book_core::has_hash;
 pub use form::{NoteForm, line_as};
-pub use hashed::{HashedNote, has_hash, hashed_line, read_hashed_note};
+pub use hashed::{HashedNote, hashed_line, read_hashed_note};
 pub use laws::{each_hashed_note_has_its_line, each_note_has_its_line, no_line_is_of_both};
 pub use note::Note;
 pub use print::note_line;

@@ -12,7 +12,7 @@ use std::alloc::{AllocError, Global};
 
 /// The line of a note: the compact JSON text `[FLAG,SITE,BY,INPUT]` and a line feed. Where the input has at most 1,024
 /// bytes it reads as the note. Want of memory is its one fault.
-#[tactic(auto, unfolding(crate::specs::Note::note_line))]
+#[tactic(auto, unfolding(book_core::specs::Note::note_line))]
 pub fn note_line(alloc: Global, page: &Page, input: &str) -> Result<Vec<u8>, AllocError>
     ensures text { IfOk result (λ line. line.items ≡ note_line (record { page = page.now; input = input.now })) }
     ensures note { OnOk result (length input.now ≤ most_noted → IsNote (record { page = page.now; input = input.now })) }

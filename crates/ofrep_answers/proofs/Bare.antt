@@ -1,14 +1,11 @@
 -- What metadata without members changes in answers.
-use Rattle.std.proofs.Common.{◌≡◌, ℕ, List, [], Option, None, sym, ap, ◌∙◌}
+use Rattle.std.proofs.Common.{◌≡◌, ℕ, List, [], Option, sym, ap, ◌∙◌}
 use Rattle.std.proofs.lemmas.List.Elements.{All-nil}
-use Rattle.flag_metadata.specs.Document.{Described}
 use Rattle.flag_metadata.specs.Law.{BareDocumentsHaveNoMetadata, IsBare}
 use Rattle.flag_metadata.specs.Merged.{flag_metadata, merged_metadata}
-use Rattle.flag_resolve.specs.Floats.{Marked}
 use Rattle.ofrep_answers.specs.Answer.{answer_with}
 use Rattle.ofrep_answers.specs.Law.{MetadataChangesNothing}
-use Rattle.ofrep_answers.specs.Metadata.{AnswerMetadata, metadata_of, no_metadata}
-use Rattle.ofrep_answers.specs.Request.{Asked}
+use Rattle.ofrep_answers.specs.Metadata.{AnswerMetadata}
 
 told_alike : (f g : List ℕ → List ℕ) (a b : Option (List ℕ)) → ((key : List ℕ) → f key ≡ g key) → a ≡ b
     → (let one : AnswerMetadata = record { of_flag = f; of_all = a } in let other : AnswerMetadata = record { of_flag = g; of_all = b } in one ≡ other)

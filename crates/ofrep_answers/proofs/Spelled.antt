@@ -11,9 +11,9 @@ use Rattle.flag_defs.specs.declared.kind.Kind.{Kind}
 use Rattle.flag_resolve.specs.Resolved.{Resolved}
 use Rattle.flag_resolve.proofs.Unmarked.{no_floats}
 use Rattle.flag_text.specs.Printing.{text_of}
-use Rattle.flag_text.specs.Shape.{Shape, text}
+use Rattle.flag_text.specs.Shape.{Shape}
 use Rattle.decimal_reads.specs.Reads.{Reading}
-use Rattle.ofrep_answers.specs.Evaluation.{bodies, body_if_told, evaluation, is_spelled, read_by_flag, read_unless_told, shape_told, text_told}
+use Rattle.ofrep_answers.specs.Evaluation.{bodies, body_if_told, ended_in, evaluation, is_spelled, read_by_flag, read_unless_told, shape_told, text_told}
 use Rattle.ofrep_answers.specs.Law.{FloatsChangeNothing, ValuesAreSpelled, told_bodies, told_body, told_body_at}
 use Rattle.ofrep_bodies.specs.Bodies.{flags_shape, flags_text, success_text}
 use Rattle.ofrep_bodies.specs.Evaluation.{body_of, body_text, status_of, told_text}
@@ -41,12 +41,12 @@ module _ (one : TextsAreOfBodies) (all : FlagsTextIsOfBodies) (flags : Definitio
   bodies_are context moment [] = refl
   bodies_are context moment (f ∷ fs) =
       let r = evaluation flags f.0 context moment in
-      ap₂ (λ (xs ys : List (List ℕ)). xs ++ ys) (told_is (read_by_flag flags f.0 context r) f.0 r) (bodies_are context moment fs) ∙ sym (map-append text_of (told_body_at flags context f.0 r) (told_bodies flags context moment fs))
+      ap₂ (λ (xs ys : List (List ℕ)). xs ++ ys) (told_is (read_by_flag flags f.0 context moment r) f.0 r) (bodies_are context moment fs) ∙ sym (map-append text_of (told_body_at flags context moment f.0 r) (told_bodies flags context moment fs))
 
-  pub nothing_changes : ((key : List ℕ) (context : Shape) (moment : ℕ) → let r = evaluation flags key context moment in let read = read_by_flag flags key context r in text_told read (is_spelled key (flags, marks)) (codes "{}") key r ≡ text_of (shape_told read key r))
+  pub nothing_changes : ((key : List ℕ) (context : Shape) (moment : ℕ) → let r = evaluation flags key context moment in let read = read_by_flag flags key context moment r in text_told read (is_spelled key (flags, marks)) (codes "{}") key r ≡ text_of (shape_told read key r))
       × ((context : Shape) (moment : ℕ) → flags_text None (bodies (λ key. codes "{}") (flags, marks) context moment flags) ≡ text_of (flags_shape (told_bodies flags context moment flags)))
   nothing_changes = (
-    λ key context moment. let r = evaluation flags key context moment in text_is (read_by_flag flags key context r) key r,
+    λ key context moment. let r = evaluation flags key context moment in text_is (read_by_flag flags key context moment r) key r,
     λ context moment. ap (flags_text None) (bodies_are context moment flags) ∙ all (told_bodies flags context moment flags),
   )
 
@@ -54,6 +54,6 @@ pub floats_change_nothing : TextsAreOfBodies → FlagsTextIsOfBodies → FloatsC
 floats_change_nothing one all flags marks none = nothing_changes one all flags marks none
 
 pub values_are_spelled : ValuesAreSpelled
-values_are_spelled flags context metadata key r name bytes variant value =
-    ap (λ (o : Option (List ℕ)). text_told (read_unless_told o r.code context (option_and_then targeting_in (lookup (bytes_eq key) flags))) true metadata key r) variant
+values_are_spelled flags context moment metadata key r name bytes variant value =
+    ap (λ (o : Option (List ℕ)). text_told (read_unless_told o r.code (ended_in key context moment) (option_and_then targeting_in (lookup (bytes_eq key) flags))) true metadata key r) variant
     ∙ (ap (λ (o : Option (List ℕ)). told_text true metadata key o r) variant ∙ ap (λ (v : Shape). success_text true metadata key r.reason v name) value)

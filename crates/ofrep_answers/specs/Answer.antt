@@ -107,11 +107,11 @@ one_unless_near (Some near) read spelled metadata key r = failed (Some key) (Som
 
 -- What a resolution in a context is answered with: where no flag has the key, it is said which key is near, and where a targeting can't be evaluated,
 -- which number that is not whole it reads.
-abbrev pub one_resolved : AnswerMetadata → Marked → List ℕ → Shape → Resolved → Answered
-one_resolved metadata flags key context r = one_unless_near (near_if r.code flags.0 key) (read_by_flag flags.0 key context r) (is_spelled key flags) (metadata.of_flag key) key r
+abbrev pub one_resolved : AnswerMetadata → Marked → List ℕ → Shape → ℕ → Resolved → Answered
+one_resolved metadata flags key context moment r = one_unless_near (near_if r.code flags.0 key) (read_by_flag flags.0 key context moment r) (is_spelled key flags) (metadata.of_flag key) key r
 
 abbrev pub one_in : AnswerMetadata → Marked → ℕ → List ℕ → List ℕ → Result Shape ContextFault → Answered
-one_in metadata flags moment key body (Ok context) = one_resolved metadata flags key context (evaluation flags.0 key context moment)
+one_in metadata flags moment key body (Ok context) = one_resolved metadata flags key context moment (evaluation flags.0 key context moment)
 one_in metadata flags moment key body (Err fault) = without_context (Some key) body fault
 
 -- what stands in a path in the place of the key, as it was sent

@@ -3,7 +3,7 @@ use Rattle.std.specs.Prelude.{ℕ, ◌==◌, nat_le, length, filter, Bool, List,
 use Rattle.std.specs.List.{flat_map}
 use Rattle.std.specs.Map.{lookup}
 use Rattle.std.specs.Str.{bytes_eq}
-use Rattle.decimal_reads.specs.Reads.{Reading, first_read}
+use Rattle.decimal_reads.specs.Reads.{Reading, ended_at}
 use Rattle.flag_defs.specs.Document.{Definitions}
 use Rattle.flag_defs.specs.Flag.{targeting_in}
 use Rattle.flag_resolve.specs.Floats.{Marked, floats_in}
@@ -12,6 +12,7 @@ use Rattle.flag_resolve.specs.Resolved.{Resolved}
 use Rattle.flag_resolve.specs.declared.code.Code.{Code}
 use Rattle.flag_resolve.specs.declared.code.Code.TheVariants.{ParseError}
 use Rattle.flag_text.specs.Printing.{text_of}
+use Rattle.flag_text.specs.Readers.{as_object}
 use Rattle.flag_text.specs.Shape.{Shape, null}
 use Rattle.limits.specs.Limits.{input_bytes}
 use Rattle.logic_ast.specs.Expression.{Expression}
@@ -43,16 +44,20 @@ reached_at key sites = under_key key (filter is_noted sites)
 abbrev pub is_spelled : List ℕ → Marked → Bool
 is_spelled key flags = is_some (floats_in (Some flags) key)
 
--- ---- numbers that are not whole, where the targeting that reads one can't be evaluated
+-- ---- numbers that are not whole, at which the evaluation of a targeting ends
 
--- what a targeting reads, where no variant is told for this code
-abbrev pub read_unless_told : Option (List ℕ) → Option Code → Shape → Option Expression → Option Reading
-read_unless_told None (Some ParseError) context targeting = option_and_then (first_read context) targeting
-read_unless_told variant code context targeting = None
+-- the number at which the evaluation of a targeting ends, in a context that is an object
+abbrev pub ended_in : List ℕ → Shape → ℕ → Expression → Option Reading
+ended_in key context moment e = option_and_then (λ members. ended_at e (record { context = context; flag = key; moment = moment })) (as_object context)
 
--- what the targeting of the flag of a key reads, which resolved so
-abbrev pub read_by_flag : Definitions → List ℕ → Shape → Resolved → Option Reading
-read_by_flag flags key context r = read_unless_told r.variant r.code context (option_and_then targeting_in (lookup (bytes_eq key) flags))
+-- the same of the targeting of a flag, where it resolved to no variant and to this code
+abbrev pub read_unless_told : Option (List ℕ) → Option Code → (Expression → Option Reading) → Option Expression → Option Reading
+read_unless_told None (Some ParseError) ended targeting = option_and_then ended targeting
+read_unless_told variant code ended targeting = None
+
+-- what ended the evaluation of the flag of a key, which resolved so
+abbrev pub read_by_flag : Definitions → List ℕ → Shape → ℕ → Resolved → Option Reading
+read_by_flag flags key context moment r = read_unless_told r.variant r.code (ended_in key context moment) (option_and_then targeting_in (lookup (bytes_eq key) flags))
 
 -- what is said of it
 unfoldable pub read_details : Reading → List ℕ
@@ -77,12 +82,12 @@ text_told (Some read) spelled metadata key r = text_of (read_failure key read)
 abbrev pub body_if_told : Option Reading → Bool → List ℕ → List ℕ → Resolved → List (List ℕ)
 body_if_told read spelled metadata key r = if status_of r == 404 then [] else text_told read spelled metadata key r ∷ []
 
-abbrev pub body_at : Marked → (List ℕ → List ℕ) → Shape → List ℕ → Resolved → List (List ℕ)
-body_at flags metadata context key r = body_if_told (read_by_flag flags.0 key context r) (is_spelled key flags) (metadata key) key r
+abbrev pub body_at : Marked → (List ℕ → List ℕ) → Shape → ℕ → List ℕ → Resolved → List (List ℕ)
+body_at flags metadata context moment key r = body_if_told (read_by_flag flags.0 key context moment r) (is_spelled key flags) (metadata key) key r
 
 -- the texts of the bodies of every flag with its metadata, in the order of the keys
 abbrev pub bodies : (List ℕ → List ℕ) → Marked → Shape → ℕ → Definitions → List (List ℕ)
-bodies metadata flags context moment = flat_map (λ f. body_at flags metadata context f.0 (evaluation flags.0 f.0 context moment))
+bodies metadata flags context moment = flat_map (λ f. body_at flags metadata context moment f.0 (evaluation flags.0 f.0 context moment))
 
 -- what the evaluations of every flag reached
 abbrev pub reached_in : Definitions → Shape → ℕ → Definitions → List (List ℕ × List Reach)

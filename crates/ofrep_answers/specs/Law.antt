@@ -29,23 +29,23 @@ NeverMismatches = (flags : Definitions) (key : List ℕ) (context : Shape) (mome
 abbrev pub told_body : Option Reading → List ℕ → Resolved → List Shape
 told_body read key r = if status_of r == 404 then [] else shape_told read key r ∷ []
 
-abbrev pub told_body_at : Definitions → Shape → List ℕ → Resolved → List Shape
-told_body_at flags context key r = told_body (read_by_flag flags key context r) key r
+abbrev pub told_body_at : Definitions → Shape → ℕ → List ℕ → Resolved → List Shape
+told_body_at flags context moment key r = told_body (read_by_flag flags key context moment r) key r
 
 -- the bodies of every flag, in the order of the keys
 abbrev pub told_bodies : Definitions → Shape → ℕ → Definitions → List Shape
-told_bodies flags context moment = flat_map (λ f. told_body_at flags context f.0 (evaluation flags f.0 context moment))
+told_bodies flags context moment = flat_map (λ f. told_body_at flags context moment f.0 (evaluation flags f.0 context moment))
 
 -- Flags of which none has floats are answered without metadata as flags without floats: the body of one flag is the text of its body, and that of every flag the text of theirs.
 abbrev pub FloatsChangeNothing : Type 0
 FloatsChangeNothing = (flags : Definitions) (marks : Marks) → are_unmarked marks ≡ true
-    → ((key : List ℕ) (context : Shape) (moment : ℕ) → let r = evaluation flags key context moment in let read = read_by_flag flags key context r in text_told read (is_spelled key (flags, marks)) (codes "{}") key r ≡ text_of (shape_told read key r))
+    → ((key : List ℕ) (context : Shape) (moment : ℕ) → let r = evaluation flags key context moment in let read = read_by_flag flags key context moment r in text_told read (is_spelled key (flags, marks)) (codes "{}") key r ≡ text_of (shape_told read key r))
     × ((context : Shape) (moment : ℕ) → flags_text None (bodies (λ key. codes "{}") (flags, marks) context moment flags) ≡ text_of (flags_shape (told_bodies flags context moment flags)))
 
 -- The value that the answer tells of a flag with floats is the bytes of the variant.
 abbrev pub ValuesAreSpelled : Type 0
-ValuesAreSpelled = (flags : Definitions) (context : Shape) (metadata key : List ℕ) (r : Resolved) (name bytes : List ℕ) → r.variant ≡ Some name → r.value ≡ text bytes
-    → text_told (read_by_flag flags key context r) true metadata key r ≡ codes "{\"key\":" ++ (text_of (text key) ++ (codes ",\"metadata\":" ++ (metadata ++ (codes ",\"reason\":" ++ (text_of (text (reason_word r.reason)) ++ (codes ",\"value\":" ++ (bytes
+ValuesAreSpelled = (flags : Definitions) (context : Shape) (moment : ℕ) (metadata key : List ℕ) (r : Resolved) (name bytes : List ℕ) → r.variant ≡ Some name → r.value ≡ text bytes
+    → text_told (read_by_flag flags key context moment r) true metadata key r ≡ codes "{\"key\":" ++ (text_of (text key) ++ (codes ",\"metadata\":" ++ (metadata ++ (codes ",\"reason\":" ++ (text_of (text (reason_word r.reason)) ++ (codes ",\"value\":" ++ (bytes
     ++ (codes ",\"variant\":" ++ (text_of (text name) ++ codes "}")))))))))
 
 -- Where no document and no flag has a member of metadata, the answers are those without metadata.

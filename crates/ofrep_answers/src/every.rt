@@ -87,7 +87,7 @@ fn told_flags(
         let (key, _) = flags.at(i);
         let resolution = evaluate(alloc, flags, key, context, moment)?;
         let spelled = is_spelled(flags, key);
-        let read = read_by_flag(flags, key, context, &resolution);
+        let read = read_by_flag(alloc, flags, key, context, moment, &resolution)?;
         told.count(&resolution);
         told.add(alloc, metadata, key, read, resolution, spelled)?;
     }
@@ -113,7 +113,7 @@ impl Evaluations {
         resolution: Resolution,
         spelled: bool,
     ) -> Result<(), AllocError>
-        ensures bodies { OnOk result (map string_bytes self.new.bodies.items ≡ map string_bytes self.old.bodies.items ++ body_if_told (option_map read_view read.entry) spelled (flag_metadata (metadata_view metadata.now) key.now) key.now (resolution_view resolution)) }
+        ensures bodies { OnOk result (map string_bytes self.new.bodies.items ≡ map string_bytes self.old.bodies.items ++ body_if_told (option_map read_view read) spelled (flag_metadata (metadata_view metadata.now) key.now) key.now (resolution_view resolution)) }
         ensures reached { OnOk result (map reached_view self.new.reached.items ≡ map reached_view self.old.reached.items ++ reached_at key.now (resolution_view resolution).reached) }
     {
         if status_of(&resolution) == StatusCode::NOT_FOUND {

@@ -112,10 +112,10 @@ fn one_in_context(
 ) -> Result<Answer, AllocError>
     requires moment { moment < 2 ^ 53 }
     requires context { is_tidy (view context.now) ≡ true }
-    ensures { IfOk result (λ a. answer_view a ≡ one_resolved (metadata_of (metadata_view metadata.now)) (flags_view flags.now, floats_view flags.now) key.now (view context.now) (evaluation (flags_view flags.now) key.now (view context.now) moment)) }
+    ensures { IfOk result (λ a. answer_view a ≡ one_resolved (metadata_of (metadata_view metadata.now)) (flags_view flags.now, floats_view flags.now) key.now (view context.now) moment (evaluation (flags_view flags.now) key.now (view context.now) moment)) }
 {
     let resolution = evaluate(alloc, flags, key, context, moment)?;
-    one_resolved(alloc, flags, metadata, key, context, resolution)
+    one_resolved(alloc, flags, metadata, moment, key, context, resolution)
 }
 
 /// The answer with a resolution of the flag of this key in this context.
@@ -123,17 +123,19 @@ fn one_resolved(
     alloc: Global,
     flags: &Flags,
     metadata: &Metadata,
+    moment: u64,
     key: &str,
     context: &Tree,
     resolution: Resolution,
 ) -> Result<Answer, AllocError>
+    requires moment { moment < 2 ^ 53 }
     requires context { is_tidy (view context.now) ≡ true }
-    ensures { IfOk result (λ a. answer_view a ≡ one_resolved (metadata_of (metadata_view metadata.now)) (flags_view flags.now, floats_view flags.now) key.now (view context.now) (resolution_view resolution)) }
+    ensures { IfOk result (λ a. answer_view a ≡ one_resolved (metadata_of (metadata_view metadata.now)) (flags_view flags.now, floats_view flags.now) key.now (view context.now) moment (resolution_view resolution)) }
 {
     match near_if(resolution.code, flags, key) {
         Some(near) => not_found(alloc, key, near, resolution.reason),
         None => {
-            let read = read_by_flag(flags, key, context, &resolution);
+            let read = read_by_flag(alloc, flags, key, context, moment, &resolution)?;
             one_told(
                 alloc,
                 metadata,
@@ -155,7 +157,7 @@ fn one_told(
     resolution: Resolution,
     spelled: bool,
 ) -> Result<Answer, AllocError>
-    ensures { IfOk result (λ a. answer_view a ≡ one_told (option_map read_view read.entry) spelled (flag_metadata (metadata_view metadata.now) key.now) key.now (resolution_view resolution)) }
+    ensures { IfOk result (λ a. answer_view a ≡ one_told (option_map read_view read) spelled (flag_metadata (metadata_view metadata.now) key.now) key.now (resolution_view resolution)) }
 {
     let status = status_of(&resolution);
     let mut reasons = Reasons::none();

@@ -1,7 +1,7 @@
 -- What was planned is lawful.
 use Rattle.std.proofs.Common.{◌≡◌, ◌≢◌, Result, Ok, Err, subst}
 use Rattle.plan_text.specs.declared.planned.Planned.{Planned}
-use Rattle.rollout.specs.Tallied.{IsTallyPlanned}
+use Rattle.rollout_checks.specs.Plan.{IsTallyPlanned}
 use Rattle.rollout_checks.specs.Tallied.{TallyProblem}
 use Rattle.rollout_checks.specs.declared.fault.RolloutFault.{RolloutFault}
 use Rattle.rollout_checks.specs.declared.fault.RolloutFault.TheVariants.{WantOfMemory}

@@ -7,8 +7,8 @@ ghost use Rattle.price_core.specs.Pricing.{IsPricing};
 
 use crate::prices::Prices;
 use crate::switching::Switching;
-use book_core::Exposure;
 use bucket_core::Rule;
+use exposures::Exposure;
 use rayon::prelude::*;
 use std::alloc::{AllocError, Global};
 use std::thread::Threads;

@@ -37,9 +37,9 @@ use Rattle.transport_instance.specs.Certificate.{DualPrices}
 use Rattle.rollout.proofs.Changed.{changed}
 use Rattle.rollout.proofs.Sites.{steps_of}
 use Rattle.rollout.specs.Applied.{applied}
-use Rattle.rollout.specs.Planned.{IsPlan}
 use Rattle.rollout_checks.proofs.Bounded.{came}
 use Rattle.rollout_checks.specs.Lawful.{Place, Problem, and_then, by_logic, by_price, names_are_variants, limits_for, or_refuse, place_in, place_of, problem_at, sized, weighed}
+use Rattle.rollout_checks.specs.Plan.{IsPlan}
 use Rattle.rollout_checks.specs.Refined.{problem_refined}
 use Rattle.rollout_checks.specs.declared.fault.RolloutFault.{RolloutFault}
 use Rattle.rollout_checks.specs.declared.fault.RolloutFault.TheVariants.{NoSite, NoWeight, UnknownFlag, UnknownVariant}

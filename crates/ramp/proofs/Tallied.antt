@@ -13,9 +13,9 @@ use Rattle.flag_defs.specs.Document.{Definitions}
 use Rattle.plan_text.specs.Answer.{Answer, emit}
 use Rattle.price_core.specs.Limits.{Limits}
 use Rattle.price_core.specs.Request.{Asked, asked_of}
-use Rattle.rollout.specs.Planned.{IsPlan}
 use Rattle.rollout.specs.Tallied.{TalliesAskAsBooks}
 use Rattle.rollout_checks.specs.Lawful.{Place, Problem, and_then, by_price, factor, limits_for, place_of, problem_at, problem_of, sized, weighed}
+use Rattle.rollout_checks.specs.Plan.{IsPlan}
 use Rattle.rollout_checks.specs.Refined.{refining_checked}
 use Rattle.rollout_checks.specs.Tallied.{AreTallied, IsTallyOutcome, IsTallyShown, TallyProblem, tally_problem_at, tally_problem_of, with_counts, with_inputs}
 use Rattle.rollout_checks.specs.Verified.{IsOutcome, IsShown}

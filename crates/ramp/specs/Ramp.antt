@@ -9,8 +9,8 @@ use Rattle.price_core.specs.Request.{asked_of}
 use Rattle.plan_text.specs.Answer.{Answer, emit, none_exists, planned_view}
 use Rattle.plan_text.specs.declared.planned.Planned.{Planned}
 use Rattle.rollout.specs.Applied.{applied}
-use Rattle.rollout.specs.Planned.{IsPlan}
 use Rattle.rollout_checks.specs.Lawful.{Problem, and_then, by_price}
+use Rattle.rollout_checks.specs.Plan.{IsPlan}
 use Rattle.rollout_checks.specs.Refined.{problem_refined}
 use Rattle.rollout_checks.specs.Tallied.{AreTallied, TallyProblem, tally_problem_of, with_inputs}
 use Rattle.rollout_checks.specs.declared.fault.RolloutFault.{RolloutFault}

@@ -25,9 +25,8 @@ use Rattle.transport_plan.specs.Solved.{IsPlan as IsSolved}
 use Rattle.plan_text.specs.Answer.{emit, none_exists, IsOrdered, planned_view}
 use Rattle.book_core.specs.Book.{Inputs}
 use Rattle.rollout_checks.specs.Lawful.{Problem}
+use Rattle.rollout_checks.specs.Plan.{IsUnderLast, IsPlan, IsPlanned, IsTallyPlanned}
 use Rattle.rollout_checks.specs.Tallied.{AreTallied, TallyProblem, with_inputs}
-use Rattle.rollout.specs.Planned.{IsUnderLast, IsPlan, IsPlanned}
-use Rattle.rollout.specs.Tallied.{IsTallyPlanned}
 use Rattle.rollout_checks.specs.declared.fault.RolloutFault.{RolloutFault}
 use Rattle.rollout_checks.specs.declared.fault.RolloutFault.TheVariants.{WantOfMemory}
 use Rattle.plan_text.specs.declared.planned.Planned.{Planned}

@@ -12,7 +12,7 @@ use Rattle.transport_instance.specs.declared.fault.CheckFault.{CheckFault}
 use Rattle.transport_instance.specs.declared.fault.CheckFault.TheVariants as check
 use Rattle.plan_text.specs.Answer.{Answer, emit, none_exists}
 use Rattle.rollout_checks.specs.Lawful.{Problem, Place, and_then, by_price, place_of, limits_for, factor, sized, weighed, problem_at, problem_of}
-use Rattle.rollout.specs.Planned.{IsPlan}
+use Rattle.rollout_checks.specs.Plan.{IsPlan}
 use Rattle.rollout_checks.specs.Refined.{problem_refined, problem_checked}
 use Rattle.rollout_checks.specs.Verified.{Proves, IsOutcome, IsValid}
 use Rattle.rollout_checks.specs.VerifyFault.{is_want}

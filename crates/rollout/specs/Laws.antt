@@ -8,9 +8,9 @@ use Rattle.flag_defs.specs.Flags.{AreFlags}
 use Rattle.transport_instance.specs.Certificate.{DualPrices}
 use Rattle.plan_text.specs.Answer.{Answer, emit}
 use Rattle.rollout_checks.specs.Lawful.{Problem}
+use Rattle.rollout_checks.specs.Plan.{IsPlan}
 use Rattle.rollout.specs.Applied.{applied}
 use Rattle.rollout.specs.Change.{IsLocal}
-use Rattle.rollout.specs.Planned.{IsPlan}
 use Rattle.rollout_checks.specs.Refined.{problem_refined, problem_checked}
 use Rattle.rollout_checks.specs.Verified.{IsOutcome, IsValid, Told}
 

@@ -1,25 +1,15 @@
--- What is planned of a rollout request on a tally.
-use Rattle.std.specs.Prelude.{◌≡◌, ◌≢◌, ℕ, List, Result, Ok, Err}
+-- What is planned on a tally is planned on the books that have its inputs.
+use Rattle.std.specs.Prelude.{◌≡◌, ℕ, List, Ok}
 use Rattle.book_core.specs.Book.{Contents, Inputs, inputs_on}
 use Rattle.flag_defs.specs.Document.{Definitions}
-use Rattle.plan_text.specs.Answer.{Answer, planned_view}
+use Rattle.plan_text.specs.Answer.{Answer}
 use Rattle.plan_text.specs.declared.planned.Planned.{Planned}
 use Rattle.rollout_checks.specs.Lawful.{problem_of}
+use Rattle.rollout_checks.specs.Plan.{IsPlan, IsPlanned, IsTallyPlanned}
 use Rattle.rollout_checks.specs.Tallied.{AreTallied, TallyProblem, tally_problem_of, with_inputs}
-use Rattle.rollout_checks.specs.declared.fault.RolloutFault.{RolloutFault}
-use Rattle.rollout_checks.specs.declared.fault.RolloutFault.TheVariants.{WantOfMemory}
 use Rattle.rollout_checks.specs.declared.refining.Refining.{Refining}
 use Rattle.tally_core.specs.Law.{IsTallyOf}
 use Rattle.tally_core.specs.Tally.{PageTally}
-use Rattle.rollout.specs.Planned.{IsPlan, IsPlanned}
-
--- What is planned: the refusal of the request where it is not lawful, and else an answer for all inputs of which so many fall on
--- each point. Want of memory may come of either.
-abbrev pub IsTallyPlanned : Result TallyProblem RolloutFault → Result Planned RolloutFault → Type 0
-IsTallyPlanned (Err f) (Ok planned) = ⊥
-IsTallyPlanned (Err f) (Err e) = e ≢ WantOfMemory → e ≡ f
-IsTallyPlanned (Ok p) (Ok planned) = (inputs : Inputs) → AreTallied p inputs → IsPlan (with_inputs p inputs) (planned_view planned)
-IsTallyPlanned (Ok p) (Err e) = e ≡ WantOfMemory
 
 -- A plan is one for all inputs of which equally many fall on each point: it knows of them no more than these numbers.
 abbrev pub PlansAreByCounts : Type 0

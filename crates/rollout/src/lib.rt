@@ -26,11 +26,11 @@
 //!   what chooses alike under both rules resolves as before (`Change`).
 //! - [`plan`] and [`plan_refined`] answer a lawful request with a canonical rule that costs the recorded inputs the least of
 //!   all that fit, and a certificate that proves it, or with a set of names which shows that none fits; a set under its low
-//!   limits only where no set is over its high ones (`Planned`). A lawful request is always decided: memory that runs out is
+//!   limits only where no set is over its high ones (`Plan`). A lawful request is always decided: memory that runs out is
 //!   all that can hinder it. What is answered can be printed and read again, and is told as valid ([`plans_are_valid`]). Where
 //!   the request is not lawful, they refuse as [`verify`] does.
-//! - [`plan_tally`] answers so on a tally, for all inputs of which so many fall on each point (`Tallied`). It has the answers to
-//!   give that [`plan_refined`] has on a book with these inputs ([`tallies_plan_as_books`]).
+//! - [`plan_tally`] answers so on a tally, for all inputs of which so many fall on each point (`Plan`). It has the answers to
+//!   give that [`plan_refined`] has on a book with these inputs (`Tallied`, [`tallies_plan_as_books`]).
 //! - [`plan_file`] and [`plan_file_on_tally`] answer as these, of a request that was read ([`RequestFile`]).
 #![tactic(auto)]
 

@@ -3,9 +3,9 @@ ghost use Rattle.std.specs.Prelude.{◌≡◌, ◌<◌, IfOk};
 ghost use Rattle.flag_defs.specs.Flags.{flags_view};
 ghost use Rattle.plan_text.specs.Answer.{IsOrdered, planned_view};
 ghost use Rattle.plan_text.specs.PlanFile.{IsWhole};
+ghost use Rattle.rollout_checks.specs.Plan.{IsTallyPlanned};
 ghost use Rattle.rollout_checks.specs.Tallied.{tally_problem_asked, tally_problem_of};
 ghost use Rattle.rollout.specs.Planned.{PrintsOrRefuses};
-ghost use Rattle.rollout.specs.Tallied.{IsTallyPlanned};
 ghost use Rattle.rollout_checks.specs.declared.refining.Refining.TheVariants.{Times};
 
 use crate::planner::plan_on;

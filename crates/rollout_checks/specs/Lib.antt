@@ -1,5 +1,6 @@
 pub mod Fault
 pub mod Lawful
+pub mod Plan
 pub mod Refined
 pub mod RequestFile
 pub mod Tallied

@@ -2,7 +2,9 @@
 ghost use Rattle.std.specs.Prelude.{IfOk, string_bytes};
 ghost use Rattle.file_diagnostics.specs.Named.{Names};
 
-use file_diagnostics::{Lines, Opening, put_text_fault, put_weight_fault, tree_or_none};
+use file_diagnostics::{
+    Lines, Opening, look_of_tree, put_text_fault, put_weight_fault, tree_or_none,
+};
 use flag_text::{TextFault, Tree, read_doc, read_tree};
 use limits::TEXT_BYTES;
 use price_core::{Misfit, PriceFault, RequestError, change_in, limit_of};
@@ -102,9 +104,14 @@ fn put_misshaped(lines: &mut Lines, tree: &Tree) -> Result<(), AllocError> {
         Some(misfit) => put_misfit(lines, tree, misfit),
         None => write!(lines, "{}", PriceFault::BadRequest),
     }
+    if tree.member("totals").is_none() && tree.member("steps").is_none() {
+        if let Some(look) = look_of_tree(tree) {
+            write!(lines, "\n  the file looks like {look}");
+        }
+    }
     write!(
         lines,
-        "\n  it looks like {LOOK}; docs/FORMATS.md has all of it",
+        "\n  a request looks like {LOOK}; docs/FORMATS.md has all of it",
     );
     Ok(())
 }

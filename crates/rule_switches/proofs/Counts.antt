@@ -10,7 +10,7 @@ use Rattle.std.proofs.lemmas.List.{length_push}
 use Rattle.std.proofs.lemmas.List.Elements.{All-cons, All-head, All-tail}
 use Rattle.std.proofs.lemmas.List.Sums.{sum_by-cons, sum_by_push}
 use Rattle.std.proofs.lemmas.Slice.Eq.{bytes_eq-Decides}
-use Rattle.book_core.specs.Book.{Inputs}
+use Rattle.exposures.specs.Exposure.{Inputs}
 use Rattle.bucket_core.specs.Rule.{Entries}
 use Rattle.price_core.specs.Cost.{cost_of, input_cost, name_of_input}
 use Rattle.price_core.specs.Pricing.{Pair, is_same_pair, pair_cmp}

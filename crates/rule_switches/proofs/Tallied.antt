@@ -9,8 +9,8 @@ use Rattle.std.proofs.lemmas.List.Sums.{sum_by-cons, sum_by_push}
 use Rattle.std.proofs.lemmas.Nat.{div-add-mod'}
 use Rattle.std.proofs.Math.Nat.{div-div-eq-div-mul, mul-div_cancel, mul_comm}
 use Rattle.murmur_core.specs.Murmur.{hash}
-use Rattle.book_core.specs.Book.{Inputs}
-use Rattle.book_core.specs.Counts.{counts_of}
+use Rattle.exposures.specs.Exposure.{Inputs}
+use Rattle.exposures.specs.Counts.{counts_of}
 use Rattle.bucket_core.specs.Point.{point_of}
 use Rattle.bucket_core.specs.Rule.{Entries, total_weight}
 use Rattle.price_core.specs.Cost.{name_at}

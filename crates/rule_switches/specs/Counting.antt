@@ -4,7 +4,7 @@ use Rattle.std.specs.List.{All, range_with_len}
 use Rattle.std.specs.List.Sorted.{IsStrictlySortedBy}
 use Rattle.std.specs.Map.{keys_of}
 use Rattle.std.specs.Str.{bytes_eq}
-use Rattle.book_core.specs.Book.{Inputs}
+use Rattle.exposures.specs.Exposure.{Inputs}
 use Rattle.bucket_core.specs.Rule.{Entries, entry_at, entry_name, total_weight}
 use Rattle.price_core.specs.Cost.{name_at, name_of_input}
 use Rattle.price_core.specs.Pricing.{Pair, pair_cmp}

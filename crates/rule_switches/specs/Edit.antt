@@ -3,8 +3,8 @@ use Rattle.std.specs.Prelude.{◌≡◌, ℕ, List, [], ◌∷◌, ◌++◌, map
 use Rattle.std.specs.List.{list_any}
 use Rattle.std.specs.Map.{keys_of}
 use Rattle.std.specs.Str.{bytes_eq}
-use Rattle.book_core.specs.Book.{Inputs}
-use Rattle.book_core.specs.Counts.{counts_of}
+use Rattle.exposures.specs.Exposure.{Inputs}
+use Rattle.exposures.specs.Counts.{counts_of}
 use Rattle.bucket_core.specs.Rule.{Entries, total_of, total_weight}
 use Rattle.rule_switches.specs.Switches.{switched}
 

@@ -4,7 +4,7 @@ use Rattle.std.specs.List.{All}
 use Rattle.std.specs.List.Sorted.{IsStrictlySortedBy}
 use Rattle.std.specs.Map.{keys_of, lookup}
 use Rattle.std.specs.Str.{bytes_eq}
-use Rattle.book_core.specs.Book.{Inputs}
+use Rattle.exposures.specs.Exposure.{Inputs}
 use Rattle.bucket_core.specs.Rule.{Entries}
 use Rattle.price_core.specs.Cost.{cost_of, name_of_input}
 use Rattle.price_core.specs.Pricing.{Pair, Pricing, is_same_pair, pair_cmp}

@@ -1,6 +1,6 @@
 //! Counting inputs by the entries of two rules that they fall on.
 ghost use Rattle.std.specs.Prelude.{◌≡◌, ◌+◌, ◌*◌, ◌/◌, ◌<◌, ◌^◌, ◌++◌, ◌≤◌, [], ◌∷◌, length, sum_by, IfOk};
-ghost use Rattle.book_core.specs.Book.{Inputs};
+ghost use Rattle.exposures.specs.Exposure.{Inputs};
 ghost use Rattle.bucket_core.specs.Rule.{IsRuleTotal};
 ghost use Rattle.price_core.specs.Cost.{name_at};
 ghost use Rattle.rule_switches.specs.Counting.{Adds, AreRows, Counted, HasCounted, IsPlace, names_at, names_of};

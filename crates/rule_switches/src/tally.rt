@@ -1,7 +1,7 @@
 //! The switches of a tally, and those of the edit that comes to mind first.
 ghost use Rattle.std.specs.Prelude.{◌≡◌, ◌≤◌, ◌%◌, length, sum, sum_by, IfOk};
-ghost use Rattle.book_core.specs.Book.{Inputs};
-ghost use Rattle.book_core.specs.Counts.{counts_of};
+ghost use Rattle.exposures.specs.Exposure.{Inputs};
+ghost use Rattle.exposures.specs.Counts.{counts_of};
 ghost use Rattle.bucket_core.specs.Rule.{IsRuleTotal, total_weight};
 ghost use Rattle.limits.specs.Limits.{tally_inputs};
 ghost use Rattle.rule_switches.specs.Counting.{AreTallied};

@@ -16,7 +16,7 @@ use Rattle.price_core.specs.Request.{Asked, asked_of}
 use Rattle.plan_text.specs.Answer.{Answer, emit, none_exists, planned_view}
 use Rattle.plan_text.specs.declared.planned.Planned.{Planned}
 use Rattle.rollout_checks.specs.Lawful.{Place, Problem, and_then, by_price, limits_for, place_of, sized, weighed}
-use Rattle.rollout.specs.Planned.{IsPlan, IsPlanned}
+use Rattle.rollout_checks.specs.Plan.{IsPlan, IsPlanned}
 use Rattle.rollout_checks.specs.Refined.{problem_refined}
 use Rattle.rollout_checks.specs.Verified.{Shows}
 use Rattle.rollout_checks.specs.declared.fault.RolloutFault.{RolloutFault}

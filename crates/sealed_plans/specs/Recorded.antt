@@ -17,7 +17,7 @@ use Rattle.price_core.specs.Request.{asked_of}
 use Rattle.plan_text.specs.Answer.{Answer, planned_view}
 use Rattle.plan_text.specs.declared.planned.Planned.{Planned}
 use Rattle.rollout_checks.specs.Lawful.{Problem, and_then, by_price, place_of}
-use Rattle.rollout.specs.Planned.{IsPlanned}
+use Rattle.rollout_checks.specs.Plan.{IsPlanned}
 use Rattle.rollout_checks.specs.Refined.{problem_refined}
 use Rattle.rollout_checks.specs.Verified.{Shows}
 use Rattle.rollout_checks.specs.declared.fault.RolloutFault.{RolloutFault}

@@ -9,7 +9,8 @@ ghost use Rattle.plan_text.specs.Answer.{IsOrdered, planned_view};
 ghost use Rattle.plan_text.specs.PlanFile.{IsWhole};
 ghost use Rattle.price_core.specs.Request.{max_request};
 ghost use Rattle.price_core.specs.declared.fault.PriceFault.TheVariants.{BadRequest};
-ghost use Rattle.rollout.specs.Planned.{IsPlanned, PrintsOrRefuses};
+ghost use Rattle.rollout.specs.Planned.{PrintsOrRefuses};
+ghost use Rattle.rollout_checks.specs.Plan.{IsPlanned};
 ghost use Rattle.rollout_checks.specs.Refined.{problem_refined};
 ghost use Rattle.sealed_plans.specs.Recorded.{HoldsOf, IsPlannedOn, IsRefusedBy, told_to};
 

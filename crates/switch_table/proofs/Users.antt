@@ -5,7 +5,7 @@ use Rattle.std.specs.Prelude.{◌==◌}
 use Rattle.std.specs.Str.{bytes_eq}
 use Rattle.std.proofs.lemmas.Bool.{eqb-true}
 use Rattle.std.proofs.lemmas.Int.{ints}
-use Rattle.book_core.specs.Counts.{counts_of}
+use Rattle.exposures.specs.Counts.{counts_of}
 use Rattle.bucket_core.specs.Point.{point_of}
 use Rattle.bucket_core.specs.Rule.{total_weight}
 use Rattle.price_core.specs.Cost.{name_at, name_of_input}

@@ -2,8 +2,8 @@
 use Rattle.std.specs.Prelude.{◌≡◌, ℕ, ◌+◌, ◌*◌, ◌/◌, ◌%◌, ◌<◌, ◌≤◌, ◌^◌, Bool, ◌&&◌, List, [], count_by, length, slice_index, slice_index_or, sum_by, if◌then◌else◌}
 use Rattle.std.specs.List.{range_with_len}
 use Rattle.std.specs.Str.{bytes_eq}
-use Rattle.book_core.specs.Book.{Inputs}
-use Rattle.book_core.specs.Counts.{counts_of}
+use Rattle.exposures.specs.Exposure.{Inputs}
+use Rattle.exposures.specs.Counts.{counts_of}
 use Rattle.bucket_core.specs.Rule.{Entries, total_weight}
 use Rattle.limits.specs.Limits.{tally_inputs}
 use Rattle.price_core.specs.Cost.{name_at, name_of_input}

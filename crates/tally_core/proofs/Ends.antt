@@ -9,7 +9,7 @@ use Rattle.std.proofs.lemmas.Bool.{and_parts, eqb-true}
 use Rattle.std.proofs.lemmas.Cmp.{upto, tied_itself}
 use Rattle.std.proofs.lemmas.List.Sums.{sum_by-cons}
 use Rattle.book_core.specs.Page.{PageName, bytes_cmp, page_eq}
-use Rattle.note_lines.specs.Hashed.{has_hash}
+use Rattle.book_core.specs.Hashed.{has_hash}
 use Rattle.tally_core.specs.Join.{are_alike, are_of_one_kind, follows, IsSum}
 use Rattle.tally_core.specs.Tally.{PageTally, IsPageTally, AreEnds, most_at_point, most_in_all}
 use Rattle.tally_core.proofs.Pages.{same_page}

@@ -13,7 +13,7 @@ use Rattle.std.proofs.lemmas.List.Sums.{sum_by-cons}
 use Rattle.bucket_core.specs.Point.{point_of, scale}
 use Rattle.book_core.specs.Book.{Inputs}
 use Rattle.book_core.specs.Page.{PageName, bytes_cmp}
-use Rattle.note_lines.specs.Hashed.{hash_of}
+use Rattle.book_core.specs.Hashed.{hash_of}
 use Rattle.tally_core.specs.Law.{AreHashesOf, HashesStandForInputs, IsEachOnce, counts_by}
 use Rattle.tally_core.specs.Tally.{hash_line_on}
 

@@ -4,7 +4,7 @@ use Rattle.std.specs.Bool.{beq}
 use Rattle.std.specs.Option.{option_or}
 use Rattle.std.specs.Ordering.{is_lt}
 use Rattle.book_core.specs.Page.{bytes_cmp, page_eq}
-use Rattle.note_lines.specs.Hashed.{has_hash}
+use Rattle.book_core.specs.Hashed.{has_hash}
 use Rattle.tally_core.specs.Tally.{PageTally, most_at_point, most_in_all}
 use Rattle.tally_core.specs.declared.joining.JoinFault.{JoinFault}
 use Rattle.tally_core.specs.declared.joining.JoinFault.TheVariants.{Page, Order, TooMany}

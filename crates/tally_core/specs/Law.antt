@@ -6,7 +6,7 @@ use Rattle.std.specs.List.Sorted.{IsStrictlySortedBy}
 use Rattle.bucket_core.specs.Point.{point_of, scale}
 use Rattle.book_core.specs.Book.{Inputs}
 use Rattle.book_core.specs.Page.{PageName, bytes_cmp}
-use Rattle.note_lines.specs.Hashed.{hash_of}
+use Rattle.book_core.specs.Hashed.{hash_of}
 use Rattle.tally_core.specs.Join.{Joins}
 use Rattle.tally_core.specs.Tally.{PageTally, hash_line_on, line_on}
 

@@ -3,8 +3,8 @@ use Rattle.std.specs.Prelude.{◌≡◌, ℕ, ◌<◌, ◌≤◌, ◌⊎◌, Lis
 use Rattle.std.specs.Ordering.{is_le}
 use Rattle.limits.specs.Limits.{planned_total, point_inputs, tally_inputs}
 use Rattle.book_core.specs.Page.{PageName, bytes_cmp}
-use Rattle.note_lines.specs.Hashed.{Hashed, IsHashed, has_hash, hashed_line}
-use Rattle.note_lines.specs.Note.{Noted, IsNote, note_line}
+use Rattle.book_core.specs.Hashed.{Hashed, IsHashed, has_hash, hashed_line}
+use Rattle.book_core.specs.Note.{Noted, IsNote, note_line}
 
 -- the most points of a tally
 abbrev pub most_points : ℕ

@@ -5,7 +5,7 @@ ghost use Rattle.tally_core.specs.Join.{are_alike, are_of_one_kind, follows, IsS
 ghost use Rattle.tally_core.specs.Tally.{most_at_point};
 
 use crate::tally::{MOST_AT_POINT, MOST_IN_ALL, PageTally};
-use note_lines::has_hash;
+use book_core::has_hash;
 use thiserror::Error;
 
 /// Why two tallies are not joined.

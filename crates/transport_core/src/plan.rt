@@ -1,6 +1,6 @@
 //! The check of a plan and its certificate.
 ghost use Rattle.std.specs.Prelude.{◌≡◌, ◌≢◌, ◌<◌, ◌^◌, ℕ, List, length, sum_by, IfOk, OnOk, IfErr, IsErrOf, MatchResult};
-ghost use Rattle.book_core.specs.Counts.{counts_of};
+ghost use Rattle.exposures.specs.Counts.{counts_of};
 ghost use Rattle.bucket_core.specs.Rule.{total_weight};
 ghost use Rattle.transport_instance.specs.Certificate.{IsCertified, certificate_view};
 ghost use Rattle.transport_instance.specs.Fits.{Fits, IsLeast};

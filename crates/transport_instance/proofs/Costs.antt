@@ -3,7 +3,7 @@ use Rattle.std.proofs.Common.{◌≡◌, ℕ, zero, suc, ◌+◌, ◌*◌, ◌<�
 use Rattle.std.specs.List.{range_with_len, slice_index}
 use Rattle.std.proofs.lemmas.List.FromFn.{get_or-map-range_with_len, length-map-range_with_len}
 use Rattle.std.proofs.lemmas.List.Sums.{sum_by-cons, sum-map}
-use Rattle.book_core.specs.Counts.{counts_of}
+use Rattle.exposures.specs.Counts.{counts_of}
 use Rattle.bucket_core.specs.Rule.{Entries, total_weight}
 use Rattle.price_core.specs.Cost.{cost_of, point_cost, tally_cost}
 use Rattle.price_core.specs.Pricing.{Pricing}

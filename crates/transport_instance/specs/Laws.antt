@@ -1,7 +1,7 @@
 -- What the laws of duality say (linear programming; Ahuja, Magnanti, Orlin, Network Flows, section 9.4) and of deficient sets
 -- (Hall's condition; Hoffman's circulation theorem).
 use Rattle.std.specs.Prelude.{◌≡◌, ◌<◌, ◌≤◌, ℕ, ℤ, List}
-use Rattle.book_core.specs.Counts.{counts_of}
+use Rattle.exposures.specs.Counts.{counts_of}
 use Rattle.bucket_core.specs.Rule.{Entries, total_weight}
 use Rattle.price_core.specs.Cost.{cost_of, tally_cost}
 use Rattle.price_core.specs.Limits.{Limits, AreLimits}

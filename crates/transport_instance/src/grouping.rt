@@ -1,6 +1,6 @@
 //! The groups of a rule's points: of one name, with one number of inputs on each.
 ghost use Rattle.std.specs.Prelude.{◌≡◌, ◌<◌, ◌^◌, List, ℕ, IfOk, length, slice_index};
-ghost use Rattle.book_core.specs.Counts.{counts_of};
+ghost use Rattle.exposures.specs.Counts.{counts_of};
 ghost use Rattle.bucket_core.specs.Rule.{total_weight};
 ghost use Rattle.transport_instance.specs.Groups.{AreSizes, AreSizesBy, rows_view};
 ghost use Rattle.transport_instance.specs.Rows.{whole_amount};

@@ -1,6 +1,6 @@
 //! Instances: what a planner is given.
 ghost use Rattle.std.specs.Prelude.{◌≡◌, ◌≤◌, ◌⊎◌, ◌↔◌, List, ℕ, IfOk, IfErr, IsErrOf, IsTrue, length, slice_index};
-ghost use Rattle.book_core.specs.Counts.{counts_of};
+ghost use Rattle.exposures.specs.Counts.{counts_of};
 ghost use Rattle.bucket_core.specs.Rule.{total_weight};
 ghost use Rattle.transport_instance.specs.Groups.{AreSizes, AreSizesBy, rows_view};
 ghost use Rattle.transport_instance.specs.Instance.{IsProblem, AreListed, MissTotal, max_names, max_planned_total};

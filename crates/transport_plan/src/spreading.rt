@@ -4,7 +4,7 @@ ghost use Rattle.std.specs.List.Sorted.{IsStrictlySortedBy};
 ghost use Rattle.std.specs.Map.{keys_of};
 ghost use Rattle.std.specs.Ordering.{nat_cmp};
 ghost use Rattle.std.specs.Prelude.{◌≡◌, ◌≤◌, ℕ, List, true, length, slice_index, IfOk};
-ghost use Rattle.book_core.specs.Counts.{counts_of};
+ghost use Rattle.exposures.specs.Counts.{counts_of};
 ghost use Rattle.bucket_core.specs.Canonical.{IsCanonical};
 ghost use Rattle.bucket_core.specs.Rule.{names_view, total_weight};
 ghost use Rattle.price_core.specs.Limits.{limits_view};

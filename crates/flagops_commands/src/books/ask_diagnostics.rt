@@ -119,7 +119,7 @@ pub fn of_workers(alloc: Global, workers: usize, fault: &str) -> Result<String, 
     if workers == 0 || workers > SEATS {
         write!(
             lines,
-            " is {workers}, and 1 to 64 threads can answer the asks\n  as many as there are processors serve best\n",
+            " is {workers}, and has to be from 1 to 64\n  the number of processors is a good choice\n",
         );
     } else {
         write!(

@@ -28,10 +28,10 @@ loop-i-preserved c =
     let told = bodies metadata marked context c.args.moment (take c.loop-i.i fs) in
     record {
       bodies = c.in_ok-add.ensures.bodies
-          ∙ ap₂ (λ (ys : List (List ℕ)) (b : Bool). ys ++ body_if_told (option_map read_view c.read_by_flag-read.result) b (metadata key) key r) (c.count.ensures.bodies ∙ c.loop-i.invariant.bodies) c.is_spelled-spelled.ensures
-          ∙ ap (λ (o : Option Reading). told ++ body_if_told o (is_spelled key marked) (metadata key) key r) c.read_by_flag-read.ensures
-          ∙ ap (λ (q : Resolved). told ++ body_at marked metadata context key q) resolved
-          ∙ sym (flat_step (λ (f : List ℕ × Definition). body_at marked metadata context f.0 (evaluation fs f.0 context c.args.moment)) fs c.loop-i.i (key, d) c.at.ensures);
+          ∙ ap₂ (λ (ys : List (List ℕ)) (b : Bool). ys ++ body_if_told (option_map read_view c.in_ok-read.read) b (metadata key) key r) (c.count.ensures.bodies ∙ c.loop-i.invariant.bodies) c.is_spelled-spelled.ensures
+          ∙ ap (λ (o : Option Reading). told ++ body_if_told o (is_spelled key marked) (metadata key) key r) c.in_ok-read.ensures
+          ∙ ap (λ (q : Resolved). told ++ body_at marked metadata context c.args.moment key q) resolved
+          ∙ sym (flat_step (λ (f : List ℕ × Definition). body_at marked metadata context c.args.moment f.0 (evaluation fs f.0 context c.args.moment)) fs c.loop-i.i (key, d) c.at.ensures);
       reached = c.in_ok-add.ensures.reached ∙ ap₂ (λ (ys : List (List ℕ × List Reach)) (r : Resolved). ys ++ reached_at key r.reached) (c.count.ensures.reached ∙ c.loop-i.invariant.reached) resolved
           ∙ sym (flat_step (λ (f : List ℕ × Definition). reached_at f.0 (evaluation fs f.0 context c.args.moment).reached) fs c.loop-i.i (key, d) c.at.ensures);
     }

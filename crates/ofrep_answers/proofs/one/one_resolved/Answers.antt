@@ -21,19 +21,19 @@ returns-in-Some c =
     let r = resolution_view c.args.resolution in
     let key = c.args.key.now in
     let context = view c.args.context.now in
-    let read = read_by_flag flags.0 key context r in
+    let read = read_by_flag flags.0 key context c.args.moment r in
     let near : near_if r.code flags.0 key ≡ Some c.in-Some.near.now = sym c.near_if.ensures ∙ ap option_copied c.in-Some.is in
-    IfOk-weaker c.not_found.result _ (λ a. answer_view a ≡ one_resolved metadata flags key context r)
+    IfOk-weaker c.not_found.result _ (λ a. answer_view a ≡ one_resolved metadata flags key context c.args.moment r)
     (λ a is. is ∙ sym (ap (λ (o : Option (List ℕ)). one_unless_near o read (is_spelled key flags) (metadata.of_flag key) key r) near)) c.not_found.ensures
 
-pub returns-in-None : goal.returns-in-None
-returns-in-None c =
+pub returns-in_ok-read-in-None : goal.returns-in_ok-read-in-None
+returns-in_ok-read-in-None c =
     let flags : Marked = (flags_view c.args.flags.now, floats_view c.args.flags.now) in
     let metadata = metadata_of (metadata_view c.args.metadata.now) in
     let r = resolution_view c.args.resolution in
     let key = c.args.key.now in
     let context = view c.args.context.now in
-    let read = read_by_flag flags.0 key context r in
+    let read = read_by_flag flags.0 key context c.args.moment r in
     let none : near_if r.code flags.0 key ≡ None = sym c.near_if.ensures ∙ ap option_copied c.in-None.is in
-    IfOk-weaker c.one_told.result _ (λ a. answer_view a ≡ one_resolved metadata flags key context r)
-    (λ a is. is ∙ ap₂ (λ (o : Option Reading) (b : Bool). one_unless_near None o b (metadata.of_flag key) key r) c.read_by_flag-read.ensures c.is_spelled.ensures ∙ sym (ap (λ (o : Option (List ℕ)). one_unless_near o read (is_spelled key flags) (metadata.of_flag key) key r) none)) c.one_told.ensures
+    IfOk-weaker c.one_told.result _ (λ a. answer_view a ≡ one_resolved metadata flags key context c.args.moment r)
+    (λ a is. is ∙ ap₂ (λ (o : Option Reading) (b : Bool). one_unless_near None o b (metadata.of_flag key) key r) c.in_ok-read-in-None.ensures c.is_spelled.ensures ∙ sym (ap (λ (o : Option (List ℕ)). one_unless_near o read (is_spelled key flags) (metadata.of_flag key) key r) none)) c.one_told.ensures

@@ -1,6 +1,6 @@
 use Rattle.std.proofs.Common.{◌≡◌, ◌<◌, ℕ, List, Result, Ok, Err, IfOk, sym, subst, arith}
-use Rattle.book_core.specs.Book.{Inputs}
-use Rattle.book_core.specs.Counts.{counts_of}
+use Rattle.exposures.specs.Exposure.{Inputs}
+use Rattle.exposures.specs.Counts.{counts_of}
 use Rattle.bucket_core.specs.Rule.{Entries, total_weight}
 use Rattle.rule_switches.specs.Counting.{HasCounted}
 use Rattle.rule_switches.specs.Switches.{AreSwitches, rows_view}

@@ -1,6 +1,6 @@
 -- a plan that passes is certified, and one that is refused is not
 use Rattle.std.proofs.Common.{◌≡◌, ◌≢◌, ◌<◌, ℕ, List, sym, ap, ◌∙◌, arith}
-use Rattle.book_core.specs.Counts.{counts_of}
+use Rattle.exposures.specs.Counts.{counts_of}
 use Rattle.bucket_core.specs.Rule.{Entries, total_weight}
 use Rattle.price_core.specs.Cost.{cost_of, tally_cost}
 use Rattle.price_core.specs.Pricing.{Pricing}

@@ -1,5 +1,5 @@
 use Rattle.std.proofs.Common.{refl}
-use Rattle.book_core.specs.Counts.{counts_of}
+use Rattle.exposures.specs.Counts.{counts_of}
 use Rattle.bucket_core.specs.Rule.{total_weight}
 use Rattle.transport_instance.proofs.Costs.{cost-tally}
 use Rattle.transport_instance.proofs.laws.tallies_cost.Goals as goal

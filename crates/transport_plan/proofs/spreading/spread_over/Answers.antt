@@ -5,7 +5,7 @@ use Rattle.std.specs.Map.{keys_of}
 use Rattle.std.proofs.lemmas.Bool.{cases_eq}
 use Rattle.std.proofs.lemmas.List.{length-map}
 use Rattle.std.proofs.lemmas.Result.{IfOk-weaker}
-use Rattle.book_core.specs.Counts.{counts_of}
+use Rattle.exposures.specs.Counts.{counts_of}
 use Rattle.bucket_core.specs.Rule.{Entries, points, names_at, names_view, total_weight}
 use Rattle.transport_instance.specs.Assignment.{HasAssignment, arc_flows, spends_all}
 use Rattle.transport_instance.specs.Groups.{AreSizesBy, GroupKey, group_at, group_by, row_view, rows_view}

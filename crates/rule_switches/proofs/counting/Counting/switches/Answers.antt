@@ -3,7 +3,7 @@ use Rattle.std.proofs.Common.{◌≡◌, ℕ, ◌+◌, ◌<◌, ◌≤◌, ◌^�
 use Rattle.std.specs.List.Sorted.{IsStrictlySortedBy}
 use Rattle.std.specs.Map.{keys_of}
 use Rattle.std.proofs.lemmas.List.{drop_all, drop_more}
-use Rattle.book_core.specs.Book.{Inputs}
+use Rattle.exposures.specs.Exposure.{Inputs}
 use Rattle.price_core.specs.Pricing.{lent_entry, pair_cmp}
 use Rattle.rule_switches.specs.Counting.{AreRows, Counted, HasCounted, no_cell}
 use Rattle.rule_switches.specs.Switches.{AreSwitches, rows_view}

@@ -2,7 +2,7 @@
 use Rattle.std.specs.Prelude.{ℕ, ◌==◌, List, map, count_by}
 use Rattle.std.specs.List.{range_with_len}
 use Rattle.bucket_core.specs.Point.{point_of}
-use Rattle.book_core.specs.Book.{Inputs}
+use Rattle.exposures.specs.Exposure.{Inputs}
 
 -- how many of the inputs fall on this one of so many points
 abbrev pub inputs_at : Inputs → ℕ → ℕ → ℕ

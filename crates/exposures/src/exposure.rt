@@ -1,5 +1,5 @@
 ghost use Rattle.std.specs.Prelude.{◌≡◌, map, string_bytes};
-ghost use Rattle.book_core.specs.Book.{IsExposure};
+ghost use Rattle.exposures.specs.Exposure.{IsExposure};
 
 use std::marker::Model;
 
@@ -11,7 +11,7 @@ pub struct Exposure {
 
 impl Model for Exposure {
     ghost use Rattle.std.specs.Prelude.{map, string_bytes};
-    ghost use Rattle.book_core.specs.Book.{Inputs, IsExposure};
+    ghost use Rattle.exposures.specs.Exposure.{Inputs, IsExposure};
 
     ghost Value = { Inputs };
 
@@ -21,8 +21,8 @@ impl Model for Exposure {
 }
 
 impl Exposure {
-    /// The exposure of these inputs.
-    pub(crate) fn of_rising(inputs: Vec<String>) -> Exposure
+    /// The exposure of these inputs, which rise strictly by their bytes, at most 1000000 of at most 1024 bytes each.
+    pub fn of_rising(inputs: Vec<String>) -> Exposure
         requires { IsExposure (map string_bytes inputs.items) }
         ensures { result ≡ map string_bytes inputs.items }
     {

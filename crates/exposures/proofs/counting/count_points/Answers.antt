@@ -4,9 +4,9 @@ use Rattle.std.proofs.lemmas.List.{get_or_read, length-take, take_all}
 use Rattle.std.proofs.lemmas.List.FromFn.{fill_by_all}
 use Rattle.std.proofs.lemmas.List.Sums.{count_by-le-length}
 use Rattle.bucket_core.specs.Point.{point_of}
-use Rattle.book_core.specs.Counts.{inputs_at}
-use Rattle.book_core.proofs.Counted.{one_counted, counted_texts}
-use Rattle.book_core.proofs.counting.count_points.Goals as goal
+use Rattle.exposures.specs.Counts.{inputs_at}
+use Rattle.exposures.proofs.Counted.{one_counted, counted_texts}
+use Rattle.exposures.proofs.counting.count_points.Goals as goal
 
 pub overflow_add-index_mut : goal.overflow_add-index_mut
 overflow_add-index_mut c =

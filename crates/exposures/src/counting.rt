@@ -1,8 +1,8 @@
 //! How many inputs fall on each point.
 ghost use Rattle.std.specs.Prelude.{◌≡◌, ◌≤◌, map, string_bytes, length, IfOk};
 ghost use Rattle.bucket_core.specs.Rule.{IsRuleTotal};
-ghost use Rattle.book_core.specs.Counts.{counts_of};
-ghost use Rattle.book_core.specs.Book.{most_inputs};
+ghost use Rattle.exposures.specs.Counts.{counts_of};
+ghost use Rattle.exposures.specs.Exposure.{most_inputs};
 
 use crate::exposure::Exposure;
 use bucket_core::point;

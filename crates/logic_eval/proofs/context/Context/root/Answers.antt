@@ -2,7 +2,7 @@ use Rattle.std.proofs.Common.{ap, ◌∙◌}
 use Rattle.flag_text.specs.Shape.{is_tidy}
 use Rattle.logic_eval.specs.Views.{situation}
 use Rattle.logic_eval.proofs.WholeValues.{flagd-tidy}
-use Rattle.logic_eval.proofs.context.Context.scope.Goals as goal
+use Rattle.logic_eval.proofs.context.Context.root.Goals as goal
 
 pub invariant_of-result : goal.invariant_of-result
 invariant_of-result c = record {

@@ -1,6 +1,6 @@
 use Rattle.std.proofs.Common.{◌≡◌, ℕ, ◌<◌, ◌==◌, count_by, get_or, take, string_bytes, vec_len}
 use Rattle.bucket_core.specs.Point.{point_of}
-use Rattle.book_core.proofs.counting.count_points.Given as goal
+use Rattle.exposures.proofs.counting.count_points.Given as goal
 
 abbrev pub invariant-loop-input : goal.invariant-loop-input
 invariant-loop-input l = record {
