@@ -11,7 +11,7 @@ use Rattle.json.specs.Lex.{Class, quote, backslash, operator, space, other, clas
 use Rattle.json.specs.Text.{content, plain}
 use Rattle.json.specs.Token.{Token}
 use Rattle.json.specs.Word.{ends_word, is_operator, is_space, word}
-use Rattle.token_cursor.specs.Place.{after_string, after_token, after_word, behind, ends_number, from_token, is_mark}
+use Rattle.text_spans.specs.Place.{after_string, after_token, after_word, behind, ends_number, from_token, is_mark}
 use Rattle.text_spans.specs.Path.{Place, Stands, Step, name, index, item_place, member_place, place, place_of, token_count}
 use Rattle.part_texts.proofs.Words.{IsWord, goes, one_more, word_there}
 

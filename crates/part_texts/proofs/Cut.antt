@@ -7,7 +7,7 @@ use Rattle.json.specs.Lex.{Lexeme, Place, after_comma, after_key, after_value, b
 use Rattle.json.specs.Print.{ends}
 use Rattle.json.specs.Token.{Token, begin_object, end_object, begin_array, end_array, key, string, number, boolean, null, bad}
 use Rattle.json.specs.Word.{ends_word}
-use Rattle.token_cursor.specs.Place.{after_token, behind, begins_token, from_token, is_mark, place_after}
+use Rattle.text_spans.specs.Place.{after_token, behind, begins_token, from_token, is_mark, place_after}
 use Rattle.part_texts.proofs.Marks.{Alike, Begins, Passes, alike, begins, no_fault, passed}
 use Rattle.part_texts.proofs.Steps.{EndsLow, First, Follows, TakesToken, first_token}
 

@@ -6,7 +6,7 @@ use Rattle.json.specs.Align.{is_good}
 use Rattle.json.specs.Lex.{Lexeme, Place, after_comma, after_key, after_value, begins_colon, between, colon, comma, fresh, lex, punctuate}
 use Rattle.json.specs.Token.{Token, bad}
 use Rattle.json.specs.Word.{ends_word, is_space}
-use Rattle.token_cursor.specs.Place.{begins_token, from_token, is_mark}
+use Rattle.text_spans.specs.Place.{begins_token, from_token, is_mark}
 use Rattle.part_texts.proofs.Words.{one_more}
 
 -- ---- up to the byte that a token begins with

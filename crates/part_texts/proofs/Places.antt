@@ -9,7 +9,7 @@ use Rattle.json.specs.Json.{Json, null, boolean, number, string, array, object, 
 use Rattle.json.specs.Lex.{Place as At, between, fresh, lex, punctuate, tokens}
 use Rattle.json.specs.Token.{Token}
 use Rattle.json.specs.Tree.{depth, items_depth, items_tokens, json_tokens, members_depth, members_tokens}
-use Rattle.token_cursor.specs.Place.{after_token, behind, from_token, place_after}
+use Rattle.text_spans.specs.Place.{after_token, behind, from_token, place_after}
 use Rattle.text_spans.specs.Path.{Place, Step, name, index, token_count, place, item_place, member_place}
 use Rattle.part_texts.proofs.Cut.{closes, cut, reads_here, step}
 use Rattle.part_texts.proofs.Marks.{begins_here}

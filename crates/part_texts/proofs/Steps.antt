@@ -7,7 +7,7 @@ use Rattle.json.specs.Lex.{Lexeme, between, in_string, in_word, lex, string_toke
 use Rattle.json.specs.Text.{content, plain}
 use Rattle.json.specs.Token.{Token}
 use Rattle.json.specs.Word.{ends_word, is_operator, is_space, word}
-use Rattle.token_cursor.specs.Place.{after_string, after_token, after_word, ends_number, is_mark}
+use Rattle.text_spans.specs.Place.{after_string, after_token, after_word, ends_number, is_mark}
 use Rattle.part_texts.proofs.Strings.{Closes, closes}
 use Rattle.part_texts.proofs.Words.{IsWord, after_first, after_word_is, goes, is_word, word_there}
 

@@ -6,7 +6,7 @@ use Rattle.json.specs.Align.{span, span_byte}
 use Rattle.json.specs.Lex.{Mode, backslash, between, in_escape, in_string, lex, operator, other, quote, space}
 use Rattle.json.specs.Text.{Within, after_backslash, after_high, after_u, code_unit, content, is_high_surrogate, is_low_surrogate, plain, prepend, short_escape, surrogate_pair}
 use Rattle.json.specs.Word.{is_operator, is_space}
-use Rattle.token_cursor.proofs.Lexing.{escaped, string_closed, string_escapes, string_goes}
+use Rattle.text_spans.proofs.Lexing.{escaped, string_closed, string_escapes, string_goes}
 use Rattle.part_texts.proofs.Words.{one_more}
 
 -- how the lexer stands within a string

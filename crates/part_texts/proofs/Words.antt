@@ -12,7 +12,7 @@ use Rattle.json.specs.Print.{IsNumber}
 use Rattle.json.specs.Token.{Token}
 use Rattle.json.specs.Word.{after_digits, after_exponent, after_fraction, after_minus, after_number, after_sign, after_whole, ends_word, head, literal, number_before, word}
 use Rattle.json.proofs.Printed.Numbers.{in_word-ended, lex-number, number_alone}
-use Rattle.token_cursor.specs.Place.{after_word, ends_number}
+use Rattle.text_spans.specs.Place.{after_word, ends_number}
 
 -- an ASCII byte that ends neither
 abbrev pub goes : ℕ → Bool

@@ -7,9 +7,9 @@ use Rattle.json.specs.Token.{Token}
 use Rattle.json.specs.Lex.{tokens}
 use Rattle.json.specs.Json.{Json, null, boolean, number, string, array, object, Items, no_items, item, Members, no_members, member, document, if_last, max_depth, value}
 use Rattle.json.specs.Tree.{items_tokens, members_tokens}
-use Rattle.token_cursor.specs.Place.{IsEnd, behind, from_token}
-use Rattle.token_cursor.proofs.Going.{behind_end, behind_start, from_token_end}
-use Rattle.token_cursor.proofs.Lexing.{end_end}
+use Rattle.text_spans.specs.Place.{IsEnd, behind, from_token}
+use Rattle.text_spans.proofs.Going.{behind_end, behind_start, from_token_end}
+use Rattle.text_spans.proofs.Lexing.{end_end}
 use Rattle.text_spans.specs.Path.{Place, Stands, Step, name, index, token_count, place, item_place, member_place, place_of}
 
 -- ---- a place is an end of its text, and what is behind it an end of it

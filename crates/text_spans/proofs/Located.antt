@@ -10,9 +10,9 @@ use Rattle.json.specs.Reads.{token_of}
 use Rattle.json.specs.declared.token.Token.{Token as Given}
 use Rattle.json.specs.declared.token.Token.TheVariants as given
 use Rattle.json.proofs.Grammar.{left}
-use Rattle.token_cursor.specs.Place.{GoOn, behind, closed, from_token, is_opening}
-use Rattle.token_cursor.proofs.Balanced.{list_closed, no_tokens, object_closed, one_token}
-use Rattle.token_cursor.proofs.Going.{goes_on}
+use Rattle.text_spans.specs.Place.{GoOn, behind, closed, from_token, is_opening}
+use Rattle.text_spans.proofs.Balanced.{list_closed, no_tokens, object_closed, one_token}
+use Rattle.text_spans.proofs.Going.{goes_on}
 use Rattle.text_spans.specs.Path.{Place, Step, name, index, token_count, place, item_place, member_place}
 use Rattle.text_spans.proofs.Taken.{items_over, items_turn, mapped, members_none, members_over, members_turn, no_member_turns, no_turns, same_pair, value_taken}
 

@@ -1,2 +1,3 @@
 pub mod Path
+pub mod Place
 pub mod View

@@ -3,7 +3,7 @@ use Rattle.std.specs.Prelude.{◌≡◌, ℕ, zero, suc, List, [], ◌∷◌, �
 use Rattle.std.specs.Str.{bytes_eq}
 use Rattle.json.specs.Json.{Json, array, object, Items, no_items, item, Members, no_members, member, document}
 use Rattle.json.specs.Tree.{json_tokens}
-use Rattle.token_cursor.specs.Place.{behind, from_token}
+use Rattle.text_spans.specs.Place.{behind, from_token}
 
 -- to the member of this name, or to the item at this index
 pub data Step : Type 0 where

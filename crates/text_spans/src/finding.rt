@@ -7,7 +7,7 @@ use crate::places::value_place;
 use crate::steps::Step;
 use json::{Scratch, is_valid};
 use std::alloc::{AllocError, Global};
-use token_cursor::Cursor;
+use crate::Cursor;
 
 /// The bytes that a value takes in its text, from `start` up to `end`, in bytes from the text's first one.
 #[derive(Clone, Copy, Debug, Drop, PartialEq, Eq)]

@@ -2,13 +2,13 @@
 ghost use Rattle.std.specs.Prelude.{◌≡◌, [], ◌∷◌, ℕ, List, None, Some};
 ghost use Rattle.json.specs.Json.{Items, Json, Members, items, members, value};
 ghost use Rattle.json.specs.Token.{Token as Kind};
-ghost use Rattle.token_cursor.specs.Place.{GoOn, Stand, closed};
+ghost use Rattle.text_spans.specs.Place.{GoOn, Stand, closed};
 ghost use Rattle.text_spans.specs.Path.{item_place, member_place, place};
 ghost use Rattle.text_spans.specs.View.{ends_view, path_of, step_of};
 
 use crate::steps::Step;
 use json::Token;
-use token_cursor::Cursor;
+use crate::Cursor;
 
 /// A value in a text.
 #[derive(Clone, Copy, Drop)]

@@ -2,7 +2,7 @@ use Rattle.std.proofs.Common.{◌≡◌, ◌∷◌, [], None, Some, refl, arith}
 use Rattle.json.specs.Json.{after_end_array}
 use Rattle.json.specs.Reads.{token_of}
 use Rattle.json.specs.Token.{Token as Kind}
-use Rattle.token_cursor.proofs.Going.{goes_none, goes_on}
+use Rattle.text_spans.proofs.Going.{goes_none, goes_on}
 use Rattle.text_spans.specs.View.{path_of, step_of}
 use Rattle.text_spans.proofs.Located.{in_list, in_object, item_found, item_over, item_passed, items_same, member_found, member_missing, member_over, member_passed, not_in_list, not_in_object, nothing_opens, nothing_there}
 use Rattle.text_spans.proofs.places.+places.Goals as goal

@@ -1,7 +1,7 @@
 use Rattle.std.proofs.Common.{◌≡◌, ℕ, ◌+◌, ◌*◌, List, None, Some, length}
 use Rattle.json.specs.Json.{Items, Members, items, members, value}
 use Rattle.json.specs.Token.{Token as Kind}
-use Rattle.token_cursor.specs.Place.{GoOn, Stand}
+use Rattle.text_spans.specs.Place.{GoOn, Stand}
 use Rattle.text_spans.specs.Path.{item_place, member_place}
 use Rattle.text_spans.specs.View.{ends_view, path_of}
 use Rattle.text_spans.proofs.Located.{ItemsLeft, MembersLeft}
