@@ -1,6 +1,7 @@
 pub mod Bounded
 pub mod Crossings
 pub mod Full
+mod Halving
 pub mod Made
 pub mod NoAsks
 pub mod Pages

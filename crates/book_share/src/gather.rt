@@ -13,7 +13,7 @@ use crate::gate::Gate;
 use crate::worker::{Job, Part, Round, work};
 use book_lock::{BookName, Seat};
 use flag_resolve::Resolution;
-use sized_threads::map_vec;
+use crate::map_vec;
 use std::alloc::{AllocError, Global};
 use std::collections::VecDeque;
 use std::sync::Wait;

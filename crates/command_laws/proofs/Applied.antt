@@ -18,8 +18,8 @@ use Rattle.flagops_rollouts.specs.declared.refusal.RolloutRefusal.{RolloutRefusa
 use Rattle.flagops_rollouts.specs.declared.refusal.RolloutRefusal.TheVariants.{Apply}
 use Rattle.flagops_shell.specs.Outcomes.{◌>>=◌, beside, done, refused_by}
 use Rattle.flagops_shell.specs.Report.{Report}
-use Rattle.float_laws.specs.Documents.{TreesStay}
-use Rattle.float_laws.specs.Whole.{IsWholeText}
+use Rattle.command_laws.specs.Documents.{TreesStay}
+use Rattle.command_laws.specs.FloatWhole.{IsWholeText}
 use Rattle.command_laws.proofs.Read.{bind-same}
 
 -- a document has marks, either way

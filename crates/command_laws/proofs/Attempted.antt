@@ -12,7 +12,7 @@ use Rattle.flagops_shell.specs.Files.{Holding, load_of}
 use Rattle.flagops_shell.specs.Outcomes.{refused_by}
 use Rattle.flagops_shell.specs.declared.refused.Remark.{Remark}
 use Rattle.flagops_shell.specs.declared.refused.Remark.TheVariants.{Lines, Short}
-use Rattle.float_laws.specs.Documents.{MeaningsStay}
+use Rattle.command_laws.specs.Documents.{MeaningsStay}
 use Rattle.command_laws.specs.Whole.{IsWholeAt}
 use Rattle.command_laws.proofs.Read.{document_so}
 

@@ -29,8 +29,8 @@ use Rattle.flagops_rollouts.specs.Subjects.{applied_subjects, is_of_answer, is_o
 use Rattle.flagops_shell.specs.Files.{Holding}
 use Rattle.flagops_shell.specs.Outcomes.{refused_by}
 use Rattle.flagops_words.specs.Asked.{Asked, bucket, price, resolve, verify, plan, apply, keep, drive, completions}
-use Rattle.float_laws.specs.Documents.{MeaningsStay, NoneIsMarked, TreesStay}
-use Rattle.float_laws.specs.Kept.{WholeNumbersStay}
+use Rattle.command_laws.specs.Documents.{MeaningsStay, NoneIsMarked, TreesStay}
+use Rattle.command_laws.specs.FloatKept.{WholeNumbersStay}
 use Rattle.flag_resolve.specs.Floats as resolving
 use Rattle.command_laws.specs.Commands.{FilesStay, IsWholeFor, OutcomesStay, RemarksStay, asked_as}
 use Rattle.command_laws.specs.Whole.{IsWholeAt}

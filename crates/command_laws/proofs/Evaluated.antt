@@ -10,7 +10,7 @@ use Rattle.flag_resolve.specs.Printing.{resolution_spelled}
 use Rattle.flag_resolve.specs.Resolved.{Resolved}
 use Rattle.flag_text.specs.Reading.{tree_of}
 use Rattle.flag_text.specs.Shape.{Shape}
-use Rattle.float_laws.specs.Documents.{MeaningsStay, NoneIsMarked}
+use Rattle.command_laws.specs.Documents.{MeaningsStay, NoneIsMarked}
 use Rattle.flagops_commands.specs.Drive.{IsAnswered, IsDriveOutputOf, IsDriveReport, admitted}
 use Rattle.flagops_commands.specs.Loaded.{AreFlagsAt, tree_at}
 use Rattle.flagops_commands.specs.Refusal.{no_tree}
@@ -30,7 +30,7 @@ use Rattle.flagops_shell.specs.Report.{Report}
 use Rattle.flagops_shell.specs.declared.files.LoadFault.{LoadFault}
 use Rattle.command_laws.specs.Evaluated.{DrivenStay, ResolvedStay}
 use Rattle.command_laws.specs.Whole.{IsWholeAt}
-use Rattle.float_laws.specs.Whole.{IsWholeText}
+use Rattle.command_laws.specs.FloatWhole.{IsWholeText}
 use Rattle.command_laws.proofs.Applied.{some_marks}
 use Rattle.command_laws.proofs.Read.{bind-same}
 

@@ -8,8 +8,8 @@ use Rattle.flag_doubts.specs.Doubled as doubled
 use Rattle.flag_doubts.specs.Repeated as repeated
 use Rattle.flag_text.specs.Shape.{Shape}
 use Rattle.flag_text.specs.declared.fault.TextFault.{TextFault}
-use Rattle.float_laws.specs.Documents.{MeaningsStay, TreesStay}
-use Rattle.float_laws.specs.Whole.{IsWholeText}
+use Rattle.command_laws.specs.Documents.{MeaningsStay, TreesStay}
+use Rattle.command_laws.specs.FloatWhole.{IsWholeText}
 use Rattle.flagops_checks.specs.Documents.{AreChecked, IsCheckedAt, IsCheckedOf, IsWithOthers}
 use Rattle.flagops_checks.specs.Judged.{Checked, Judged, checked, flag_doubts, or_null}
 use Rattle.flagops_checks.specs.Printed.{document_text, form_of}

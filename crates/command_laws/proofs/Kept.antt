@@ -9,7 +9,7 @@ use Rattle.flag_defs.specs.Flag.{targeting_in}
 use Rattle.flag_text.specs.Reading.{doc_of}
 use Rattle.flag_text.specs.Shape.{Shape}
 use Rattle.flag_text.specs.declared.fault.TextFault.{TextFault}
-use Rattle.float_laws.specs.Documents.{MeaningsStay, TreesStay}
+use Rattle.command_laws.specs.Documents.{MeaningsStay, TreesStay}
 use Rattle.flagops_files.specs.Question.{Question}
 use Rattle.flagops_rollouts.specs.Keep.{IsEdited, IsEditedTo, IsKeepOf, IsKeepReport, IsKeptAt, IsKeptBy, IsKeptWith, Kept, MayBeKept}
 use Rattle.flagops_rollouts.specs.Loaded.{plan_at}
@@ -18,17 +18,17 @@ use Rattle.flagops_shell.specs.Files.{Holding}
 use Rattle.kept_document.specs.Kept.{IsRefused, KeptAt, in_tree, place_in}
 use Rattle.kept_document.specs.declared.fault.KeepFault.{KeepFault}
 use Rattle.kept_document.specs.declared.fault.KeepFault.TheVariants.{WantOfMemory, Shared, TooLong, Differs}
-use Rattle.float_laws.specs.Kept.{IsWritable, WholeNumbersStay}
+use Rattle.command_laws.specs.FloatKept.{IsWritable, WholeNumbersStay}
 use Rattle.logic_ast.specs.Expression.{Expression}
 use Rattle.plan_text.specs.Answer.{Answer, emit, none_exists}
 use Rattle.rollout.specs.Applied.{applied}
 use Rattle.rollout_checks.specs.declared.fault.RolloutFault.{RolloutFault}
 use Rattle.rollout_checks.specs.declared.verify_fault.VerifyFault.{VerifyFault}
-use Rattle.site_places.specs.Place.{SitePlace}
+use Rattle.kept_document.specs.Place.{SitePlace}
 use Rattle.command_laws.specs.Kept.{KeptStay}
 use Rattle.command_laws.specs.Rollouts.{Came}
 use Rattle.command_laws.specs.Whole.{IsWholeAt}
-use Rattle.float_laws.specs.Whole.{IsWholeText}
+use Rattle.command_laws.specs.FloatWhole.{IsWholeText}
 use Rattle.command_laws.proofs.Read.{rolled_question}
 use Rattle.command_laws.proofs.Writable.{IsWritableAnswer, IsWritablePlan, plan_writable}
 

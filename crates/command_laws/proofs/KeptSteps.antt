@@ -3,7 +3,7 @@ use Rattle.std.proofs.Common.{ℕ, zero, suc, ◌-◌, Bool, true, false, List, 
 use Rattle.std.specs.List.{AllByRecursion}
 use Rattle.bucket_core.specs.Rule.{Entries}
 use Rattle.flag_defs.specs.Document.{Definitions}
-use Rattle.float_laws.specs.Documents.{MeaningsStay, TreesStay}
+use Rattle.command_laws.specs.Documents.{MeaningsStay, TreesStay}
 use Rattle.flagops_files.specs.Question.{Question}
 use Rattle.flagops_files.specs.declared.refusal.Refusal.{Refusal}
 use Rattle.flagops_ramps.specs.Judging.{answers_at}
@@ -13,15 +13,15 @@ use Rattle.flagops_ramps.specs.Words.{Keeping}
 use Rattle.flagops_ramps.specs.declared.refusal.RampRefusal.{RampRefusal}
 use Rattle.flagops_rollouts.specs.Keep.{Kept}
 use Rattle.flagops_shell.specs.Files.{Holding}
-use Rattle.float_laws.specs.Kept.{IsWritable, WholeNumbersStay}
+use Rattle.command_laws.specs.FloatKept.{IsWritable, WholeNumbersStay}
 use Rattle.plan_text.specs.Answer.{Answer, emit, none_exists}
 use Rattle.price_core.specs.Request.{Asked}
 use Rattle.ramp.specs.declared.fault.RampFault.{RampFault}
-use Rattle.ramp_steps.specs.Steps.{steps_of}
-use Rattle.ramp_steps.specs.declared.fault.StepsFault.{StepsFault}
+use Rattle.ramp.specs.Steps.{steps_of}
+use Rattle.ramp.specs.declared.file_fault.StepsFault.{StepsFault}
 use Rattle.command_laws.specs.Ramps.{KeptStepsStay, verified_as}
 use Rattle.command_laws.specs.Whole.{IsWholeAt}
-use Rattle.float_laws.specs.Whole.{IsWholeText}
+use Rattle.command_laws.specs.FloatWhole.{IsWholeText}
 use Rattle.command_laws.proofs.Kept.{kept_at}
 use Rattle.command_laws.proofs.Read.{question_so}
 use Rattle.command_laws.proofs.Writable.{IsWritableAnswer}

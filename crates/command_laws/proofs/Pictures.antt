@@ -7,7 +7,7 @@ use Rattle.flagops_pictures.specs.Words.{Planning}
 use Rattle.flagops_rollouts.specs.declared.refusal.RolloutRefusal.{RolloutRefusal}
 use Rattle.flagops_shell.specs.Files.{Holding}
 use Rattle.flagops_shell.specs.Report.{Report}
-use Rattle.float_laws.specs.Documents.{MeaningsStay}
+use Rattle.command_laws.specs.Documents.{MeaningsStay}
 use Rattle.command_laws.proofs.Read.{rolled_question}
 use Rattle.flagops_pictures.specs.Ramps.{IsRampPicture}
 use Rattle.flagops_files.specs.Told.{by_kind}

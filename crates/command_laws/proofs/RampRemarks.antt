@@ -15,7 +15,7 @@ use Rattle.flagops_shell.specs.Files.{Holding}
 use Rattle.flagops_shell.specs.Report.{Report}
 use Rattle.flagops_shell.specs.declared.refused.Remark.{Remark}
 use Rattle.rollout_checks.specs.declared.verify_fault.VerifyFault.TheVariants as verdict
-use Rattle.float_laws.specs.Documents.{MeaningsStay, TreesStay}
+use Rattle.command_laws.specs.Documents.{MeaningsStay, TreesStay}
 use Rattle.command_laws.specs.Ramps.{verified_as}
 use Rattle.command_laws.specs.Whole.{IsWholeAt}
 use Rattle.command_laws.proofs.Attempted.{AreLike, all_so, all_within, attempt_so, first_so, question_like, themselves, with_more}

@@ -12,10 +12,10 @@ use Rattle.flagops_ramps.specs.Words.{Applying, Verifying}
 use Rattle.flagops_ramps.specs.declared.refusal.RampRefusal.{RampRefusal}
 use Rattle.flagops_shell.specs.Files.{Holding}
 use Rattle.plan_text.specs.Answer.{Answer}
-use Rattle.float_laws.specs.Documents.{MeaningsStay, NoneIsMarked, TreesStay}
+use Rattle.command_laws.specs.Documents.{MeaningsStay, NoneIsMarked, TreesStay}
 use Rattle.command_laws.specs.Ramps.{RampVerdictsStay, RampsStay, verified_as}
 use Rattle.command_laws.specs.Whole.{IsWholeAt}
-use Rattle.float_laws.specs.Whole.{IsWholeText}
+use Rattle.command_laws.specs.FloatWhole.{IsWholeText}
 use Rattle.command_laws.proofs.Applied.{some_marks, told_so}
 use Rattle.command_laws.proofs.Read.{document_so, question_so}
 

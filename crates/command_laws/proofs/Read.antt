@@ -12,8 +12,8 @@ use Rattle.flagops_rollouts.specs.declared.refusal.RolloutRefusal.{RolloutRefusa
 use Rattle.flagops_shell.specs.Files.{Holding, load_of}
 use Rattle.flagops_shell.specs.Outcomes.{◌>>=◌, refused_by}
 use Rattle.flagops_shell.specs.declared.files.LoadFault.{LoadFault}
-use Rattle.float_laws.specs.Documents.{MeaningsStay}
-use Rattle.float_laws.specs.Whole.{IsWholeText}
+use Rattle.command_laws.specs.Documents.{MeaningsStay}
+use Rattle.command_laws.specs.FloatWhole.{IsWholeText}
 use Rattle.command_laws.specs.Whole.{IsWholeAt}
 
 pub bind-same : {X Y E : Type 0} (f g : X → Result Y E) → ((x : X) → f x ≡ g x) → (m : Result X E) → (m >>= f) ≡ (m >>= g)

@@ -22,8 +22,8 @@ use Rattle.flagops_files.specs.declared.refusal.Refusal.TheVariants as loading
 use Rattle.flagops_shell.specs.Files.{Holding, load_of}
 use Rattle.flagops_shell.specs.Outcomes.{◌>>=◌, refused_by}
 use Rattle.flagops_shell.specs.declared.files.LoadFault.{LoadFault}
-use Rattle.float_laws.specs.Documents.{MeaningsStay, TreesStay}
-use Rattle.float_laws.specs.Whole.{IsWholeText}
+use Rattle.command_laws.specs.Documents.{MeaningsStay, TreesStay}
+use Rattle.command_laws.specs.FloatWhole.{IsWholeText}
 use Rattle.command_laws.specs.Remarks.{CheckRemarksStay, CompareRemarksStay}
 use Rattle.command_laws.specs.Whole.{AreWholeAt, IsWholeAt}
 use Rattle.command_laws.proofs.Attempted.{AreLike, attempt_so, first_so, says_so, themselves}

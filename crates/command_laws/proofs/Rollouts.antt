@@ -13,11 +13,11 @@ use Rattle.flagops_rollouts.specs.Verify.{IsVerifyReport}
 use Rattle.flagops_rollouts.specs.declared.refusal.RolloutRefusal.{RolloutRefusal}
 use Rattle.flagops_shell.specs.Files.{Holding}
 use Rattle.flagops_shell.specs.Report.{Report}
-use Rattle.page_switches.specs.Found.{PageFound}
-use Rattle.page_switches.specs.declared.fault.TallyFault.{TallyFault}
+use Rattle.rule_switches.specs.Found.{PageFound}
+use Rattle.rule_switches.specs.declared.fault.TallyFault.{TallyFault}
 use Rattle.picture.specs.Spelling.{Pictures}
 use Rattle.plan_text.specs.Answer.{Answer}
-use Rattle.float_laws.specs.Documents.{MeaningsStay, NoneIsMarked, TreesStay}
+use Rattle.command_laws.specs.Documents.{MeaningsStay, NoneIsMarked, TreesStay}
 use Rattle.command_laws.specs.Rollouts.{AppliedStay, ComparedStay, PlansStay, VerdictsStay}
 use Rattle.command_laws.specs.Whole.{IsWholeAt}
 use Rattle.command_laws.proofs.Applied.{some_marks, told_so}

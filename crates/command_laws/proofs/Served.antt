@@ -2,7 +2,7 @@
 use Rattle.std.proofs.Common.{◌≡◌, inl, inr, ℕ, ◌+◌, ◌++◌, Bool, List, [], ◌∷◌, length, Result, Ok, Err, refl, subst}
 use Rattle.std.specs.Prelude.{decimal}
 use Rattle.flag_defs.specs.Document.{Definitions}
-use Rattle.float_laws.specs.Documents.{SourcesStay}
+use Rattle.command_laws.specs.Documents.{SourcesStay}
 use Rattle.flagops_shell.specs.Files.{Holding, load_of}
 use Rattle.flagops_shell.specs.Outcomes.{◌>>=◌}
 use Rattle.flagops_shell.specs.declared.files.LoadFault.{LoadFault}
@@ -17,7 +17,7 @@ use Rattle.source_merge.specs.Sources.{SetsAs, SourceList}
 use Rattle.source_merge.specs.declared.fault.SourceFault.{SourceFault}
 use Rattle.command_laws.specs.Filters.{ServedStay}
 use Rattle.command_laws.specs.Whole.{AreWholeAt, IsWholeAt}
-use Rattle.float_laws.specs.Whole.{IsWholeText}
+use Rattle.command_laws.specs.FloatWhole.{IsWholeText}
 
 -- ---- the texts that are loaded
 

@@ -9,8 +9,8 @@ use Rattle.flagops_streams.specs.Told.{MayForewarnAt, MayForewarnEach, TellsServ
 use Rattle.flagops_streams.specs.Words.{Serving}
 use Rattle.flagops_streams.specs.declared.refusal.Refusal.{Refusal}
 use Rattle.flagops_streams.specs.declared.refusal.Refusal.TheVariants.{WantOfMemory}
-use Rattle.float_laws.specs.Documents.{MeaningsStay}
-use Rattle.float_laws.specs.Whole.{IsWholeText}
+use Rattle.command_laws.specs.Documents.{MeaningsStay}
+use Rattle.command_laws.specs.FloatWhole.{IsWholeText}
 use Rattle.command_laws.specs.Filters.{ShownStay}
 use Rattle.command_laws.specs.Whole.{AreWholeAt}
 use Rattle.command_laws.proofs.Served.{AreWhole, all_loaded}

@@ -8,8 +8,8 @@ use Rattle.flagops_rollouts.specs.Omitted.{TellsOmitted}
 use Rattle.flagops_rollouts.specs.Remarks.{TellsAppliedAt, TellsDoubtsAt, TellsKeptAt, TellsPlanAt, applied_parts}
 use Rattle.flagops_shell.specs.Files.{Holding}
 use Rattle.flagops_shell.specs.declared.refused.Remark.{Remark}
-use Rattle.float_laws.specs.Documents.{MeaningsStay, TreesStay}
-use Rattle.float_laws.specs.Whole.{IsWholeText}
+use Rattle.command_laws.specs.Documents.{MeaningsStay, TreesStay}
+use Rattle.command_laws.specs.FloatWhole.{IsWholeText}
 use Rattle.plan_text.specs.Answer.{Answer, emit, none_exists}
 use Rattle.command_laws.specs.Whole.{IsWholeAt}
 use Rattle.command_laws.proofs.Applied.{omitting_so}

@@ -17,13 +17,13 @@ use Rattle.flagops_rollouts.specs.declared.refusal.RolloutRefusal.TheVariants as
 use Rattle.flagops_shell.specs.Files.{Holding, load_of}
 use Rattle.flagops_shell.specs.Outcomes.{◌>>=◌, refused_by}
 use Rattle.flagops_shell.specs.declared.files.LoadFault.{LoadFault}
-use Rattle.float_laws.specs.Kept.{IsWritable}
+use Rattle.command_laws.specs.FloatKept.{IsWritable}
 use Rattle.plan_text.proofs.Orders.{weights_small}
 use Rattle.plan_text.specs.Answer.{Answer, emit, none_exists}
 use Rattle.plan_text.specs.PlanFile.{alpha_in, answer_by, answer_of, beta_in, canonical_rule, cost_in, each, emit_in, entry_of, first_form, form_of, has, has_rule_member, if_canonical, if_plan, if_tree, is_canonical, is_under, items_in, max_plan, names_in, planned_of, rule_in, second_form, set_in}
-use Rattle.transport_instance.specs.Groups.{GroupKey}
-use Rattle.transport_instance.specs.declared.certificate.CutKind.{CutKind}
-use Rattle.transport_instance.specs.declared.certificate.CutKind.TheVariants.{Over, Under}
+use Rattle.transport_core.specs.Groups.{GroupKey}
+use Rattle.transport_core.specs.declared.certificate.CutKind.{CutKind}
+use Rattle.transport_core.specs.declared.certificate.CutKind.TheVariants.{Over, Under}
 
 -- the rule of an answer, if it has one, is such a rule
 abbrev pub IsWritableAnswer : Answer → Type 0

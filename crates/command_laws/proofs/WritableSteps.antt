@@ -16,9 +16,9 @@ use Rattle.flagops_shell.specs.Outcomes.{refused_by}
 use Rattle.flagops_shell.specs.declared.files.LoadFault.{LoadFault}
 use Rattle.plan_text.specs.Answer.{Answer}
 use Rattle.plan_text.specs.PlanFile.{answer_of, max_plan}
-use Rattle.ramp_steps.specs.Lines.{and_more, if_ended, is_step, ramp_of, read_parts, step_in, step_of}
-use Rattle.ramp_steps.specs.declared.fault.RampFileFault.{RampFileFault}
-use Rattle.ramp_steps.specs.declared.fault.RampFileFault.TheVariants.{TooLarge}
+use Rattle.ramp.specs.Lines.{and_more, if_ended, is_step, ramp_of, read_parts, step_in, step_of}
+use Rattle.ramp.specs.declared.file_fault.RampFileFault.{RampFileFault}
+use Rattle.ramp.specs.declared.file_fault.RampFileFault.TheVariants.{TooLarge}
 use Rattle.command_laws.proofs.Writable.{IsWritableAnswer, IsWritablePlan, answer_writable, some_of}
 
 -- the rule of each step, if it has one, is such a rule

@@ -2,7 +2,7 @@
 use Rattle.std.specs.Prelude.{◌≡◌, ℕ, List, [], ◌∷◌, Ok}
 use Rattle.flagops_files.specs.Loading.{max_text}
 use Rattle.flagops_shell.specs.Files.{Holding, load_of}
-use Rattle.float_laws.specs.Whole.{IsWholeText}
+use Rattle.command_laws.specs.FloatWhole.{IsWholeText}
 
 -- the numbers of the file at a path are whole, if it is read and is a value of JSON's
 abbrev pub IsWholeAt : Holding → List ℕ → Type 0

@@ -17,15 +17,15 @@ pub fn floats_change_no_rollout()
     ensures applied { AppliedStay }
     ensures compared { ComparedStay }
 {
-    float_laws::documents_stay();
+    crate::documents_stay();
 }
 
 /// The same of `apply --keep`, with the document that it writes. A law: it computes nothing.
 pub fn floats_change_no_kept_rule()
     ensures { KeptStay }
 {
-    float_laws::documents_stay();
-    float_laws::whole_numbers_stay();
+    crate::documents_stay();
+    crate::whole_numbers_stay();
 }
 
 /// The same of `check`, of `record` with all that it shows, of `tally`, and of `serve` with all that it shows. A law: it computes
@@ -37,7 +37,7 @@ pub fn floats_change_no_filter()
     ensures served { ServedStay }
     ensures shown { ShownStay }
 {
-    float_laws::documents_stay();
+    crate::documents_stay();
 }
 
 /// The same of `resolve`, and of `drive` with the book that it writes. A law: it computes nothing.
@@ -45,7 +45,7 @@ pub fn floats_change_no_evaluation()
     ensures resolved { ResolvedStay }
     ensures driven { DrivenStay }
 {
-    float_laws::documents_stay();
+    crate::documents_stay();
     flagops_drive::floats_change_nothing();
     flag_resolve::floats_are_of_their_kind();
 }
@@ -58,8 +58,8 @@ pub fn floats_change_no_command()
     ensures remarks { RemarksStay }
     ensures files { FilesStay }
 {
-    float_laws::documents_stay();
-    float_laws::whole_numbers_stay();
+    crate::documents_stay();
+    crate::whole_numbers_stay();
     flagops_drive::floats_change_nothing();
     flag_resolve::floats_are_of_their_kind();
 }
@@ -69,7 +69,7 @@ pub fn floats_change_no_remark()
     ensures compared { CompareRemarksStay }
     ensures checks { CheckRemarksStay }
 {
-    float_laws::documents_stay();
+    crate::documents_stay();
 }
 
 /// The same of `ramp`, `verify-ramp`, `apply --step`, and `apply --step --keep` with the document that it writes. A law: it
@@ -80,8 +80,8 @@ pub fn floats_change_no_ramp()
     ensures steps { StepsStay }
     ensures kept { KeptStepsStay }
 {
-    float_laws::documents_stay();
-    float_laws::whole_numbers_stay();
+    crate::documents_stay();
+    crate::whole_numbers_stay();
 }
 
 /// The same of what a person may be told beside their reports. A law: it computes nothing.
@@ -91,7 +91,7 @@ pub fn floats_change_no_ramp_remark()
     ensures steps { StepRemarksStay }
     ensures kept { KeptRemarksStay }
 {
-    float_laws::documents_stay();
+    crate::documents_stay();
 }
 
 /// The same of `picture`, `picture --ramp` and `plan --picture`, and of what a person may be told beside their reports. A law: it
@@ -103,5 +103,5 @@ pub fn floats_change_no_picture()
     ensures remarks { PictureRemarksStay }
     ensures planned_remarks { PlannedRemarksStay }
 {
-    float_laws::documents_stay();
+    crate::documents_stay();
 }

@@ -1,4 +1,5 @@
 mod Checked
+mod Drawings
 mod Filled
 mod Joined
 mod NoText
@@ -6,6 +7,7 @@ mod Outcomes
 mod Pages
 mod Parts
 mod Planned
+mod PlannedEffect
 mod Recorded
 mod Right
 mod Rows

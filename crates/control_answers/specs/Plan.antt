@@ -9,11 +9,11 @@ use Rattle.rollout_checks.specs.Plan.{IsTallyPlanned}
 use Rattle.rollout_checks.specs.Tallied.{TallyProblem, tally_problem_of}
 use Rattle.rollout_checks.specs.declared.fault.RolloutFault.{RolloutFault}
 use Rattle.rollout_checks.specs.declared.refining.Refining.TheVariants.{Times}
-use Rattle.tally_core.specs.Tally.{PageTally}
+use Rattle.line_tally.specs.Tally.{PageTally}
 use Rattle.control_answers.specs.Body.{Told, edit_words, switched_in, told_text}
 use Rattle.control_answers.specs.Token.{token_text}
-use Rattle.plan_effects.specs.Effect.{IsEffect}
-use Rattle.plan_effects.specs.Picture.{IsPictured}
+use Rattle.control_answers.specs.Effect.{IsEffect}
+use Rattle.control_answers.specs.Picture.{IsPictured}
 use Rattle.control_answers.specs.Kept.{MayBeChanged}
 use Rattle.control_answers.specs.Refusal.{of_printed, of_rollout}
 use Rattle.control_answers.specs.Snapshot.{Snapshot}

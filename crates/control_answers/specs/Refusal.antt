@@ -16,9 +16,9 @@ use Rattle.rollout_checks.specs.declared.fault.RolloutFault.{RolloutFault}
 use Rattle.rollout_checks.specs.declared.fault.RolloutFault.TheVariants as rollout_fault
 use Rattle.rollout_checks.specs.declared.verify_fault.VerifyFault.{VerifyFault}
 use Rattle.rollout_checks.specs.declared.verify_fault.VerifyFault.TheVariants as verdict
-use Rattle.transport_instance.specs.Fault.{name_of as check_name, number_of as check_number}
-use Rattle.transport_instance.specs.declared.fault.CheckFault.{CheckFault}
-use Rattle.transport_instance.specs.declared.fault.CheckFault.TheVariants as check_fault
+use Rattle.transport_core.specs.Fault.{name_of as check_name, number_of as check_number}
+use Rattle.transport_core.specs.declared.fault.CheckFault.{CheckFault}
+use Rattle.transport_core.specs.declared.fault.CheckFault.TheVariants as check_fault
 use Rattle.control_answers.specs.declared.refusal.ControlRefusal.{ControlRefusal}
 use Rattle.control_answers.specs.declared.refusal.ControlRefusal.TheVariants.{WantOfMemory, Rollout, Logs, ReadPlan, PrintPlan, Check, OtherTally, Keep, Unread, Unrecorded, NoRecord, BadToken, OtherDocument, NoDocument}
 

@@ -7,7 +7,7 @@ ghost use Rattle.control_answers.specs.View.{told_view};
 
 use crate::texts::comma_if;
 use flag_text::push_string;
-use plan_effects::Effect;
+use crate::Effect;
 use rule_switches::Switch;
 use std::alloc::{AllocError, Global};
 

@@ -5,10 +5,10 @@ ghost use Rattle.price_core.specs.Request.{max_request};
 ghost use Rattle.control_answers.specs.Doubts.{doubt_of, has_unread, is_unread};
 
 use crate::refusal::ControlRefusal;
-use repeated_names::repeated_place;
+use unread_members::repeated_place;
 use rollout_checks::RequestFile;
 use std::alloc::{AllocError, Global};
-use tally_core::PageTally;
+use line_tally::PageTally;
 use unread_members::Reader;
 
 /// Why a right answer to a request is not applied: the request may not ask what was meant, or nobody is recorded.

@@ -25,6 +25,16 @@
 //! doubted (`Doubts`); then the document has the plan's rule, and is else as it was (`Kept`). So what is checked and what is applied
 //! costs just the recorded inputs the least of all that fit ([`right_plans_are_of_the_record`]). Each site is told how many notes the
 //! files hold of its page (`SiteCounts`).
+//!
+//! # What a plan does, beside what it costs: which of the recorded inputs get another variant, how many the edit that comes to mind first
+//! would switch, and a picture of that.
+//!
+//! [`posed`] gives again what was asked of a tally that has been planned, [`effect_of`] what the answer does to the inputs of the
+//! tally, and [`picture_of`] draws it.
+//!
+//! Proved, over the definitions of `specs/`: the switches are those of all inputs of which so many fall on each point, each change of
+//! name listed once, beside those of the edit that comes to mind first (`Effect`); the picture has the runs and the switches of these
+//! (`Picture`).
 #![tactic(auto)]
 
 mod applying;
@@ -33,11 +43,14 @@ mod changing;
 mod checking;
 mod counting;
 mod doubting;
+mod drawing;
+mod effect;
 mod history;
 mod holding;
 mod laws;
 mod place;
 mod planning;
+mod posing;
 mod question;
 mod recording;
 mod refusal;
@@ -49,10 +62,13 @@ mod token;
 pub use applying::{Applied, apply_answer};
 pub use checking::check_answer;
 pub use counting::site_counts;
+pub use drawing::picture_of;
+pub use effect::{Effect, effect_of};
 pub use history::{AppliedRow, history_answer, history_row};
 pub use holding::{DocumentTag, document_tag};
 pub use laws::{answers_plan_the_record, right_plans_are_of_the_record};
 pub use planning::plan_answer;
+pub use posing::posed;
 pub use recording::record_answer;
 pub use refusal::ControlRefusal;
 pub use snapshot::Snapshot;

@@ -26,13 +26,13 @@ use crate::snapshot::Snapshot;
 use crate::target::Target;
 use crate::token::token_text;
 use log_tallies::{LogFile, tally_files};
-use plan_effects::{Effect, effect_of, picture_of, posed};
+use crate::{Effect, effect_of, picture_of, posed};
 use plan_text::{Planned, print_planned};
 use rollout::plan_file_on_tally;
 use rollout_checks::RequestFile;
 use rollout_diagnostics::of_planned;
 use std::alloc::{AllocError, Global};
-use tally_core::PageTally;
+use line_tally::PageTally;
 
 /// The plan of a request on the flags of a snapshot and on what log files hold of the request's page, at the rule's total, as JSON:
 /// the plan file, how many of the recorded inputs switch, from which name to which, beside how many the edit that comes to mind

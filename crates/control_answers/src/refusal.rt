@@ -10,7 +10,7 @@ use plan_text::PlanFileFault;
 use price_core::PriceFault;
 use rollout_checks::{RolloutFault, VerifyFault};
 use std::alloc::{AllocError, AllocFailed, Global};
-use transport_instance::CheckFault;
+use transport_core::CheckFault;
 
 /// Why a call is refused: as the command refuses that does the same on files.
 #[derive(Debug, PartialEq, Eq, Drop)]

@@ -1,8 +1,8 @@
 -- Where requests lead.
 use Rattle.std.proofs.Common.{◌≡◌, ◌≢◌, ◌||◌, ℕ, Bool, true, false, List, codes, if◌then◌else◌}
-use Rattle.control_calls.specs.Calls.{method_at, place_of}
-use Rattle.control_calls.specs.declared.place.ControlPlace.{ControlPlace}
-use Rattle.control_calls.specs.declared.place.ControlPlace.TheVariants.{Console, Flags, Snapshot, Record, Plan, Check, Apply, History, Elsewhere}
+use Rattle.control_flags.specs.Calls.{method_at, place_of}
+use Rattle.control_flags.specs.declared.place.ControlPlace.{ControlPlace}
+use Rattle.control_flags.specs.declared.place.ControlPlace.TheVariants.{Console, Flags, Snapshot, Record, Plan, Check, Apply, History, Elsewhere}
 use Rattle.control_desk.specs.Route.{is_console, other_method, route_at, route_of, served, takes}
 use Rattle.control_desk.specs.declared.reply.Reply.{Reply}
 use Rattle.control_desk.specs.declared.reply.Reply.TheVariants.{Unauthorized}

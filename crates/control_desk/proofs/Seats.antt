@@ -1,7 +1,7 @@
 -- What is told on logs tells nothing of how often a seat was read, and of what hindered it before no more than that the system had not failed more often.
 use Rattle.std.proofs.Common.{◌≤◌, ◌<◌, ℕ, List, Option, Some, None, Result, Ok, Err, arith, inl, inr}
-use Rattle.control_calls.specs.declared.place.ControlPlace.{ControlPlace}
-use Rattle.control_calls.specs.declared.place.ControlPlace.TheVariants as place
+use Rattle.control_flags.specs.declared.place.ControlPlace.{ControlPlace}
+use Rattle.control_flags.specs.declared.place.ControlPlace.TheVariants as place
 use Rattle.flagops_shell.specs.Files.{Holding}
 use Rattle.http_server.specs.declared.response.Response.{Response}
 use Rattle.snap_share.specs.Known.{Seat}

@@ -1,6 +1,6 @@
 -- What is answered since a moment is answered since an earlier one.
 use Rattle.std.proofs.Common.{◌⊎◌, ◌≤◌, ℕ, List, Option, Some, None, arith, inl, inr}
-use Rattle.control_calls.specs.declared.place.ControlPlace.{ControlPlace}
+use Rattle.control_flags.specs.declared.place.ControlPlace.{ControlPlace}
 use Rattle.flagops_shell.specs.Files.{Holding}
 use Rattle.http_server.specs.declared.response.Response.{Response}
 use Rattle.snap_share.specs.Known.{Seat}

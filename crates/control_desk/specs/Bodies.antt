@@ -12,7 +12,7 @@ use Rattle.control_answers.specs.Refusal.{refusal_text, status_of}
 use Rattle.control_answers.specs.Token.{HasNoMember, IsMember}
 use Rattle.control_answers.specs.declared.refusal.ControlRefusal.{ControlRefusal}
 use Rattle.control_answers.specs.declared.refusal.ControlRefusal.TheVariants.{BadToken}
-use Rattle.control_calls.specs.Calls.{RecordAsked}
+use Rattle.control_flags.specs.Calls.{RecordAsked}
 use Rattle.control_flags.specs.Flags.{flags_text}
 use Rattle.flag_defs.specs.Flags.{flags_view}
 use Rattle.flag_defs.specs.Floats.{floats_view}

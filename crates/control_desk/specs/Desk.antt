@@ -2,9 +2,9 @@
 use Rattle.std.proofs.Common.{◌≡◌, ◌⊎◌, ◌<◌, ℕ, Bool, List, [], codes, Option, Some, None, is_some, option_map, unwrap_or}
 use Rattle.control_answers.specs.Snapshot.{Snapshot}
 use Rattle.control_answers.specs.declared.refusal.ControlRefusal.TheVariants.{NoRecord}
-use Rattle.control_calls.specs.Calls.{record_of}
-use Rattle.control_calls.specs.declared.place.ControlPlace.{ControlPlace}
-use Rattle.control_calls.specs.declared.place.ControlPlace.TheVariants as place
+use Rattle.control_flags.specs.Calls.{record_of}
+use Rattle.control_flags.specs.declared.place.ControlPlace.{ControlPlace}
+use Rattle.control_flags.specs.declared.place.ControlPlace.TheVariants as place
 use Rattle.flagops_shell.specs.Files.{Holding}
 use Rattle.http.specs.declared.request.Request.{Request}
 use Rattle.http_server.specs.Response.{IsResponse}

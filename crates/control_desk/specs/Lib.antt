@@ -1,6 +1,6 @@
 pub use Rattle.flagops_shell.specs.Files as Holdings
 pub use Rattle.control_answers.specs.Snapshot
-pub use Rattle.control_calls.specs.Calls
+pub use Rattle.control_flags.specs.Calls
 pub mod Names
 pub mod Files
 pub mod Obstacles

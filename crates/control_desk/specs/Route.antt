@@ -1,9 +1,9 @@
 -- Where a request leads (RFC 9110, 9.3.2: HEAD is taken where GET is).
 use Rattle.std.specs.Prelude.{ℕ, Bool, true, false, ◌&&◌, ◌||◌, List, codes, Option, Some, None, if◌then◌else◌}
 use Rattle.std.specs.Str.{bytes_eq}
-use Rattle.control_calls.specs.Calls.{method_at, place_of}
-use Rattle.control_calls.specs.declared.place.ControlPlace.{ControlPlace}
-use Rattle.control_calls.specs.declared.place.ControlPlace.TheVariants.{Console, Apply, Elsewhere}
+use Rattle.control_flags.specs.Calls.{method_at, place_of}
+use Rattle.control_flags.specs.declared.place.ControlPlace.{ControlPlace}
+use Rattle.control_flags.specs.declared.place.ControlPlace.TheVariants.{Console, Apply, Elsewhere}
 use Rattle.control_desk.specs.declared.reply.Reply.{Reply}
 use Rattle.control_desk.specs.declared.reply.Reply.TheVariants.{OnlyGet, OnlyPost, Unauthorized}
 use Rattle.control_desk.specs.declared.route.Route.{Route}

@@ -23,7 +23,7 @@ use crate::telling::{
 };
 use bytes::Bytes;
 use control_answers::ControlRefusal;
-use control_calls::ControlPlace;
+use control_flags::ControlPlace;
 use http::Request;
 use http_server::Response;
 use jiff::Timestamp;

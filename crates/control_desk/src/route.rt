@@ -3,7 +3,7 @@ ghost use Rattle.std.specs.Prelude.{◌≡◌};
 ghost use Rattle.control_desk.specs.Route.{admitted, other_method, route_at, route_of, served, takes};
 
 use crate::reply::Reply;
-use control_calls::ControlPlace;
+use control_flags::ControlPlace;
 
 /// Where a request leads.
 #[derive(Clone, Copy, Debug, PartialEq, Eq)]

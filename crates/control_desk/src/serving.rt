@@ -15,7 +15,7 @@ use bytes::Bytes;
 use http::{Request, StatusCode};
 use http_server::{Response, Service};
 use ofrep_guards::CountsStatus;
-use recorded_answers::Recording;
+use dated_answers::Recording;
 use snap_share::ShareName;
 use std::alloc::AllocError;
 use std::sync::atomic::Ordering;

@@ -3,7 +3,7 @@ ghost use Rattle.std.specs.Prelude.{◌≡◌, [], false, Ok, Some, IfOk, MatchO
 ghost use Rattle.http_server.specs.Response.{IsBlank};
 ghost use Rattle.log_tallies.specs.Lines.{files_view};
 ghost use Rattle.control_answers.specs.Token.{HasNoMember, IsMember};
-ghost use Rattle.control_calls.specs.Calls.{asked_view, record_of};
+ghost use Rattle.control_flags.specs.Calls.{asked_view, record_of};
 ghost use Rattle.control_desk.specs.Held.{held_view, numbered_of};
 ghost use Rattle.control_desk.specs.Rules.{rules_view};
 ghost use Rattle.control_desk.specs.Bodies.{IsNoPair, IsPair, TellsCheck, TellsDocument, TellsFlags, TellsFlagsOn, TellsHistory, TellsObject, TellsPlan, TellsRecord, names_text, with_passed_over};
@@ -18,7 +18,7 @@ use control_answers::{
     ControlRefusal, check_answer, document_tag, history_answer, plan_answer, record_answer,
     site_counts,
 };
-use control_calls::{RecordAsked, record_asked};
+use control_flags::{RecordAsked, record_asked};
 use control_flags::{FlagsAsked, flags_answer};
 use flag_text::push_string;
 use http::StatusCode;

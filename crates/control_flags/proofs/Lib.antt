@@ -1,3 +1,4 @@
 mod First
 mod Pages
 mod Rows
+mod Texts

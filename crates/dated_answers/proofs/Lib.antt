@@ -1,1 +1,4 @@
+pub mod Crossings
 mod Fields
+pub mod Parts
+pub mod Standing

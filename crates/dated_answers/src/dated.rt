@@ -8,11 +8,11 @@ use crate::date::{DateField, second_of};
 use bytes::Bytes;
 use http::Request;
 use http_server::{Response, Service};
-use recorded_answers::Recording;
+use crate::Recording;
 use std::alloc::{AllocError, Global};
 use std::io;
 use std::time::{Clock, Instant};
-use traffic::{Times, Traffic};
+use crate::{Times, Traffic};
 
 /// A service whose answers have their date, and of which is counted how long they take.
 #[derive(Drop)]

@@ -4,9 +4,9 @@ use Rattle.std.specs.Fmt.{signed_decimal}
 use Rattle.std.specs.Ordering.{int_cmp}
 use Rattle.std.specs.declared.cmp.Ordering.{Ordering}
 use Rattle.std.specs.declared.cmp.Ordering.TheVariants.{Less, Equal}
-use Rattle.exact_decimals.specs.Decimal.{Number, read, read_text, units}
-use Rattle.exact_decimals.specs.declared.fault.DecimalFault.{DecimalFault}
-use Rattle.exact_decimals.specs.declared.fault.DecimalFault.TheVariants.{NotDecimal, OutOfRange}
+use Rattle.decimal_values.specs.Decimal.{Number, read, read_text, units}
+use Rattle.decimal_values.specs.declared.fault.DecimalFault.{DecimalFault}
+use Rattle.decimal_values.specs.declared.fault.DecimalFault.TheVariants.{NotDecimal, OutOfRange}
 use Rattle.flag_text.specs.Shape.{Shape, boolean, whole, other, text, object, Members, no_members, member}
 use Rattle.logic_values.specs.Comparison.{is_same, is_equal, is_less, is_at_most}
 use Rattle.logic_values.specs.Number.{truth_number}

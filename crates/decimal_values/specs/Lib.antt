@@ -1,1 +1,4 @@
+pub mod Decimal
 pub mod Decimals
+pub mod Law
+pub mod View

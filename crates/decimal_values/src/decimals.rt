@@ -1,13 +1,13 @@
 //! Comparison by exact values, where one of the values is a decimal: a number of the context that is not whole.
 ghost use Rattle.std.specs.Prelude.{◌≡◌, option_map};
-ghost use Rattle.exact_decimals.specs.View.{gives, seen};
+ghost use Rattle.decimal_values.specs.View.{gives, seen};
 ghost use Rattle.flag_text.specs.Outcome.{seen_as};
 ghost use Rattle.flag_text.specs.Shape.{member, no_members};
 ghost use Rattle.flag_text.specs.View.{view, members_view};
 ghost use Rattle.decimal_values.specs.Decimals.{at_most, behind_point, equal, exact_value, if_exact, is_before, is_decimal, is_level, is_not_behind, is_readable, less, order_of, same, spelled_value, spelling_in, spelling_of, whole_value};
 ghost use Rattle.logic_values.specs.Views.{seen_view};
 
-use exact_decimals::{Decimal, DecimalFault, order, read, read_text};
+use crate::{Decimal, DecimalFault, order, read, read_text};
 use flag_text::Tree;
 use itoa::Buffer;
 use logic_values::comparison::{is_at_most, is_equal, is_less, is_same};

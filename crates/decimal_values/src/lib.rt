@@ -7,8 +7,41 @@
 //!
 //! Proved, over the definitions of `specs/Decimals`, which stand over those of `exact_decimals`: each gives what its definition gives, for
 //! all values. Nothing takes memory, so no clause makes an exception.
+//!
+//! # Decimal numbers, exactly: no number is rounded, and no float is computed with
+//!
+//! [`read`] reads a number of JSON, [`read_text`] a text of digits and perhaps a point, and [`order`] compares two numbers.
+//!
+//! ```rust
+//! use crate::{order, read, read_text};
+//! use std::cmp::Ordering;
+//!
+//! let cart = read(b"52.10")?;
+//! assert!(rt; order(&cart, &read_text(b"52.1")?) == Ordering::Equal);
+//! assert!(rt; order(&cart, &read(b"5e1")?) == Ordering::Greater);
+//! assert!(rt; order(&cart, &read(b"52.1000000000000000000000000001")?) == Ordering::Less);
+//! ```
+//!
+//! A number has at most 40 significant digits, and its last one an exponent of 10 from -400 to 400: it is kept as these digits and the
+//! zeros behind them, in units of 10^-400. So two numbers are compared by their places and then by their digits.
+//!
+//! Proved, over the definitions of `specs/Decimal`: which number the bytes spell, or the first reason why they spell none; that the
+//! order is that of the numbers' units. The law [`numbers_are_rationals`] says what this amounts to: it is the order of the fractions
+//! that the numerals spell (`Law`). Nothing takes memory, so no clause makes an exception.
 #![tactic(auto)]
 
+mod decimal;
 mod decimals;
+mod digits;
+mod fault;
+mod laws;
+mod numeral;
+mod ordering;
+mod spelling;
 
+pub use decimal::Decimal;
 pub use decimals::{at_most, equal, is_decimal, is_readable, less, same, spelling_of};
+pub use fault::DecimalFault;
+pub use laws::numbers_are_rationals;
+pub use ordering::order;
+pub use spelling::{read, read_text};

@@ -2,10 +2,12 @@ pub mod Branches
 pub mod Buckets
 pub mod Counts
 pub mod Faulting
+pub mod FirstBroken
 pub mod Giving
 pub mod Grammar
 pub mod Keys
 pub mod Matches
+pub mod Names
 pub mod Others
 pub mod Sites
 pub mod Told

@@ -5,6 +5,7 @@ pub mod FoundFlags
 pub mod Laws
 pub mod Outcomes
 pub mod ReadBoth
+pub mod Regression
 pub mod Repeated
 pub mod Views
 pub mod Weights

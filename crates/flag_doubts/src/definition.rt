@@ -3,11 +3,11 @@ ghost use Rattle.std.specs.Prelude.{◌≡◌, ◌<◌, length, map, None, Err, 
 ghost use Rattle.std.specs.List.{list_all};
 ghost use Rattle.json.specs.Json.{object, members, value};
 ghost use Rattle.unread_members.specs.Unread.{reads};
-ghost use Rattle.repeated_names.specs.Passed.{Passes};
+ghost use Rattle.unread_members.specs.Passed.{Passes};
 ghost use Rattle.flag_doubts.specs.FoundFlags.{FindsDefinition};
 
 use json::Reader;
-use repeated_names::{Next, Stop, begin, twin_or, with_members};
+use unread_members::{Next, Stop, begin, twin_or, with_members};
 use std::alloc::Global;
 use unread_members::Reader as Taker;
 

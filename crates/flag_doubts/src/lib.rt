@@ -28,8 +28,32 @@
 //! [`doubts_are_of_evaluations`] ties this to what `flag_resolve` gives (`Laws`): whatever is evaluated is among what was read
 //! off, a targeting that is told of as one that never gives a variant matches for nobody, and each evaluation that reaches
 //! weights that are told of faults, or gives null where each is 0.
+//!
+//! # What a later version of a flag document does to the flags of the one that counts now: a regression, for whoever reads a document
+//! again while others ask for its flags.
+//!
+//! [`regression_in`] gives the first flag that is good now and broken later; or else the first name among the members of the later
+//! text, however deep it stands, that is the key of a flag now and of none later. Such a text has the flag still, and in a place
+//! where nobody reads it: behind a brace too many, or under a member `flags` that another one of the same name replaces. A flag
+//! whose key the later text does not have was taken away on purpose.
+//!
+//! ```rust
+//! use flag_defs::read_flags;
+//! use crate::{Regression, regression_in};
+//!
+//! let now = read_flags(alloc, br#"{"flags":{"a":{"state":"ENABLED","variants":{"on":true}}}}"#)?;
+//! let text = br#"{"flags":{"a":{"state":"ENABLED","variants":{}}}}"#;
+//! let later = read_flags(alloc, text)?;
+//! let Some(Regression::Broken(key)) = regression_in(alloc, &now, &later, text)? else {
+//!     return Err("a flag is broken")?;
+//! };
+//! assert!(rt; key == "a");
+//! ```
+//!
+//! Proved, over the definitions of `specs/`: it gives just that, and none where there is none (`regression_of`).
 #![tactic(auto)]
 
+mod broken;
 mod definition;
 mod doubled;
 mod doubt;
@@ -37,7 +61,9 @@ mod doubting;
 mod flags;
 mod given;
 mod laws;
+mod lost;
 mod reading;
+mod regression;
 mod repeated;
 mod results;
 mod truths;
@@ -48,6 +74,7 @@ pub use doubting::doubts_of;
 pub use given::{Given, given_by};
 pub use laws::doubts_are_of_evaluations;
 pub use reading::{ReadDocument, read_with_names};
+pub use regression::{Regression, regression_in};
 pub use repeated::{Repeated, repeated_in};
 pub use results::has_truth;
 pub use truths::literal_truth;

@@ -1,15 +1,15 @@
 //! What stands more than once in a document, and whether each member of it is read.
 ghost use Rattle.std.specs.Prelude.{◌≡◌, length, None, Some, Err, IfOk};
 ghost use Rattle.json.specs.Json.{document, max_depth, members, object, value};
-ghost use Rattle.repeated_names.specs.Passed.{Passes};
-ghost use Rattle.repeated_names.specs.Repeated.{json_of};
+ghost use Rattle.unread_members.specs.Passed.{Passes};
+ghost use Rattle.unread_members.specs.Repeated.{json_of};
 ghost use Rattle.flag_doubts.specs.FoundFlags.{FindsFlags};
 ghost use Rattle.flag_doubts.specs.Repeated.{Finds};
 
 use crate::definition::takes_each;
 use crate::flags::{RepeatedFlags, in_flags, none};
 use json::{Reader, Scratch};
-use repeated_names::{Next, Stop, begin, member_place, place_in, twin_or};
+use unread_members::{Next, Stop, begin, member_place, place_in, twin_or};
 use simdutf8::basic;
 use std::alloc::{AllocError, Global};
 use std::collections::BTreeMap;

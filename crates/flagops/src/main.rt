@@ -22,7 +22,7 @@ use flagops_shell::{Console, want};
 use flagops_streams::open_standard;
 use line_batches::ReadInlet;
 use outputs::{StandardOutput, tell_failure};
-use persistent_io::PersistentInput;
+use line_batches::PersistentInput;
 use progress::{BesideLine, Counted, Progress, TerminalLine};
 use stack::on_stack;
 use stamped_lines::StampedLines;

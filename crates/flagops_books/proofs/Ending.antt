@@ -28,7 +28,7 @@ use Rattle.flagops_shell.specs.Report.{Report, outcome_view}
 use Rattle.flagops_shell.specs.declared.outcome.Outcome.{Outcome}
 use Rattle.flagops_shell.specs.declared.refused.Remark.{Remark}
 use Rattle.flagops_shell.specs.declared.refused.Remark.TheVariants.{Lines}
-use Rattle.note_books.specs.Notes.{Notes, no_notes}
+use Rattle.note_lines.specs.Notes.{Notes, no_notes}
 use Rattle.flagops_books.proofs.Following.{both_known, where_known}
 
 -- ---- what the files come to

@@ -22,11 +22,11 @@ use Rattle.flagops_books.specs.Refusal.{Refused, is_want}
 use Rattle.flagops_files.proofs.Told.{AreLeft, first_of_left, left_after}
 use Rattle.flagops_files.specs.Told.{AllSucceed, Attempt, NamesFirst, NamesSubject, attempt, file}
 use Rattle.flagops_shell.specs.Diagnostic.{Says}
-use Rattle.note_books.specs.Blank.{begins_book}
-use Rattle.note_books.specs.Lines.{Taken}
-use Rattle.note_books.specs.Notes.{IsBookOf, Notes, both, no_notes, notes_in}
-use Rattle.note_books.specs.declared.fault.NotesFault.{NotesFault}
-use Rattle.note_books.specs.declared.fault.NotesFault.TheVariants as lines
+use Rattle.note_lines.specs.Blank.{begins_book}
+use Rattle.note_lines.specs.Lines.{Taken}
+use Rattle.note_lines.specs.Notes.{IsBookOf, Notes, both, no_notes, notes_in}
+use Rattle.note_lines.specs.declared.fault.NotesFault.{NotesFault}
+use Rattle.note_lines.specs.declared.fault.NotesFault.TheVariants as lines
 
 not_both : {X E Y : Type 0} {x : X} {e : E} → Ok x ≡ Err e → Y
 not_both h = cc

@@ -3,7 +3,7 @@ use Rattle.std.proofs.Common.{◌≡◌, ◌==◌, ◌||◌, ℕ, Bool, List, Op
 use Rattle.std.proofs.lemmas.Bool.{eqb-true}
 use Rattle.std.specs.Prelude.{Result, Ok, Err, if◌then◌else◌}
 use Rattle.book_core.specs.Book.{Contents}
-use Rattle.book_losses.specs.Losses.{losses_at}
+use Rattle.flagops_files.specs.Losses.{losses_at}
 use Rattle.flagops_books.specs.Report.{IsStored, replaces_at, unless_lost}
 use Rattle.flagops_books.specs.Calls.{book_calls, checks_losses, saves_book}
 use Rattle.flagops_books.specs.Refusal.{ComesFrom, GivesOne, Refused, call_of, is_want, loads_book}

@@ -21,13 +21,13 @@ use Rattle.flagops_files.specs.declared.refusal.Refusal.{Refusal}
 use Rattle.flagops_files.specs.declared.refusal.Refusal.TheVariants.{Load}
 use Rattle.line_batches.proofs.Cutting.{some_part}
 use Rattle.line_batches.specs.Lines.{parts_of}
-use Rattle.note_books.specs.Blank.{begins_book, is_blank, is_white}
-use Rattle.note_books.specs.Lines.{IsLineOf, Taken, Takes, ended}
-use Rattle.note_books.specs.Notes.{Notes}
-use Rattle.note_books.specs.declared.fault.NotesFault.{NotesFault}
-use Rattle.note_books.specs.declared.fault.NotesFault.TheVariants as lines
+use Rattle.note_lines.specs.Blank.{begins_book, is_blank, is_white}
+use Rattle.note_lines.specs.Lines.{IsLineOf, Taken, Takes, ended}
+use Rattle.note_lines.specs.Notes.{Notes}
+use Rattle.note_lines.specs.declared.fault.NotesFault.{NotesFault}
+use Rattle.note_lines.specs.declared.fault.NotesFault.TheVariants as lines
 use Rattle.note_lines.specs.Note.{Noted, note_line}
-use Rattle.record_beginnings.proofs.Books.{no_book}
+use Rattle.flagops_files.proofs.Books.{no_book}
 
 not_both : {X E Y : Type 0} {x : X} {e : E} → Ok x ≡ Err e → Y
 not_both h = cc

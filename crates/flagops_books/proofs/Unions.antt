@@ -19,13 +19,13 @@ use Rattle.flagops_files.specs.Question.{notes_bytes_at}
 use Rattle.flagops_books.specs.Refusal.{is_want, read_refusal, Refused}
 use Rattle.flagops_books.specs.declared.refusal.BookRefusal.{BookRefusal}
 use Rattle.flagops_books.specs.declared.refusal.BookRefusal.TheVariants.{FullBook, Load, WantOfMemory}
-use Rattle.note_books.specs.Blank.{begins_book}
+use Rattle.note_lines.specs.Blank.{begins_book}
 use Rattle.line_batches.specs.Lines.{parts_of}
-use Rattle.note_books.specs.Lines.{Taken, Takes, TakesNotes}
-use Rattle.note_books.specs.Notes.{HaveNoBook, IsBookOf, Notes, both, notes_in}
-use Rattle.note_books.specs.declared.fault.NotesFault.{NotesFault}
-use Rattle.note_books.specs.declared.fault.NotesFault.TheVariants as lines
-use Rattle.note_books.specs.declared.taking.NotesTaken.{NotesTaken}
+use Rattle.note_lines.specs.Lines.{Taken, Takes, TakesNotes}
+use Rattle.note_lines.specs.Notes.{HaveNoBook, IsBookOf, Notes, both, notes_in}
+use Rattle.note_lines.specs.declared.fault.NotesFault.{NotesFault}
+use Rattle.note_lines.specs.declared.fault.NotesFault.TheVariants as lines
+use Rattle.note_lines.specs.declared.taking.NotesTaken.{NotesTaken}
 use Rattle.flagops_books.proofs.Naming.{want_alone}
 
 not_both : {X E Y : Type 0} {x : X} {e : E} → Ok x ≡ Err e → Y

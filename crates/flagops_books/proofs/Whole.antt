@@ -13,13 +13,13 @@ use Rattle.flagops_files.specs.Question.{notes_bytes_at}
 use Rattle.flagops_books.specs.declared.refusal.BookRefusal.{BookRefusal}
 use Rattle.flagops_files.specs.declared.refusal.Refusal.{Refusal}
 use Rattle.line_batches.specs.Lines.{parts_of}
-use Rattle.note_books.proofs.Noted.{notes_its_lines}
-use Rattle.note_books.specs.Blank.{begins_book}
-use Rattle.note_books.specs.Law.{HasNote}
-use Rattle.note_books.specs.Lines.{Taken, Takes}
-use Rattle.note_books.specs.Notes.{Notes, both, no_notes, notes_in}
-use Rattle.note_books.specs.declared.fault.NotesFault.{NotesFault}
-use Rattle.note_books.specs.declared.fault.NotesFault.TheVariants as lines
+use Rattle.note_lines.proofs.Noted.{notes_its_lines}
+use Rattle.note_lines.specs.Blank.{begins_book}
+use Rattle.note_lines.specs.BookLaw.{HasNote}
+use Rattle.note_lines.specs.Lines.{Taken, Takes}
+use Rattle.note_lines.specs.Notes.{Notes, both, no_notes, notes_in}
+use Rattle.note_lines.specs.declared.fault.NotesFault.{NotesFault}
+use Rattle.note_lines.specs.declared.fault.NotesFault.TheVariants as lines
 
 not_both : {X E Y : Type 0} {x : X} {e : E} → Ok x ≡ Err e → Y
 not_both h = cc

@@ -9,7 +9,7 @@ use Rattle.flagops_files.specs.Question.{replaceable_at}
 use Rattle.flagops_files.specs.Told.{attempt, attempt_by, attempt_of, file}
 use Rattle.flagops_shell.specs.Files.{Holding}
 use Rattle.flagops_shell.specs.Outcomes.{refused_by}
-use Rattle.note_books.specs.Notes.{no_notes}
+use Rattle.note_lines.specs.Notes.{no_notes}
 
 -- the files that are read behind these others, each with what it notes beside them
 abbrev pub united_attempts : Holding → Bool → List (List ℕ) → List (List ℕ) → Attempts

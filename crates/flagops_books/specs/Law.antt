@@ -11,9 +11,9 @@ use Rattle.flagops_files.specs.Question.{if_readable, max_book}
 use Rattle.flagops_files.specs.declared.refusal.Refusal.{Refusal}
 use Rattle.flagops_files.specs.declared.refusal.Refusal.TheVariants.{Load}
 use Rattle.line_batches.specs.Lines.{parts_of}
-use Rattle.note_books.specs.Blank.{begins_book}
-use Rattle.note_books.specs.Law.{HasNote}
-use Rattle.note_books.specs.Notes.{Notes, IsBookOf, no_notes, notes_in}
+use Rattle.note_lines.specs.Blank.{begins_book}
+use Rattle.note_lines.specs.BookLaw.{HasNote}
+use Rattle.note_lines.specs.Notes.{Notes, IsBookOf, no_notes, notes_in}
 
 -- a book notes the inputs that it has
 abbrev pub BookNotes : Result Contents BookFileFault → PageName → List ℕ → Type 0

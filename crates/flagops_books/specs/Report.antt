@@ -3,7 +3,7 @@ use Rattle.flagops_files.specs.declared.refusal.Refusal.{Refusal}
 use Rattle.std.specs.Prelude.{◌≡◌, ◌⊎◌, ℕ, ◌==◌, Bool, true, false, if◌then◌else◌, List, [], ◌++◌, length, codes, decimal, Option, Some, IfSome, Result, Ok, Err, IsOk}
 use Rattle.book_core.specs.Book.{Contents, input_count}
 use Rattle.book_core.specs.Printing.{book_text}
-use Rattle.book_losses.specs.Losses.{losses_at}
+use Rattle.flagops_files.specs.Losses.{losses_at}
 use Rattle.flagops_books.specs.Attempts.{book_attempts}
 use Rattle.flagops_books.specs.Stray.{stray_report}
 use Rattle.flagops_books.specs.Told.{NamesFile, is_told}
@@ -18,7 +18,7 @@ use Rattle.flagops_books.specs.declared.refusal.BookRefusal.TheVariants.{Load, W
 use Rattle.flagops_files.specs.Told.{NamesFirst}
 use Rattle.flagops_shell.specs.Diagnostic.{Says, remark_text}
 use Rattle.flagops_shell.specs.declared.refused.Remark.{Remark}
-use Rattle.note_books.specs.Notes.{Notes, IsBookOf, no_notes}
+use Rattle.note_lines.specs.Notes.{Notes, IsBookOf, no_notes}
 
 -- how many inputs the book has, and of how many files it is
 abbrev pub counts_text : ℕ → ℕ → List ℕ

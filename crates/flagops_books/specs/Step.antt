@@ -11,8 +11,8 @@ use Rattle.flagops_shell.specs.Report.{outcome_view}
 use Rattle.flagops_shell.specs.declared.outcome.Outcome.{Outcome}
 use Rattle.flagops_shell.specs.Diagnostic.{Says}
 use Rattle.flagops_books.specs.declared.refusal.BookRefusal.{BookRefusal}
-use Rattle.note_books.specs.Notes.{Notes, IsBookOf}
-use Rattle.note_books.specs.declared.taking.NotesTaken.{NotesTaken}
+use Rattle.note_lines.specs.Notes.{Notes, IsBookOf}
+use Rattle.note_lines.specs.declared.taking.NotesTaken.{NotesTaken}
 
 -- the report of a line that is refused, of whose file a person is told
 abbrev pub IsStop : List ℕ → ℕ → Outcome → Type 0

@@ -14,11 +14,11 @@ use Rattle.flagops_books.specs.Refusal.{read_refusal}
 use Rattle.flagops_books.specs.declared.refusal.BookRefusal.{BookRefusal}
 use Rattle.flagops_books.specs.declared.refusal.BookRefusal.TheVariants as refusal
 use Rattle.line_batches.specs.Lines.{parts_of}
-use Rattle.note_books.specs.Blank.{begins_book}
-use Rattle.note_books.specs.Lines.{Taken, Takes}
-use Rattle.note_books.specs.Notes.{Notes, IsBookOf, HaveNoBook, both, notes_in}
-use Rattle.note_books.specs.declared.fault.NotesFault.{NotesFault}
-use Rattle.note_books.specs.declared.fault.NotesFault.TheVariants as lines
+use Rattle.note_lines.specs.Blank.{begins_book}
+use Rattle.note_lines.specs.Lines.{Taken, Takes}
+use Rattle.note_lines.specs.Notes.{Notes, IsBookOf, HaveNoBook, both, notes_in}
+use Rattle.note_lines.specs.declared.fault.NotesFault.{NotesFault}
+use Rattle.note_lines.specs.declared.fault.NotesFault.TheVariants as lines
 
 -- what files come to: what they note, and what a person is told of the lines that were passed over in each; or the path of the
 -- first file with a line that is refused, and the line's number

@@ -1,6 +1,6 @@
 //! Files that are loaded and written for the command `book`, where each refusal is one of the command.
 ghost use Rattle.std.specs.Prelude.{◌≡◌, ◌||◌, false, IfErr, IfSome, OnErr, OnOk};
-ghost use Rattle.book_losses.specs.Losses.{losses_at};
+ghost use Rattle.flagops_files.specs.Losses.{losses_at};
 ghost use Rattle.flagops_books.specs.Refusal.{ComesFrom, GivesUnlessWant, TellsOf, is_file_fault, is_want, loads_book, stores_file, unwritable};
 ghost use Rattle.flagops_books.specs.declared.refusal.BookRefusal.TheVariants.{Load};
 ghost use Rattle.flagops_files.specs.Question.{notes_bytes_at, replaceable_at};
@@ -10,7 +10,7 @@ ghost use Rattle.flagops_shell.specs.Outcomes.{refused_by};
 
 use crate::refusal::Refused;
 use book_core::Book;
-use book_losses::losses_at;
+use flagops_files::losses_at;
 use flagops_shell::FileSet;
 use std::alloc::Global;
 

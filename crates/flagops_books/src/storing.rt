@@ -19,7 +19,7 @@ use crate::loading::{load_losses, store};
 use crate::refusal::{BookRefusal, Refused, out_of_memory};
 use crate::uniting::Gathered;
 use book_core::{Book, print_book};
-use book_losses::of_losses;
+use flagops_files::of_losses;
 use flagops_shell::{FileSet, Outcome, Remark, Status};
 use std::alloc::{AllocError, Global};
 

@@ -11,7 +11,7 @@ ghost use Rattle.flagops_books.specs.Refusal.{ComesFrom, GivesUnlessWant, call_o
 ghost use Rattle.flagops_files.specs.Told.{file};
 ghost use Rattle.flagops_shell.specs.Diagnostic.{Says};
 ghost use Rattle.file_diagnostics.specs.Named.{Names};
-ghost use Rattle.note_books.specs.Notes.{IsBookOf, Notes, no_notes};
+ghost use Rattle.note_lines.specs.Notes.{IsBookOf, Notes, no_notes};
 
 use crate::lines::{stray_line, stray_remark, with_passed};
 use crate::loading::load_notes;
@@ -20,7 +20,7 @@ use book_core::{Book, BookFault, read_book};
 use file_diagnostics::{Ends, of_book, of_full_book};
 use flagops_files::Refusal;
 use flagops_shell::{FileSet, NOTES_PIECE, Outcome, Remark, Status, ends_line};
-use note_books::{NotesFault, NotesTaken, begins_book, take_notes};
+use note_lines::{NotesFault, NotesTaken, begins_book, take_notes};
 use std::alloc::{AllocError, Global};
 
 /// What files note, and what a person is told of each with lines that were passed over.

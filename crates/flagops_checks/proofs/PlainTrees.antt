@@ -26,7 +26,7 @@ use Rattle.unread_members.specs.declared.reader.Reader.{Reader}
 use Rattle.unread_members.specs.declared.reader.Reader.TheVariants as reader
 use Rattle.flag_defs.specs.Document.{or_no_members}
 use Rattle.flag_doubts.specs.AllRead.{are_all_read}
-use Rattle.repeated_names.specs.Repeated.{json_of}
+use Rattle.unread_members.specs.Repeated.{json_of}
 use Rattle.flagops_checks.proofs.Plainly.{ArePlainFlags, Each, IsPlainDefinition, IsPlainDocument, IsPlainMember, IsRead, OfObject, document_stays, same_document}
 use Rattle.flagops_checks.specs.Judged.{definition_of, is_unread, or_null, tree_in}
 

@@ -9,7 +9,7 @@ use Rattle.unread_members.specs.Unread.{reads}
 use Rattle.unread_members.specs.declared.reader.Reader.{Reader}
 use Rattle.unread_members.specs.declared.reader.Reader.TheVariants as reader
 use Rattle.flag_doubts.specs.AllRead.{are_all_read, are_definitions_read, are_flags_read, takes_each}
-use Rattle.repeated_names.specs.Repeated.{member_names}
+use Rattle.unread_members.specs.Repeated.{member_names}
 use Rattle.flag_doubts.specs.Doubled.{members_in}
 
 -- ---- what was told of the names, member by member

@@ -1,6 +1,6 @@
 -- What is known of a document by the names in its text: for private clauses.
 use Rattle.std.specs.Prelude.{◌≡◌, ℕ, Bool, List, true}
-use Rattle.repeated_names.specs.Repeated.{json_of}
+use Rattle.unread_members.specs.Repeated.{json_of}
 use Rattle.flag_doubts.specs.Repeated.{Finds}
 use Rattle.flag_text.specs.Shape.{Shape, is_tidy}
 use Rattle.flag_text.specs.View.{view}

@@ -9,7 +9,7 @@ use flag_defs::Flag;
 use flag_doubts::Doubt;
 use flag_text::Tree;
 use flagops_files::quoted;
-use repeated_names::within;
+use unread_members::within;
 use std::alloc::{AllocError, Global};
 use unread_members::Reader;
 

@@ -12,8 +12,8 @@ use Rattle.std.proofs.lemmas.Map.Text.{is_eq-slice_cmp}
 use Rattle.std.proofs.lemmas.Slice.Eq.{bytes_eq-Decides}
 use Rattle.book_core.specs.Book.{Inputs}
 use Rattle.book_core.specs.Page.{bytes_cmp}
-use Rattle.transport_instance.proofs.Joined.{rise-nil}
-use Rattle.transport_instance.proofs.Members.{Stands, contains_from_place, place_from_contains, sorted_unique}
+use Rattle.transport_core.proofs.Joined.{rise-nil}
+use Rattle.transport_core.proofs.Members.{Stands, contains_from_place, place_from_contains, sorted_unique}
 use Rattle.rule_text.specs.Texts.{texts_view}
 use Rattle.flagops_commands.specs.Price.{are_taken, exposed}
 use Rattle.flagops_commands.proofs.Gathered.{gathered, gathered-rise, gathered-entered, gathered-came, none_stands, now, exposed-moved}

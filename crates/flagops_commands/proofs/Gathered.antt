@@ -24,9 +24,9 @@ use Rattle.flagops_commands.specs.declared.refusal.ListedRefusal.{ListedRefusal}
 use Rattle.flagops_commands.specs.declared.refusal.ListedRefusal.TheVariants.{Note}
 use Rattle.rule_text.specs.Texts.{texts_view}
 use Rattle.flagops_commands.specs.Price.{are_short, are_taken, exposed, key_page, noted_from}
-use Rattle.transport_instance.proofs.Joined.{rise-nil}
-use Rattle.transport_instance.proofs.Members.{Stands, contains_from_place, place_from_contains, sorted_unique}
-use Rattle.transport_instance.proofs.Placed.{name_ties}
+use Rattle.transport_core.proofs.Joined.{rise-nil}
+use Rattle.transport_core.proofs.Members.{Stands, contains_from_place, place_from_contains, sorted_unique}
+use Rattle.transport_core.proofs.Placed.{name_ties}
 
 -- a text, without where it lies
 abbrev pub now : Bor (List ℕ) → List ℕ

@@ -4,7 +4,7 @@ use Rattle.std.proofs.lemmas.Bool.{eqb-true}
 use Rattle.std.specs.Prelude.{Result, Ok, Err, if◌then◌else◌}
 use Rattle.book_core.specs.Book.{Contents}
 use Rattle.book_core.specs.Reading.{book_of}
-use Rattle.book_losses.specs.Losses.{losses_at}
+use Rattle.flagops_files.specs.Losses.{losses_at}
 use Rattle.flagops_drive.specs.Driven.{DriveOutput}
 use Rattle.flagops_commands.specs.Drive.{IsSaved, IsWritten, replaces_at, unless_lost}
 use Rattle.flagops_commands.specs.Calls.{checks_losses, drive_calls, writes_book}

@@ -2,7 +2,7 @@
 use Rattle.std.specs.Prelude.{◌≡◌, ◌⊎◌, ◌||◌, ℕ, ◌==◌, Bool, List, true, false, if◌then◌else◌, Option, Some, None, is_some, IfSome, Result, Ok, Err, IsErrAnd, IsOk, IsOkAnd}
 use Rattle.book_core.specs.Book.{Contents}
 use Rattle.book_core.specs.Reading.{book_of}
-use Rattle.book_losses.specs.Losses.{losses_at}
+use Rattle.flagops_files.specs.Losses.{losses_at}
 use Rattle.flag_resolve.specs.Floats.{Marked}
 use Rattle.flag_text.specs.Shape.{Shape}
 use Rattle.flagops_drive.specs.Asks.{asks_of}

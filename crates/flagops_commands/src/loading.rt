@@ -1,6 +1,6 @@
 //! Files that are loaded and written for a listed command, where each refusal is one of these commands.
 ghost use Rattle.std.specs.Prelude.{◌≡◌, ◌||◌, false, true, IfErr, IfOk, IfSome, OnErr, OnOk};
-ghost use Rattle.book_losses.specs.Losses.{losses_at};
+ghost use Rattle.flagops_files.specs.Losses.{losses_at};
 ghost use Rattle.flag_defs.specs.Floats.{marked_view};
 ghost use Rattle.flag_text.specs.Shape.{is_whole};
 ghost use Rattle.flag_text.specs.View.{view};
@@ -14,7 +14,7 @@ ghost use Rattle.rule_text.specs.Choosing.{choice_view};
 
 use crate::refusal::Refused;
 use book_core::Book;
-use book_losses::losses_at;
+use flagops_files::losses_at;
 use bucket_core::Rule;
 use flag_defs::Flags;
 use flag_text::Tree;

@@ -5,8 +5,8 @@ use Rattle.std.specs.Prelude.{IfOk, OnOk}
 use Rattle.std.proofs.lemmas.List.{drop_all}
 use Rattle.book_core.specs.Page.{PageName}
 use Rattle.bucket_core.specs.Rule.{Entries}
-use Rattle.page_switches.specs.Found.{counted}
-use Rattle.page_switches.specs.Rules.{Rules, both}
+use Rattle.rule_switches.specs.Found.{counted}
+use Rattle.rule_switches.specs.Rules.{Rules, both}
 use Rattle.rule_switches.specs.Switches.{Rows}
 use Rattle.picture.specs.Edits.{edit_height, edit_told, no_page_height, no_page_told}
 use Rattle.picture.specs.Spelling.{Adds, Continues, IsBody, Pictures, depth}

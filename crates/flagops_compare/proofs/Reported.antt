@@ -28,8 +28,8 @@ use Rattle.flagops_shell.specs.Report.{outcome_view}
 use Rattle.flagops_shell.specs.declared.outcome.Outcome.{Outcome}
 use Rattle.flagops_shell.specs.declared.refused.Remark.{Remark}
 use Rattle.flagops_shell.specs.declared.refused.Remark.TheVariants.{Short, Lines}
-use Rattle.page_switches.specs.Found.{PageFound}
-use Rattle.page_switches.specs.declared.fault.TallyFault.TheVariants as tally
+use Rattle.rule_switches.specs.Found.{PageFound}
+use Rattle.rule_switches.specs.declared.fault.TallyFault.TheVariants as tally
 use Rattle.picture.specs.Spelling.{IsPicture, Pictures}
 use Rattle.picture.specs.declared.words.Title.TheVariants as title
 

@@ -4,9 +4,9 @@ use Rattle.flag_defs.specs.Document.{Definitions}
 use Rattle.flagops_compare.specs.Loaded.{Loaded}
 use Rattle.flagops_files.specs.declared.evidence.Evidence.{Evidence}
 use Rattle.flagops_files.specs.declared.evidence.Evidence.TheVariants.{Book, Tally}
-use Rattle.page_switches.specs.Found.{AreFound, PageFound, asked}
-use Rattle.page_switches.specs.Tallied.{AreTallyFound}
-use Rattle.page_switches.specs.declared.fault.TallyFault.{TallyFault}
+use Rattle.rule_switches.specs.Found.{AreFound, PageFound, asked}
+use Rattle.rule_switches.specs.Tallied.{AreTallyFound}
+use Rattle.rule_switches.specs.declared.fault.TallyFault.{TallyFault}
 
 -- on each page of the book that is asked for, or on that of the tally
 abbrev pub IsComparedBy : Definitions → Definitions → Option (List ℕ) → Evidence → Result (List PageFound) TallyFault → Type 0

@@ -4,9 +4,9 @@ use Rattle.book_core.specs.Page.{PageName}
 use Rattle.clap.specs.Walk.{Text}
 use Rattle.flag_defs.specs.Document.{Definitions}
 use Rattle.flagops_shell.specs.Files.{Holding, KeepsOthers, Stores}
-use Rattle.page_switches.specs.Found.{Found, PageFound, counted, left}
-use Rattle.page_switches.specs.Rules as rules
-use Rattle.page_switches.specs.Rules.{Rules, rules_on}
+use Rattle.rule_switches.specs.Found.{Found, PageFound, counted, left}
+use Rattle.rule_switches.specs.Rules as rules
+use Rattle.rule_switches.specs.Rules.{Rules, rules_on}
 use Rattle.picture.specs.Edits.{edit_height, edit_told, no_page_height, no_page_told}
 use Rattle.picture.specs.Spelling.{IsPicture, Pictures}
 use Rattle.picture.specs.declared.words.Title.TheVariants as title

@@ -4,9 +4,9 @@ use Rattle.book_core.specs.Page.{PageName}
 use Rattle.flag_text.specs.Printing.{text_of}
 use Rattle.flag_text.specs.Shape.{text}
 use Rattle.flagops_compare.specs.Reasons.{reason_name, side_name}
-use Rattle.page_switches.specs.Found.{Found, PageFound, all_inputs, all_left, all_switches, counted, left}
-use Rattle.page_switches.specs.declared.edit.Side.{Side}
-use Rattle.page_switches.specs.declared.fault.NoRule.{NoRule}
+use Rattle.rule_switches.specs.Found.{Found, PageFound, all_inputs, all_left, all_switches, counted, left}
+use Rattle.rule_switches.specs.declared.page_edit.Side.{Side}
+use Rattle.rule_switches.specs.declared.fault.NoRule.{NoRule}
 use Rattle.price_core.specs.Pricing.{Pair}
 use Rattle.rule_switches.specs.Switches.{Rows}
 

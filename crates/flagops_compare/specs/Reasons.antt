@@ -1,9 +1,9 @@
 -- The words and the names for why a page has no rules to compare.
 use Rattle.std.specs.Prelude.{ℕ, List, codes}
-use Rattle.page_switches.specs.declared.edit.Side.{Side}
-use Rattle.page_switches.specs.declared.edit.Side.TheVariants.{Old, New}
-use Rattle.page_switches.specs.declared.fault.NoRule.{NoRule}
-use Rattle.page_switches.specs.declared.fault.NoRule.TheVariants.{WantOfMemory, NoFlag, NoSite, OtherExpression, Computed, NoWeight, TooHeavy}
+use Rattle.rule_switches.specs.declared.page_edit.Side.{Side}
+use Rattle.rule_switches.specs.declared.page_edit.Side.TheVariants.{Old, New}
+use Rattle.rule_switches.specs.declared.fault.NoRule.{NoRule}
+use Rattle.rule_switches.specs.declared.fault.NoRule.TheVariants.{WantOfMemory, NoFlag, NoSite, OtherExpression, Computed, NoWeight, TooHeavy}
 
 abbrev pub side_name : Side → List ℕ
 side_name Old = codes "old"

@@ -17,9 +17,9 @@ use Rattle.flagops_shell.specs.Diagnostic.{Says}
 use Rattle.flagops_shell.specs.Files.{Holding}
 use Rattle.flagops_shell.specs.Report.{Report}
 use Rattle.flagops_shell.specs.declared.refused.Remark.{Remark}
-use Rattle.page_switches.specs.Found.{PageFound, all_left}
-use Rattle.page_switches.specs.declared.fault.TallyFault.{TallyFault}
-use Rattle.page_switches.specs.declared.fault.TallyFault.TheVariants as tally
+use Rattle.rule_switches.specs.Found.{PageFound, all_left}
+use Rattle.rule_switches.specs.declared.fault.TallyFault.{TallyFault}
+use Rattle.rule_switches.specs.declared.fault.TallyFault.TheVariants as tally
 use Rattle.picture.specs.Spelling.{Pictures}
 
 -- what the command may come to

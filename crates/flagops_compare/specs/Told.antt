@@ -8,11 +8,11 @@ use Rattle.flag_defs.specs.Document.{Definitions}
 use Rattle.flagops_compare.specs.Printed.{quoted}
 use Rattle.flagops_compare.specs.Reasons.{reason_name, reason_words}
 use Rattle.flagops_compare.specs.Words.{Comparing}
-use Rattle.key_diagnostics.specs.Known.{known_words}
-use Rattle.page_switches.specs.Found.{Found, PageFound, counted, left}
-use Rattle.page_switches.specs.declared.edit.Side.{Side}
-use Rattle.page_switches.specs.declared.edit.Side.TheVariants.{Old, New}
-use Rattle.page_switches.specs.declared.fault.NoRule.{NoRule}
+use Rattle.flagops_files.specs.Known.{known_words}
+use Rattle.rule_switches.specs.Found.{Found, PageFound, counted, left}
+use Rattle.rule_switches.specs.declared.page_edit.Side.{Side}
+use Rattle.rule_switches.specs.declared.page_edit.Side.TheVariants.{Old, New}
+use Rattle.rule_switches.specs.declared.fault.NoRule.{NoRule}
 
 -- the path of the one document or of the other
 abbrev pub path_of : List ℕ → List ℕ → Side → List ℕ

@@ -18,7 +18,7 @@ ghost use Rattle.flagops_shell.specs.Diagnostic.{Says};
 ghost use Rattle.flagops_shell.specs.Ending.{KeepsUnlessDone};
 ghost use Rattle.flagops_shell.specs.Files.{KeepsOthers, Stores};
 ghost use Rattle.flagops_shell.specs.Report.{outcome_view, status_number};
-ghost use Rattle.page_switches.specs.Found.{AreSums, pages_view};
+ghost use Rattle.rule_switches.specs.Found.{AreSums, pages_view};
 
 use crate::asked::Comparing;
 use crate::comparing::compared;
@@ -31,7 +31,7 @@ use crate::words::read_comparing;
 use flag_defs::Flags;
 use flagops_files::{file_line, store};
 use flagops_shell::{Command, FileSet, Outcome, Refused, Remark, Status};
-use page_switches::{Comparison, Edit, PageFound, TallyFault};
+use rule_switches::{Comparison, Edit, PageFound, TallyFault};
 use std::alloc::{AllocError, Global};
 use std::convert::AsStr;
 use std::thread::Threads;

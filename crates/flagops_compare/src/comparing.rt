@@ -2,10 +2,10 @@
 ghost use Rattle.std.specs.Prelude.{◌≡◌, option_copied};
 ghost use Rattle.flag_defs.specs.Flags.{flags_view};
 ghost use Rattle.flagops_compare.specs.Compared.{IsComparedBy};
-ghost use Rattle.page_switches.specs.Tallied.{ComparesTally};
+ghost use Rattle.rule_switches.specs.Tallied.{ComparesTally};
 
 use flagops_files::Evidence;
-use page_switches::{Comparison, Edit, TallyFault, compare_book, compare_tally};
+use rule_switches::{Comparison, Edit, TallyFault, compare_book, compare_tally};
 use std::alloc::Global;
 
 /// What an edit does on each page of a book that is asked for, or on that of a tally.

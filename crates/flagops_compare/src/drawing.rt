@@ -2,13 +2,13 @@
 ghost use Rattle.std.specs.Prelude.{◌≡◌, IfOk, string_bytes};
 ghost use Rattle.flag_defs.specs.Flags.{flags_view};
 ghost use Rattle.flagops_compare.specs.Drawn.{compared_drawn, drawn_on, or_no_page, page_drawn, pages_drawn};
-ghost use Rattle.page_switches.specs.Found.{counted, page_view, pages_view};
-ghost use Rattle.page_switches.specs.Rules.{rules_on, rules_view};
+ghost use Rattle.rule_switches.specs.Found.{counted, page_view, pages_view};
+ghost use Rattle.rule_switches.specs.Rules.{rules_on, rules_view};
 ghost use Rattle.rule_switches.specs.Switches.{rows_view};
 ghost use Rattle.picture.specs.Spelling.{Continues, IsBody, IsPicture, Pictures, depth};
 
 use book_core::Page;
-use page_switches::{Edit, Found, PageFound, Rules, rules_on};
+use rule_switches::{Edit, Found, PageFound, Rules, rules_on};
 use picture::{EditedRule, Title, draw_edit, draw_no_page, page};
 use rule_switches::Switch;
 use std::alloc::{AllocError, Global};

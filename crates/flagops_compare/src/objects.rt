@@ -1,13 +1,13 @@
 //! What is printed of pages as JSON.
 ghost use Rattle.std.specs.Prelude.{◌≡◌, ◌++◌, false, IfOk, OnOk, string_bytes};
 ghost use Rattle.flagops_compare.specs.Printed.{comma_if, left_object, object_on, page_opening, row_object, row_objects, sum_object};
-ghost use Rattle.page_switches.specs.Found.{page_view};
+ghost use Rattle.rule_switches.specs.Found.{page_view};
 ghost use Rattle.rule_switches.specs.Switches.{row_view, rows_view};
 
 use crate::reasons::{reason_name, side_name};
 use book_core::Page;
 use flagops_files::quoted;
-use page_switches::{Found, NoRule, PageFound, Side};
+use rule_switches::{Found, NoRule, PageFound, Side};
 use rule_switches::Switch;
 use std::alloc::{AllocError, Global};
 

@@ -1,13 +1,13 @@
 //! What is printed of pages.
 ghost use Rattle.std.specs.Prelude.{◌≡◌, ◌++◌, IfOk, OnOk, flat_map, string_bytes};
 ghost use Rattle.flagops_compare.specs.Printed.{left_line, lines_on, page_line, page_text, report_text, row_line, row_lines, sum_lines, sum_text};
-ghost use Rattle.page_switches.specs.Found.{AreSums, found_view, page_view, pages_view};
+ghost use Rattle.rule_switches.specs.Found.{AreSums, found_view, page_view, pages_view};
 ghost use Rattle.rule_switches.specs.Switches.{row_view, rows_view};
 
 use crate::objects::{push_object, sum_object};
 use book_core::Page;
 use flagops_files::quoted;
-use page_switches::{Comparison, Found, PageFound};
+use rule_switches::{Comparison, Found, PageFound};
 use rule_switches::Switch;
 use std::alloc::{AllocError, Global};
 

@@ -2,7 +2,7 @@
 ghost use Rattle.std.specs.Prelude.{◌≡◌};
 ghost use Rattle.flagops_compare.specs.Reasons.{reason_name, reason_words, side_name};
 
-use page_switches::{NoRule, Side};
+use rule_switches::{NoRule, Side};
 
 /// The name of a document.
 pub(crate) fn side_name(side: Side) -> &'static str

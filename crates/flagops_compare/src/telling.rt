@@ -4,15 +4,15 @@ ghost use Rattle.flag_defs.specs.Flags.{flags_view};
 ghost use Rattle.flagops_compare.specs.Report.{is_unmatched};
 ghost use Rattle.flagops_compare.specs.Told.{known_line, no_page_lines, note_line, note_lines, note_on, path_of, told_lines, unmatched_lines};
 ghost use Rattle.flagops_compare.specs.Words.{comparing_view};
-ghost use Rattle.page_switches.specs.Found.{page_view, pages_view};
+ghost use Rattle.rule_switches.specs.Found.{page_view, pages_view};
 
 use crate::asked::Comparing;
 use crate::reasons::{reason_name, reason_words};
 use book_core::Page;
 use flag_defs::Flags;
 use flagops_files::quoted;
-use key_diagnostics::known_keys;
-use page_switches::{Found, NoRule, PageFound, Side};
+use flagops_files::known_keys;
+use rule_switches::{Found, NoRule, PageFound, Side};
 use std::alloc::{AllocError, Global};
 
 /// Whether a flag is asked for that no page is of.

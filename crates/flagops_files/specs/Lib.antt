@@ -1,8 +1,12 @@
 pub mod Documents
 pub mod Evidence
 pub mod FileLines
+pub mod Known
+pub mod Law
 pub mod Lines
 pub mod Loading
+pub mod Losses
+pub mod LostLines
 pub mod Payload
 pub mod PlanFile
 pub mod Question

@@ -7,7 +7,7 @@ use flagops_shell::{
     FIRST_PIECE, FileSet, LoadFault, NOTES_PIECE, StoreFault, may_begin_record, may_note,
 };
 use line_batches::cut_line;
-use note_books::{begins_astray, begins_book};
+use note_lines::{begins_astray, begins_book};
 use progress::{Counted, Meter, Progress};
 use std::alloc::{AllocError, Global};
 use std::fs::OpenFile;

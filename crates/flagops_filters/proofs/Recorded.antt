@@ -20,12 +20,12 @@ use Rattle.note_streams.specs.Rest.{is_empty, is_torn}
 use Rattle.note_streams.specs.declared.recording.Counted.{Counted}
 use Rattle.note_streams.specs.declared.stop.RecordStop.{RecordStop}
 use Rattle.note_streams.specs.declared.stop.RecordStop.TheVariants.{WantOfMemory, Line, Unreadable, TooLong, Broken}
-use Rattle.record_lines.specs.Outcomes.{Outcomes}
-use Rattle.record_lines.specs.Record.{IsSceneOf, Scene}
-use Rattle.record_lines.specs.Refusal.{refusal_for}
-use Rattle.record_lines.specs.View.{outcomes_view}
-use Rattle.record_lines.specs.declared.recorder.RecordFault.{RecordFault}
-use Rattle.record_lines.specs.declared.recorder.RecordFault.TheVariants as recording
+use Rattle.note_streams.specs.Outcomes.{Outcomes}
+use Rattle.note_streams.specs.Record.{IsSceneOf, Scene}
+use Rattle.note_streams.specs.Refusal.{refusal_for}
+use Rattle.note_streams.specs.View.{outcomes_view}
+use Rattle.note_streams.specs.declared.recorder.RecordFault.{RecordFault}
+use Rattle.note_streams.specs.declared.recorder.RecordFault.TheVariants as recording
 use Rattle.flagops_filters.specs.Record.{RecordAnswers, RecordEnds, RecordOver, of_record, record_call}
 use Rattle.flagops_filters.specs.Refusal.{is_unread, is_want, line_of}
 use Rattle.flagops_filters.specs.Beside.{PutsIf, PutsNoted, is_noted, record_lines}

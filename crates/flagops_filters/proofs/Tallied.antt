@@ -15,10 +15,10 @@ use Rattle.note_streams.specs.declared.stop.TallyStop.TheVariants.{Filter, Unrea
 use Rattle.note_streams.specs.declared.tallying.StreamTally.{StreamTally}
 use Rattle.rollout_checks.specs.declared.fault.RolloutFault.{RolloutFault}
 use Rattle.rollout_checks.specs.declared.fault.RolloutFault.TheVariants as rollout
-use Rattle.tally_core.specs.Tally.{PageTally}
-use Rattle.tally_filters.specs.declared.fault.FilterFault.{FilterFault}
-use Rattle.tally_filters.specs.declared.fault.FilterFault.TheVariants.{WantOfMemory}
-use Rattle.tally_text.specs.File.{tally_text}
+use Rattle.line_tally.specs.Tally.{PageTally}
+use Rattle.line_tally.specs.declared.filter_fault.FilterFault.{FilterFault}
+use Rattle.line_tally.specs.declared.filter_fault.FilterFault.TheVariants.{WantOfMemory}
+use Rattle.line_tally.specs.File.{tally_text}
 use Rattle.flagops_filters.specs.Beside.{Reads, IsBesideTally, has_none, is_beside, tally_beside, tally_lines}
 use Rattle.flagops_filters.specs.Place.{PrintsTally}
 use Rattle.flagops_filters.specs.Refusal.{is_want}

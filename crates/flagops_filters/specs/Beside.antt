@@ -3,9 +3,9 @@ use Rattle.std.specs.Prelude.{◌≡◌, ◌||◌, ◌&&◌, ◌++◌, ℕ, nat_
 use Rattle.flagops_shell.specs.Diagnostic.{PutsRemark, Says}
 use Rattle.flagops_shell.specs.declared.refused.Remark.{Remark}
 use Rattle.note_streams.specs.Rest.{is_empty, is_torn}
-use Rattle.record_lines.specs.Outcomes.{Outcomes, contexts}
-use Rattle.tally_core.specs.Tally.{PageTally}
-use Rattle.tally_text.specs.File.{tally_text}
+use Rattle.note_streams.specs.Outcomes.{Outcomes, contexts}
+use Rattle.line_tally.specs.Tally.{PageTally}
+use Rattle.line_tally.specs.File.{tally_text}
 use Rattle.flagops_filters.specs.declared.start.Start.{Start}
 
 -- lines are this text

@@ -11,10 +11,10 @@ use Rattle.flagops_shell.specs.Files.{Holding}
 use Rattle.flagops_files.specs.declared.refusal.Refusal.{Refusal}
 use Rattle.note_streams.specs.Recorded.{most_bytes, recorded_of}
 use Rattle.note_streams.specs.declared.stop.RecordStop.TheVariants.{Line, Unreadable, TooLong}
-use Rattle.record_lines.specs.Record.{IsSceneOf, Recorded, Scene}
-use Rattle.record_lines.specs.Refusal.{refusal_for}
-use Rattle.record_lines.specs.declared.recorder.RecordFault.{RecordFault}
-use Rattle.record_lines.specs.declared.recorder.RecordFault.TheVariants as recording
+use Rattle.note_streams.specs.Record.{IsSceneOf, Recorded, Scene}
+use Rattle.note_streams.specs.Refusal.{refusal_for}
+use Rattle.note_streams.specs.declared.recorder.RecordFault.{RecordFault}
+use Rattle.note_streams.specs.declared.recorder.RecordFault.TheVariants as recording
 use Rattle.rollout_checks.specs.declared.fault.RolloutFault.{RolloutFault}
 use Rattle.rollout_checks.specs.declared.fault.RolloutFault.TheVariants as rollout
 use Rattle.flagops_filters.specs.Refusal.{is_unread}

@@ -15,9 +15,9 @@ use Rattle.note_streams.specs.declared.stop.TallyStop.TheVariants.{Filter, Unrea
 use Rattle.rollout_checks.specs.Lawful.{Place, and_then, max_planned, place_of}
 use Rattle.rollout_checks.specs.declared.fault.RolloutFault.{RolloutFault}
 use Rattle.rollout_checks.specs.declared.fault.RolloutFault.TheVariants.{NoWeight, TotalTooLarge}
-use Rattle.tally_filters.specs.declared.fault.FilterFault.{FilterFault}
-use Rattle.tally_filters.specs.declared.fault.FilterFault.TheVariants.{WantOfMemory}
-use Rattle.tally_text.specs.File.{tally_text}
+use Rattle.line_tally.specs.declared.filter_fault.FilterFault.{FilterFault}
+use Rattle.line_tally.specs.declared.filter_fault.FilterFault.TheVariants.{WantOfMemory}
+use Rattle.line_tally.specs.File.{tally_text}
 use Rattle.flagops_filters.specs.Beside.{has_none, is_beside}
 use Rattle.flagops_filters.specs.Report.{Came}
 use Rattle.flagops_filters.specs.Words.{Tallying}

@@ -4,13 +4,13 @@ ghost use Rattle.file_diagnostics.specs.Named.{NamesWord};
 ghost use Rattle.flagops_files.specs.Lines.{NamesFile};
 ghost use Rattle.flagops_filters.specs.Beside.{clock_line, is_noted, line_if, long_line, record_lines};
 ghost use Rattle.flagops_filters.specs.Remarks.{NamesInput};
-ghost use Rattle.record_lines.specs.View.{outcomes_view};
+ghost use Rattle.note_streams.specs.View.{outcomes_view};
 
 use crate::start::Start;
 use crate::unrecorded::{is_unrecorded, why_line};
 use flag_defs::Flags;
 use flagops_files::quoted;
-use key_diagnostics::known_keys;
+use flagops_files::known_keys;
 use note_streams::Counted;
 use std::alloc::{AllocError, Global};
 

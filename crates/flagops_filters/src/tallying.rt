@@ -42,12 +42,12 @@ use note_streams::{StreamTally, TallyStop, tally_stream};
 use rollout_checks::RolloutFault;
 use std::alloc::{AllocError, Global};
 use std::convert::AsStr;
-use tally_core::PageTally;
-use tally_filters::FilterFault;
-use tally_text::print_tally;
+use line_tally::PageTally;
+use line_tally::FilterFault;
+use line_tally::print_tally;
 
 /// The most points of a tally.
-const MOST_POINTS: u128 = tally_core::MOST_POINTS as u128;
+const MOST_POINTS: u128 = line_tally::MOST_POINTS as u128;
 
 /// Does what the words after the program's name ask of `tally`, which is the first of them, and gives the status to end with.
 /// It prints the tally of the note lines of the standard input that are of the page of a site, or the line of a refusal with

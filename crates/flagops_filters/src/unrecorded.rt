@@ -1,11 +1,11 @@
 //! Why nothing is recorded of any context.
 ghost use Rattle.std.specs.Prelude.{◌≡◌, IfOk, string_bytes};
 ghost use Rattle.flagops_filters.specs.Beside.{cause, causes, is_unrecorded, why_line};
-ghost use Rattle.record_lines.specs.View.{outcomes_view};
+ghost use Rattle.note_streams.specs.View.{outcomes_view};
 
 use crate::start::Start;
 use note_streams::Counted;
-use record_lines::Outcomes;
+use note_streams::Outcomes;
 use std::alloc::{AllocError, Global};
 
 /// Whether a site could have been reached and lines were given, but no note came of one.

@@ -23,8 +23,8 @@ use Rattle.rollout_checks.specs.declared.fault.RolloutFault.{RolloutFault}
 use Rattle.rollout_checks.specs.declared.fault.RolloutFault.TheVariants.{WantOfMemory}
 use Rattle.rollout_checks.specs.declared.problem.Problem as program
 use Rattle.rollout_checks.specs.declared.refining.Refining.{Refining}
-use Rattle.transport_instance.proofs.Costs.{tally_of}
-use Rattle.transport_instance.specs.Tally.{IsTally}
+use Rattle.transport_core.proofs.Costs.{tally_of}
+use Rattle.transport_core.specs.Tally.{IsTally}
 
 -- what the bytes of a request ask is what is asked by the request that was read of them
 pub posed_as : (refining : Refining) (flags : Definitions) (bytes : List ℕ) (asked : Asked) (held : Recorded) → asked_of bytes ≡ Ok asked → asked_on refining flags bytes held ≡ asked_by refining flags asked held

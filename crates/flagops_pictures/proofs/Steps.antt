@@ -9,7 +9,7 @@ use Rattle.picture.proofs.Bodies.{continues_both, continues_none, continues_one}
 use Rattle.plan_text.specs.Answer.{Answer, emit, none_exists, planned_view}
 use Rattle.plan_text.specs.declared.planned.Planned.{Planned}
 use Rattle.ramp.specs.Ramp.{Recorded, Standing, in_book, in_tally, left_by, still}
-use Rattle.ramp_steps.specs.Steps.{requests_view}
+use Rattle.ramp.specs.Steps.{requests_view}
 use Rattle.ramp.specs.Right.{AreRight, IsRight}
 use Rattle.rollout_checks.specs.declared.fault.RolloutFault.{RolloutFault}
 use Rattle.flagops_pictures.specs.Asked.{step_asked}

@@ -27,10 +27,10 @@ use Rattle.plan_text.specs.Answer.{Answer, emit, none_exists}
 use Rattle.rollout_checks.specs.Tallied.{TallyProblem}
 use Rattle.rollout_checks.specs.declared.fault.RolloutFault.{RolloutFault}
 use Rattle.rollout_checks.specs.declared.verify_fault.VerifyFault.{VerifyFault}
-use Rattle.switch_table.specs.Runs.{Run, AreRuns}
-use Rattle.switch_table.specs.Switches.{IsSwitchTable}
-use Rattle.switch_table.specs.declared.table.Switch.{Switch}
-use Rattle.transport_instance.specs.Certificate.{DualPrices}
+use Rattle.rule_switches.specs.Runs.{Run, AreRuns}
+use Rattle.rule_switches.specs.Table.{IsSwitchTable}
+use Rattle.rule_switches.specs.declared.table.Switch.{Switch}
+use Rattle.transport_core.specs.Certificate.{DualPrices}
 use Rattle.flagops_pictures.specs.Asked.{asked_over}
 use Rattle.flagops_pictures.specs.Words.{Picturing}
 

@@ -12,8 +12,8 @@ ghost use Rattle.ramp.specs.Right.{IsStepShown};
 ghost use Rattle.rollout_checks.specs.Lawful.{IsRefining};
 ghost use Rattle.rollout_checks.specs.Refined.{refining_checked};
 ghost use Rattle.rollout_checks.specs.Tallied.{tally_view};
-ghost use Rattle.transport_instance.specs.Certificate.{certificate_view};
-ghost use Rattle.transport_instance.specs.Tally.{IsTally};
+ghost use Rattle.transport_core.specs.Certificate.{certificate_view};
+ghost use Rattle.transport_core.specs.Tally.{IsTally};
 
 use bucket_core::Rule;
 use flag_defs::Flags;
@@ -24,8 +24,8 @@ use price_core::{PriceFault, Request};
 use rollout_checks::{Problem, Refining, RolloutFault, problem_asked, tally_problem_asked};
 use std::alloc::{AllocError, Global};
 use std::thread::Threads;
-use switch_table::{runs, switch_table};
-use transport_instance::Certificate;
+use rule_switches::{runs, switch_table};
+use transport_core::Certificate;
 
 /// What an answer is to: a request over flags and what was recorded, on the site's rule refined by the factor where one is given.
 #[derive(Clone, Copy)]

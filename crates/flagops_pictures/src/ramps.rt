@@ -21,7 +21,7 @@ ghost use Rattle.flagops_ramps.specs.Words.{verifying_view};
 ghost use Rattle.picture.specs.Spelling.{Continues, Pictures};
 ghost use Rattle.plan_text.specs.Answer.{planned_view};
 ghost use Rattle.ramp.specs.Right.{AreRight};
-ghost use Rattle.ramp_steps.specs.Steps.{most_steps, requests_view};
+ghost use Rattle.ramp.specs.Steps.{most_steps, requests_view};
 
 use crate::asked::PicturingRamp;
 use crate::drawing::{Asked, add_picture};

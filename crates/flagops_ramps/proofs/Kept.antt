@@ -23,12 +23,12 @@ use Rattle.flagops_shell.specs.declared.outcome.Outcome.{Outcome}
 use Rattle.plan_text.specs.Answer.{Answer, emit, planned_view}
 use Rattle.plan_text.specs.declared.planned.Planned.{Planned}
 use Rattle.price_core.specs.Request.{Asked, asked_of}
-use Rattle.transport_instance.specs.Certificate.{DualPrices}
+use Rattle.transport_core.specs.Certificate.{DualPrices}
 use Rattle.ramp.specs.Right.{AreRight, IsRight, IsTold}
 use Rattle.ramp.specs.declared.fault.RampFault.{RampFault}
-use Rattle.ramp_steps.specs.Steps.{requests_view, steps_of}
-use Rattle.ramp_steps.specs.declared.fault.StepsFault.{StepsFault}
-use Rattle.ramp_steps.specs.declared.fault.StepsFault.TheVariants as steps
+use Rattle.ramp.specs.Steps.{requests_view, steps_of}
+use Rattle.ramp.specs.declared.file_fault.StepsFault.{StepsFault}
+use Rattle.ramp.specs.declared.file_fault.StepsFault.TheVariants as steps
 use Rattle.rollout_checks.specs.declared.verify_fault.VerifyFault.TheVariants.{Request}
 use Rattle.flagops_ramps.specs.Doubts.{first_question, first_request}
 use Rattle.flagops_ramps.specs.Judging.{answers_at, refused_as}

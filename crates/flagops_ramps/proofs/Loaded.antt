@@ -13,7 +13,7 @@ use Rattle.flagops_files.specs.declared.refusal.Refusal.TheVariants.{Load as Unr
 use Rattle.flagops_files.specs.Refusal.{Refused}
 use Rattle.plan_text.specs.Answer.{Answer, planned_view}
 use Rattle.plan_text.specs.declared.planned.Planned.{Planned}
-use Rattle.ramp_steps.specs.Lines.{ramp_of}
+use Rattle.ramp.specs.Lines.{ramp_of}
 use Rattle.flagops_ramps.specs.Judging.{IsFoundAt, IsFoundOf, answered_view, answers_at, if_loaded, read_as}
 use Rattle.flagops_ramps.specs.Ramp.{IsRampOf, IsRampReport}
 use Rattle.flagops_ramps.specs.Refusal.{is_want}

@@ -11,9 +11,9 @@ use Rattle.ramp.specs.Ramp.{ArePlans, IsRefused}
 use Rattle.ramp.specs.Right.{IsTold}
 use Rattle.ramp.specs.declared.fault.RampFault.{RampFault}
 use Rattle.ramp.specs.declared.fault.StepFault.{StepFault}
-use Rattle.ramp_steps.specs.Steps.{steps_of}
-use Rattle.ramp_steps.specs.declared.fault.StepsFault.{StepsFault}
-use Rattle.ramp_steps.specs.declared.fault.StepsFault.TheVariants as steps
+use Rattle.ramp.specs.Steps.{steps_of}
+use Rattle.ramp.specs.declared.file_fault.StepsFault.{StepsFault}
+use Rattle.ramp.specs.declared.file_fault.StepsFault.TheVariants as steps
 use Rattle.rollout_checks.specs.declared.fault.RolloutFault.{RolloutFault}
 use Rattle.rollout_checks.specs.declared.fault.RolloutFault.TheVariants.{WantOfMemory}
 use Rattle.rollout_checks.specs.declared.verify_fault.VerifyFault.TheVariants.{Request}

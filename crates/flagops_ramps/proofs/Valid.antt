@@ -16,10 +16,10 @@ use Rattle.ramp.specs.Laws as laws
 use Rattle.ramp.specs.Ramp.{ArePlans}
 use Rattle.ramp.specs.declared.fault.RampFault.{RampFault}
 use Rattle.ramp.specs.declared.fault.RampFault.TheVariants.{Lines, Step}
-use Rattle.ramp_steps.specs.Steps.{steps_of}
-use Rattle.ramp_steps.specs.declared.fault.RampFileFault.{RampFileFault}
-use Rattle.ramp_steps.specs.declared.fault.RampFileFault.TheVariants.{TooLarge}
-use Rattle.ramp_steps.specs.declared.fault.StepsFault.{StepsFault}
+use Rattle.ramp.specs.Steps.{steps_of}
+use Rattle.ramp.specs.declared.file_fault.RampFileFault.{RampFileFault}
+use Rattle.ramp.specs.declared.file_fault.RampFileFault.TheVariants.{TooLarge}
+use Rattle.ramp.specs.declared.file_fault.StepsFault.{StepsFault}
 use Rattle.flagops_rollouts.specs.Valid.{IsOfInputs}
 use Rattle.flagops_ramps.specs.Judging.{Answered, Found, IsFoundOf, IsFoundOver, answers_at, found_as, if_loaded}
 use Rattle.flagops_ramps.specs.Ramp.{Holds, IsRampOf, IsRampOver, recorded}

@@ -11,10 +11,10 @@ use Rattle.plan_text.specs.Answer.{Answer, planned_view}
 use Rattle.ramp.specs.Right.{AreRight, IsTold}
 use Rattle.ramp.specs.declared.fault.RampFault.{RampFault}
 use Rattle.ramp.specs.declared.fault.RampFault.TheVariants as ramp
-use Rattle.ramp_steps.specs.Lines.{ramp_of}
-use Rattle.ramp_steps.specs.Steps.{most_steps, requests_view, steps_of}
-use Rattle.ramp_steps.specs.declared.fault.RampFileFault.{RampFileFault}
-use Rattle.ramp_steps.specs.declared.fault.StepsFault.{StepsFault}
+use Rattle.ramp.specs.Lines.{ramp_of}
+use Rattle.ramp.specs.Steps.{most_steps, requests_view, steps_of}
+use Rattle.ramp.specs.declared.file_fault.RampFileFault.{RampFileFault}
+use Rattle.ramp.specs.declared.file_fault.StepsFault.{StepsFault}
 use Rattle.rollout_checks.specs.declared.verify_fault.VerifyFault.TheVariants.{Request}
 use Rattle.flagops_ramps.specs.Ramp.{of_steps, recorded}
 use Rattle.flagops_ramps.specs.Words.{Verifying}

@@ -16,8 +16,8 @@ use Rattle.plan_text.specs.Answer.{Answer, emit, none_exists}
 use Rattle.price_core.specs.Request.{Asked, asked_of}
 use Rattle.ramp.specs.Right.{IsTold}
 use Rattle.ramp.specs.declared.fault.RampFault.{RampFault}
-use Rattle.ramp_steps.specs.Steps.{steps_of}
-use Rattle.ramp_steps.specs.declared.fault.StepsFault.{StepsFault}
+use Rattle.ramp.specs.Steps.{steps_of}
+use Rattle.ramp.specs.declared.file_fault.StepsFault.{StepsFault}
 use Rattle.rollout_checks.specs.declared.verify_fault.VerifyFault.TheVariants.{Request}
 use Rattle.flagops_ramps.specs.Apply.{answer_to}
 use Rattle.flagops_ramps.specs.Doubts.{doubt_of_steps, first_request, settle}

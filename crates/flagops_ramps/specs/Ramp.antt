@@ -10,10 +10,10 @@ use Rattle.plan_text.specs.declared.fault.PlanFileFault.{PlanFileFault}
 use Rattle.price_core.specs.declared.fault.PriceFault.TheVariants.{BadRequest}
 use Rattle.ramp.specs.Ramp.{ArePlans, IsRefused, Recorded, in_book, in_tally}
 use Rattle.ramp.specs.declared.fault.StepFault.{StepFault}
-use Rattle.ramp_steps.specs.Lines.{ramp_file, ramp_of}
-use Rattle.ramp_steps.specs.Steps.{steps_of}
-use Rattle.ramp_steps.specs.declared.fault.StepsFault.{StepsFault}
-use Rattle.ramp_steps.specs.declared.fault.StepsFault.TheVariants as steps
+use Rattle.ramp.specs.Lines.{ramp_file, ramp_of}
+use Rattle.ramp.specs.Steps.{steps_of}
+use Rattle.ramp.specs.declared.file_fault.StepsFault.{StepsFault}
+use Rattle.ramp.specs.declared.file_fault.StepsFault.TheVariants as steps
 use Rattle.rollout_checks.specs.Fault.{of_price}
 use Rattle.rollout_checks.specs.declared.fault.RolloutFault.{RolloutFault}
 use Rattle.rollout_checks.specs.declared.fault.RolloutFault.TheVariants.{WantOfMemory, Request}

@@ -8,10 +8,10 @@ use Rattle.flagops_rollouts.specs.Refusal as rolling
 use Rattle.flagops_rollouts.specs.Refusal.{doubt_name, doubt_number}
 use Rattle.plan_text.specs.Fault as plan_files
 use Rattle.plan_text.specs.declared.fault.PlanFileFault.TheVariants as plan
-use Rattle.ramp_steps.specs.Fault as ramp_files
-use Rattle.ramp_steps.specs.declared.fault.RampFileFault.{RampFileFault}
-use Rattle.ramp_steps.specs.declared.fault.RampFileFault.TheVariants as ramp_file
-use Rattle.ramp_steps.specs.declared.fault.RampFileFault.TheVariants.{Line}
+use Rattle.ramp.specs.Fault as ramp_files
+use Rattle.ramp.specs.declared.file_fault.RampFileFault.{RampFileFault}
+use Rattle.ramp.specs.declared.file_fault.RampFileFault.TheVariants as ramp_file
+use Rattle.ramp.specs.declared.file_fault.RampFileFault.TheVariants.{Line}
 use Rattle.rollout_checks.specs.Fault as rollouts
 use Rattle.rollout_checks.specs.VerifyFault as verdicts
 use Rattle.rollout_checks.specs.declared.fault.RolloutFault.TheVariants as rollout

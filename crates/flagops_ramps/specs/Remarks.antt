@@ -9,7 +9,7 @@ use Rattle.flagops_shell.specs.Files.{Holding, load_of}
 use Rattle.flagops_shell.specs.declared.refused.Remark.{Remark}
 use Rattle.plan_text.specs.Answer.{Answer}
 use Rattle.price_core.specs.Request.{asked_of}
-use Rattle.ramp_steps.specs.Steps.{steps_of}
+use Rattle.ramp.specs.Steps.{steps_of}
 use Rattle.flagops_rollouts.specs.Beside.{Part, Tells}
 use Rattle.flagops_rollouts.specs.Finer.{finer_parts, times_asked}
 use Rattle.flagops_rollouts.specs.Remarks.{applied_parts}

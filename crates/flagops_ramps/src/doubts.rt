@@ -11,7 +11,7 @@ ghost use Rattle.flagops_ramps.specs.Report.{GivesUnlessWant, is_file_fault};
 ghost use Rattle.flagops_ramps.specs.Diagnostics.{Diagnoses, IsOfDoubted};
 ghost use Rattle.file_diagnostics.specs.Named.{Names};
 ghost use Rattle.flagops_shell.specs.Diagnostic.{Says};
-ghost use Rattle.ramp_steps.specs.Steps.{requests_view};
+ghost use Rattle.ramp.specs.Steps.{requests_view};
 
 use crate::asked::Ramping;
 use crate::judging::out_of_memory;

@@ -15,8 +15,8 @@ ghost use Rattle.flagops_ramps.specs.declared.refusal.RampRefusal.TheVariants.{V
 ghost use Rattle.rollout_checks.specs.declared.verify_fault.VerifyFault.TheVariants.{Request};
 ghost use Rattle.plan_text.specs.Answer.{planned_view};
 ghost use Rattle.ramp.specs.Right.{IsTold};
-ghost use Rattle.ramp_steps.specs.Lines.{ramp_of};
-ghost use Rattle.ramp_steps.specs.Steps.{most_steps, requests_view};
+ghost use Rattle.ramp.specs.Lines.{ramp_of};
+ghost use Rattle.ramp.specs.Steps.{most_steps, requests_view};
 
 use crate::asked::Verifying;
 use crate::ramping::{count, of_steps};
@@ -29,7 +29,7 @@ use flagops_shell::{FileSet, Refused, Remark};
 use flagops_words::{factor_number, factor_of};
 use plan_text::Planned;
 use ramp::{RampFault, verify_steps, verify_steps_on_tally};
-use ramp_steps::{RampFileFault, StepsFault, read_ramp, read_steps};
+use ramp::{RampFileFault, StepsFault, read_ramp, read_steps};
 use rollout_checks::{RolloutFault, VerifyFault};
 use std::alloc::{AllocError, Global};
 use std::thread::Threads;

@@ -23,7 +23,7 @@ ghost use Rattle.flagops_ramps.specs.Words.{keeping_view};
 ghost use Rattle.flagops_ramps.specs.declared.refusal.RampRefusal.TheVariants.{Rollout};
 ghost use Rattle.plan_text.specs.Answer.{planned_view};
 ghost use Rattle.price_core.specs.Request.{asked_of};
-ghost use Rattle.ramp_steps.specs.Steps.{most_steps, requests_view};
+ghost use Rattle.ramp.specs.Steps.{most_steps, requests_view};
 
 use crate::applying::answer_to;
 use crate::asked::Keeping;
@@ -44,7 +44,7 @@ use flagops_words::{factor_number, factor_of};
 use plan_text::Planned;
 use price_core::{PriceFault, Request};
 use ramp::RampFault;
-use ramp_steps::read_steps;
+use ramp::read_steps;
 use std::alloc::{AllocError, Global};
 use std::convert::AsStr;
 use std::thread::Threads;

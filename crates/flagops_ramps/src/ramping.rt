@@ -21,7 +21,7 @@ ghost use Rattle.flagops_ramps.specs.Words.{ramping_view};
 ghost use Rattle.plan_text.specs.Answer.{IsOrdered, planned_view};
 ghost use Rattle.plan_text.specs.PlanFile.{IsWhole};
 ghost use Rattle.ramp.specs.Ramp.{IsRamp};
-ghost use Rattle.ramp_steps.specs.Steps.{requests_view};
+ghost use Rattle.ramp.specs.Steps.{requests_view};
 
 use crate::asked::Ramping;
 use crate::doubts::{first_request, settled};
@@ -40,7 +40,7 @@ use page_tally::BookFile;
 use plan_text::Planned;
 use price_core::PriceFault;
 use ramp::{StepFault, plan_steps, plan_steps_on_tally};
-use ramp_steps::{StepsFault, print_ramp, read_steps};
+use ramp::{StepsFault, print_ramp, read_steps};
 use rollout_checks::{Refining, RolloutFault, read_book_for};
 use rollout_diagnostics::of_large_plan;
 use std::alloc::Global;

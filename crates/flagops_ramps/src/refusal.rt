@@ -8,7 +8,7 @@ use flagops_files::{Refusal, fault_line, number_item, rollout_items};
 use flagops_rollouts::{Doubt, RolloutRefusal, is_want_of_verify, verify_items};
 use flagops_shell::CommandRefusal;
 use plan_text::PlanFileFault;
-use ramp_steps::RampFileFault;
+use ramp::RampFileFault;
 use rollout_checks::{RolloutFault, VerifyFault};
 use std::alloc::{AllocError, Global};
 

@@ -4,7 +4,7 @@ use bucket_core::total_weight;
 use flagops_files::Question;
 use logic_ast::{LogicFault, site};
 use price_core::{PriceFault, Request};
-use ramp_steps::{StepsFault, read_steps};
+use ramp::{StepsFault, read_steps};
 use rollout_checks::RolloutFault;
 use std::alloc::{AllocError, Global};
 

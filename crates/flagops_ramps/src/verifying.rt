@@ -9,7 +9,7 @@ ghost use Rattle.flagops_ramps.specs.Attempts.{IsOfFirst, verify_files};
 ghost use Rattle.flagops_ramps.specs.Doubts.{beside, doubt_parts_of_steps};
 ghost use Rattle.flagops_files.specs.Question.{question_view};
 ghost use Rattle.flagops_ramps.specs.Remarks.{TellsVerdictAt};
-ghost use Rattle.ramp_steps.specs.Steps.{requests_view};
+ghost use Rattle.ramp.specs.Steps.{requests_view};
 ghost use Rattle.flagops_ramps.specs.Commands.{verify_description};
 ghost use Rattle.flagops_ramps.specs.Diagnostics.{Diagnoses, IsOfVerify};
 ghost use Rattle.flagops_ramps.specs.Judging.{answered_view};

@@ -24,10 +24,10 @@ use Rattle.rollout_checks.specs.Verified.{IsOutcome, refining_for}
 use Rattle.rollout_checks.specs.declared.fault.RolloutFault.{RolloutFault}
 use Rattle.rollout_checks.specs.declared.refining.Refining.{Refining}
 use Rattle.rollout_checks.specs.declared.refining.Refining.TheVariants.{Times}
-use Rattle.site_places.specs.Place.{SitePlace}
-use Rattle.tally_core.specs.Tally.{PageTally}
-use Rattle.transport_instance.specs.Certificate.{DualPrices}
-use Rattle.transport_instance.specs.declared.certificate.CutKind.{CutKind}
+use Rattle.kept_document.specs.Place.{SitePlace}
+use Rattle.line_tally.specs.Tally.{PageTally}
+use Rattle.transport_core.specs.Certificate.{DualPrices}
+use Rattle.transport_core.specs.declared.certificate.CutKind.{CutKind}
 use Rattle.flagops_shell.specs.Files.{Holding, load_of}
 use Rattle.flagops_files.specs.Loading.{max_text}
 use Rattle.flagops_rollouts.specs.Loaded.{plan_at, IsQuestionAt}

@@ -5,8 +5,8 @@ use Rattle.bucket_core.specs.Rule.{Entries, total_weight}
 use Rattle.file_diagnostics.specs.Named.{Names}
 use Rattle.file_diagnostics.specs.declared.lines.Opening.TheVariants.{Note}
 use Rattle.plan_text.specs.Answer.{Answer, emit, none_exists}
-use Rattle.transport_instance.specs.declared.certificate.CutKind.{CutKind}
-use Rattle.transport_instance.specs.Certificate.{DualPrices}
+use Rattle.transport_core.specs.declared.certificate.CutKind.{CutKind}
+use Rattle.transport_core.specs.Certificate.{DualPrices}
 use Rattle.flagops_rollouts.specs.Beside.{AreBehind, AreBoth, AreParts, Tells, part_if}
 use Rattle.flagops_rollouts.specs.Doubts.{NamesDoubt, NamesDoubted}
 use Rattle.flagops_rollouts.specs.declared.refusal.Doubt.TheVariants as doubt

@@ -15,11 +15,11 @@ use Rattle.plan_text.specs.Answer.{Answer, emit}
 use Rattle.rollout.specs.Applied.{applied}
 use Rattle.rollout.specs.Change.{IsLocal}
 use Rattle.rollout_checks.specs.declared.fault.RolloutFault.{RolloutFault}
-use Rattle.transport_instance.specs.Certificate.{DualPrices}
+use Rattle.transport_core.specs.Certificate.{DualPrices}
 use Rattle.flagops_shell.specs.Outcomes.{◌>>=◌, beside, done, refused_by}
 use Rattle.flagops_shell.specs.Report.{Report, outcome_view}
 use Rattle.flagops_rollouts.specs.Apply.{IsLocalReport, applied_report, document_line, told_report}
-use Rattle.repeated_names.specs.Repeated.{is_repeating}
+use Rattle.unread_members.specs.Repeated.{is_repeating}
 use Rattle.flag_text.specs.Reading.{tree_of}
 use Rattle.flagops_rollouts.specs.Beside.{AreBefore, AreBehind, AreBoth, Part, Tells, noted_with, part_if}
 use Rattle.flagops_rollouts.specs.ByHand.{TellsEdit}

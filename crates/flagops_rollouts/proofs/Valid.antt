@@ -18,7 +18,7 @@ use Rattle.flag_defs.specs.Document.{Definitions}
 use Rattle.price_core.specs.Limits.{Limits}
 use Rattle.price_core.specs.Request.{Asked, asked_of}
 use Rattle.plan_text.specs.Answer.{Answer, emit, none_exists, planned_view}
-use Rattle.transport_instance.specs.Certificate.{DualPrices}
+use Rattle.transport_core.specs.Certificate.{DualPrices}
 use Rattle.plan_text.specs.declared.planned.Planned.{Planned}
 use Rattle.rollout_checks.specs.Lawful.{Place, Problem, and_then, by_price, factor, limits_for, place_of, problem_at, sized, weighed}
 use Rattle.rollout_checks.specs.Plan.{IsPlanned, IsTallyPlanned}
@@ -26,13 +26,13 @@ use Rattle.rollout_checks.specs.Refined.{problem_checked, problem_refined}
 use Rattle.rollout_checks.specs.Tallied.{AreTallied, IsTallyOutcome, TallyProblem, tally_problem_of, with_inputs}
 use Rattle.rollout_checks.specs.Verified.{IsOutcome, Proves, refining_for}
 use Rattle.rollout_checks.specs.declared.refining.Refining.TheVariants.{Times}
-use Rattle.tally_core.specs.Tally.{PageTally}
+use Rattle.line_tally.specs.Tally.{PageTally}
 use Rattle.flagops_rollouts.proofs.Asked.{IsPlaced, are_tallied, asked_by_again, asked_is, placed}
 use Rattle.rollout_checks.specs.declared.fault.RolloutFault.{RolloutFault}
 use Rattle.rollout_checks.specs.declared.fault.RolloutFault.TheVariants.{NoWeight}
 use Rattle.rollout_checks.specs.declared.verify_fault.VerifyFault.{VerifyFault}
 use Rattle.rollout_checks.specs.declared.verify_fault.VerifyFault.TheVariants.{Request, Check}
-use Rattle.transport_instance.specs.declared.fault.CheckFault.TheVariants as check
+use Rattle.transport_core.specs.declared.fault.CheckFault.TheVariants as check
 use Rattle.flagops_rollouts.specs.Plan.{Holds, IsPlanOf, IsPlannedOn, MayBePlanned, ReadsBack, report_planned}
 use Rattle.flagops_rollouts.specs.Valid.{IsOfInputs, IsValid, IsValidPlan}
 use Rattle.flagops_rollouts.specs.Verify.{IsToldOn, IsVerdict, tally_problem_checked, told}

@@ -11,7 +11,7 @@ use Rattle.price_core.specs.Request.{Asked, asked_of}
 use Rattle.rollout.specs.Applied.{applied}
 use Rattle.rollout_checks.specs.declared.fault.RolloutFault.{RolloutFault}
 use Rattle.rollout_checks.specs.declared.verify_fault.VerifyFault.{VerifyFault}
-use Rattle.site_places.specs.Place.{SitePlace}
+use Rattle.kept_document.specs.Place.{SitePlace}
 use Rattle.std.specs.Result.{result_ok}
 use Rattle.flagops_rollouts.specs.Apply.{none_report}
 use Rattle.flagops_rollouts.specs.Beside.{noted_with}

@@ -4,8 +4,8 @@ use Rattle.flag_text.specs.Printing.{text_of}
 use Rattle.flag_text.specs.Shape.{text}
 use Rattle.rollout_checks.specs.declared.verify_fault.VerifyFault.{VerifyFault}
 use Rattle.rollout_checks.specs.declared.verify_fault.VerifyFault.TheVariants.{Request, Check}
-use Rattle.transport_instance.specs.declared.fault.CheckFault.{CheckFault}
-use Rattle.transport_instance.specs.declared.fault.CheckFault.TheVariants as check
+use Rattle.transport_core.specs.declared.fault.CheckFault.{CheckFault}
+use Rattle.transport_core.specs.declared.fault.CheckFault.TheVariants as check
 use Rattle.flagops_files.specs.Payload.{number_item, rollout_items}
 use Rattle.flagops_rollouts.specs.declared.keep_refusal.KeepRefusal.{KeepRefusal}
 use Rattle.flagops_rollouts.specs.declared.keep_refusal.KeepRefusal.TheVariants as keeping

@@ -5,7 +5,7 @@ ghost use Rattle.flagops_rollouts.specs.Payload.{check_items, pair_items, verify
 use flagops_files::{number_item, quoted, rollout_items};
 use rollout_checks::VerifyFault;
 use std::alloc::{AllocError, Global};
-use transport_instance::CheckFault;
+use transport_core::CheckFault;
 
 /// What `verify` says of an answer that is not right, each item behind a blank.
 pub fn verify_items(alloc: Global, fault: &VerifyFault) -> Result<String, AllocError>

@@ -14,7 +14,7 @@ use kept_document::KeepFault;
 use plan_text::PlanFileFault;
 use rollout_checks::{RolloutFault, VerifyFault};
 use std::alloc::{AllocError, Global};
-use transport_instance::CheckFault;
+use transport_core::CheckFault;
 
 /// A call that can refuse, by the name that a refusal's line has.
 #[derive(Clone, Copy, Debug)]

@@ -6,7 +6,7 @@ use Rattle.flag_defs.specs.Document.{Definitions}
 use Rattle.flag_defs.specs.Floats.{MeansWithFloats}
 use Rattle.flag_defs.specs.declared.fault.DefFault.{DefFault}
 use Rattle.flag_defs.specs.declared.flags.Flags.{Flags}
-use Rattle.flag_regressions.specs.Regression.{names_in, regression_of}
+use Rattle.flag_doubts.specs.Regression.{names_in, regression_of}
 use Rattle.flagops_shell.specs.Files.{Holding, load_of}
 use Rattle.flagops_streams.specs.Documents.{texts_of}
 use Rattle.limits.specs.Limits.{text_bytes}

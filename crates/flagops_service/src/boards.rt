@@ -4,10 +4,10 @@ ghost use Rattle.flagops_service.specs.Words.{answering_view, applied_to, form_o
 
 use crate::asked::Answering;
 use crate::remembering::memory_of;
-use access_lines::AccessLines;
+use dated_answers::AccessLines;
 use control_desk::DeskRules;
 use note_lines::NoteForm;
-use note_memory::SharedMemory;
+use note_log::SharedMemory;
 use ofrep_guards::{Keys, Paths};
 use ofrep_service::{Board, ConnectionLimits};
 use std::alloc::{AllocError, Global};

@@ -3,7 +3,7 @@ ghost use Rattle.std.specs.Prelude.{◌≡◌, IfOk, option_map};
 ghost use Rattle.std.specs.NonZero.{non_zero_usize_get};
 ghost use Rattle.flagops_service.specs.Words.{some_of};
 
-use note_memory::NoteMemory;
+use note_log::NoteMemory;
 use std::alloc::{AllocError, Global};
 use std::hash::RandomState;
 use std::num::NonZeroUsize;

@@ -9,7 +9,7 @@ ghost use Rattle.flagops_service.specs.Rereading.{Harms, IsUnfit, MayBeRefused, 
 
 use crate::asked::OnBroken;
 use flag_defs::{DefFault, Flags, read_flags_with_floats};
-use flag_regressions::{Regression, regression_in};
+use flag_doubts::{Regression, regression_in};
 use source_merge::{SourceFault, Sources};
 use std::alloc::{AllocError, Global};
 

@@ -5,7 +5,7 @@ use crate::taking::Unfit;
 use file_diagnostics::{of_definition_errors, of_document, quoted_name};
 use flag_defs::Flags;
 use flag_metadata::{Broken, Metadata};
-use flag_regressions::Regression;
+use flag_doubts::Regression;
 use flag_text::Outlet;
 use flagops_streams::say;
 use ofrep_guards::KeyFault;

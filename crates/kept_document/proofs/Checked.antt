@@ -14,7 +14,7 @@ use Rattle.flag_defs.proofs.Meanings.{one_meaning, one_meaning_with_floats}
 use Rattle.flag_defs.specs.declared.fault.DefFault.{DefFault}
 use Rattle.flag_defs.specs.declared.fault.DefFault.TheVariants as document_fault
 use Rattle.text_spans.specs.Path.{Step}
-use Rattle.site_places.specs.Place.{SitePlace, buckets, site_place}
+use Rattle.kept_document.specs.Place.{SitePlace, buckets, site_place}
 use Rattle.kept_document.specs.Kept.{IsKept, IsOther, IsRefused, IsRefusedText, in_tree, of_document, of_reading}
 use Rattle.kept_document.specs.declared.fault.KeepFault.{KeepFault}
 use Rattle.kept_document.specs.declared.fault.KeepFault.TheVariants.{WantOfMemory, Shared, TooLong, Differs}

@@ -1,2 +1,5 @@
 mod Checked
+mod Counted
+mod Sought
 mod Texts
+mod Trees

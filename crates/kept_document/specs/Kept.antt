@@ -17,7 +17,7 @@ use Rattle.flag_defs.specs.Floats.{MeansAs}
 use Rattle.flag_defs.specs.declared.fault.DefFault.{DefFault}
 use Rattle.flag_defs.specs.declared.fault.DefFault.TheVariants as document_fault
 use Rattle.text_spans.specs.Path.{Stands, Step, index}
-use Rattle.site_places.specs.Place.{SitePlace, buckets, shared, nowhere, site_place}
+use Rattle.kept_document.specs.Place.{SitePlace, buckets, shared, nowhere, site_place}
 use Rattle.kept_document.specs.declared.fault.KeepFault.{KeepFault}
 use Rattle.kept_document.specs.declared.fault.KeepFault.TheVariants.{WantOfMemory, Shared, TooLong, Differs}
 

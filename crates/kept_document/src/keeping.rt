@@ -9,7 +9,7 @@ ghost use Rattle.logic_ast.specs.Writing.{written};
 ghost use Rattle.flag_defs.specs.Flag.{targeting_in};
 ghost use Rattle.flag_defs.specs.Flags.{flags_view};
 ghost use Rattle.flag_defs.specs.Floats.{MeansAs};
-ghost use Rattle.site_places.specs.Place.{site_place};
+ghost use Rattle.kept_document.specs.Place.{site_place};
 ghost use Rattle.kept_document.specs.Kept.{IsRefused, KeptAt, of_reading, of_text, place_in, tree_as};
 
 use crate::checking::checked;
@@ -21,7 +21,7 @@ use flag_text::{TextFault, Tree, read_doc};
 use float_variants::read_with_floats;
 use limits::TEXT_BYTES;
 use logic_ast::{Expr, write_expr};
-use site_places::{SitePlace, place_of_site};
+use crate::{SitePlace, place_of_site};
 use std::alloc::Global;
 
 /// The bytes of the document with the rule's entries as the buckets of a site, and all else as it was. `flags` are those of

@@ -13,14 +13,14 @@ use Rattle.rollout_checks.specs.declared.verify_fault.VerifyFault.{VerifyFault}
 use Rattle.rollout_checks.specs.declared.verify_fault.VerifyFault.TheVariants as verdict
 use Rattle.kept_document.specs.declared.fault.KeepFault.{KeepFault}
 use Rattle.kept_document.specs.declared.fault.KeepFault.TheVariants as keep_fault
-use Rattle.tally_core.specs.Tally.{PageTally}
-use Rattle.tally_filters.specs.declared.fault.FilterFault.{FilterFault}
-use Rattle.tally_filters.specs.declared.fault.FilterFault.TheVariants as notes_fault
-use Rattle.tally_text.specs.Reading.{ReadsTally}
-use Rattle.tally_text.specs.declared.fault.TallyFileFault.{TallyFileFault}
-use Rattle.tally_text.specs.declared.fault.TallyFileFault.TheVariants as tally_fault
-use Rattle.transport_instance.specs.declared.fault.CheckFault.{CheckFault}
-use Rattle.transport_instance.specs.declared.fault.CheckFault.TheVariants as check_fault
+use Rattle.line_tally.specs.Tally.{PageTally}
+use Rattle.line_tally.specs.declared.filter_fault.FilterFault.{FilterFault}
+use Rattle.line_tally.specs.declared.filter_fault.FilterFault.TheVariants as notes_fault
+use Rattle.line_tally.specs.Reading.{ReadsTally}
+use Rattle.line_tally.specs.declared.file_fault.TallyFileFault.{TallyFileFault}
+use Rattle.line_tally.specs.declared.file_fault.TallyFileFault.TheVariants as tally_fault
+use Rattle.transport_core.specs.declared.fault.CheckFault.{CheckFault}
+use Rattle.transport_core.specs.declared.fault.CheckFault.TheVariants as check_fault
 use Rattle.library_rollouts.specs.Reading.{OfAnswer, OfFlags, OfTally, Outcomes, WithAnswer}
 use Rattle.library_rollouts.specs.Refusal.{of_check, of_document, of_keep, of_notes, of_plan, of_rollout, of_tally, of_verdict}
 use Rattle.library_rollouts.specs.Target.{Target, WithTarget}

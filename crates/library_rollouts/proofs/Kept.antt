@@ -26,9 +26,9 @@ use Rattle.rollout_checks.specs.declared.fault.RolloutFault.{RolloutFault}
 use Rattle.rollout_checks.specs.declared.fault.RolloutFault.TheVariants as rollout_fault
 use Rattle.rollout_checks.specs.declared.refining.Refining.{Refining}
 use Rattle.rollout_checks.specs.declared.verify_fault.VerifyFault.{VerifyFault}
-use Rattle.tally_core.specs.Tally.{PageTally}
-use Rattle.transport_instance.specs.Certificate.{DualPrices}
-use Rattle.transport_instance.specs.declared.certificate.CutKind.{CutKind}
+use Rattle.line_tally.specs.Tally.{PageTally}
+use Rattle.transport_core.specs.Certificate.{DualPrices}
+use Rattle.transport_core.specs.declared.certificate.CutKind.{CutKind}
 use Rattle.library_rollouts.specs.Apply.{IsEditedTo, IsKeptAt, IsKeptOn, IsKeptWith}
 use Rattle.library_rollouts.specs.Refusal.{of_keep, of_rollout, of_verdict}
 use Rattle.library_rollouts.specs.Writing.{Makes}

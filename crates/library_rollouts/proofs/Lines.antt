@@ -5,9 +5,9 @@ use Rattle.line_tally.specs.Lines.{Tallied}
 use Rattle.note_streams.proofs.Counting.{ends_rest}
 use Rattle.note_streams.specs.Batch.{Goes}
 use Rattle.note_streams.specs.Tallied.{Tallies, behind}
-use Rattle.record_lines.specs.Record.{most_line}
-use Rattle.tally_filters.specs.Filter.{Filtered}
-use Rattle.tally_filters.specs.declared.fault.FilterFault.{FilterFault}
+use Rattle.note_streams.specs.Record.{most_line}
+use Rattle.line_tally.specs.Filter.{Filtered}
+use Rattle.line_tally.specs.declared.filter_fault.FilterFault.{FilterFault}
 
 module _ (start : Tallied) (notes rest : List ℕ) (f : Filtered) (goes : Goes (behind start 0) notes f rest) where
   whole : (r : Result Tallied FilterFault) → Tallies f.tally f.lines (parts_of (rest ++ [])) r → Tallies start 0 (parts_of notes) r

@@ -9,8 +9,8 @@ use Rattle.price_core.specs.Request.{Asked, asked_of}
 use Rattle.rollout.specs.Applied.{applied}
 use Rattle.rollout_checks.specs.declared.fault.RolloutFault.{RolloutFault}
 use Rattle.rollout_checks.specs.declared.verify_fault.VerifyFault.{VerifyFault}
-use Rattle.site_places.specs.Place.{SitePlace}
-use Rattle.tally_core.specs.Tally.{PageTally}
+use Rattle.kept_document.specs.Place.{SitePlace}
+use Rattle.line_tally.specs.Tally.{PageTally}
 use Rattle.library_rollouts.specs.Reading.{OfAnswer, OfFlags, OfTally}
 use Rattle.library_rollouts.specs.Refusal.{of_keep, of_rollout, of_verdict}
 use Rattle.library_rollouts.specs.Verify.{MayBeTold}

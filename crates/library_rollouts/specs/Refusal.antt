@@ -15,15 +15,15 @@ use Rattle.rollout_checks.specs.declared.fault.RolloutFault.{RolloutFault}
 use Rattle.rollout_checks.specs.declared.fault.RolloutFault.TheVariants as rollout_fault
 use Rattle.rollout_checks.specs.declared.verify_fault.VerifyFault.{VerifyFault}
 use Rattle.rollout_checks.specs.declared.verify_fault.VerifyFault.TheVariants as verdict
-use Rattle.tally_filters.specs.Fault.{number_of as notes_number}
-use Rattle.tally_filters.specs.declared.fault.FilterFault.{FilterFault}
-use Rattle.tally_filters.specs.declared.fault.FilterFault.TheVariants as notes_fault
-use Rattle.tally_text.specs.Fault.{number_of as tally_number}
-use Rattle.tally_text.specs.declared.fault.TallyFileFault.{TallyFileFault}
-use Rattle.tally_text.specs.declared.fault.TallyFileFault.TheVariants as tally_fault
-use Rattle.transport_instance.specs.Fault.{number_of as check_number}
-use Rattle.transport_instance.specs.declared.fault.CheckFault.{CheckFault}
-use Rattle.transport_instance.specs.declared.fault.CheckFault.TheVariants as check_fault
+use Rattle.line_tally.specs.FilterFault.{number_of as notes_number}
+use Rattle.line_tally.specs.declared.filter_fault.FilterFault.{FilterFault}
+use Rattle.line_tally.specs.declared.filter_fault.FilterFault.TheVariants as notes_fault
+use Rattle.line_tally.specs.Fault.{number_of as tally_number}
+use Rattle.line_tally.specs.declared.file_fault.TallyFileFault.{TallyFileFault}
+use Rattle.line_tally.specs.declared.file_fault.TallyFileFault.TheVariants as tally_fault
+use Rattle.transport_core.specs.Fault.{number_of as check_number}
+use Rattle.transport_core.specs.declared.fault.CheckFault.{CheckFault}
+use Rattle.transport_core.specs.declared.fault.CheckFault.TheVariants as check_fault
 use Rattle.library_rollouts.specs.declared.refusal.RolloutRefusal.{RolloutRefusal}
 use Rattle.library_rollouts.specs.declared.refusal.RolloutRefusal.TheVariants.{WantOfMemory, Room, NoRule, Document, Rollout, Notes, Tally, Plan, Check, Keep}
 

@@ -3,11 +3,11 @@ use Rattle.std.specs.Prelude.{◌≡◌, ◌≢◌, ℕ, List, Result, Ok, Err}
 use Rattle.line_batches.specs.Lines.{parts_of}
 use Rattle.line_tally.specs.Lines.{Tallied, finished, untallied}
 use Rattle.note_streams.specs.Tallied.{Tallies}
-use Rattle.tally_core.specs.Tally.{PageTally}
-use Rattle.tally_filters.specs.declared.fault.FilterFault.{FilterFault}
-use Rattle.tally_filters.specs.declared.fault.FilterFault.TheVariants.{WantOfMemory}
-use Rattle.tally_text.specs.File.{tally_text}
-use Rattle.tally_text.specs.Reading.{ReadsAs}
+use Rattle.line_tally.specs.Tally.{PageTally}
+use Rattle.line_tally.specs.declared.filter_fault.FilterFault.{FilterFault}
+use Rattle.line_tally.specs.declared.filter_fault.FilterFault.TheVariants.{WantOfMemory}
+use Rattle.line_tally.specs.File.{tally_text}
+use Rattle.line_tally.specs.Reading.{ReadsAs}
 use Rattle.library_rollouts.specs.Reading.{OfFlags}
 use Rattle.library_rollouts.specs.Refusal.{of_notes}
 use Rattle.library_rollouts.specs.Target.{Target, WithTarget, target_of}

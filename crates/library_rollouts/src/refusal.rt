@@ -9,9 +9,9 @@ use plan_text::PlanFileFault;
 use price_core::PriceFault;
 use rollout_checks::{RolloutFault, VerifyFault};
 use std::alloc::{AllocError, AllocFailed};
-use tally_filters::FilterFault;
-use tally_text::TallyFileFault;
-use transport_instance::CheckFault;
+use line_tally::FilterFault;
+use line_tally::TallyFileFault;
+use transport_core::CheckFault;
 
 /// Why a rollout is refused.
 #[derive(Debug, PartialEq, Eq, Drop)]

@@ -2,8 +2,10 @@ pub mod Answer
 pub mod Connection
 pub mod Early
 pub mod Feeding
+pub mod Kept
 pub mod Keys
 pub mod Lines
+pub mod LinesView
 pub mod Question
 pub mod Refusal
 pub mod Room

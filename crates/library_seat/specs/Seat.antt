@@ -4,7 +4,7 @@ use Rattle.flag_text.specs.Shape.{Shape}
 use Rattle.logic_eval.specs.Run.{Reach}
 use Rattle.flag_defs.specs.Document.{Definitions}
 use Rattle.flag_resolve.specs.Floats.{Marked}
-use Rattle.kept_lines.specs.Kept.{Kept, nothing, with_lines}
+use Rattle.library_seat.specs.Kept.{Kept, nothing, with_lines}
 use Rattle.library_seat.specs.Connection.{Connection, begun}
 use Rattle.library_seat.specs.Lines.{lines_of}
 

@@ -4,7 +4,7 @@ use Rattle.std.specs.Arc.{arc_value}
 use Rattle.flag_text.specs.Shape.{Shape}
 use Rattle.flag_text.specs.View.{view}
 use Rattle.flag_defs.specs.Floats.{marked_view}
-use Rattle.kept_lines.specs.View.{kept_view}
+use Rattle.library_seat.specs.LinesView.{kept_view}
 use Rattle.flag_resolve.specs.Floats.{Marked}
 use Rattle.sync_frames.specs.declared.feed.Feed.{Feed}
 use Rattle.library_seat.specs.Connection.{Connection}

@@ -3,7 +3,7 @@ ghost use Rattle.std.specs.Prelude.{◌≡◌, ◌∷◌, [], ◌++◌, map, opt
 ghost use Rattle.flag_defs.specs.Flags.{flags_view};
 ghost use Rattle.logic_ast.specs.Expr.{view};
 ghost use Rattle.logic_eval.specs.Views.{reach_view};
-ghost use Rattle.kept_lines.specs.View.{lines_view};
+ghost use Rattle.library_seat.specs.LinesView.{lines_view};
 ghost use Rattle.library_seat.specs.Lines.{line_of, lines_in, lines_of, targeting_of};
 
 use book_core::Page;

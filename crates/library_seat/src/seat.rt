@@ -19,7 +19,7 @@ use crate::question::context_of;
 use crate::refusal::Refusal;
 use crate::workspace::Workspace;
 use flag_defs::Flags;
-use kept_lines::KeptLines;
+use crate::KeptLines;
 use std::alloc::Global;
 use sync_frames::Feed;
 

@@ -6,12 +6,22 @@
 //!
 //! Proved, over the definitions of `specs/`: a batch grows by the bytes that the stream gives, and stops short of its size
 //! only where the stream ends (`Fill`); what is cut are the lines before each line feed, whatever follows (`Lines`).
+//!
+//! # Readers and writers whose calls are made again where a signal interrupts them, as they are when a process is stopped and goes on
+//!
+//! A crate of its own, though it is small, since streams, the service and the program use it alike.
+//!
+//! Proved: what is left of such a reader, and what such a writer holds, is what the one inside has or holds.
 #![tactic(auto)]
 
 mod cut;
 mod filling;
 mod inlet;
+mod input;
+mod output;
 
 pub use cut::{cut_line, cut_lines};
 pub use filling::{FillFault, fill};
 pub use inlet::{Inlet, ReadInlet};
+pub use input::PersistentInput;
+pub use output::PersistentOutput;

@@ -9,9 +9,9 @@ use Rattle.std.proofs.lemmas.List.Sums.{sum_by-set}
 use Rattle.book_core.specs.Page.{PageName, bytes_cmp}
 use Rattle.page_tally.specs.Folding.{is_above_last}
 use Rattle.note_lines.specs.Hashed.{has_hash}
-use Rattle.tally_core.specs.Tally.{IsTallyTotal, AreEnds, IsLineOn, most_at_point, most_in_all}
-use Rattle.tally_core.proofs.Ends.{le_from_lt, le_trans, le_itself}
-use Rattle.tally_core.proofs.Zeros.{none_is}
+use Rattle.line_tally.specs.Tally.{IsTallyTotal, AreEnds, IsLineOn, most_at_point, most_in_all}
+use Rattle.line_tally.proofs.Ends.{le_from_lt, le_trans, le_itself}
+use Rattle.line_tally.proofs.Zeros.{none_is}
 use Rattle.line_tally.specs.Lines.{Tallied, untallied, passed, tallied, has_room, is_alike, IsWithin, IsTally}
 
 same_from_beq : (x y : Bool) → beq x y ≡ true → x ≡ y

@@ -8,8 +8,8 @@ use Rattle.flag_text.specs.Printing.{text_of}
 use Rattle.note_lines.specs.Hashed.{Hashed, IsHashed, has_hash, hashed_line}
 use Rattle.note_lines.specs.Note.{Noted, IsNote, note_line, note_shape}
 use Rattle.note_lines.proofs.OneKind.{hash_kind, input_kind}
-use Rattle.tally_core.specs.Tally.{IsLineOn, hash_line_on, hashed_on, line_on, noted_on}
-use Rattle.tally_core.proofs.Pages.{same_page}
+use Rattle.line_tally.specs.Tally.{IsLineOn, hash_line_on, hashed_on, line_on, noted_on}
+use Rattle.line_tally.proofs.Pages.{same_page}
 use Rattle.line_tally.specs.Lines.{IsSaid, Said, Tallied, has_room, is_alike, of_hash, of_input, passed, said_line, said_page, said_point, tallied, with_point, with_said}
 use Rattle.line_tally.specs.Place.{IsPlace}
 use Rattle.line_tally.specs.Refusals.{Refuses, RefusesSaid, SaysNothing, TakesSaid}

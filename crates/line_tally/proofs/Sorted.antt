@@ -25,9 +25,9 @@ use Rattle.note_lines.specs.Note.{IsNote, Noted, note_line}
 use Rattle.note_lines.specs.Hashed.{has_hash}
 use Rattle.note_lines.proofs.OneKind.{input_kind}
 use Rattle.note_lines.proofs.Lines.{one_note}
-use Rattle.tally_core.specs.Law.{TalliesInAnyOrder, lines_on}
-use Rattle.tally_core.specs.Tally.{line_on, most_at_point, noted_on}
-use Rattle.tally_core.proofs.Zeros.{zero_all}
+use Rattle.line_tally.specs.JoinLaw.{TalliesInAnyOrder, lines_on}
+use Rattle.line_tally.specs.Tally.{line_on, most_at_point, noted_on}
+use Rattle.line_tally.proofs.Zeros.{zero_all}
 use Rattle.line_tally.specs.Law.{BookPagesAreTallied, SortedNotesAreTallied, inputs_of, with_notes}
 use Rattle.line_tally.specs.Lines.{Tallied, finished, has_room, is_alike, of_input, passed, tallied, untallied, with_said}
 use Rattle.line_tally.specs.declared.fault.LineTallyFault.{LineTallyFault}

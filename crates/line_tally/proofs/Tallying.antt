@@ -16,9 +16,9 @@ use Rattle.page_tally.specs.Folding.{is_above_last}
 use Rattle.note_lines.specs.Hashed.{Hashed, has_hash, hashed_line}
 use Rattle.note_lines.specs.Note.{Noted, note_line}
 use Rattle.note_lines.proofs.OneKind.{hash_kind, input_kind}
-use Rattle.tally_core.specs.Law.{IsRangeBy, counts_by, first_line, last_line}
-use Rattle.tally_core.specs.Tally.{hash_line_on, line_on}
-use Rattle.tally_core.proofs.Pages.{same_page}
+use Rattle.line_tally.specs.JoinLaw.{IsRangeBy, counts_by, first_line, last_line}
+use Rattle.line_tally.specs.Tally.{hash_line_on, line_on}
+use Rattle.line_tally.proofs.Pages.{same_page}
 use Rattle.line_tally.specs.Law.{AreOfOneKind, IsTallyOfHashedNotes, IsTallyOfNotes, TalliedAreOfOneKind, hashes_of, inputs_of, with_hashes, with_notes, with_saids}
 use Rattle.line_tally.specs.Lines.{IsSaid, Said, Tallied, finished, has_room, is_alike, of_hash, of_input, passed, said_line, said_page, said_point, tallied, untallied, with_said}
 use Rattle.line_tally.specs.declared.fault.LineTallyFault.{LineTallyFault}

@@ -6,8 +6,8 @@ use Rattle.book_core.specs.Book.{Inputs, IsExposure}
 use Rattle.book_core.specs.Page.{PageName, bytes_cmp, page_eq}
 use Rattle.note_lines.specs.Hashed.{Hashed, hashed_line}
 use Rattle.note_lines.specs.Note.{IsNote, Noted, note_line}
-use Rattle.tally_core.specs.Law.{IsRangeOf, IsRangeOfHashes, IsTallyOf}
-use Rattle.tally_core.specs.Tally.{most_at_point, noted_on}
+use Rattle.line_tally.specs.JoinLaw.{IsRangeOf, IsRangeOfHashes, IsTallyOf}
+use Rattle.line_tally.specs.Tally.{most_at_point, noted_on}
 use Rattle.line_tally.specs.Lines.{IsSaid, Said, Tallied, finished, of_hash, of_input, untallied, with_said}
 use Rattle.line_tally.specs.declared.fault.LineTallyFault.{LineTallyFault}
 

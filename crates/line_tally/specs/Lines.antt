@@ -8,7 +8,7 @@ use Rattle.book_core.specs.Page.{PageName, bytes_cmp, page_eq}
 use Rattle.page_tally.specs.Folding.{is_above_last}
 use Rattle.note_lines.specs.Hashed.{Hashed, IsHashed, has_hash, hashed_line}
 use Rattle.note_lines.specs.Note.{Noted, IsNote, note_line}
-use Rattle.tally_core.specs.Tally.{PageTally, IsPageTally, most_at_point, most_in_all}
+use Rattle.line_tally.specs.Tally.{PageTally, IsPageTally, most_at_point, most_in_all}
 use Rattle.line_tally.specs.declared.fault.LineTallyFault.{LineTallyFault}
 use Rattle.line_tally.specs.declared.fault.LineTallyFault.TheVariants.{Order, TooMany, Mixed}
 

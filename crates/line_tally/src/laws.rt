@@ -6,7 +6,7 @@ ghost use Rattle.note_lines.specs.Note.{Noted};
 ghost use Rattle.line_tally.specs.Law.{with_hashes, with_notes, BookPagesAreTallied, IsTallyOfHashedNotes, IsTallyOfNotes, SortedNotesAreTallied, TalliedAreOfOneKind};
 ghost use Rattle.line_tally.specs.Lines.{Tallied, untallied};
 
-use tally_core::a_tally_is_in_any_order;
+use crate::a_tally_is_in_any_order;
 
 /// Where no line was refused, the lines rise strictly, so each input of the page was there once, and what was tallied is
 /// how many of them there are and how many on each point.

@@ -3,7 +3,7 @@ ghost use Rattle.std.specs.Prelude.{◌≡◌, ◌≢◌, ◌<◌, ◌++◌, ◌
 ghost use Rattle.page_tally.specs.Folding.{is_above_last};
 ghost use Rattle.note_lines.specs.Hashed.{Hashed, IsHashed, hashed_line};
 ghost use Rattle.note_lines.specs.Note.{Noted, IsNote, note_line};
-ghost use Rattle.tally_core.specs.Tally.{IsLineOn, IsTallyTotal};
+ghost use Rattle.line_tally.specs.Tally.{IsLineOn, IsTallyTotal};
 ghost use Rattle.line_tally.specs.Last.{last_line};
 ghost use Rattle.line_tally.specs.Lines.{untallied, passed, has_room, finished, is_alike, with_point};
 ghost use Rattle.line_tally.specs.Place.{IsPlace};
@@ -18,7 +18,7 @@ use note_lines::{has_hash, read_hashed_note, read_note};
 use std::alloc::{AllocError, Global};
 use std::marker::Model;
 use std::mem;
-use tally_core::{MOST_AT_POINT, MOST_IN_ALL, PageTally};
+use crate::{MOST_AT_POINT, MOST_IN_ALL, PageTally};
 
 /// How many inputs of one page fall on each of so many points, of the note lines so far.
 #[derive(Drop)]

@@ -14,7 +14,7 @@ use Rattle.line_tally.specs.Refusals.{SaysNothing}
 use Rattle.note_lines.specs.Hashed.{Hashed, has_hash}
 use Rattle.note_lines.specs.Note.{Noted}
 use Rattle.note_lines.specs.Reading.{Reads, ReadsHashed}
-use Rattle.tally_core.proofs.Pages.{same_page}
+use Rattle.line_tally.proofs.Pages.{same_page}
 use Rattle.log_tallies.proofs.Among.{In, from_in, to_in}
 use Rattle.log_tallies.proofs.Members.{one_said, page_itself}
 use Rattle.log_tallies.specs.Counts.{AreCounts, CountsLine, CountsLines, HasOneMore, HasRoom, IsNoteOf, SayAll, SaysPage, counted_on}

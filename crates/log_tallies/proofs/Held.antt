@@ -12,10 +12,10 @@ use Rattle.line_tally.specs.declared.fault.LineTallyFault.TheVariants.{Order, To
 use Rattle.note_lines.specs.Hashed.{Hashed, IsHashed}
 use Rattle.note_lines.specs.Note.{IsNote, Noted}
 use Rattle.page_tally.specs.Folding.{is_above_last}
-use Rattle.tally_core.specs.Law.{IsRangeBy, IsRangeOf, IsRangeOfHashes}
-use Rattle.tally_core.specs.Tally.{PageTally, hash_line_on, hashed_on, line_on, noted_on}
-use Rattle.tally_filters.specs.Blank.{is_blank}
-use Rattle.tally_filters.specs.Filter.{AreLinesOf, AreTalliedHashes, AreTalliedInputs, StreamIsTallied, TakesAll}
+use Rattle.line_tally.specs.JoinLaw.{IsRangeBy, IsRangeOf, IsRangeOfHashes}
+use Rattle.line_tally.specs.Tally.{PageTally, hash_line_on, hashed_on, line_on, noted_on}
+use Rattle.line_tally.specs.Blank.{is_blank}
+use Rattle.line_tally.specs.Filter.{AreLinesOf, AreTalliedHashes, AreTalliedInputs, StreamIsTallied, TakesAll}
 use Rattle.log_tallies.proofs.Among.{In, all_of, from_in, of_all, to_in}
 use Rattle.log_tallies.proofs.Members.{all_map, all_members, each_said, hashed_is_on, in_hashes, in_members, in_notes, kept_lines, no_hash_in, no_note_in, note_is_on, page_itself, said_there}
 use Rattle.log_tallies.specs.Lines.{all_lines}

@@ -12,10 +12,10 @@ use Rattle.note_lines.proofs.Lines as notes
 use Rattle.note_lines.proofs.OneKind.{not_both}
 use Rattle.note_lines.specs.Hashed.{Hashed, hashed_line}
 use Rattle.note_lines.specs.Note.{Noted, note_line}
-use Rattle.tally_core.proofs.Pages.{same_page}
-use Rattle.tally_core.specs.Tally.{hashed_on, noted_on}
-use Rattle.tally_filters.specs.Blank.{is_blank}
-use Rattle.tally_filters.specs.Filter.{AreLinesOf}
+use Rattle.line_tally.proofs.Pages.{same_page}
+use Rattle.line_tally.specs.Tally.{hashed_on, noted_on}
+use Rattle.line_tally.specs.Blank.{is_blank}
+use Rattle.line_tally.specs.Filter.{AreLinesOf}
 use Rattle.log_tallies.proofs.Among.{In}
 use Rattle.log_tallies.specs.Stray.{AreKept}
 

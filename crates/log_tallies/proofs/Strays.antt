@@ -7,7 +7,7 @@ use Rattle.line_tally.specs.Lines.{of_hash, of_input}
 use Rattle.note_lines.specs.Hashed.{Hashed, has_hash}
 use Rattle.note_lines.specs.Note.{Noted}
 use Rattle.note_lines.specs.Reading.{Reads, ReadsHashed}
-use Rattle.tally_filters.specs.Blank.{is_blank}
+use Rattle.line_tally.specs.Blank.{is_blank}
 use Rattle.log_tallies.proofs.Among.{all_both}
 use Rattle.log_tallies.proofs.Cut.{lines_first, lines_none}
 use Rattle.log_tallies.specs.Lines.{all_lines, lines_in}

@@ -16,10 +16,10 @@ use Rattle.note_lines.proofs.OneKind.{hash_kind, input_kind}
 use Rattle.note_lines.specs.Hashed.{has_hash, hashed_line}
 use Rattle.note_lines.specs.Note.{note_line}
 use Rattle.page_tally.specs.Folding.{is_above_last}
-use Rattle.tally_core.specs.Tally.{PageTally}
-use Rattle.tally_filters.specs.Blank.{is_blank}
-use Rattle.tally_filters.specs.Filter.{Filtered, RefusesLine, Takes, TakesAll, numbered}
-use Rattle.tally_filters.specs.declared.fault.FilterFault.{FilterFault}
+use Rattle.line_tally.specs.Tally.{PageTally}
+use Rattle.line_tally.specs.Blank.{is_blank}
+use Rattle.line_tally.specs.Filter.{Filtered, RefusesLine, Takes, TakesAll, numbered}
+use Rattle.line_tally.specs.declared.filter_fault.FilterFault.{FilterFault}
 use Rattle.log_tallies.proofs.Among.{In, from_in, in_front, in_middle}
 use Rattle.log_tallies.specs.Recorded.{AreMixed}
 use Rattle.log_tallies.specs.Sorted.{TalliesLines}

@@ -3,7 +3,7 @@ use Rattle.std.specs.Prelude.{◌≡◌, ◌⊎◌, ℕ, zero, suc, Bool, true, 
 use Rattle.std.specs.List.{AllByRecursion}
 use Rattle.line_tally.specs.Lines.{IsSaid, Said, said_line}
 use Rattle.line_tally.specs.Refusals.{SaysNothing}
-use Rattle.tally_filters.specs.Blank.{is_blank}
+use Rattle.line_tally.specs.Blank.{is_blank}
 use Rattle.log_tallies.specs.Lines.{lines_in}
 
 -- the line is not blank, and is that of no note

@@ -1,7 +1,7 @@
 //! The lines of a book file, one after another.
 use crate::rows::each;
 use book_core::Page;
-use book_lines::{Line, first_line, next_page};
+use page_tally::{Line, first_line, next_page};
 use std::alloc::{AllocError, Global};
 use std::test::Fail;
 

@@ -6,7 +6,7 @@ use note_lines::{hashed_line, note_line, read_hashed_note, read_note};
 use std::alloc::{AllocError, Global};
 use std::sync::Arc;
 use std::test::Fail;
-use tally_filters::join_all;
+use line_tally::join_all;
 
 /// A line without its line feed, with it.
 fn ended(alloc: Global, line: &str) -> Result<Vec<u8>, AllocError> {

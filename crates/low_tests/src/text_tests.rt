@@ -2,7 +2,7 @@
 use crate::rows::each;
 use std::alloc::Global;
 use std::test::Fail;
-use xml_text::escaped;
+use picture::escaped;
 
 /// Whether a text is escaped so.
 fn escapes(alloc: Global, text: &str, want: &str) -> bool {

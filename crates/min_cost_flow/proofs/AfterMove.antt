@@ -7,8 +7,8 @@ use Rattle.min_cost_flow.specs.declared.problem.FlowProblem.{FlowProblem}
 use Rattle.min_cost_flow.specs.Flow.{cell_at, flows_at, groups_of}
 use Rattle.min_cost_flow.specs.Residual.{ChangesGroup, ChangesRootArcs, ChangesRow, HasRootArcs, HasRow}
 use Rattle.min_cost_flow.proofs.ResidualRows.{root_arcs_of, root_arcs_stay, residual_of, row_of, row_stays}
-use Rattle.shortest_path.specs.Network.{arc_at}
-use Rattle.shortest_path.specs.declared.arc.Arc.{Arc}
+use Rattle.min_cost_flow.specs.Network.{arc_at}
+use Rattle.min_cost_flow.specs.declared.arc.Arc.{Arc}
 
 module _ (p : FlowProblem) (numbers sums numbers' sums' : List ℕ) (c0 c1 c2 c3 c4 : List (Option Arc)) (residual : AreResidual (flows_at p numbers sums) (arc_at c0 (names_of p + 1)))
     (group from to : ℕ) (from_in : from < names_of p) (to_in : to < names_of p) (apart : from ≢ to)

@@ -9,8 +9,8 @@ use Rattle.min_cost_flow.specs.declared.problem.FlowProblem.{FlowProblem}
 use Rattle.min_cost_flow.proofs.Cells.{cell_in}
 use Rattle.min_cost_flow.proofs.Entering.{there_is}
 use Rattle.min_cost_flow.specs.Flow.{IsFlowAt, groups_of}
-use Rattle.shortest_path.specs.Network.{HasCostsWithin, arc_at, max_cost}
-use Rattle.shortest_path.specs.declared.arc.Arc.{Arc}
+use Rattle.min_cost_flow.specs.Network.{HasCostsWithin, arc_at, max_cost}
+use Rattle.min_cost_flow.specs.declared.arc.Arc.{Arc}
 use Rattle.min_cost_flow.proofs.OptimalLaws.{none_there}
 
 -- what a name costs a point

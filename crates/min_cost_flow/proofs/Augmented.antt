@@ -4,8 +4,8 @@ use Rattle.min_cost_flow.specs.Problem.{names_of}
 use Rattle.min_cost_flow.specs.declared.problem.FlowProblem.{FlowProblem}
 use Rattle.min_cost_flow.specs.Flow.{total_at}
 use Rattle.min_cost_flow.specs.declared.flow.Flow.{Flow}
-use Rattle.shortest_path.specs.Network.{arc_at}
-use Rattle.shortest_path.specs.declared.arc.Arc.{Arc}
+use Rattle.min_cost_flow.specs.Network.{arc_at}
+use Rattle.min_cost_flow.specs.declared.arc.Arc.{Arc}
 use Rattle.min_cost_flow.specs.Paths.{IsTraced, IsAugmented, IsBottleneck}
 use Rattle.min_cost_flow.specs.declared.augmenting.Path.{Path}
 use Rattle.min_cost_flow.proofs.MovedAlong.{at_name, same_name, other_name}

@@ -6,8 +6,8 @@ use Rattle.min_cost_flow.specs.declared.problem.FlowProblem.{FlowProblem}
 use Rattle.min_cost_flow.specs.Flow.{cell_at, groups_of}
 use Rattle.min_cost_flow.specs.Residual.{ChangesRootArcs, ChangesRow, HasRootArcs, HasRow}
 use Rattle.min_cost_flow.proofs.ResidualRows.{root_arcs_stay, row_stays}
-use Rattle.shortest_path.specs.Network.{arc_at}
-use Rattle.shortest_path.specs.declared.arc.Arc.{Arc}
+use Rattle.min_cost_flow.specs.Network.{arc_at}
+use Rattle.min_cost_flow.specs.declared.arc.Arc.{Arc}
 
 -- those of the names below are right
 pub record ArcsBelow (p : FlowProblem) (numbers sums : List ℕ) (name : ℕ) (cells : List (Option Arc)) : Type 0 where

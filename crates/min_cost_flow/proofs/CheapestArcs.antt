@@ -7,7 +7,7 @@ use Rattle.min_cost_flow.specs.Problem.{is_allowed, cost_or_zero}
 use Rattle.min_cost_flow.specs.Residual.{AreMoves, HaveFirst, HaveLast, IsLower, IsRow}
 use Rattle.min_cost_flow.proofs.Entering.{there_is}
 use Rattle.min_cost_flow.proofs.Products.{between}
-use Rattle.shortest_path.specs.declared.arc.Arc.{Arc}
+use Rattle.min_cost_flow.specs.declared.arc.Arc.{Arc}
 use Rattle.min_cost_flow.proofs.OptimalLaws.{none_there}
 
 -- no arc is a move

@@ -6,7 +6,7 @@ use Rattle.min_cost_flow.specs.Offered.{IsSwitchCost, IsOffer, Offers}
 use Rattle.min_cost_flow.specs.Problem.{is_allowed, cost_or_zero}
 use Rattle.min_cost_flow.specs.Residual.{TakesMoves, IsMoveOfGroup}
 use Rattle.min_cost_flow.proofs.Products.{pays_more}
-use Rattle.shortest_path.specs.declared.arc.Arc.{Arc}
+use Rattle.min_cost_flow.specs.declared.arc.Arc.{Arc}
 
 pub there_is : (switch_cost : Option ℤ) → is_allowed switch_cost ≡ true → (z : ℤ) × (switch_cost ≡ Some z)
 there_is None h = cc

@@ -11,11 +11,11 @@ use Rattle.min_cost_flow.specs.declared.problem.FlowProblem.{FlowProblem}
 use Rattle.min_cost_flow.specs.Flow.{IsFlow, flows_of, groups_of, placed_at, total_at}
 use Rattle.min_cost_flow.specs.declared.flow.Flow.{Flow}
 use Rattle.min_cost_flow.proofs.OptimalLaws.{optimal_from_reduced}
-use Rattle.shortest_path.specs.Found.{HasFound, HasSize, IsStuck, predecessor_of, potential_of, rank_of}
-use Rattle.shortest_path.specs.Network.{IsShort, arc_at, max_cost}
-use Rattle.shortest_path.specs.Searched.{IsTight}
-use Rattle.shortest_path.specs.declared.arc.Arc.{Arc}
-use Rattle.shortest_path.specs.declared.search.Search.{Search}
+use Rattle.min_cost_flow.specs.Found.{HasFound, HasSize, IsStuck, predecessor_of, potential_of, rank_of}
+use Rattle.min_cost_flow.specs.Network.{IsShort, arc_at, max_cost}
+use Rattle.min_cost_flow.specs.Searched.{IsTight}
+use Rattle.min_cost_flow.specs.declared.arc.Arc.{Arc}
+use Rattle.min_cost_flow.specs.declared.search.Search.{Search}
 use Rattle.min_cost_flow.specs.Placing.{IsInFirstPass, IsStuckAbove, IsPathToRoom, StayPlaced, WantsRoot, reach}
 
 -- the bounds of potentials after a search whose node is the root

@@ -16,7 +16,7 @@ use Rattle.min_cost_flow.specs.Initial.{at_home}
 use Rattle.min_cost_flow.proofs.Homes.{home_away, home_here}
 use Rattle.min_cost_flow.proofs.ResidualRows.{residual_of}
 use Rattle.min_cost_flow.proofs.Sums.{sum_one, sum_same}
-use Rattle.shortest_path.specs.declared.arc.Arc.{Arc}
+use Rattle.min_cost_flow.specs.declared.arc.Arc.{Arc}
 
 sum_nothing : (n : ℕ) → sum_to n (λ _. 0) ≡ 0
 sum_nothing zero = refl

@@ -6,7 +6,7 @@ use Rattle.min_cost_flow.specs.Problem.{IsFlowProblem, sum_to, group_at, may_tak
 use Rattle.min_cost_flow.specs.declared.problem.FlowProblem.{FlowProblem}
 use Rattle.min_cost_flow.specs.Flow.{IsFlowAt, IsMoveAt, IsMoved, IsPushedAt, cell_at, groups_of}
 use Rattle.min_cost_flow.proofs.Sums.{sum_same, sum_at_most, sum_has, sum_has_two, sum_adds, sum_one, sum_two}
-use Rattle.shortest_path.specs.declared.arc.Arc.{Arc}
+use Rattle.min_cost_flow.specs.declared.arc.Arc.{Arc}
 
 module _ (p : FlowProblem) (ok : IsFlowProblem p) (numbers sums : List ℕ) (cells : List (Option Arc)) (flow : IsFlowAt p numbers sums cells) where
   -- no group has more points than there are

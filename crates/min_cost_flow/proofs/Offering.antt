@@ -5,7 +5,7 @@ use Rattle.std.proofs.lemmas.Int.{ints}
 use Rattle.std.proofs.lemmas.List.{get_or-set_same, get_or-set_other, length-set}
 use Rattle.std.proofs.lemmas.Option.{same_Some}
 use Rattle.min_cost_flow.specs.Offered.{Offers}
-use Rattle.shortest_path.specs.declared.arc.Arc.{Arc}
+use Rattle.min_cost_flow.specs.declared.arc.Arc.{Arc}
 
 -- the arcs below `v` are offered, and the others as they were
 pub record OffersBelow (here : ℤ) (group count : ℕ) (costs : List (Option ℤ)) (row row' : List (Option Arc)) (v : ℕ) : Type 0 where

@@ -2,8 +2,8 @@
 use Rattle.std.proofs.Common.{◌≡◌, ◌≢◌, ℕ, ◌+◌, ◌<◌, ◌≤◌, ⊎_elim, ℤ, ◌+ℤ◌, ◌≤ℤ◌, true, Option, Some, None, sym, ap, ◌∙◌, arith}
 use Rattle.std.proofs.lemmas.Bool.{cases_eq, cases_lt}
 use Rattle.std.proofs.lemmas.Int.{ints}
-use Rattle.shortest_path.specs.Network.{HasNonNegativeReducedCosts}
-use Rattle.shortest_path.specs.declared.arc.Arc.{Arc}
+use Rattle.min_cost_flow.specs.Network.{HasNonNegativeReducedCosts}
+use Rattle.min_cost_flow.specs.declared.arc.Arc.{Arc}
 use Rattle.min_cost_flow.specs.Optimal.{Flows, AreLeast, IsOptimal, AreResidual, Pushes}
 
 pub none_there : (a : Arc) → None ≡ Some a → ⊥

@@ -6,8 +6,8 @@ use Rattle.min_cost_flow.specs.Problem.{IsFlowProblem, names_of}
 use Rattle.min_cost_flow.specs.declared.problem.FlowProblem.{FlowProblem}
 use Rattle.min_cost_flow.specs.Flow.{IsFlow, flows_of, total_at}
 use Rattle.min_cost_flow.specs.declared.flow.Flow.{Flow}
-use Rattle.shortest_path.specs.Found.{HasSize, potential_of}
-use Rattle.shortest_path.specs.declared.search.Search.{Search}
+use Rattle.min_cost_flow.specs.Found.{HasSize, potential_of}
+use Rattle.min_cost_flow.specs.declared.search.Search.{Search}
 use Rattle.min_cost_flow.specs.Cheapest.{IsCheapest}
 use Rattle.min_cost_flow.specs.Meeting.{IsInSecondPass}
 use Rattle.min_cost_flow.specs.Placing.{IsInFirstPass}

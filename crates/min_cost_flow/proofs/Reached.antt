@@ -13,10 +13,10 @@ use Rattle.min_cost_flow.specs.declared.problem.FlowProblem.{FlowProblem}
 use Rattle.min_cost_flow.specs.Flow.{IsFlow, flows_of, total_at}
 use Rattle.min_cost_flow.specs.declared.flow.Flow.{Flow}
 use Rattle.min_cost_flow.proofs.Sums.{sum_one}
-use Rattle.shortest_path.specs.Found.{HasFound, HasSize, IsStuck, predecessor_of, potential_of, rank_of}
-use Rattle.shortest_path.specs.Network.{arc_at, max_cost}
-use Rattle.shortest_path.specs.declared.arc.Arc.{Arc}
-use Rattle.shortest_path.specs.declared.search.Search.{Search}
+use Rattle.min_cost_flow.specs.Found.{HasFound, HasSize, IsStuck, predecessor_of, potential_of, rank_of}
+use Rattle.min_cost_flow.specs.Network.{arc_at, max_cost}
+use Rattle.min_cost_flow.specs.declared.arc.Arc.{Arc}
+use Rattle.min_cost_flow.specs.declared.search.Search.{Search}
 use Rattle.min_cost_flow.specs.Meeting.{IsInSecondPass, IsStuckBelow, IsPathToDeficit, WantsBelow, deficit}
 use Rattle.min_cost_flow.specs.Placing.{reach}
 use Rattle.min_cost_flow.proofs.Wanted.{less_from, less_true}

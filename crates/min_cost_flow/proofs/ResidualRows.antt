@@ -8,8 +8,8 @@ use Rattle.min_cost_flow.specs.declared.problem.FlowProblem.{FlowProblem}
 use Rattle.min_cost_flow.specs.Residual.{IsRow, IsMoveOfGroup, TakesMoves}
 use Rattle.min_cost_flow.specs.Flow.{cell_at, flows_at}
 use Rattle.min_cost_flow.specs.Residual.{ChangesGroup, HasRootArcs, HasRow, IsRootArc}
-use Rattle.shortest_path.specs.Network.{arc_at}
-use Rattle.shortest_path.specs.declared.arc.Arc.{Arc}
+use Rattle.min_cost_flow.specs.Network.{arc_at}
+use Rattle.min_cost_flow.specs.declared.arc.Arc.{Arc}
 
 module _ (groups names : ℕ) (may : ℕ → ℕ → Bool) (charge : ℕ → ℕ → ℤ) (v : ℕ) (old now : ℕ → ℕ) (arc arc' : ℕ → Option Arc) where
   -- the same groups have points here, and the arcs stay

@@ -6,8 +6,8 @@ use Rattle.min_cost_flow.specs.declared.problem.Group.{Group}
 use Rattle.min_cost_flow.specs.Residual.{HasArcs}
 use Rattle.min_cost_flow.proofs.ResidualRows.{row_stays, widened_same}
 use Rattle.min_cost_flow.proofs.WrittenArcs.{part_is, part_size, row_is}
-use Rattle.shortest_path.specs.Network.{arc_at}
-use Rattle.shortest_path.specs.declared.arc.Arc.{Arc}
+use Rattle.min_cost_flow.specs.Network.{arc_at}
+use Rattle.min_cost_flow.specs.declared.arc.Arc.{Arc}
 use borrow.Rule.Slice.PartMut.{put_mid}
 
 -- the arcs from a name, as a part

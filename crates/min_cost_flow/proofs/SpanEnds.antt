@@ -3,7 +3,7 @@ use Rattle.std.proofs.Common.{◌≡◌, ℕ, ◌+◌, ◌<◌, ◌≤◌, ⊎_e
 use Rattle.std.proofs.lemmas.Bool.{cases_eq}
 use Rattle.std.proofs.lemmas.Int.{ints}
 use Rattle.min_cost_flow.specs.Residual.{AreMoves, TakesMovesOfBoth, IsCovered, IsLower, IsMoveOfGroup, TakesMoves}
-use Rattle.shortest_path.specs.declared.arc.Arc.{Arc}
+use Rattle.min_cost_flow.specs.declared.arc.Arc.{Arc}
 
 -- the groups of old variants below `a` are done
 pub record EndsBelow (groups names : ℕ) (variant count : ℕ → ℕ) (may : ℕ → ℕ → Bool) (charge : ℕ → ℕ → ℤ) (here : ℕ → ℕ) (v a : ℕ) (arc : ℕ → Option Arc) : Type 0 where

@@ -7,7 +7,7 @@ use Rattle.min_cost_flow.specs.declared.problem.FlowProblem.{FlowProblem}
 use Rattle.min_cost_flow.specs.Flow.{IsFlow, placed_at, total_at}
 use Rattle.min_cost_flow.specs.declared.flow.Flow.{Flow}
 use Rattle.min_cost_flow.proofs.Sums.{sum_adds, sum_at_most, sum_one, sum_same}
-use Rattle.shortest_path.specs.Spent.{HasSettledAtMost, Spent}
+use Rattle.min_cost_flow.specs.Spent.{HasSettledAtMost, Spent}
 use Rattle.min_cost_flow.specs.Effort.{Searches, points_of}
 use Rattle.min_cost_flow.specs.Meeting.{deficit}
 use Rattle.min_cost_flow.specs.Placing.{excess}

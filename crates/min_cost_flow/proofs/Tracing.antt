@@ -8,9 +8,9 @@ use Rattle.min_cost_flow.specs.Problem.{names_of}
 use Rattle.min_cost_flow.specs.declared.problem.FlowProblem.{FlowProblem}
 use Rattle.min_cost_flow.specs.Flow.{IsFlow, flows_of}
 use Rattle.min_cost_flow.specs.declared.flow.Flow.{Flow}
-use Rattle.shortest_path.specs.Network.{arc_at}
-use Rattle.shortest_path.specs.Searched.{IsTight}
-use Rattle.shortest_path.specs.declared.arc.Arc.{Arc}
+use Rattle.min_cost_flow.specs.Network.{arc_at}
+use Rattle.min_cost_flow.specs.Searched.{IsTight}
+use Rattle.min_cost_flow.specs.declared.arc.Arc.{Arc}
 use Rattle.min_cost_flow.specs.Paths.{IsStep, Leads, HasZeroReducedCost, IsPath, AreTraced, IsTraced}
 use Rattle.min_cost_flow.specs.declared.augmenting.Path.{Path}
 use Rattle.min_cost_flow.specs.declared.augmenting.Step.{Step}

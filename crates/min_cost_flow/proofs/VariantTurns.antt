@@ -8,7 +8,7 @@ use Rattle.min_cost_flow.specs.declared.problem.Group.{Group}
 use Rattle.min_cost_flow.specs.declared.span.Span.{Span}
 use Rattle.min_cost_flow.proofs.SpanEnds.{EndsBelow, enters, skips}
 use Rattle.min_cost_flow.proofs.Spans.{narrow}
-use Rattle.shortest_path.specs.declared.arc.Arc.{Arc}
+use Rattle.min_cost_flow.specs.declared.arc.Arc.{Arc}
 
 -- the groups of old variants below `a` are done
 abbrev pub RowBelow : List Group → List (Option ℤ) → List ℕ → ℕ → ℕ → ℕ → List (Option Arc) → Type 0

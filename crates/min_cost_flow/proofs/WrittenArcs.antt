@@ -7,8 +7,8 @@ use Rattle.std.proofs.lemmas.Nat.{same_from_place}
 use Rattle.min_cost_flow.proofs.Cells.{cell_in, row_ends}
 use Rattle.min_cost_flow.specs.Residual.{ChangesRootArcs, ChangesRow, HasArcs}
 use Rattle.min_cost_flow.proofs.Places.{put_before, put_inside, put_after}
-use Rattle.shortest_path.specs.Network.{arc_at}
-use Rattle.shortest_path.specs.declared.arc.Arc.{Arc}
+use Rattle.min_cost_flow.specs.Network.{arc_at}
+use Rattle.min_cost_flow.specs.declared.arc.Arc.{Arc}
 use borrow.Rule.Slice.PartMut.{put_mid}
 
 module _ (names name : ℕ) (arcs : List (Option Arc)) (name_in : name < names) (size : HasArcs names arcs) where

@@ -9,8 +9,8 @@ use Rattle.min_cost_flow.specs.Meeting.{IsStuckBelow}
 use Rattle.min_cost_flow.specs.declared.cheapest.Outcome.{Outcome}
 use Rattle.min_cost_flow.specs.declared.cheapest.Outcome.TheVariants as outcomes
 use Rattle.min_cost_flow.specs.declared.flow.Flow.{Flow}
-use Rattle.shortest_path.specs.Found.{HasSize, potential_of}
-use Rattle.shortest_path.specs.declared.search.Search.{Search}
+use Rattle.min_cost_flow.specs.Found.{HasSize, potential_of}
+use Rattle.min_cost_flow.specs.declared.search.Search.{Search}
 use Rattle.min_cost_flow.specs.Placing.{IsStuckAbove, reach}
 
 -- each name is within its limits, and the flow is optimal by the potentials, which are not above 0 and near it

@@ -2,7 +2,7 @@
 use Rattle.std.specs.Prelude.{◌≡◌, ℕ, ◌+◌, ◌*◌, ◌≤◌, Bool, IfOk, IsTrue, length, MatchResult, Result}
 use Rattle.min_cost_flow.specs.Problem.{group_at, names_of, sum_to}
 use Rattle.min_cost_flow.specs.declared.problem.FlowProblem.{FlowProblem}
-use Rattle.shortest_path.specs.Spent.{Spent}
+use Rattle.min_cost_flow.specs.Spent.{Spent}
 
 -- the nodes: the names and the root
 abbrev pub nodes_of : FlowProblem → ℕ

@@ -7,8 +7,8 @@ use Rattle.min_cost_flow.specs.Spans.{AreSpans}
 use Rattle.min_cost_flow.specs.declared.problem.FlowProblem.{FlowProblem}
 use Rattle.min_cost_flow.specs.declared.flow.Flow.{Flow}
 use Rattle.min_cost_flow.specs.declared.span.Span.{Span}
-use Rattle.shortest_path.specs.Network.{arc_at}
-use Rattle.shortest_path.specs.declared.arc.Arc.{Arc}
+use Rattle.min_cost_flow.specs.Network.{arc_at}
+use Rattle.min_cost_flow.specs.declared.arc.Arc.{Arc}
 
 abbrev pub groups_of : FlowProblem → ℕ
 groups_of p = length p.groups.items

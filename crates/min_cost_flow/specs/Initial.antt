@@ -7,7 +7,7 @@ use Rattle.min_cost_flow.specs.Spans.{HasNoSpans}
 use Rattle.min_cost_flow.specs.declared.problem.FlowProblem.{FlowProblem}
 use Rattle.min_cost_flow.specs.declared.problem.Group.{Group}
 use Rattle.min_cost_flow.specs.declared.span.Span.{Span}
-use Rattle.shortest_path.specs.declared.arc.Arc.{Arc}
+use Rattle.min_cost_flow.specs.declared.arc.Arc.{Arc}
 
 -- the points of a group at a name: all at its old variant, none at another
 abbrev pub at_home : List Group → ℕ → ℕ → ℕ

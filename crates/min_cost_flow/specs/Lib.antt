@@ -1,12 +1,16 @@
 pub mod Cheapest
 pub mod Effort
 pub mod Flow
+pub mod Found
 pub mod Initial
 pub mod Meeting
+pub mod Network
 pub mod Offered
 pub mod Optimal
 pub mod Paths
 pub mod Placing
 pub mod Problem
 pub mod Residual
+pub mod Searched
 pub mod Spans
+pub mod Spent

@@ -7,9 +7,9 @@ use Rattle.min_cost_flow.specs.Problem.{names_of, sum_to}
 use Rattle.min_cost_flow.specs.declared.problem.FlowProblem.{FlowProblem}
 use Rattle.min_cost_flow.specs.Flow.{IsFlow, flows_of, total_at}
 use Rattle.min_cost_flow.specs.declared.flow.Flow.{Flow}
-use Rattle.shortest_path.specs.Found.{HasSize, predecessor_of, potential_of, rank_of}
-use Rattle.shortest_path.specs.Network.{arc_at}
-use Rattle.shortest_path.specs.declared.search.Search.{Search}
+use Rattle.min_cost_flow.specs.Found.{HasSize, predecessor_of, potential_of, rank_of}
+use Rattle.min_cost_flow.specs.Network.{arc_at}
+use Rattle.min_cost_flow.specs.declared.search.Search.{Search}
 use Rattle.min_cost_flow.specs.Placing.{IsClosed, reach}
 
 -- In the second pass the flow is within the high limits, and optimal by the potentials, which are not above 0 and near it; those of

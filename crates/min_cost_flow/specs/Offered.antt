@@ -1,6 +1,6 @@
 -- The moves that a group's points at a name offer its arcs.
 use Rattle.std.specs.Prelude.{◌≡◌, ℕ, ◌⊎◌, ℤ, pos, ◌-ℤ◌, ◌*ℤ◌, ◌≤ℤ◌, Option, Some}
-use Rattle.shortest_path.specs.declared.arc.Arc.{Arc}
+use Rattle.min_cost_flow.specs.declared.arc.Arc.{Arc}
 
 -- the most that a switch costs an input
 abbrev pub max_switch_cost : ℕ

@@ -1,7 +1,7 @@
 -- When a flow of points from groups to names is optimal, as potentials of the names and the root show, and the residual arcs along
 -- which points may move (Ahuja, Magnanti, Orlin, Network Flows, sections 9.2 and 9.3).
 use Rattle.std.specs.Prelude.{◌≡◌, ◌≢◌, ℕ, ◌+◌, ◌<◌, ℤ, pos, ◌+ℤ◌, ◌≤ℤ◌, Bool, true, Option, Some, None}
-use Rattle.shortest_path.specs.declared.arc.Arc.{Arc}
+use Rattle.min_cost_flow.specs.declared.arc.Arc.{Arc}
 
 -- A problem, and a flow with its totals: groups and names are numbered; a point of a group at a name costs so much, where it is
 -- allowed there.

@@ -7,11 +7,11 @@ use Rattle.min_cost_flow.specs.declared.problem.FlowProblem.{FlowProblem}
 use Rattle.min_cost_flow.specs.Flow.{flows_of, groups_of, placed_at, total_at}
 use Rattle.min_cost_flow.specs.Optimal.{AreLeast}
 use Rattle.min_cost_flow.specs.declared.flow.Flow.{Flow}
-use Rattle.shortest_path.specs.Found.{HasSize, predecessor_of, potential_of, rank_of}
-use Rattle.shortest_path.specs.Network.{arc_at}
-use Rattle.shortest_path.specs.Searched.{IsTight}
-use Rattle.shortest_path.specs.declared.arc.Arc.{Arc}
-use Rattle.shortest_path.specs.declared.search.Search.{Search}
+use Rattle.min_cost_flow.specs.Found.{HasSize, predecessor_of, potential_of, rank_of}
+use Rattle.min_cost_flow.specs.Network.{arc_at}
+use Rattle.min_cost_flow.specs.Searched.{IsTight}
+use Rattle.min_cost_flow.specs.declared.arc.Arc.{Arc}
+use Rattle.min_cost_flow.specs.declared.search.Search.{Search}
 use Rattle.min_cost_flow.specs.declared.augmenting.Path.{Path}
 use Rattle.min_cost_flow.specs.declared.augmenting.Step.{Step}
 

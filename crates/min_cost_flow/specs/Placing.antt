@@ -7,9 +7,9 @@ use Rattle.min_cost_flow.specs.Problem.{may_take_in, names_of, sum_to}
 use Rattle.min_cost_flow.specs.declared.problem.FlowProblem.{FlowProblem}
 use Rattle.min_cost_flow.specs.Flow.{IsFlow, flows_of, groups_of, placed_at, total_at}
 use Rattle.min_cost_flow.specs.declared.flow.Flow.{Flow}
-use Rattle.shortest_path.specs.Found.{HasSize, predecessor_of, potential_of, rank_of}
-use Rattle.shortest_path.specs.Network.{arc_at, max_cost}
-use Rattle.shortest_path.specs.declared.search.Search.{Search}
+use Rattle.min_cost_flow.specs.Found.{HasSize, predecessor_of, potential_of, rank_of}
+use Rattle.min_cost_flow.specs.Network.{arc_at, max_cost}
+use Rattle.min_cost_flow.specs.declared.search.Search.{Search}
 
 -- how far potentials fall below that of the wanted node of a search
 abbrev pub reach : ℕ

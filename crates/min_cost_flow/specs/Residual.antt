@@ -2,12 +2,12 @@
 use Rattle.std.specs.Prelude.{◌≡◌, ℕ, ◌<◌, ◌≤◌, ◌+◌, ◌*◌, ℤ, ◌⊎◌, ◌+ℤ◌, ◌≤ℤ◌, Bool, true, List, length, Option, Some, None, slice_index, slice_index_or, ◌≢◌, pos}
 use Rattle.min_cost_flow.specs.Problem.{cost_at, may_take, names_of}
 use Rattle.min_cost_flow.specs.declared.problem.Group.{Group}
-use Rattle.shortest_path.specs.declared.arc.Arc.{Arc}
+use Rattle.min_cost_flow.specs.declared.arc.Arc.{Arc}
 use Rattle.min_cost_flow.specs.declared.problem.FlowProblem.{FlowProblem}
 use Rattle.min_cost_flow.specs.Flow.{cell_at, groups_of}
 use Rattle.min_cost_flow.specs.Spans.{ArePlaced}
 use Rattle.min_cost_flow.specs.declared.span.Span.{Span}
-use Rattle.shortest_path.specs.Network.{arc_at}
+use Rattle.min_cost_flow.specs.Network.{arc_at}
 
 -- Each arc from the name `v` is the cheapest move of a point there: groups and names are numbered, so many points of each group are
 -- `here`, a group's points may take some names, and each is charged so much there.

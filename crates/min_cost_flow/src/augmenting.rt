@@ -5,13 +5,13 @@ ghost use Rattle.min_cost_flow.specs.Flow.{IsFlow, flows_of, total_at};
 ghost use Rattle.min_cost_flow.specs.Optimal.{AreLeast};
 ghost use Rattle.min_cost_flow.specs.Paths.{AreTraced, IsAugmented, MayAugment, MayMoveAlong, IsTraced, IsBottleneck, HasZeroReducedCost, IsStep, Leads};
 ghost use Rattle.min_cost_flow.specs.Problem.{IsFlowProblem, names_of};
-ghost use Rattle.shortest_path.specs.Found.{HasSize, predecessor_of, potential_of, rank_of};
-ghost use Rattle.shortest_path.specs.Network.{arc_at};
-ghost use Rattle.shortest_path.specs.Searched.{predecessor_in};
+ghost use Rattle.min_cost_flow.specs.Found.{HasSize, predecessor_of, potential_of, rank_of};
+ghost use Rattle.min_cost_flow.specs.Network.{arc_at};
+ghost use Rattle.min_cost_flow.specs.Searched.{predecessor_in};
 
 use crate::flow::Flow;
 use crate::problem::FlowProblem;
-use shortest_path::{Arc, NodeState, Search};
+use crate::{Arc, NodeState, Search};
 use std::alloc::{AllocError, Global};
 
 /// A step of a path: points of a group move from one name to another.

@@ -9,7 +9,7 @@ use crate::flow::Flow;
 use crate::meeting::meet_low;
 use crate::placing::place_within_high;
 use crate::problem::FlowProblem;
-use shortest_path::{Effort, Search};
+use crate::{Effort, Search};
 use std::alloc::{AllocError, Global};
 use std::sync::ledger::Ledger;
 

@@ -8,7 +8,7 @@ use crate::initial::begin;
 use crate::problem::FlowProblem;
 use crate::residual::{arrive, leave, rebuild_root_arcs};
 use crate::span::{Span, widen};
-use shortest_path::Arc;
+use crate::Arc;
 use std::alloc::{AllocError, Global};
 
 /// How many points of each group are at each name, and the residual arcs along which they may move. Names are numbered from 0,

@@ -10,7 +10,7 @@ ghost use Rattle.min_cost_flow.specs.Initial.{AreBlank, HasNoPoints, at_home};
 use crate::problem::{FlowProblem, Group};
 use crate::residual::{rebuild_from, rebuild_root_arcs};
 use crate::span::{Span, widen};
-use shortest_path::Arc;
+use crate::Arc;
 
 /// The flow in which each point keeps its old variant.
 pub(crate) fn begin(

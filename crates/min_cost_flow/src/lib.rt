@@ -4,7 +4,7 @@
 //!
 //! ```rust
 //! use min_cost_flow::{FlowProblem, Outcome, cheapest_flow};
-//! use shortest_path::Effort;
+//! use crate::Effort;
 //!
 //! /// How many points each name has at the least cost, nothing where no flow is within the limits.
 //! fn totals<L: Ledger>(
@@ -33,21 +33,54 @@
 //! - `placing`, `meeting`, `cheapest`: the two passes, at whose end [`cheapest_flow`] has an optimal flow within all limits
 //!   (`IsCheapest`), or a search that failed in the first pass (`IsStuckAbove`) or in the second (`IsStuckBelow`). At W points it
 //!   makes at most 2 W augmentations, and one search more, each of which settles each node at most once.
+//!
+//! # Shortest paths in a residual network, by reduced costs, and the potentials that they leave (Dijkstra's algorithm with
+//! potentials; Ahuja, Magnanti, Orlin, Network Flows, section 9.7).
+//!
+//! ```rust
+//! use crate::{Arc, Effort, Search};
+//!
+//! fn nearest<L: Ledger>(alloc: Global, effort: &mut Effort<L>) -> Result<Option<usize>, AllocError> {
+//!     // Of two nodes, by rows of the nodes that they leave: one arc, from node 0 to node 1.
+//!     let arcs = [None, Some(Arc { cost: 3, group: 0 }), None, None];
+//!     let mut search = Search::new(alloc, 2)?;
+//!     let found = search.find(arcs.as_slice(), [false, true].as_slice(), 0, effort);
+//!     Ok(found)    // node 1, whose predecessor is node 0; the potential of node 0 is -3 now
+//! }
+//! ```
+//!
+//! The nodes are numbered, and an arc from one to another has a cost, a whole number. Each node has a potential, of the opposite
+//! sign to the book's, and no arc has a negative reduced cost: `cost + potential(from) - potential(to) >= 0`. A search settles
+//! nodes in the order of their distance from the source by reduced costs, up to the first that is wanted, and lowers the
+//! potential of each settled node by as much as it is nearer than that one. Proved: reduced costs stay non-negative, and those
+//! on the shortest paths become 0; and where no wanted node can be reached, no arc leaves the settled nodes.
+//!
+//! An [`Effort`] counts augmentations and settled nodes, without a byte at run time: both counts begin at 0, and each of its two
+//! methods adds one to its own and leaves the other. A search counts each node that it settles; augmentations are for the
+//! caller to count.
 #![tactic(auto)]
 
+mod arc;
 mod augmenting;
 mod cheapest;
+mod effort;
 mod flow;
 mod initial;
 mod meeting;
+mod node;
 mod optimal;
 mod placing;
 mod problem;
 mod residual;
+mod search;
 mod span;
 
+pub use arc::Arc;
 pub use cheapest::{Outcome, Passed, cheapest_flow};
+pub use effort::Effort;
 pub use flow::Flow;
+pub use node::NodeState;
 pub use optimal::{optimality, pushing};
 pub use problem::{FlowProblem, Group};
+pub use search::Search;
 pub use span::Span;

@@ -1,9 +1,9 @@
 //! Laws of flows of points to names, of numbers alone and apart from any structure that holds them.
 ghost use Rattle.std.specs.Prelude.{ℕ, ℤ, Option, ◌+◌};
 ghost use Rattle.min_cost_flow.specs.Optimal.{Flows, IsOptimal, AreResidual, PushesKeepLeast};
-ghost use Rattle.shortest_path.specs.Network.{HasNonNegativeReducedCosts};
+ghost use Rattle.min_cost_flow.specs.Network.{HasNonNegativeReducedCosts};
 
-use shortest_path::Arc;
+use crate::Arc;
 
 /// A flow is optimal for its totals by potentials just where no residual arc has a negative reduced cost by them.
 pub fn optimality()

@@ -4,12 +4,12 @@ ghost use Rattle.min_cost_flow.specs.Effort.{Augments, Spends, nodes_of};
 ghost use Rattle.min_cost_flow.specs.Flow.{IsFlow, total_at};
 ghost use Rattle.min_cost_flow.specs.Placing.{IsAbove, IsFilled, IsInFirstPass, IsStuckAbove, MeetsHigh, WantsRoot, excess, IsEmptied, IsPathToRoom};
 ghost use Rattle.min_cost_flow.specs.Problem.{IsFlowProblem, names_of};
-ghost use Rattle.shortest_path.specs.Spent.{HasSettledAtMost};
+ghost use Rattle.min_cost_flow.specs.Spent.{HasSettledAtMost};
 
 use crate::augmenting::augment;
 use crate::flow::Flow;
 use crate::problem::FlowProblem;
-use shortest_path::{Effort, Search};
+use crate::{Effort, Search};
 use std::alloc::{AllocError, Global};
 use std::sync::ledger::Ledger;
 

@@ -5,11 +5,11 @@ ghost use Rattle.min_cost_flow.specs.Offered.{IsSwitchCost, Offers, max_switch_c
 ghost use Rattle.min_cost_flow.specs.Problem.{AreSupplies, may_take, IsFlowProblem, cost_in, may_take_in, names_of};
 ghost use Rattle.min_cost_flow.specs.Residual.{TakesMovesOfBothIn, IsRowOf, TakesMovesIn, TakesMoves, ChangesGroup, ChangesRootArcs, ChangesRow, HasArcsOf, HasRootArcs, HasRow, IsRootArc, KeepsRow, ArePlacedIn};
 ghost use Rattle.min_cost_flow.specs.Spans.{ArePlaced, AreSpans, HasEnds};
-ghost use Rattle.shortest_path.specs.Network.{arc_at};
+ghost use Rattle.min_cost_flow.specs.Network.{arc_at};
 
 use crate::problem::{FlowProblem, Group};
 use crate::span::{Span, narrowed};
-use shortest_path::Arc;
+use crate::Arc;
 
 /// The arcs from a name, by the points that are there. A move costs `count * (cost(to) - cost(name))`, where `cost` is that of the
 /// switch from the old variant, so of the groups of an old variant the first or the last with points there has the cheapest. These

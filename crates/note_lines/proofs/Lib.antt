@@ -1,3 +1,6 @@
-pub mod OneKind
-pub mod Lines
+pub mod Astray
+pub mod Kept
 mod Lengths
+pub mod Lines
+pub mod Noted
+pub mod OneKind

@@ -10,14 +10,14 @@ use Rattle.note_lines.specs.Hashed.{line_as}
 use Rattle.note_lines.specs.Note.{Noted, most_noted}
 use Rattle.note_lines.specs.declared.form.NoteForm.{NoteForm}
 use Rattle.note_log.specs.Batch.{Adds, ArePrinted, IsBatch, items_of}
-use Rattle.note_memory.specs.Files.{StandsIn}
+use Rattle.note_log.specs.Files.{StandsIn}
 use Rattle.note_log.specs.Log.{Wants}
-use Rattle.note_memory.specs.Memory.{AreLeft}
-use Rattle.note_memory.specs.Recalled.{joined}
-use Rattle.note_memory.specs.Shown.{shown_in}
+use Rattle.note_log.specs.Memory.{AreLeft}
+use Rattle.note_log.specs.Recalled.{joined}
+use Rattle.note_log.specs.Shown.{shown_in}
 use Rattle.note_log.specs.declared.batch.Batch.{Batch}
 use Rattle.note_log.proofs.Lines.{not_in}
-use Rattle.note_memory.proofs.Lists.{at_head}
+use Rattle.note_log.proofs.Lists.{at_head}
 
 abbrev Line : Type 0
 Line = Vec ℕ Global

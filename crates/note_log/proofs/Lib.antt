@@ -1,7 +1,13 @@
-pub mod Lines
-mod Batches
-mod Moved
-mod Recorded
-mod Faults
 mod Anew
+mod Batches
 mod Counted
+pub mod Crossings
+mod Faults
+mod Left
+pub mod Lines
+pub mod Lists
+mod Moved
+mod Numbers
+mod Recalling
+mod Recorded
+mod Standing

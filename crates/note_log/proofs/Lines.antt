@@ -8,7 +8,7 @@ use Rattle.note_lines.specs.Note.{Noted, note_line, note_shape}
 use Rattle.note_lines.specs.declared.form.NoteForm.{NoteForm}
 use Rattle.note_lines.specs.declared.form.NoteForm.TheVariants.{Hash, Input}
 use Rattle.log_file.specs.Line.{EndsLine}
-use Rattle.note_memory.specs.Line.{HasLine}
+use Rattle.note_log.specs.Line.{HasLine}
 
 -- nothing is in no list
 pub not_in : {X : Type 0} (x : X) → ¬ (Contains [] x)

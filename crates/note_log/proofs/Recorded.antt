@@ -10,12 +10,12 @@ use Rattle.note_lines.specs.declared.form.NoteForm.{NoteForm}
 use Rattle.note_log.specs.Batch.{IsBatch}
 use Rattle.note_log.specs.Handing.{Moves}
 use Rattle.log_file.specs.Line.{EndsLine}
-use Rattle.note_memory.specs.Line.{HasLine}
+use Rattle.note_log.specs.Line.{HasLine}
 use Rattle.note_log.specs.Log.{Logged, Records}
-use Rattle.note_memory.specs.Memory.{StandAll}
-use Rattle.note_memory.specs.Shown.{relied_in, shown_in}
+use Rattle.note_log.specs.Memory.{StandAll}
+use Rattle.note_log.specs.Shown.{relied_in, shown_in}
 use Rattle.note_log.specs.declared.batch.Batch.{Batch}
-use Rattle.note_memory.specs.declared.files.Files.{Files}
+use Rattle.note_log.specs.declared.files.Files.{Files}
 use Rattle.note_log.proofs.Batches.{listed}
 use Rattle.note_log.proofs.Lines.{ends_lines, has_in, not_in}
 

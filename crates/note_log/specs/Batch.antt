@@ -5,9 +5,9 @@ use Rattle.std.specs.declared.alloc.Global.{Global}
 use Rattle.note_lines.specs.Hashed.{line_as}
 use Rattle.note_lines.specs.Note.{Noted, most_noted}
 use Rattle.note_lines.specs.declared.form.NoteForm.{NoteForm}
-use Rattle.note_memory.specs.Files.{StandsIn}
+use Rattle.note_log.specs.Files.{StandsIn}
 use Rattle.note_log.specs.Log.{Wants}
-use Rattle.note_memory.specs.Shown.{shown_in}
+use Rattle.note_log.specs.Shown.{shown_in}
 use Rattle.note_log.specs.declared.batch.Batch.{Batch}
 
 abbrev pub items_of : List (Vec ℕ Global) → List (List ℕ)

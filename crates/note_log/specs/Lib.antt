@@ -1,7 +1,11 @@
-pub use Rattle.note_lines.specs.Note
-pub use Rattle.note_memory.specs.Files
-pub use Rattle.note_memory.specs.Line
-pub mod Sound
-pub mod Log
-pub mod Handing
 pub mod Batch
+pub mod Files
+pub mod Handing
+pub mod Line
+pub mod Log
+pub mod Memory
+pub mod Numbers
+pub mod Recalled
+pub mod Shown
+pub mod Sound
+pub use Rattle.note_lines.specs.Note

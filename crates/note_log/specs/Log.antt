@@ -9,9 +9,9 @@ use Rattle.note_lines.specs.Hashed.{line_as}
 use Rattle.note_lines.specs.Note.{Noted, most_noted}
 use Rattle.note_lines.specs.declared.form.NoteForm.{NoteForm}
 use Rattle.log_file.specs.Line.{lines_in}
-use Rattle.note_memory.specs.Line.{HasLine}
-use Rattle.note_memory.specs.Files.{StandsIn}
-use Rattle.note_memory.specs.Shown.{relied_in}
+use Rattle.note_log.specs.Line.{HasLine}
+use Rattle.note_log.specs.Files.{StandsIn}
+use Rattle.note_log.specs.Shown.{relied_in}
 use Rattle.log_file.specs.Handed.{handed_in}
 use Rattle.note_log.specs.Sound.{earlier_in}
 use Rattle.note_log.specs.declared.log.NoteLog.{NoteLog}

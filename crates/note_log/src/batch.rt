@@ -2,13 +2,13 @@
 ghost use Rattle.std.specs.Prelude.{◌≡◌, IfOk, OnOk};
 ghost use Rattle.std.specs.List.{flat_map};
 ghost use Rattle.note_log.specs.Batch.{Adds, ArePrinted, IsBatch, items_of};
-ghost use Rattle.note_memory.specs.Recalled.{joined};
+ghost use Rattle.note_log.specs.Recalled.{joined};
 
 use bytes::BytesMut;
 use http_server::Log;
 use limits::INPUT_BYTES;
 use note_lines::{Note, NoteForm, line_as};
-use note_memory::{Files, SharedMemory};
+use crate::{Files, SharedMemory};
 use std::alloc::{AllocError, Global};
 
 /// The lines of notes, and the same one after the other.

@@ -7,7 +7,7 @@ ghost use Rattle.note_log.specs.Handing.{Moves};
 
 use bytes::{Buf, BytesMut};
 use log_file::{LogFile, lines_in};
-use note_memory::NumberedJournal;
+use crate::NumberedJournal;
 
 /// Hands over the bytes that wait, as far as the log takes them, and says whether it took all. It takes all unless it is lost or a
 /// write fails. The lines of which it took the end are counted.

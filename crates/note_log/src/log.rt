@@ -11,7 +11,7 @@ use bytes::BytesMut;
 use http_server::Log;
 use log_file::{Handed, LogFile, LogPaths, Look};
 use note_lines::{Note, NoteForm};
-use note_memory::{Files, NumberedJournal, SharedMemory};
+use crate::{Files, NumberedJournal, SharedMemory};
 use std::alloc::{AllocError, Global};
 use std::sync::Wait;
 
@@ -68,7 +68,7 @@ impl<'a, F: LogFile> NoteLog<'a, F> {
 impl<F: LogFile> NoteLog<'_, F> {
     ghost use Rattle.log_file.specs.Journal.{Looked, lost_after};
     ghost use Rattle.note_log.specs.Batch.{IsBatch};
-    ghost use Rattle.note_memory.specs.Numbers.{RenewedAfter};
+    ghost use Rattle.note_log.specs.Numbers.{RenewedAfter};
     ghost use Rattle.note_log.specs.Log.{Records, lines_of, logged, logged_after, trouble_of};
 
     /// Records notes, and says whether the line of each, in the form of the log, stands in the file that is open now, or in one that

@@ -10,9 +10,9 @@ use Rattle.flag_text.specs.Outlet.{AppendsPart}
 use Rattle.line_batches.proofs.Cutting.{begins, no_line, some_part}
 use Rattle.line_batches.specs.Fill.{Grows}
 use Rattle.line_batches.specs.Lines.{HasNoFeed, IsCut, parts_of}
-use Rattle.record_lines.proofs.Folded.{few_lines, joined-assoc, joined-first, joined-last, joined-refused}
-use Rattle.record_lines.specs.Outcomes.{Outcomes}
-use Rattle.record_lines.specs.Record.{Recorded, Scene, joined, most_line, nothing, of_line, record_of, refused}
+use Rattle.note_streams.proofs.Folded.{few_lines, joined-assoc, joined-first, joined-last, joined-refused}
+use Rattle.note_streams.specs.Outcomes.{Outcomes}
+use Rattle.note_streams.specs.Record.{Recorded, Scene, joined, most_line, nothing, of_line, record_of, refused}
 use Rattle.note_streams.specs.Batch.{Follows, Fronts, Leaves, Stands, Stops}
 use Rattle.note_streams.specs.Recorded.{of_parts, recorded_of}
 use Rattle.note_streams.specs.Rest.{is_empty, is_torn}

@@ -7,11 +7,11 @@ use Rattle.line_batches.specs.Fill.{Grows}
 use Rattle.line_batches.specs.Lines.{HasNoFeed, IsFirst, parts_of}
 use Rattle.line_tally.specs.Law.{hashes_of, inputs_of}
 use Rattle.line_tally.specs.Lines.{Tallied, finished, untallied}
-use Rattle.tally_core.specs.Law.{HashesStandForInputs, TalliesInAnyOrder}
-use Rattle.record_lines.specs.Record.{most_line}
-use Rattle.tally_filters.specs.Filter.{Filtered, RefusesLine, StreamIsTallied, Takes, TakesAll}
-use Rattle.tally_filters.specs.declared.fault.FilterFault.{FilterFault}
-use Rattle.tally_filters.specs.declared.fault.FilterFault.TheVariants.{Line, WantOfMemory}
+use Rattle.line_tally.specs.JoinLaw.{HashesStandForInputs, TalliesInAnyOrder}
+use Rattle.note_streams.specs.Record.{most_line}
+use Rattle.line_tally.specs.Filter.{Filtered, RefusesLine, StreamIsTallied, Takes, TakesAll}
+use Rattle.line_tally.specs.declared.filter_fault.FilterFault.{FilterFault}
+use Rattle.line_tally.specs.declared.filter_fault.FilterFault.TheVariants.{Line, WantOfMemory}
 use Rattle.note_streams.specs.Batch.{Goes, GoesOn, KeepsRest}
 use Rattle.note_streams.specs.Law.{StreamIsOfItsInputs, StreamIsOfItsLines, lines_in}
 use Rattle.note_streams.specs.Rest.{has_rest, is_empty, is_torn}

@@ -4,12 +4,12 @@ use Rattle.std.proofs.Common.{◌≡◌, ◌<◌, ◌≤◌, ◌+◌, ℕ, Bool,
 use Rattle.std.specs.Io.KnownBytes.{IsAtEnd}
 use Rattle.line_batches.specs.Fill.{Grows}
 use Rattle.line_batches.specs.Lines.{HasNoFeed, IsCut, lines_view}
-use Rattle.record_lines.proofs.Folded.{few_contexts, joined-refused}
-use Rattle.record_lines.proofs.Both.{both-assoc, both-first, both-last, contexts-both}
-use Rattle.record_lines.specs.Outcomes.{Outcomes, both, contexts, no_outcomes}
-use Rattle.record_lines.specs.Record.{Recorded, Scene, joined, most_line, nothing, record_of}
-use Rattle.record_lines.specs.View.{outcomes_view, recorded_view}
-use Rattle.record_lines.specs.declared.recorded.Recorded as code
+use Rattle.note_streams.proofs.Folded.{few_contexts, joined-refused}
+use Rattle.note_streams.proofs.Both.{both-assoc, both-first, both-last, contexts-both}
+use Rattle.note_streams.specs.Outcomes.{Outcomes, both, contexts, no_outcomes}
+use Rattle.note_streams.specs.Record.{Recorded, Scene, joined, most_line, nothing, record_of}
+use Rattle.note_streams.specs.View.{outcomes_view, recorded_view}
+use Rattle.note_streams.specs.declared.recorded.Recorded as code
 use Rattle.note_streams.specs.Batch.{CountsAll, CountsBatch}
 use Rattle.note_streams.specs.Recorded.{recorded_of}
 use Rattle.note_streams.specs.Runs.{runs_view}

@@ -23,7 +23,7 @@ use Rattle.flag_metadata.specs.contracts.document.DocumentMetadata as DocumentMe
 use Rattle.flag_metadata.specs.contracts.member.Member as Member
 use Rattle.flag_metadata.specs.contracts.merged.Metadata as Metadata
 use Rattle.book_core.specs.contracts.page.Page as Page
-use Rattle.record_lines.specs.contracts.scene.Recorder as Recorder
+use Rattle.note_streams.specs.contracts.scene.Recorder as Recorder
 
 Tree-sync : IsSync Tree.the_row
 Tree-sync = search (sendable, crosses, trees) depth 40

@@ -6,9 +6,9 @@ use Rattle.line_batches.specs.Lines.{HasNoFeed, parts_of}
 use Rattle.line_batches.specs.declared.filling.FillFault.{FillFault}
 use Rattle.line_batches.specs.declared.filling.FillFault.TheVariants as fill
 use Rattle.line_tally.specs.Lines.{Tallied, finished}
-use Rattle.record_lines.specs.Record.{most_line}
-use Rattle.tally_filters.specs.Filter.{Filtered}
-use Rattle.tally_filters.specs.declared.fault.FilterFault.TheVariants.{WantOfMemory}
+use Rattle.note_streams.specs.Record.{most_line}
+use Rattle.line_tally.specs.Filter.{Filtered}
+use Rattle.line_tally.specs.declared.filter_fault.FilterFault.TheVariants.{WantOfMemory}
 use Rattle.note_streams.specs.Batch.{LeavesLines, TalliesBatch}
 use Rattle.note_streams.specs.Recorded.{most_bytes}
 use Rattle.note_streams.specs.Rest.{is_empty, is_torn}

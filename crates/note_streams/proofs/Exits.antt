@@ -6,8 +6,8 @@ use Rattle.line_batches.specs.Fill.{Grows}
 use Rattle.line_batches.specs.Lines.{HasNoFeed}
 use Rattle.line_batches.specs.declared.filling.FillFault.{FillFault}
 use Rattle.line_batches.specs.declared.filling.FillFault.TheVariants as fill
-use Rattle.record_lines.specs.Record.{Scene, most_line}
-use Rattle.record_lines.specs.View.{outcomes_view}
+use Rattle.note_streams.specs.Record.{Scene, most_line}
+use Rattle.note_streams.specs.View.{outcomes_view}
 use Rattle.note_streams.specs.Batch.{Leaves, RecordsBatch, Stands}
 use Rattle.note_streams.specs.Recorded.{RecordsStream, TellsOf, most_bytes, recorded_of}
 use Rattle.note_streams.specs.Rest.{is_empty, is_torn}

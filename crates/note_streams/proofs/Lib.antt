@@ -1,9 +1,12 @@
 pub mod Batches
 mod Behind
+pub mod Both
+mod Counted
 pub mod Counting
+mod Counts
 pub mod Crossings
 pub mod Ends
 pub mod Exits
-mod Counts
+pub mod Folded
 pub mod Parts
 pub mod Running

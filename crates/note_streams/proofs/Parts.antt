@@ -4,7 +4,7 @@ use Rattle.std.proofs.Common.{◌≡◌, ◌≤◌, ◌<◌, ◌+◌, ℕ, true,
 use Rattle.std.specs.Io.KnownBytes.{Appends}
 use Rattle.flag_text.specs.Outlet.{AppendsPart}
 use Rattle.line_batches.specs.Lines.{HasNoFeed, IsCut, lines_view}
-use Rattle.record_lines.specs.Record.{Recorded, Scene, most_line, record_of}
+use Rattle.note_streams.specs.Record.{Recorded, Scene, most_line, record_of}
 use Rattle.note_streams.specs.Batch.{Fronts, Leaves, Stops}
 use Rattle.note_streams.proofs.Batches.{few_recorded}
 

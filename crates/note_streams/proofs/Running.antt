@@ -5,12 +5,12 @@ use Rattle.std.proofs.KnownBytes.{Appends-nil, Appends-trans}
 use Rattle.std.proofs.lemmas.List.{drop_all, map-append}
 use Rattle.std.specs.Io.KnownBytes.{Appends}
 use Rattle.flag_text.specs.Outlet.{AppendsPart}
-use Rattle.record_lines.proofs.Folded.{joined-assoc, joined-first, joined-last, joined-refused, record-append}
-use Rattle.record_lines.specs.Lines.{lines_view}
-use Rattle.record_lines.specs.Outcomes.{Outcomes}
-use Rattle.record_lines.specs.Record.{Recorded, Scene, joined, nothing, record_of}
-use Rattle.record_lines.specs.View.{recorded_view}
-use Rattle.record_lines.specs.declared.recorded.Recorded as code
+use Rattle.note_streams.proofs.Folded.{joined-assoc, joined-first, joined-last, joined-refused, record-append}
+use Rattle.note_streams.specs.Lines.{lines_view}
+use Rattle.note_streams.specs.Outcomes.{Outcomes}
+use Rattle.note_streams.specs.Record.{Recorded, Scene, joined, nothing, record_of}
+use Rattle.note_streams.specs.View.{recorded_view}
+use Rattle.note_streams.specs.declared.recorded.Recorded as code
 use Rattle.note_streams.specs.Runs.{all_joined, runs_view}
 use Rattle.note_streams.proofs.Batches.{begins_with, fronts, open_lines, open_refused, open_text}
 

@@ -5,11 +5,11 @@ use Rattle.std.specs.Io.KnownBytes.{Appends}
 use Rattle.flag_text.specs.Outlet.{AppendsPart}
 use Rattle.line_batches.specs.Lines.{HasNoFeed, IsCut, parts_of}
 use Rattle.line_tally.specs.Lines.{Tallied}
-use Rattle.record_lines.specs.Outcomes.{Outcomes, both}
-use Rattle.record_lines.specs.Record.{Recorded, Scene, joined, most_line, record_of}
-use Rattle.tally_filters.specs.Filter.{Filtered}
-use Rattle.tally_filters.specs.declared.fault.FilterFault.{FilterFault}
-use Rattle.tally_filters.specs.declared.fault.FilterFault.TheVariants as filter
+use Rattle.note_streams.specs.Outcomes.{Outcomes, both}
+use Rattle.note_streams.specs.Record.{Recorded, Scene, joined, most_line, record_of}
+use Rattle.line_tally.specs.Filter.{Filtered}
+use Rattle.line_tally.specs.declared.filter_fault.FilterFault.{FilterFault}
+use Rattle.line_tally.specs.declared.filter_fault.FilterFault.TheVariants as filter
 use Rattle.note_streams.specs.Recorded.{recorded_of}
 use Rattle.note_streams.specs.Rest.{is_torn}
 use Rattle.note_streams.specs.Tallied.{Tallies}

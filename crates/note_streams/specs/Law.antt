@@ -7,8 +7,8 @@ use Rattle.note_lines.specs.Note.{Noted}
 use Rattle.line_batches.specs.Lines.{parts_of}
 use Rattle.line_tally.specs.Law.{hashes_of, inputs_of}
 use Rattle.line_tally.specs.Lines.{Tallied, finished, of_hash, of_input, untallied}
-use Rattle.tally_core.specs.Law.{AreHashesOf, IsEachOnce, IsTallyOf}
-use Rattle.tally_filters.specs.Filter.{AreLinesOf, AreTalliedHashes, AreTalliedInputs}
+use Rattle.line_tally.specs.JoinLaw.{AreHashesOf, IsEachOnce, IsTallyOf}
+use Rattle.line_tally.specs.Filter.{AreLinesOf, AreTalliedHashes, AreTalliedInputs}
 use Rattle.note_streams.specs.Tallied.{Tallies}
 
 -- the lines of a stream with their line feeds, of whose parts the last is none

@@ -3,8 +3,8 @@ use Rattle.std.specs.Prelude.{◌≡◌, ◌<◌, ℕ, nat_lt, Bool, true, false
 use Rattle.std.specs.Io.KnownBytes.{Appends}
 use Rattle.flag_text.specs.Outlet.{AppendsPart}
 use Rattle.line_batches.specs.Lines.{parts_of}
-use Rattle.record_lines.specs.View.{outcomes_view}
-use Rattle.record_lines.specs.Record.{Recorded, Scene, joined, most_line, nothing, of_line, refused}
+use Rattle.note_streams.specs.View.{outcomes_view}
+use Rattle.note_streams.specs.Record.{Recorded, Scene, joined, most_line, nothing, of_line, refused}
 use Rattle.note_streams.specs.Rest.{is_empty, is_torn}
 use Rattle.note_streams.specs.declared.recording.Counted.{Counted}
 use Rattle.note_streams.specs.declared.stop.RecordStop.{RecordStop}

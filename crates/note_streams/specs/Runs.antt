@@ -2,9 +2,9 @@
 use Rattle.std.specs.Prelude.{◌≡◌, ℕ, List, [], ◌∷◌, map, Option, Some, None}
 use Rattle.std.specs.Io.KnownBytes.{Appends}
 use Rattle.flag_text.specs.Outlet.{AppendsPart}
-use Rattle.record_lines.specs.Record.{Recorded, joined, nothing}
-use Rattle.record_lines.specs.View.{recorded_view}
-use Rattle.record_lines.specs.declared.recorded.Recorded as code
+use Rattle.note_streams.specs.Record.{Recorded, joined, nothing}
+use Rattle.note_streams.specs.View.{recorded_view}
+use Rattle.note_streams.specs.declared.recorded.Recorded as code
 use Rattle.note_streams.specs.declared.runs.Written.{Written}
 
 -- of one run and then of the others

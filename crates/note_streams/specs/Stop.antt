@@ -2,8 +2,8 @@
 use Rattle.std.specs.Prelude.{ℕ, Bool, true, false, Result, Ok, Err}
 use Rattle.line_batches.specs.declared.filling.FillFault.{FillFault}
 use Rattle.line_batches.specs.declared.filling.FillFault.TheVariants as fill
-use Rattle.tally_filters.specs.Fault as filters
-use Rattle.tally_filters.specs.declared.fault.FilterFault.TheVariants as filter
+use Rattle.line_tally.specs.FilterFault as filters
+use Rattle.line_tally.specs.declared.filter_fault.FilterFault.TheVariants as filter
 use Rattle.note_streams.specs.declared.stop.RecordStop.{RecordStop}
 use Rattle.note_streams.specs.declared.stop.RecordStop.TheVariants.{WantOfMemory, Line, Unreadable, TooLong, Broken}
 use Rattle.note_streams.specs.declared.stop.TallyStop.{TallyStop}

@@ -2,10 +2,10 @@
 use Rattle.std.specs.Prelude.{◌≡◌, ◌≢◌, ◌<◌, ◌⊎◌, ℕ, ◌+◌, nat_lt, Bool, true, false, List, [], ◌∷◌, ◌++◌, length, if◌then◌else◌, Result, Ok, Err}
 use Rattle.line_batches.specs.Lines.{parts_of}
 use Rattle.line_tally.specs.Lines.{Tallied, finished}
-use Rattle.record_lines.specs.Record.{most_line}
-use Rattle.tally_filters.specs.Filter.{Filtered, RefusesLine, Takes}
-use Rattle.tally_filters.specs.declared.fault.FilterFault.{FilterFault}
-use Rattle.tally_filters.specs.declared.fault.FilterFault.TheVariants as filter
+use Rattle.note_streams.specs.Record.{most_line}
+use Rattle.line_tally.specs.Filter.{Filtered, RefusesLine, Takes}
+use Rattle.line_tally.specs.declared.filter_fault.FilterFault.{FilterFault}
+use Rattle.line_tally.specs.declared.filter_fault.FilterFault.TheVariants as filter
 use Rattle.note_streams.specs.Recorded.{most_bytes}
 use Rattle.note_streams.specs.Rest.{is_empty, is_torn}
 use Rattle.note_streams.specs.declared.stop.TallyStop.{TallyStop}

@@ -1,8 +1,8 @@
 //! From a stream of contexts to note lines.
 ghost use Rattle.std.specs.Prelude.{nat_eq, nat_lt, ◌≡◌, ◌<◌, ◌≤◌, ◌+◌, ◌^◌, length, false, IfOk, IfSome};
-ghost use Rattle.record_lines.specs.Outcomes.{contexts};
-ghost use Rattle.record_lines.specs.Scene.{scene_of};
-ghost use Rattle.record_lines.specs.View.{outcomes_view};
+ghost use Rattle.note_streams.specs.Outcomes.{contexts};
+ghost use Rattle.note_streams.specs.Scene.{scene_of};
+ghost use Rattle.note_streams.specs.View.{outcomes_view};
 ghost use Rattle.note_streams.specs.Batch.{CountsBatch, RecordsBatch};
 ghost use Rattle.note_streams.specs.Recorded.{RecordsStream, TellsOf, recorded_of};
 ghost use Rattle.note_streams.specs.Stop.{is_output_fault};
@@ -12,7 +12,7 @@ use crate::stop::RecordStop;
 use flag_text::Outlet;
 use limits::TEXT_BYTES;
 use line_batches::{Inlet, cut_lines, fill};
-use record_lines::{Outcomes, Recorder};
+use crate::{Outcomes, Recorder};
 use std::alloc::Global;
 use std::thread::Threads;
 

@@ -1,15 +1,15 @@
 //! The lines of a batch, in runs that are recorded side by side.
 ghost use Rattle.std.specs.Prelude.{◌≡◌, ◌++◌, ◌<◌, ◌≤◌, ◌^◌, IfOk, IfSome, is_none, false};
-ghost use Rattle.record_lines.specs.Lines.{lines_view};
-ghost use Rattle.record_lines.specs.Outcomes.{contexts};
-ghost use Rattle.record_lines.specs.Record.{record_of};
-ghost use Rattle.record_lines.specs.Scene.{scene_of};
-ghost use Rattle.record_lines.specs.View.{outcomes_view};
+ghost use Rattle.note_streams.specs.Lines.{lines_view};
+ghost use Rattle.note_streams.specs.Outcomes.{contexts};
+ghost use Rattle.note_streams.specs.Record.{record_of};
+ghost use Rattle.note_streams.specs.Scene.{scene_of};
+ghost use Rattle.note_streams.specs.View.{outcomes_view};
 ghost use Rattle.note_streams.specs.Runs.{WritesRuns, runs_view};
 ghost use denote.Param.Send.{IsSync};
 
 use flag_text::{Outlet, write_whole};
-use record_lines::{Outcomes, Recorded, Recorder, record_lines};
+use crate::{Outcomes, Recorded, Recorder, record_lines};
 use std::alloc::{AllocError, Global};
 use std::thread::{Threads, join};
 

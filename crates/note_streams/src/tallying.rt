@@ -1,6 +1,6 @@
 //! From a stream of note lines to a tally.
 ghost use Rattle.std.specs.Prelude.{nat_eq, nat_lt, ◌≡◌, ◌<◌, ◌+◌, ◌^◌, length, false, IfSome};
-ghost use Rattle.tally_core.specs.Tally.{IsTallyTotal};
+ghost use Rattle.line_tally.specs.Tally.{IsTallyTotal};
 ghost use Rattle.line_tally.specs.Lines.{untallied};
 ghost use Rattle.note_streams.specs.Batch.{TalliesBatch};
 ghost use Rattle.note_streams.specs.Tallied.{TalliesStream};
@@ -11,8 +11,8 @@ use book_core::Page;
 use limits::TEXT_BYTES;
 use line_batches::{Inlet, cut_line, fill};
 use std::alloc::Global;
-use tally_core::PageTally;
-use tally_filters::{FilterFault, TallyFilter};
+use line_tally::PageTally;
+use line_tally::{FilterFault, TallyFilter};
 
 /// The tally of a stream.
 #[derive(Debug, Drop)]

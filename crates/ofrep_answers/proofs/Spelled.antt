@@ -15,9 +15,9 @@ use Rattle.flag_text.specs.Shape.{Shape}
 use Rattle.decimal_reads.specs.Reads.{Reading}
 use Rattle.ofrep_answers.specs.Evaluation.{bodies, body_if_told, ended_in, evaluation, is_spelled, read_by_flag, read_unless_told, shape_told, text_told}
 use Rattle.ofrep_answers.specs.Law.{FloatsChangeNothing, ValuesAreSpelled, told_bodies, told_body, told_body_at}
-use Rattle.ofrep_bodies.specs.Bodies.{flags_shape, flags_text, success_text}
-use Rattle.ofrep_bodies.specs.Evaluation.{body_of, body_text, status_of, told_text}
-use Rattle.ofrep_bodies.specs.Law.{FlagsTextIsOfBodies, TextsAreOfBodies}
+use Rattle.ofrep_answers.specs.Bodies.{flags_shape, flags_text, success_text}
+use Rattle.ofrep_answers.specs.EvaluationBody.{body_of, body_text, status_of, told_text}
+use Rattle.ofrep_answers.specs.BodyLaw.{FlagsTextIsOfBodies, TextsAreOfBodies}
 
 module _ (one : TextsAreOfBodies) (all : FlagsTextIsOfBodies) (flags : Definitions) (marks : Marks) (none : are_unmarked marks ≡ true) where
   plain : (key : List ℕ) → is_spelled key (flags, marks) ≡ false

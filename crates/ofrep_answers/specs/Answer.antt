@@ -19,14 +19,14 @@ use Rattle.ofrep_answers.specs.declared.answer.Answer as program
 use Rattle.ofrep_answers.specs.declared.answer.Content.{Content}
 use Rattle.ofrep_answers.specs.declared.answer.Content.TheVariants as content
 use Rattle.ofrep_answers.specs.declared.answer.FlagReached.{FlagReached}
-use Rattle.ofrep_bodies.specs.Bodies.{failure, flags_text}
-use Rattle.ofrep_bodies.specs.Evaluation.{status_of}
+use Rattle.ofrep_answers.specs.Bodies.{failure, flags_text}
+use Rattle.ofrep_answers.specs.EvaluationBody.{status_of}
 use Rattle.ofrep_answers.specs.Metadata.{AnswerMetadata, no_metadata}
-use Rattle.ofrep_bodies.specs.Failure.{code_status}
-use Rattle.ofrep_contexts.specs.Context.{context_of}
-use Rattle.ofrep_contexts.specs.Way.{details_in}
-use Rattle.ofrep_contexts.specs.declared.fault.ContextFault.{ContextFault}
-use Rattle.ofrep_contexts.specs.declared.fault.ContextFault.TheVariants.{WantOfMemory, TooLarge, BodyTooDeep, NotJson, BodyNotObject, NotObject, TooDeep}
+use Rattle.ofrep_answers.specs.Failure.{code_status}
+use Rattle.ofrep_answers.specs.Context.{context_of}
+use Rattle.ofrep_answers.specs.Way.{details_in}
+use Rattle.ofrep_answers.specs.declared.fault.ContextFault.{ContextFault}
+use Rattle.ofrep_answers.specs.declared.fault.ContextFault.TheVariants.{WantOfMemory, TooLarge, BodyTooDeep, NotJson, BodyNotObject, NotObject, TooDeep}
 use Rattle.ofrep_requests.specs.Request.{is_of_one_flag, key_in, method_at, one_flag_route, place_of, text_if}
 use Rattle.ofrep_requests.specs.declared.place.Place.{Place}
 use Rattle.ofrep_requests.specs.declared.place.Place.TheVariants.{OneFlag, EveryFlag, Health, Metrics, Nowhere}

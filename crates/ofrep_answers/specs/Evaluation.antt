@@ -18,8 +18,8 @@ use Rattle.limits.specs.Limits.{input_bytes}
 use Rattle.logic_ast.specs.Expression.{Expression}
 use Rattle.logic_eval.specs.Run.{Reach}
 use Rattle.ofrep_answers.specs.Kind.{flag_kind}
-use Rattle.ofrep_bodies.specs.Bodies.{failure}
-use Rattle.ofrep_bodies.specs.Evaluation.{body_of, body_text, status_of}
+use Rattle.ofrep_answers.specs.Bodies.{failure}
+use Rattle.ofrep_answers.specs.EvaluationBody.{body_of, body_text, status_of}
 use Rattle.ofrep_requests.specs.Request.{text_if}
 
 -- What the flag of a key resolves to in the context at the moment, for a caller who takes the kind of its variants and has no default. The values of a flag

@@ -17,8 +17,8 @@ use Rattle.decimal_reads.specs.Reads.{Reading}
 use Rattle.ofrep_answers.specs.Evaluation.{bodies, evaluation, is_spelled, read_by_flag, shape_told, text_told}
 use Rattle.ofrep_answers.specs.Metadata.{metadata_of}
 use Rattle.ofrep_answers.specs.Request.{Asked}
-use Rattle.ofrep_bodies.specs.Bodies.{flags_shape, flags_text}
-use Rattle.ofrep_bodies.specs.Evaluation.{status_of}
+use Rattle.ofrep_answers.specs.Bodies.{flags_shape, flags_text}
+use Rattle.ofrep_answers.specs.EvaluationBody.{status_of}
 
 -- No flag is evaluated for another kind than that of its variants: TYPE_MISMATCH is never told.
 abbrev pub NeverMismatches : Type 0

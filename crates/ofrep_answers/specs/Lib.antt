@@ -1,7 +1,16 @@
 pub mod Answer
+pub mod Bodies
+pub mod BodyLaw
+pub mod Context
+pub mod ContextLaw
+pub mod Deep
 pub mod Evaluation
+pub mod EvaluationBody
+pub mod Failure
+pub mod Fault
 pub mod Kind
 pub mod Law
 pub mod Metadata
 pub mod Near
 pub mod Request
+pub mod Way

@@ -6,7 +6,7 @@ ghost use Rattle.ofrep_answers.specs.Answer.{allow_of, answer_at, answer_of, ans
 ghost use Rattle.flag_metadata.specs.View.{metadata_view};
 ghost use Rattle.ofrep_answers.specs.Metadata.{metadata_of};
 ghost use Rattle.ofrep_answers.specs.Request.{evaluates, request_view};
-ghost use Rattle.ofrep_contexts.specs.Context.{max_body};
+ghost use Rattle.ofrep_answers.specs.Context.{max_body};
 ghost use Rattle.ofrep_requests.specs.Request.{place_of};
 
 use crate::answer::{Answer, Content};

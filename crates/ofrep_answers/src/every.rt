@@ -12,8 +12,8 @@ ghost use Rattle.ofrep_answers.specs.Answer.{answer_view, body_view, json, nothi
 ghost use Rattle.ofrep_answers.specs.Answer as spec;
 ghost use Rattle.ofrep_answers.specs.Evaluation.{bodies, body_if_told, reached_at, reached_in};
 ghost use Rattle.ofrep_answers.specs.Metadata.{metadata_of};
-ghost use Rattle.ofrep_bodies.specs.Bodies.{flags_text};
-ghost use Rattle.ofrep_contexts.specs.Context.{context_of, max_body};
+ghost use Rattle.ofrep_answers.specs.Bodies.{flags_text};
+ghost use Rattle.ofrep_answers.specs.Context.{context_of, max_body};
 
 use crate::answer::{Answer, Content, FlagReached, push_reached};
 use crate::evaluation::{evaluate, is_spelled};
@@ -28,8 +28,8 @@ use flag_resolve::Resolution;
 use flag_text::Tree;
 use http::StatusCode;
 use json::Scratch;
-use ofrep_bodies::{flags_text, status_of};
-use ofrep_contexts::{ContextFault, read_context_with};
+use crate::{flags_text, status_of};
+use crate::{ContextFault, read_context_with};
 use std::alloc::{AllocError, Global};
 
 /// The texts of the bodies of the flags that there are for the caller, and what the evaluations of all flags reached and how they ended.

@@ -2,7 +2,7 @@
 ghost use Rattle.ofrep_answers.specs.Law.{FloatsChangeNothing, MetadataChangesNothing, NeverMismatches, ValuesAreSpelled};
 
 use flag_metadata::bare_documents_have_no_metadata;
-use ofrep_bodies::texts_are_of_bodies;
+use crate::texts_are_of_bodies;
 
 /// No flag is evaluated for another kind than that of its variants.
 pub fn no_evaluation_mismatches()

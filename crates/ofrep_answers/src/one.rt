@@ -14,7 +14,7 @@ ghost use Rattle.flag_resolve.specs.declared.code.Code.TheVariants.{FlagNotFound
 ghost use Rattle.ofrep_answers.specs.Evaluation.{evaluation};
 ghost use Rattle.ofrep_answers.specs.Metadata.{metadata_of};
 ghost use Rattle.ofrep_answers.specs.Near.{near_details};
-ghost use Rattle.ofrep_contexts.specs.Context.{context_of};
+ghost use Rattle.ofrep_answers.specs.Context.{context_of};
 ghost use Rattle.ofrep_requests.specs.Request as request;
 ghost use Rattle.ofrep_requests.specs.Request.{text_if};
 
@@ -29,8 +29,8 @@ use flag_metadata::Metadata;
 use flag_resolve::{Code, Reason, Resolution};
 use flag_text::{Tree, print_tree};
 use json::Scratch;
-use ofrep_bodies::{code_status, failure_body, status_of};
-use ofrep_contexts::{ContextFault, details_in, read_context_with};
+use crate::{code_status, failure_body, status_of};
+use crate::{ContextFault, details_in, read_context_with};
 use ofrep_requests::key_in;
 use std::alloc::{AllocError, Global};
 use std::str;

@@ -18,7 +18,7 @@ use flag_metadata::Metadata;
 use flag_resolve::{Code, Resolution};
 use flag_text::{Tree, print_tree};
 use logic_eval::Context;
-use ofrep_bodies::{evaluation_text, failure_body};
+use crate::{evaluation_text, failure_body};
 use std::alloc::{AllocError, Global};
 
 /// The number that is not whole at which the evaluation of the flag of a key ended, where it ended at one.

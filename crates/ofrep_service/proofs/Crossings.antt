@@ -15,13 +15,13 @@ use Rattle.http_server.proofs.log.Log.TheSendSync as log
 use Rattle.log_file.specs.contracts.journal.Journal as Journal
 use Rattle.log_file.specs.contracts.system.SystemLog as SystemLog
 use Rattle.log_file.specs.declared.file.LogFile.{Ghosts}
-use Rattle.note_memory.proofs.Crossings.{Handed-send, SharedMemory-sync}
-use Rattle.note_memory.specs.contracts.numbered.NumberedJournal as NumberedJournal
+use Rattle.note_log.proofs.Crossings.{Handed-send, SharedMemory-sync}
+use Rattle.note_log.specs.contracts.numbered.NumberedJournal as NumberedJournal
 use Rattle.snap_share.specs.declared.history.ShareName as ShareName
 use Rattle.snap_share.specs.contracts.seat.ReadSeat as ReadSeat
 use Rattle.snap_share.proofs.Crossings.{ReadSeat-send}
 use Rattle.ofrep_connections.specs.contracts.load.Load as Load
-use Rattle.access_lines.proofs.Crossings.{AccessLines-sync}
+use Rattle.dated_answers.proofs.Crossings.{AccessLines-sync}
 use Rattle.control_desk.specs.contracts.sources.PublishedSources as PublishedSources
 use Rattle.control_desk.proofs.Crossings.{DeskPost-sync, PublishedSources-sync}
 use Rattle.ofrep_guards.proofs.Crossings.{KeyRing-sync}

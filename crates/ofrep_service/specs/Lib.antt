@@ -1,2 +1,3 @@
-pub mod Logs
 pub mod Limits
+pub mod Logs
+pub mod Page

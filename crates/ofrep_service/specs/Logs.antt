@@ -2,7 +2,7 @@
 use Rattle.std.specs.Prelude.{ℕ, zero, suc, ◌+◌, List, [], ◌∷◌, ◌++◌, codes, decimal, Option, option_map, string_bytes}
 use Rattle.log_file.specs.declared.file.LogFile.{Ghosts}
 use Rattle.log_file.specs.declared.system.SystemLog.{SystemLog}
-use Rattle.note_memory.specs.declared.numbered.NumberedJournal.{NumberedJournal}
+use Rattle.note_log.specs.declared.numbered.NumberedJournal.{NumberedJournal}
 
 -- the path of the log of a worker, by its number from 1
 abbrev pub path_of : List ℕ → ℕ → List ℕ

@@ -2,12 +2,12 @@
 ghost use Rattle.std.specs.Prelude.{◌≡◌, IfSome, Some, is_some, option_map};
 ghost use Rattle.std.specs.Sync.Mutex.{mutex_guard_value};
 
-use access_lines::{AccessLines, WaitingLines};
+use dated_answers::{AccessLines, WaitingLines};
 use control_desk::{DeskPost, DeskRules};
 use log_file::Loss;
 use note_lines::NoteForm;
 use note_log::Trouble;
-use note_memory::SharedMemory;
+use note_log::SharedMemory;
 use ofrep_connections::Load;
 use ofrep_guards::{KeyRing, Keys, LaterKeys, Paths};
 use ofrep_worker::{Counts, WithoutRecord};

@@ -11,12 +11,19 @@
 //! worker, where it keeps one, and a subscriber is sent whole frames whose numbers rise. Here: where a folder is named each worker
 //! keeps a log, of a path of its own; and what a worker does on its thread is turns, each a look for its log and then answers. What
 //! files and sockets do with bytes, and that threads run, is not proved.
+//!
+//! # The console: one page for release engineers, with its style and script in it, and the policy by which a browser takes nothing else
+//!
+//! A crate of its own, as its sources are made of `console/console.html` by `tools/embed_console.py`; the gate compares them.
+//!
+//! Proved, over the definitions of `specs/Page`: the page and its policy are these texts.
 #![tactic(auto)]
 
 mod admin;
 mod board;
 mod logs;
 mod posts;
+mod source;
 mod streams;
 mod subscriber;
 mod workers;
@@ -25,5 +32,6 @@ pub use admin::{AdminPost, Operations, bind_admin};
 pub use board::{Board, ConnectionLimits};
 pub use logs::{Journal, log_bytes, log_trouble, open_logs};
 pub use posts::{Post, bind};
+pub use source::{page_html, page_policy};
 pub use streams::bind_stream;
 pub use workers::work_beside;

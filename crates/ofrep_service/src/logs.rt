@@ -4,7 +4,7 @@ ghost use Rattle.log_file.specs.declared.fault.LogFault.TheVariants.{WantOfMemor
 ghost use Rattle.ofrep_service.specs.Logs.{path_at, path_in, path_of, paths_of};
 
 use log_file::{LogFault, LogPaths, SystemLog, make_folder};
-use note_memory::NumberedJournal;
+use note_log::NumberedJournal;
 use std::alloc::{AllocError, Global};
 use std::io;
 

@@ -4,7 +4,7 @@ ghost use Rattle.std.specs.Prelude.{◌≡◌, List, IfSome, map, option_map, ve
 ghost use Rattle.http_server.specs.Exchange.{Call};
 ghost use Rattle.std.specs.List.{flat_map};
 ghost use Rattle.ofrep_guards.specs.Asked.{first_keys, rules_view};
-ghost use Rattle.recorded_answers.specs.Stand.{AllStand, Works};
+ghost use Rattle.dated_answers.specs.Stand.{AllStand, Works};
 ghost use Rattle.ofrep_service.specs.Limits.{HasLimits};
 ghost use Rattle.ofrep_service.specs.Logs.{read_in, taken_of};
 
@@ -13,7 +13,7 @@ use crate::board::Board;
 use crate::logs::Journal;
 use crate::posts::Post;
 use crate::streams::stream_beside;
-use access_lines::LoggedService;
+use dated_answers::LoggedService;
 use control_desk::DeskPaths;
 use dated_answers::Dated;
 use http_server::{Config, Service};
@@ -23,7 +23,7 @@ use note_log::NoteLog;
 use ofrep_connections::{Patience, Served, answer_connections_with};
 use ofrep_guards::{CountsStatus, Guard, Rules};
 use ofrep_worker::OfrepWorker;
-use recorded_answers::Recording;
+use dated_answers::Recording;
 use snap_share::{ReadSeat, ShareName};
 use std::alloc::Global;
 use std::hash::RandomState;

@@ -9,7 +9,7 @@ use Rattle.note_lines.specs.Hashed.{line_as}
 use Rattle.note_lines.specs.Note.{Noted}
 use Rattle.note_log.specs.Log.{Logged, Records, Wants, logged, logged_after}
 use Rattle.note_log.specs.declared.log.NoteLog.{NoteLog}
-use Rattle.note_memory.proofs.Lists.{not_in}
+use Rattle.note_log.proofs.Lists.{not_in}
 use Rattle.http.specs.declared.request.Request.{Request}
 use Rattle.http_server.specs.declared.response.Response.{Response}
 use Rattle.snap_share.specs.Known.{Seat}

@@ -12,7 +12,7 @@ use Rattle.log_file.specs.declared.journal.Look.{Look}
 use Rattle.note_lines.specs.Hashed.{line_as}
 use Rattle.note_lines.specs.Note.{Noted}
 use Rattle.note_lines.specs.declared.form.NoteForm.{NoteForm}
-use Rattle.note_memory.specs.Files.{StandsIn}
+use Rattle.note_log.specs.Files.{StandsIn}
 use Rattle.note_log.specs.Log.{Logged, Records, Wants, files_of, logged, logged_after, trouble_of}
 use Rattle.note_log.specs.declared.log.NoteLog.{NoteLog}
 use Rattle.note_log.specs.declared.trouble.Trouble.{Trouble}

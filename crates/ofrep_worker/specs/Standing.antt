@@ -10,13 +10,13 @@ use Rattle.http_server.specs.declared.response.Response.{Response}
 use Rattle.note_lines.specs.Hashed.{line_as}
 use Rattle.note_lines.specs.Note.{Noted}
 use Rattle.note_lines.specs.declared.form.NoteForm.{NoteForm}
-use Rattle.note_memory.specs.Files.{StandsIn}
-use Rattle.note_memory.specs.Line.{HasLine}
+use Rattle.note_log.specs.Files.{StandsIn}
+use Rattle.note_log.specs.Line.{HasLine}
 use Rattle.log_file.specs.declared.journal.Look.{Look}
 use Rattle.log_file.specs.declared.journal.Look.TheVariants.{Stands as Still, Reopened, Lost}
 use Rattle.note_log.specs.Log.{Logged, Records, begun_anew, files_of, logged_after}
 use Rattle.note_log.proofs.Lines.{has_more}
-use Rattle.note_memory.proofs.Lists.{not_in}
+use Rattle.note_log.proofs.Lists.{not_in}
 use Rattle.ofrep_answers.specs.Answer.{Answered}
 use Rattle.snap_share.specs.Known.{Seat, last_of}
 use Rattle.note_log.specs.declared.trouble.Trouble.{Trouble}

@@ -1,3 +1,4 @@
+pub mod BookLines
 pub mod File
 pub mod Folding
 pub mod Foreign

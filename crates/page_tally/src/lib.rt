@@ -6,15 +6,24 @@
 //! nothing changes only these (`Runs`). Long runs are read in parts by all processors, each part before it is known what
 //! stands before it (`Parts`), and counted by the points of their inputs (`Points`). [`BookFile::has_foreign`] says whether an
 //! input of a page is none of its flag (`Foreign`).
+//!
+//! # The lines of a book file, with no text for an input that stands for itself
+//!
+//! Whoever goes over the inputs of a book that is known to be one needs neither its pages in memory nor a text for each input.
+//! [`next_page`] finds the page that begins first, and [`first_line`] the line that stands first, each with the bytes behind it.
+//!
+//! Proved, over the definitions of `book_core`: they give the lines of the bytes and the pages that begin on them.
 #![tactic(auto)]
 
 mod ascii;
+mod book_line;
 mod counter;
 mod file;
 mod foreign;
 mod input;
 mod line;
 mod lines;
+mod pages;
 mod part;
 mod parts;
 mod plain;
@@ -23,6 +32,8 @@ mod recorded;
 mod run;
 mod stretch;
 
+pub use book_line::{Line, first_line};
 pub use file::BookFile;
+pub use pages::next_page;
 pub use read::read_tally;
 pub use recorded::Recorded;

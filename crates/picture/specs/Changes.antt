@@ -6,10 +6,10 @@ use Rattle.std.specs.Str.{bytes_eq}
 use Rattle.bucket_core.specs.Rule.{Entries, total_of, total_weight}
 use Rattle.price_core.specs.Limits.{Limits}
 use Rattle.price_core.specs.Pricing.{Pricing, is_forbidden, price_of}
-use Rattle.switch_table.specs.Runs.{Run}
-use Rattle.switch_table.specs.Switches.{name_of, switch_at}
-use Rattle.switch_table.specs.declared.table.Switch.{Switch}
-use Rattle.transport_instance.specs.Certificate.{DualPrices}
+use Rattle.rule_switches.specs.Runs.{Run}
+use Rattle.rule_switches.specs.Table.{name_of, switch_at}
+use Rattle.rule_switches.specs.declared.table.Switch.{Switch}
+use Rattle.transport_core.specs.Certificate.{DualPrices}
 use Rattle.picture.specs.Told.{Item, text, name, bar_told, column, foot, heading, next_row, number, numbers_at, rows_told, runs_told, spot, swatch}
 use Rattle.picture.specs.declared.element.Content.TheVariants as content
 use Rattle.picture.specs.declared.element.Place.{Place}

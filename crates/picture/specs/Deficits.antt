@@ -2,8 +2,8 @@
 use Rattle.std.specs.Prelude.{ℕ, List, [], ◌∷◌, ◌++◌}
 use Rattle.bucket_core.specs.Rule.{Entries, total_of, total_weight}
 use Rattle.price_core.specs.Limits.{Limits}
-use Rattle.transport_instance.specs.declared.certificate.CutKind.{CutKind}
-use Rattle.transport_instance.specs.declared.certificate.CutKind.TheVariants as kind
+use Rattle.transport_core.specs.declared.certificate.CutKind.{CutKind}
+use Rattle.transport_core.specs.declared.certificate.CutKind.TheVariants as kind
 use Rattle.picture.specs.Told.{Item, text, name, bar_told, column, down, foot, heading, named_told, next_row, number, numbers_at, rows_told, spot, swatch}
 use Rattle.picture.specs.declared.element.Content.TheVariants as content
 use Rattle.picture.specs.declared.words.Style.TheVariants as style

@@ -2,7 +2,7 @@
 use Rattle.std.specs.Prelude.{◌≡◌, ℕ, List, [], ◌∷◌, ◌++◌, ◌==◌, chars, codes, map, if◌then◌else◌, Option, Some, None}
 use Rattle.std.specs.Fmt.{decimal, signed_decimal}
 use Rattle.std.specs.List.{flat_map}
-use Rattle.xml_text.specs.Escape.{begun, escaped}
+use Rattle.picture.specs.Escape.{begun, escaped}
 use Rattle.picture.specs.Told.{Item, down, foot, told}
 use Rattle.picture.specs.Words.{class_of, text_of, title_of}
 use Rattle.picture.specs.declared.element.Band.{Band}

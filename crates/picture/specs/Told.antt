@@ -4,7 +4,7 @@ use Rattle.std.specs.List.{flat_map}
 use Rattle.std.specs.Str.{bytes_eq}
 use Rattle.bucket_core.specs.Rule.{Entries, total_weight}
 use Rattle.price_core.specs.Limits.{Limits}
-use Rattle.switch_table.specs.Runs.{Run}
+use Rattle.rule_switches.specs.Runs.{Run}
 use Rattle.picture.specs.declared.element.Content.{Content}
 use Rattle.picture.specs.declared.element.Content.TheVariants as content
 use Rattle.picture.specs.declared.element.Element.{Element}

@@ -3,8 +3,8 @@ ghost use Rattle.std.specs.Prelude.{◌≡◌, ◌≤◌, ◌++◌, min, IfOk, O
 ghost use Rattle.std.specs.Map.{keys_of};
 ghost use Rattle.bucket_core.specs.Rule.{IsRuleTotal, total_weight};
 ghost use Rattle.price_core.specs.Limits.{limits_view};
-ghost use Rattle.switch_table.specs.Runs.{run_view, runs_view};
-ghost use Rattle.transport_instance.specs.Certificate.{certificate_view};
+ghost use Rattle.rule_switches.specs.Runs.{run_view, runs_view};
+ghost use Rattle.transport_core.specs.Certificate.{certificate_view};
 ghost use Rattle.picture.specs.Changes.{bars_told, change_height, change_told, head_told};
 ghost use Rattle.picture.specs.Spelling.{Adds};
 ghost use Rattle.picture.specs.Told.{behind, down, extent_of, look_of, place_of, runs_told, told};
@@ -18,8 +18,8 @@ use crate::words::{Style, Word};
 use bucket_core::Rule;
 use price_core::{Limit, Prices, Totals};
 use std::alloc::{AllocError, Global};
-use switch_table::{Run, SwitchTable};
-use transport_instance::Certificate;
+use rule_switches::{Run, SwitchTable};
+use transport_core::Certificate;
 
 /// What is drawn of a rule that replaces another.
 #[derive(Clone, Copy)]

@@ -12,12 +12,31 @@
 //! the runs, the table and the certificate. Captions and bars are told with their places, a bar by the points of its rule, and
 //! each text of a table with its column. How far below the top a picture ends is what `Heights` says. How high a row stands in it,
 //! and how things look, is not.
+//!
+//! # Texts in XML: any text is put where XML takes character data, and reads back as itself
+//!
+//! A crate of its own, though it is small: it knows XML and nothing of flags, and `picture`, which uses it, need not know what
+//! XML escapes.
+//!
+//! [`push_escaped`] and [`escaped`] write the five characters that mean something to XML as entities, and U+FFFD for the
+//! characters that no document may have; [`push_start`] writes the first characters alone.
+//!
+//! ```rust
+//! use crate::escaped;
+//!
+//! assert!(rt; escaped(alloc, "<a & b>")?.as_str() == "&lt;a &amp; b&gt;");
+//! ```
+//!
+//! Proved, over the definitions of `specs/Escape`: what is written is exact; [`escaped_texts_are_data`] says that no tag, no
+//! attribute and no reference but to the five entities begins in it, and [`escaped_texts_read_back`] that it reads as the text.
 #![tactic(auto)]
 
 mod bars;
 mod change;
 mod edit;
 mod element;
+mod escape;
+mod laws;
 mod none;
 mod print;
 mod rows;
@@ -28,6 +47,8 @@ mod words;
 
 pub use change::{Change, draw_change};
 pub use edit::{EditedRule, draw_edit, draw_no_page};
+pub use escape::{escaped, push_escaped, push_start};
+pub use laws::{escaped_texts_are_data, escaped_texts_read_back};
 pub use none::{Deficit, draw_none};
 pub use print::page;
 pub use step::draw_step;

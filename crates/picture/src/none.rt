@@ -14,7 +14,7 @@ use crate::words::{Style, Word};
 use bucket_core::Rule;
 use price_core::{Limit, Totals};
 use std::alloc::{AllocError, Global};
-use transport_instance::{Cut, CutKind};
+use transport_core::{Cut, CutKind};
 
 /// What is drawn where no rule fits.
 #[derive(Clone, Copy)]

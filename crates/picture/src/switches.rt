@@ -12,7 +12,7 @@ use crate::rows::{NAMES, ROW, add_headings, number_at, size_for};
 use crate::words::{Style, Word};
 use price_core::{Limit, Prices};
 use std::alloc::AllocError;
-use switch_table::Switch;
+use rule_switches::Switch;
 
 const HEADINGS: &[(Style, u64, Word)] = &[
     (Style::Heading, NAMES, Word::From),

@@ -4,7 +4,7 @@ ghost use Rattle.std.specs.Map.{lookup};
 ghost use Rattle.std.specs.Str.{bytes_eq};
 ghost use Rattle.bucket_core.specs.Rule.{total_of};
 ghost use Rattle.price_core.specs.Limits.{limit_view, limits_view};
-ghost use Rattle.transport_instance.specs.Certificate.{beta_view};
+ghost use Rattle.transport_core.specs.Certificate.{beta_view};
 ghost use Rattle.picture.specs.Changes.{dual_told, totals_told, variant_end, variant_told, variants_end, variants_told};
 ghost use Rattle.picture.specs.Told.{foot, rows_told, told};
 

@@ -12,9 +12,9 @@ use Rattle.bucket_core.specs.Reading.{in_weights}
 use Rattle.bucket_core.specs.Rule.{Entries, total_weight}
 use Rattle.bucket_core.specs.declared.fault.RuleFault.TheVariants as rule_fault
 use Rattle.price_core.specs.Request.{number_below}
-use Rattle.transport_instance.specs.Groups.{GroupKey, group_cmp}
-use Rattle.transport_instance.specs.declared.certificate.CutKind.{CutKind}
-use Rattle.transport_instance.specs.declared.certificate.CutKind.TheVariants.{Over, Under}
+use Rattle.transport_core.specs.Groups.{GroupKey, group_cmp}
+use Rattle.transport_core.specs.declared.certificate.CutKind.{CutKind}
+use Rattle.transport_core.specs.declared.certificate.CutKind.TheVariants.{Over, Under}
 use Rattle.plan_text.specs.Answer.{Answer, emit, none_exists}
 use Rattle.plan_text.specs.Misfit.{is_group_row, is_bucket, is_formed, is_free, group_of, row_name, next, precedes, stands_apart, first_failing, weight_or_none, weights_of, total_fault, unless, shape_fault_of, content_fault_of, misfit_of}
 use Rattle.plan_text.specs.PlanFile.{comes_before, rises, begins_apart, is_canonical, each, alpha_parts, alpha_of, beta_of, entry_parts, entry_of, if_alpha_rises, if_beta_rises, if_names_rise, if_canonical, canonical_rule, form_of, answer_by, planned_of, is_under}

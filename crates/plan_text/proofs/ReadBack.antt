@@ -8,13 +8,13 @@ use Rattle.flag_text.proofs.Bools.{left, right}
 use Rattle.flag_text.specs.Reading.{max_levels, tree_of}
 use Rattle.flag_text.specs.Shape.{Shape, text, is_whole, items_are_whole, levels}
 use Rattle.bucket_core.specs.Rule.{Entries}
-use Rattle.transport_instance.specs.Certificate.{DualPrices}
-use Rattle.transport_instance.specs.Groups.{group_cmp}
-use Rattle.transport_instance.specs.declared.certificate.CutKind.{CutKind}
-use Rattle.transport_instance.specs.declared.certificate.CutKind.TheVariants.{Over, Under}
+use Rattle.transport_core.specs.Certificate.{DualPrices}
+use Rattle.transport_core.specs.Groups.{group_cmp}
+use Rattle.transport_core.specs.declared.certificate.CutKind.{CutKind}
+use Rattle.transport_core.specs.declared.certificate.CutKind.TheVariants.{Over, Under}
 use Rattle.plan_text.specs.Answer.{Answer, emit, none_exists, IsOrdered, FitsFile}
 use Rattle.bucket_core.specs.Canonical.{IsCanonical}
-use Rattle.transport_instance.specs.WrittenCertificate.{items_by, alpha_written, beta_written}
+use Rattle.transport_core.specs.WrittenCertificate.{items_by, alpha_written, beta_written}
 use Rattle.plan_text.specs.PlanFile.{max_plan, rises, entry_written, planned_written, alpha_in, beta_in, cost_in, rule_in, planned_of, if_plan, if_tree, answer_of}
 use Rattle.plan_text.proofs.Orders.{rises-sorted, canonical_rule-same, weights_small}
 use Rattle.plan_text.proofs.RowsAgain.{alpha_again, beta_again, entries_again, names_again, rows_levels}

@@ -6,9 +6,9 @@ use Rattle.std.proofs.lemmas.Bool.{lt-ltb}
 use Rattle.flag_text.specs.Readers.{as_text}
 use Rattle.flag_text.specs.Shape.{Shape, text, levels, items_levels}
 use Rattle.bucket_core.specs.Rule.{Entries}
-use Rattle.transport_instance.specs.Certificate.{alpha_view}
-use Rattle.transport_instance.specs.Groups.{GroupKey}
-use Rattle.transport_instance.specs.WrittenCertificate.{items_by, alpha_written, beta_written}
+use Rattle.transport_core.specs.Certificate.{alpha_view}
+use Rattle.transport_core.specs.Groups.{GroupKey}
+use Rattle.transport_core.specs.WrittenCertificate.{items_by, alpha_written, beta_written}
 use Rattle.plan_text.specs.PlanFile.{entry_written, each, alpha_of, beta_of, entry_of}
 
 pub alpha_again : (rows : List (GroupKey × ℤ)) → AllByRecursion (λ a. a.0.1 < 2 ^ 32) rows → each alpha_of (items_by alpha_written rows) ≡ Some rows

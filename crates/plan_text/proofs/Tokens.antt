@@ -18,10 +18,10 @@ use Rattle.flag_text.specs.Reading.{tree_of}
 use Rattle.flag_text.specs.Shape.{Shape, null, boolean, whole, other, text, list, object, Items, no_items, item, Members, no_members, member, comes_first, is_in_range, is_whole, items_are_whole, members_are_whole}
 use Rattle.flag_text.proofs.Bools.{left, right}
 use Rattle.flag_text.proofs.Printed.{members_data-rising, tree_of-written}
-use Rattle.transport_instance.specs.Groups.{GroupKey}
-use Rattle.transport_instance.specs.declared.certificate.CutKind.TheVariants.{Over, Under}
+use Rattle.transport_core.specs.Groups.{GroupKey}
+use Rattle.transport_core.specs.declared.certificate.CutKind.TheVariants.{Over, Under}
 use Rattle.plan_text.specs.Answer.{Answer, emit, none_exists}
-use Rattle.transport_instance.specs.WrittenCertificate.{items_by, alpha_written, beta_written}
+use Rattle.transport_core.specs.WrittenCertificate.{items_by, alpha_written, beta_written}
 use Rattle.plan_text.specs.PlanFile.{entry_written, planned_written}
 use Rattle.plan_text.proofs.ReadBack.{planned_levels}
 

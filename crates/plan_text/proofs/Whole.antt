@@ -14,14 +14,14 @@ use Rattle.bucket_core.specs.Reading.{in_weights, weight_of}
 use Rattle.bucket_core.specs.Rule.{Entries, total_weight}
 use Rattle.bucket_core.specs.declared.fault.RuleFault.TheVariants.{NoWeight, TooHeavy}
 use Rattle.price_core.specs.Request.{number_below}
-use Rattle.transport_instance.specs.Groups.{GroupKey, group_cmp}
-use Rattle.transport_instance.specs.declared.certificate.CutKind.{CutKind}
-use Rattle.transport_instance.specs.declared.certificate.CutKind.TheVariants.{Over, Under}
+use Rattle.transport_core.specs.Groups.{GroupKey, group_cmp}
+use Rattle.transport_core.specs.declared.certificate.CutKind.{CutKind}
+use Rattle.transport_core.specs.declared.certificate.CutKind.TheVariants.{Over, Under}
 use Rattle.plan_text.specs.Answer.{Answer, none_exists, planned_view}
 use Rattle.plan_text.specs.declared.fault.PlanFileFault.{PlanFileFault}
 use Rattle.plan_text.specs.declared.fault.PlanFileFault.TheVariants.{WantOfMemory}
 use Rattle.plan_text.specs.declared.planned.Planned.{Planned}
-use Rattle.transport_instance.specs.WrittenCertificate.{items_by, alpha_written, beta_written}
+use Rattle.transport_core.specs.WrittenCertificate.{items_by, alpha_written, beta_written}
 use Rattle.plan_text.specs.PlanFile.{entry_written, planned_written, each, items_in, alpha_parts, alpha_of, beta_parts, beta_of, entry_parts, entry_of, rises, is_canonical, if_alpha_rises, if_beta_rises, if_names_rise, if_canonical, canonical_rule, alpha_in, beta_in, cost_in, rule_in, names_in, emit_in, has_rule_member, set_in, form_in, answer_by, planned_of, if_plan}
 use Rattle.plan_text.specs.declared.form.Form.{Form}
 use Rattle.plan_text.specs.declared.form.Form.TheVariants.{Rule, Set}

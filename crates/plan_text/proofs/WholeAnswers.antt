@@ -5,11 +5,11 @@ use Rattle.std.proofs.lemmas.Bool.{lt-ltb}
 use Rattle.flag_text.proofs.Bools.{both, left, right}
 use Rattle.flag_text.specs.Shape.{text, is_in_range, is_whole, items_are_whole}
 use Rattle.bucket_core.specs.Rule.{Entries, IsRuleTotal, total_weight}
-use Rattle.transport_instance.specs.Certificate.{DualPrices}
-use Rattle.transport_instance.specs.declared.certificate.CutKind.{CutKind}
-use Rattle.transport_instance.specs.declared.certificate.CutKind.TheVariants.{Over, Under}
+use Rattle.transport_core.specs.Certificate.{DualPrices}
+use Rattle.transport_core.specs.declared.certificate.CutKind.{CutKind}
+use Rattle.transport_core.specs.declared.certificate.CutKind.TheVariants.{Over, Under}
 use Rattle.plan_text.specs.Answer.{emit, none_exists}
-use Rattle.transport_instance.specs.WrittenCertificate.{items_by, alpha_written, has_whole_numbers}
+use Rattle.transport_core.specs.WrittenCertificate.{items_by, alpha_written, has_whole_numbers}
 use Rattle.plan_text.specs.PlanFile.{entry_written, IsWhole}
 use Rattle.plan_text.proofs.Orders.{weights_small}
 

@@ -7,9 +7,9 @@ use Rattle.std.specs.Map.{keys_of}
 use Rattle.std.specs.Ordering.{nat_cmp}
 use Rattle.bucket_core.specs.Canonical.{IsCanonical}
 use Rattle.bucket_core.specs.Rule.{Entries, IsRuleTotal, total_weight, names_view}
-use Rattle.transport_instance.specs.Certificate.{DualPrices, certificate_view}
-use Rattle.transport_instance.specs.Groups.{group_cmp}
-use Rattle.transport_instance.specs.declared.certificate.CutKind.{CutKind}
+use Rattle.transport_core.specs.Certificate.{DualPrices, certificate_view}
+use Rattle.transport_core.specs.Groups.{group_cmp}
+use Rattle.transport_core.specs.declared.certificate.CutKind.{CutKind}
 use Rattle.plan_text.specs.declared.planned.Planned.{Planned}
 use Rattle.plan_text.specs.declared.planned.Planned.TheVariants as planned
 

@@ -8,7 +8,7 @@ use Rattle.std.specs.Str.{bytes_eq}
 use Rattle.std.specs.declared.cmp.Ordering.{Ordering}
 use Rattle.flag_text.specs.Readers.{as_whole, as_text, as_object, member_of}
 use Rattle.flag_text.specs.Shape.{Shape, list, Items, no_items, item}
-use Rattle.transport_instance.specs.Groups.{GroupKey, group_cmp}
+use Rattle.transport_core.specs.Groups.{GroupKey, group_cmp}
 use Rattle.plan_text.specs.PlanFile.{items_in, alpha_of, beta_of, entry_of, cost_in, has, has_rule_member, form_in}
 use Rattle.plan_text.specs.declared.form.Form.{Form}
 use Rattle.plan_text.specs.declared.form.Form.TheVariants.{Rule, Set}

@@ -15,10 +15,10 @@ use Rattle.flag_text.specs.declared.fault.TextFault.{TextFault}
 use Rattle.bucket_core.specs.Reading.{weight_of, bucket_with, rule_of_entries}
 use Rattle.bucket_core.specs.Rule.{Entries}
 use Rattle.price_core.specs.Request.{number_below}
-use Rattle.transport_instance.specs.Groups.{GroupKey, group_cmp}
-use Rattle.transport_instance.specs.declared.certificate.CutKind.{CutKind}
-use Rattle.transport_instance.specs.declared.certificate.CutKind.TheVariants.{Over, Under}
-use Rattle.transport_instance.specs.WrittenCertificate.{items_by, alpha_written, beta_written}
+use Rattle.transport_core.specs.Groups.{GroupKey, group_cmp}
+use Rattle.transport_core.specs.declared.certificate.CutKind.{CutKind}
+use Rattle.transport_core.specs.declared.certificate.CutKind.TheVariants.{Over, Under}
+use Rattle.transport_core.specs.WrittenCertificate.{items_by, alpha_written, beta_written}
 use Rattle.plan_text.specs.Answer.{Answer, emit, none_exists}
 use Rattle.plan_text.specs.Fault.{of_text}
 use Rattle.plan_text.specs.declared.fault.PlanFileFault.{PlanFileFault}

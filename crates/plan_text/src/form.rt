@@ -5,7 +5,7 @@ ghost use Rattle.flag_text.specs.View.{view};
 ghost use Rattle.plan_text.specs.PlanFile.{first_form, second_form, form_in, has, has_rule_member, is_under};
 
 use flag_text::Tree;
-use transport_instance::CutKind;
+use transport_core::CutKind;
 
 /// What a plan file holds.
 #[derive(Clone, Copy, Debug, PartialEq, Eq)]

@@ -4,7 +4,7 @@ ghost use Rattle.std.specs.Cmp.Lexicographic.{slice_cmp};
 ghost use Rattle.std.specs.Ordering.{nat_cmp};
 ghost use Rattle.flag_text.specs.Readers.{as_object, as_text, as_whole};
 ghost use Rattle.flag_text.specs.View.{view, items_view};
-ghost use Rattle.transport_instance.specs.Groups.{group_cmp};
+ghost use Rattle.transport_core.specs.Groups.{group_cmp};
 ghost use Rattle.plan_text.specs.Misfit.{lent, list_name, is_list_of, is_group_row, is_bucket, is_formed, is_read, is_in_order, is_free, group_of, row_name, next, precedes, stands_apart, first_failing, faulty_in, weight_or_none, weights_of, total_fault, total_fault_in, unless, has_list, has_number, member_fault_of_rule, member_fault_of, shape_fault_of, rule_fault_of, content_fault_of, misfit_of};
 ghost use Rattle.plan_text.specs.PlanFile.{entry_of};
 

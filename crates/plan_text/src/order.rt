@@ -4,8 +4,8 @@ ghost use Rattle.std.specs.Cmp.Lexicographic.{slice_cmp};
 ghost use Rattle.std.specs.Map.{keys_of};
 ghost use Rattle.std.specs.Ordering.{nat_cmp, is_lt};
 ghost use Rattle.bucket_core.specs.Rule.{names_view};
-ghost use Rattle.transport_instance.specs.Certificate.{alpha_view, beta_view};
-ghost use Rattle.transport_instance.specs.Groups.{group_cmp};
+ghost use Rattle.transport_core.specs.Certificate.{alpha_view, beta_view};
+ghost use Rattle.transport_core.specs.Groups.{group_cmp};
 ghost use Rattle.plan_text.specs.PlanFile.{comes_before, rises};
 
 /// Whether the groups rise strictly, by name and then by number.

@@ -7,10 +7,10 @@ ghost use Rattle.std.specs.Ordering.{nat_cmp};
 ghost use Rattle.std.specs.Str.{is_utf8};
 ghost use Rattle.flag_text.specs.Reading.{tree_of};
 ghost use Rattle.flag_text.specs.Shape.{is_whole, items_are_whole};
-ghost use Rattle.transport_instance.specs.Certificate.{alpha_row, alpha_view, beta_row, beta_view, certificate_view};
-ghost use Rattle.transport_instance.specs.Groups.{group_cmp};
+ghost use Rattle.transport_core.specs.Certificate.{alpha_row, alpha_view, beta_row, beta_view, certificate_view};
+ghost use Rattle.transport_core.specs.Groups.{group_cmp};
 ghost use Rattle.plan_text.specs.Answer.{emit, FitsFile, planned_view};
-ghost use Rattle.transport_instance.specs.WrittenCertificate.{items_by, alpha_written, beta_written, has_whole_numbers};
+ghost use Rattle.transport_core.specs.WrittenCertificate.{items_by, alpha_written, beta_written, has_whole_numbers};
 ghost use Rattle.plan_text.specs.PlanFile.{planned_written, rises, planned_of, answer_of, IsWhole, max_plan};
 ghost use Rattle.plan_text.specs.declared.fault.PlanFileFault.TheVariants.{WantOfMemory};
 
@@ -24,7 +24,7 @@ use flag_text::{MAX_WHOLE, is_in_range};
 use limits::FILE_BYTES;
 use simdutf8::basic;
 use std::alloc::{AllocError, Global};
-use transport_instance::Certificate;
+use transport_core::Certificate;
 
 /// Costs are below it.
 pub(crate) const COSTS: u64 = MAX_WHOLE + 1;

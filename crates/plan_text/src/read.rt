@@ -4,7 +4,7 @@ ghost use Rattle.std.specs.Str.{is_utf8};
 ghost use Rattle.flag_text.specs.Outcome.{GivesUnless};
 ghost use Rattle.flag_text.specs.View.{view, items_view};
 ghost use Rattle.bucket_core.specs.Rule.{entries_view, names_view};
-ghost use Rattle.transport_instance.specs.Certificate.{alpha_view, beta_view};
+ghost use Rattle.transport_core.specs.Certificate.{alpha_view, beta_view};
 ghost use Rattle.plan_text.specs.Answer.{planned_view};
 ghost use Rattle.plan_text.specs.PlanFile.{max_plan, plan_members, canonical_rule, items_in, alpha_in, beta_in, cost_in, rule_in, names_in, emit_in, set_in, planned_of, IsWhole, if_plan, answer_of};
 
@@ -17,9 +17,9 @@ use crate::rows::{read_alpha, read_beta, read_entries, read_names};
 use bucket_core::{Rule, RuleFault};
 use flag_text::Tree;
 use limits::FILE_BYTES;
-use named_members::read_named;
+use unread_members::read_named;
 use std::alloc::Global;
-use transport_instance::{Certificate, Cut, CutKind};
+use transport_core::{Certificate, Cut, CutKind};
 
 const PLAN_MEMBERS: &[&str] = &["alpha", "beta", "cost", "none", "plan", "rule", "side"];
 

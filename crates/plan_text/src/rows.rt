@@ -5,7 +5,7 @@ ghost use Rattle.flag_text.specs.Readers.{as_text};
 ghost use Rattle.flag_text.specs.View.{view, items_view};
 ghost use Rattle.bucket_core.specs.Rule.{entries_view, names_view};
 ghost use Rattle.price_core.specs.Request.{number_below};
-ghost use Rattle.transport_instance.specs.Certificate.{alpha_view, beta_view};
+ghost use Rattle.transport_core.specs.Certificate.{alpha_view, beta_view};
 ghost use Rattle.plan_text.specs.Misfit.{lent, lent_alpha};
 ghost use Rattle.plan_text.specs.PlanFile.{each, alpha_of, alpha_parts, beta_of, beta_parts, entry_of, entry_parts, if_plan};
 

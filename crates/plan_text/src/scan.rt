@@ -9,7 +9,7 @@ use crate::fault::PlanFileFault;
 use bucket_core::{Rule, RuleFault};
 use json::{Reader, Scratch, Token};
 use std::alloc::{AllocError, Global};
-use transport_instance::Certificate;
+use transport_core::Certificate;
 
 /// The rule and the certificate of a text that is laid out as a printed one.
 pub(crate) fn scan(alloc: Global, text: &str) -> Result<Option<(Rule, Certificate)>, PlanFileFault>

@@ -5,16 +5,16 @@ ghost use Rattle.json.specs.Tree.{json_tokens};
 ghost use Rattle.flag_text.specs.Grammar.{written};
 ghost use Rattle.flag_text.specs.Shape.{list, text};
 ghost use Rattle.bucket_core.specs.Rule.{names_view};
-ghost use Rattle.transport_instance.specs.Certificate.{alpha_row, alpha_view, beta_row, beta_view, certificate_view};
+ghost use Rattle.transport_core.specs.Certificate.{alpha_row, alpha_view, beta_row, beta_view, certificate_view};
 ghost use Rattle.plan_text.specs.Answer.{emit, none_exists, FitsFile, planned_view};
-ghost use Rattle.transport_instance.specs.WrittenCertificate.{items_by, alpha_written, beta_written};
+ghost use Rattle.transport_core.specs.WrittenCertificate.{items_by, alpha_written, beta_written};
 ghost use Rattle.plan_text.specs.PlanFile.{entry_written, planned_written};
 
 use crate::planned::Planned;
 use bucket_core::Rule;
 use json::Writer;
 use std::alloc::AllocError;
-use transport_instance::{Certificate, Cut, CutKind};
+use transport_core::{Certificate, Cut, CutKind};
 
 /// Writes an answer without a tree of it.
 pub(crate) fn write_planned(out: &mut Writer, planned: &Planned) -> Result<(), AllocError>

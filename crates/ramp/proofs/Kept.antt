@@ -33,7 +33,7 @@ use Rattle.price_core.specs.Request.{Asked, all_known, asked_of, limits_on}
 use Rattle.price_core.specs.declared.fault.PriceFault.{PriceFault}
 use Rattle.price_core.specs.declared.fault.PriceFault.TheVariants as price
 use Rattle.plan_text.specs.Answer.{Answer, emit, none_exists}
-use Rattle.transport_instance.specs.Certificate.{DualPrices}
+use Rattle.transport_core.specs.Certificate.{DualPrices}
 use Rattle.rollout.proofs.Changed.{changed}
 use Rattle.rollout.proofs.Sites.{steps_of}
 use Rattle.rollout.specs.Applied.{applied}

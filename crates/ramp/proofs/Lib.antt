@@ -1,7 +1,15 @@
+mod Again
+mod Alike
 mod Kept
+mod Levels
+mod Parts
+mod Requests
 mod Sites
+mod StepTexts
 mod Steps
 mod Tallied
 mod Told
 mod Valid
 mod Walked
+mod Whole
+mod Written

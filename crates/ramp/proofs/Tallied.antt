@@ -26,8 +26,8 @@ use Rattle.rollout_checks.specs.declared.refining.Refining.{Refining}
 use Rattle.rollout_checks.specs.declared.refining.Refining.TheVariants.{Times, ToTotal}
 use Rattle.rollout_checks.specs.declared.verify_fault.VerifyFault.{VerifyFault}
 use Rattle.rollout_checks.specs.declared.verify_fault.VerifyFault.TheVariants.{Request, Check}
-use Rattle.tally_core.specs.Tally.{PageTally}
-use Rattle.transport_instance.specs.Certificate.{DualPrices}
+use Rattle.line_tally.specs.Tally.{PageTally}
+use Rattle.transport_core.specs.Certificate.{DualPrices}
 use Rattle.ramp.specs.Laws.{IsOfInputs, TellsOtherTally}
 use Rattle.ramp.specs.Ramp.{ArePlans, IsPlanOn, IsRefusedAfter, IsStep, IsStepRefused, Recorded, Standing, in_book, in_tally, left_by, still}
 use Rattle.ramp.specs.Right.{AreMiscounted, AreRight, IsRight, IsStepTold, IsTold, IsWrongAfter}

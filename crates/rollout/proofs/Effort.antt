@@ -5,11 +5,11 @@ use Rattle.price_core.specs.Limits.{Limits}
 use Rattle.rollout.specs.Effort.{IsBounded, SpendsOn, Spends}
 use Rattle.rollout_checks.specs.Lawful.{Problem}
 use Rattle.rollout_checks.specs.declared.fault.RolloutFault.{RolloutFault}
-use Rattle.shortest_path.specs.Spent.{Spent}
-use Rattle.transport_instance.specs.Groups.{AreSizes}
-use Rattle.transport_instance.specs.Instance.{TransportProblem}
-use Rattle.transport_instance.specs.Rows.{whole_amount}
-use Rattle.transport_instance.proofs.Plans.{whole-groups}
+use Rattle.min_cost_flow.specs.Spent.{Spent}
+use Rattle.transport_core.specs.Groups.{AreSizes}
+use Rattle.transport_core.specs.Instance.{TransportProblem}
+use Rattle.transport_core.specs.Rows.{whole_amount}
+use Rattle.transport_core.proofs.Plans.{whole-groups}
 
 pub bounded : (p : Problem) (t : TransportProblem) (old new : Spent) → AreSizes p.old p.inputs t.groups → t.limits ≡ p.limits → new.augmentations ≤ old.augmentations + 2 * whole_amount t.groups
     → new.settlings ≤ old.settlings + (2 * whole_amount t.groups + 2) * (length t.groups + length t.limits) → IsBounded p old new

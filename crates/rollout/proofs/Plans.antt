@@ -8,18 +8,18 @@ use Rattle.bucket_core.specs.Canonical.{IsCanonical}
 use Rattle.bucket_core.specs.Rule.{Entries, total_weight, names_view}
 use Rattle.price_core.specs.Limits.{AreLimits}
 use Rattle.price_core.specs.Pricing.{Pricing}
-use Rattle.transport_instance.specs.Assignment.{HasAssignment, flows_of}
-use Rattle.transport_instance.specs.Certificate.{DualPrices, IsCertified, certificate_view}
-use Rattle.transport_instance.specs.Deficient.{IsDeficient, IsOver}
-use Rattle.transport_instance.specs.Fits.{IsLeast}
-use Rattle.transport_instance.specs.Groups.{AreSizes}
-use Rattle.transport_instance.specs.Instance.{TransportProblem}
-use Rattle.transport_instance.specs.declared.assignment.Assignment.{Assignment}
-use Rattle.transport_instance.specs.declared.certificate.Certificate.{Certificate}
-use Rattle.transport_instance.specs.declared.certificate.Cut.{Cut}
-use Rattle.transport_instance.specs.declared.certificate.CutKind.{CutKind}
-use Rattle.transport_instance.specs.declared.certificate.CutKind.TheVariants.{Over, Under}
-use Rattle.transport_instance.proofs.Deficits.{deficient_fits_none}
+use Rattle.transport_core.specs.Assignment.{HasAssignment, flows_of}
+use Rattle.transport_core.specs.Certificate.{DualPrices, IsCertified, certificate_view}
+use Rattle.transport_core.specs.Deficient.{IsDeficient, IsOver}
+use Rattle.transport_core.specs.Fits.{IsLeast}
+use Rattle.transport_core.specs.Groups.{AreSizes}
+use Rattle.transport_core.specs.Instance.{TransportProblem}
+use Rattle.transport_core.specs.declared.assignment.Assignment.{Assignment}
+use Rattle.transport_core.specs.declared.certificate.Certificate.{Certificate}
+use Rattle.transport_core.specs.declared.certificate.Cut.{Cut}
+use Rattle.transport_core.specs.declared.certificate.CutKind.{CutKind}
+use Rattle.transport_core.specs.declared.certificate.CutKind.TheVariants.{Over, Under}
+use Rattle.transport_core.proofs.Deficits.{deficient_fits_none}
 use Rattle.transport_plan.specs.Solved.{IsCut, IsNeverOver}
 use Rattle.transport_plan.specs.Solved.{IsPlan as IsSolved}
 use Rattle.plan_text.specs.Answer.{emit, none_exists, IsOrdered, planned_view}

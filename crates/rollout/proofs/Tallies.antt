@@ -14,20 +14,20 @@ use Rattle.price_core.specs.Cost.{cost_of}
 use Rattle.price_core.specs.Limits.{Limits}
 use Rattle.price_core.specs.Pricing.{price_of}
 use Rattle.price_core.specs.Request.{Asked, asked_of}
-use Rattle.tally_core.specs.Law.{IsTallyOf}
-use Rattle.tally_core.specs.Tally.{PageTally}
-use Rattle.tally_core.proofs.Pages.{same_page}
-use Rattle.transport_instance.specs.Certificate.{DualPrices, IsCertified, alpha_at, beta_of}
-use Rattle.transport_instance.specs.Dual.{inputs_at, least_value}
-use Rattle.transport_instance.specs.Fits.{IsLeast}
-use Rattle.transport_instance.specs.Groups.{AreGroups, GroupKey, group_at, is_same_group, size_of}
-use Rattle.transport_instance.specs.Sum.{sum_z}
-use Rattle.transport_instance.specs.declared.certificate.CutKind.TheVariants.{Over, Under}
-use Rattle.transport_instance.proofs.Costs.{cost-tally, counted_at}
-use Rattle.transport_instance.proofs.DualSums.{range_place}
-use Rattle.transport_instance.proofs.Inputs.{sum_placed}
-use Rattle.transport_instance.proofs.Points.{length-points}
-use Rattle.transport_instance.proofs.Ranges.{count-same}
+use Rattle.line_tally.specs.JoinLaw.{IsTallyOf}
+use Rattle.line_tally.specs.Tally.{PageTally}
+use Rattle.line_tally.proofs.Pages.{same_page}
+use Rattle.transport_core.specs.Certificate.{DualPrices, IsCertified, alpha_at, beta_of}
+use Rattle.transport_core.specs.Dual.{inputs_at, least_value}
+use Rattle.transport_core.specs.Fits.{IsLeast}
+use Rattle.transport_core.specs.Groups.{AreGroups, GroupKey, group_at, is_same_group, size_of}
+use Rattle.transport_core.specs.Sum.{sum_z}
+use Rattle.transport_core.specs.declared.certificate.CutKind.TheVariants.{Over, Under}
+use Rattle.transport_core.proofs.Costs.{cost-tally, counted_at}
+use Rattle.transport_core.proofs.DualSums.{range_place}
+use Rattle.transport_core.proofs.Inputs.{sum_placed}
+use Rattle.transport_core.proofs.Points.{length-points}
+use Rattle.transport_core.proofs.Ranges.{count-same}
 use Rattle.plan_text.specs.Answer.{Answer, emit, none_exists}
 use Rattle.plan_text.specs.declared.planned.Planned.{Planned}
 use Rattle.rollout_checks.specs.Lawful.{Place, Problem, and_then, by_price, factor, limits_for, place_of, problem_at, problem_of, problem_on, sized, weighed}

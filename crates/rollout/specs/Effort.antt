@@ -3,8 +3,8 @@ use Rattle.std.specs.Prelude.{◌≡◌, ℕ, ◌+◌, ◌*◌, ◌≤◌, ◌�
 use Rattle.bucket_core.specs.Rule.{total_weight}
 use Rattle.rollout_checks.specs.Lawful.{Problem}
 use Rattle.rollout_checks.specs.declared.fault.RolloutFault.{RolloutFault}
-use Rattle.shortest_path.specs.Spent.{Spent}
-use Rattle.transport_instance.specs.Groups.{GroupKey, AreSizes}
+use Rattle.min_cost_flow.specs.Spent.{Spent}
+use Rattle.transport_core.specs.Groups.{GroupKey, AreSizes}
 
 -- At most two augmentations for each point, and so many settlings as two searches for each point, and two more, make that settle
 -- each group and each name once.

@@ -5,7 +5,7 @@ use Rattle.flag_defs.specs.Document.{Definitions}
 use Rattle.book_core.specs.Book.{Contents}
 use Rattle.bucket_core.specs.Rule.{Entries, IsRuleTotal, total_weight}
 use Rattle.flag_defs.specs.Flags.{AreFlags}
-use Rattle.transport_instance.specs.Certificate.{DualPrices}
+use Rattle.transport_core.specs.Certificate.{DualPrices}
 use Rattle.plan_text.specs.Answer.{Answer, emit}
 use Rattle.rollout_checks.specs.Lawful.{Problem}
 use Rattle.rollout_checks.specs.Plan.{IsPlan}

@@ -6,8 +6,8 @@ use Rattle.bucket_core.specs.Rule.{Entries, total_weight}
 use Rattle.price_core.specs.Limits.{Limits}
 use Rattle.price_core.specs.Request.{max_request}
 use Rattle.price_core.specs.declared.fault.PriceFault.TheVariants.{BadRequest}
-use Rattle.transport_instance.specs.Groups.{AreSizes, AreSizesBy}
-use Rattle.transport_instance.specs.Instance.{AreListed, MissTotal, TransportProblem, max_names, max_planned_total}
+use Rattle.transport_core.specs.Groups.{AreSizes, AreSizesBy}
+use Rattle.transport_core.specs.Instance.{AreListed, MissTotal, TransportProblem, max_names, max_planned_total}
 use Rattle.plan_text.specs.Answer.{IsOrdered, planned_view}
 use Rattle.plan_text.specs.PlanFile.{IsWhole}
 use Rattle.plan_text.specs.declared.planned.Planned.{Planned}

@@ -3,7 +3,7 @@ ghost use Rattle.std.specs.Prelude.{◌≡◌, ◌<◌, IfOk, IfErr, MatchResult
 ghost use Rattle.book_core.specs.Book.{Inputs};
 ghost use Rattle.bucket_core.specs.Rule.{total_weight};
 ghost use Rattle.flag_defs.specs.Flags.{flags_view};
-ghost use Rattle.transport_instance.specs.Tally.{IsTally};
+ghost use Rattle.transport_core.specs.Tally.{IsTally};
 ghost use Rattle.plan_text.specs.Answer.{IsOrdered, planned_view};
 ghost use Rattle.plan_text.specs.PlanFile.{IsWhole};
 ghost use Rattle.rollout_checks.specs.Lawful.{IsCounted, problem_asked, problem_of, problem_view};
@@ -19,7 +19,7 @@ use page_tally::Recorded;
 use plan_text::Planned;
 use price_core::Request;
 use rollout_checks::{Problem, Refining, RequestFile, RolloutFault, problem_asked};
-use shortest_path::Effort;
+use min_cost_flow::Effort;
 use std::alloc::{AllocError, Global};
 use std::marker::Brand;
 use std::sync::ledger::{Blank, Ledger};

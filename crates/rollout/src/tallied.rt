@@ -13,11 +13,11 @@ use flag_defs::Flags;
 use plan_text::Planned;
 use price_core::Request;
 use rollout_checks::{Refining, RequestFile, RolloutFault, tally_problem_asked};
-use shortest_path::Effort;
+use min_cost_flow::Effort;
 use std::alloc::Global;
 use std::marker::Brand;
 use std::sync::ledger::{Blank, Ledger};
-use tally_core::PageTally;
+use line_tally::PageTally;
 
 /// As [`crate::plan_refined`], on a tally of the request's page: up to 67,108,864 inputs on a point and 8,589,934,592 in all. The
 /// rule that is answered costs all inputs of which so many fall on each point the least. The condition is m from 1.

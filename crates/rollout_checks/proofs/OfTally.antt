@@ -3,8 +3,8 @@ use Rattle.std.proofs.Common.{◌≡◌, ◌==◌, ◌-◌, ◌*◌, ◌^◌, �
 use Rattle.std.proofs.lemmas.Bool.{eq-eqb, eqb-true}
 use Rattle.bucket_core.specs.Rule.{Entries, total_weight, refinement}
 use Rattle.bucket_core.proofs.Refined.{total_weight-refinement}
-use Rattle.tally_core.specs.Tally.{PageTally, IsPageTally, most_in_all}
-use Rattle.transport_instance.specs.Tally.{IsTally}
+use Rattle.line_tally.specs.Tally.{PageTally, IsPageTally, most_in_all}
+use Rattle.transport_core.specs.Tally.{IsTally}
 
 same_tests : (b c : Bool) → (b ≡ true → c ≡ true) → (c ≡ true → b ≡ true) → b ≡ c
 same_tests true true to from = refl

@@ -1,6 +1,6 @@
 -- What is told of an answer, by what its parts told.
 use Rattle.std.proofs.Common.{◌≡◌, ◌≢◌, ℕ, List, Result, Ok, Err, refl, ap}
-use Rattle.transport_instance.specs.declared.fault.CheckFault.{CheckFault}
+use Rattle.transport_core.specs.declared.fault.CheckFault.{CheckFault}
 use Rattle.plan_text.specs.Answer.{Answer}
 use Rattle.book_core.specs.Book.{Inputs}
 use Rattle.price_core.specs.Request.{Asked, asked_of}

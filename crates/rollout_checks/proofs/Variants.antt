@@ -17,7 +17,7 @@ use Rattle.flag_defs.specs.Definition.{Definition}
 use Rattle.flag_defs.specs.Flag.{member_names, variant_names, variant_of, variants_in}
 use Rattle.price_core.specs.Limits.{Limits, limits_of}
 use Rattle.price_core.specs.Request.{limits_on}
-use Rattle.transport_instance.proofs.Placed.{name_ties}
+use Rattle.transport_core.proofs.Placed.{name_ties}
 use Rattle.rollout_checks.specs.Lawful.{names_are_variants}
 
 contains_first : (x : List ℕ) (xs : List (List ℕ)) → Contains (x ∷ xs) x

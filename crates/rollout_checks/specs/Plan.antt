@@ -1,8 +1,8 @@
 -- What is planned of a rollout request, on a book and on a tally.
 use Rattle.std.specs.Prelude.{◌≡◌, ◌≢◌, ℕ, List, Result, Ok, Err}
 use Rattle.book_core.specs.Book.{Inputs}
-use Rattle.transport_instance.specs.Deficient.{IsDeficient}
-use Rattle.transport_instance.specs.declared.certificate.CutKind.TheVariants.{Over, Under}
+use Rattle.transport_core.specs.Deficient.{IsDeficient}
+use Rattle.transport_core.specs.declared.certificate.CutKind.TheVariants.{Over, Under}
 use Rattle.plan_text.specs.Answer.{Answer, emit, none_exists, planned_view}
 use Rattle.plan_text.specs.declared.planned.Planned.{Planned}
 use Rattle.rollout_checks.specs.Lawful.{Problem, IsLawful}

@@ -1,12 +1,12 @@
 -- When an answer to a rollout request is right, and what is told where it is not.
 use Rattle.std.specs.Prelude.{◌≡◌, ◌≢◌, true, Result, Ok, Err}
 use Rattle.bucket_core.specs.Rule.{Entries, total_weight}
-use Rattle.transport_instance.specs.Certificate.{IsCertified}
-use Rattle.transport_instance.specs.Deficient.{IsDeficient}
-use Rattle.transport_instance.specs.Fits.{Fits, IsLeast}
-use Rattle.transport_instance.specs.Refusals.{Refuses}
-use Rattle.transport_instance.specs.declared.fault.CheckFault.{CheckFault}
-use Rattle.transport_instance.specs.declared.fault.CheckFault.TheVariants as fault
+use Rattle.transport_core.specs.Certificate.{IsCertified}
+use Rattle.transport_core.specs.Deficient.{IsDeficient}
+use Rattle.transport_core.specs.Fits.{Fits, IsLeast}
+use Rattle.transport_core.specs.Refusals.{Refuses}
+use Rattle.transport_core.specs.declared.fault.CheckFault.{CheckFault}
+use Rattle.transport_core.specs.declared.fault.CheckFault.TheVariants as fault
 use Rattle.plan_text.specs.Answer.{Answer, emit, none_exists}
 use Rattle.rollout_checks.specs.Lawful.{Problem, IsLawful}
 use Rattle.rollout_checks.specs.declared.fault.RolloutFault.{RolloutFault}

@@ -1,7 +1,7 @@
 -- The number and the name that a refusal of an answer is printed with: those of the fault that it carries; and whether memory ran out.
 use Rattle.std.specs.Prelude.{ℕ, List, Bool, true, false}
-use Rattle.transport_instance.specs.Fault as check
-use Rattle.transport_instance.specs.declared.fault.CheckFault.TheVariants as checks
+use Rattle.transport_core.specs.Fault as check
+use Rattle.transport_core.specs.declared.fault.CheckFault.TheVariants as checks
 use Rattle.rollout_checks.specs.Fault as rollout
 use Rattle.rollout_checks.specs.declared.fault.RolloutFault.TheVariants as rollouts
 use Rattle.rollout_checks.specs.declared.verify_fault.VerifyFault.{VerifyFault}

@@ -7,7 +7,7 @@ ghost use Rattle.flag_defs.specs.Flags.{flags_view};
 ghost use Rattle.price_core.specs.Request.{max_request};
 ghost use Rattle.price_core.specs.declared.fault.PriceFault.TheVariants.{BadRequest};
 ghost use Rattle.plan_text.specs.Answer.{planned_view};
-ghost use Rattle.transport_instance.specs.Tally.{IsTally};
+ghost use Rattle.transport_core.specs.Tally.{IsTally};
 ghost use Rattle.rollout_checks.specs.Lawful.{IsCounted, IsLawful, IsRefining, problem_asked, problem_of, problem_view};
 ghost use Rattle.rollout_checks.specs.Refined.{refining_checked};
 ghost use Rattle.rollout_checks.specs.Tallied.{IsTallyOutcome, IsTallyShown, tally_problem_asked, tally_problem_of};
@@ -25,7 +25,7 @@ use plan_text::Planned;
 use price_core::Request;
 use std::alloc::Global;
 use std::thread::Threads;
-use tally_core::PageTally;
+use line_tally::PageTally;
 use transport_core::{CheckFault, check_cut, check_plan};
 
 /// Checks that a request is lawful and that an answer is right for it. A rule is checked against the site's rule, refined

@@ -10,7 +10,7 @@ use plan_text::Planned;
 use price_core::{Limit, PriceFault, Request};
 use rollout_checks::RequestFile;
 use std::alloc::{AllocError, Global};
-use transport_instance::{Certificate, CheckFault};
+use transport_core::{Certificate, CheckFault};
 
 /// Explains why the plan in a file is not a right answer to the request.
 pub fn of_check(

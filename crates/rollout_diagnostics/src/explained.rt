@@ -11,7 +11,7 @@ use plan_text::Planned;
 use price_core::{Limit, PriceFault, Prices, Request};
 use rollout_checks::RequestFile;
 use std::alloc::{AllocError, Global};
-use transport_instance::{Cut, CutKind};
+use transport_core::{Cut, CutKind};
 
 /// The most variants whose points are shown.
 const MOST_VARIANTS: usize = 10;

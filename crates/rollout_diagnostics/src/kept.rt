@@ -9,7 +9,7 @@ use flag_text::read_doc;
 use kept_document::KeepFault;
 use limits::TEXT_BYTES;
 use logic_ast::write_expr;
-use site_places::{SitePlace, place_of_site};
+use kept_document::{SitePlace, place_of_site};
 use std::alloc::{AllocError, Global};
 
 /// Explains why the document at `path` can't keep its bytes where the rule of a site is replaced.

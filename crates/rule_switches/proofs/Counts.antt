@@ -15,7 +15,7 @@ use Rattle.bucket_core.specs.Rule.{Entries}
 use Rattle.price_core.specs.Cost.{cost_of, input_cost, name_of_input}
 use Rattle.price_core.specs.Pricing.{Pair, is_same_pair, pair_cmp}
 use Rattle.price_core.proofs.Changes.{pair_cmp_total}
-use Rattle.transport_instance.proofs.Joined.{lookup-amount}
+use Rattle.transport_core.proofs.Joined.{lookup-amount}
 use Rattle.rule_switches.specs.Counting.{Adds, AreRows, Counted, HasCounted, moves, names_in, names_of, passed, users_of}
 use Rattle.rule_switches.specs.declared.counting.Cell.{Cell}
 use Rattle.rule_switches.specs.Switches.{AreSwitches, Rows, SwitchesAreCost, at_price_one, number_at, switched, switches}

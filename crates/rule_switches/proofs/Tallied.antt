@@ -15,14 +15,14 @@ use Rattle.bucket_core.specs.Point.{point_of}
 use Rattle.bucket_core.specs.Rule.{Entries, total_weight}
 use Rattle.price_core.specs.Cost.{name_at}
 use Rattle.price_core.specs.Pricing.{Pair}
-use Rattle.transport_instance.specs.Dual.{inputs_at}
-use Rattle.transport_instance.specs.Sum.{sum_z}
-use Rattle.transport_instance.proofs.Costs.{counted_at, sum-counts}
-use Rattle.transport_instance.proofs.DualSums.{range_place}
-use Rattle.transport_instance.proofs.Inputs.{sum_placed}
-use Rattle.transport_instance.proofs.Points.{point_of-below}
-use Rattle.transport_instance.proofs.Regroup.{PicksOne, regroup, picks_one, once_in_range}
-use Rattle.transport_instance.proofs.Sums.{sum_z-pos}
+use Rattle.transport_core.specs.Dual.{inputs_at}
+use Rattle.transport_core.specs.Sum.{sum_z}
+use Rattle.transport_core.proofs.Costs.{counted_at, sum-counts}
+use Rattle.transport_core.proofs.DualSums.{range_place}
+use Rattle.transport_core.proofs.Inputs.{sum_placed}
+use Rattle.transport_core.proofs.Points.{point_of-below}
+use Rattle.transport_core.proofs.Regroup.{PicksOne, regroup, picks_one, once_in_range}
+use Rattle.transport_core.proofs.Sums.{sum_z-pos}
 use Rattle.rule_switches.specs.Counting.{Adds, AreTallied, Counted, HasCounted, names_at, names_of, users_of}
 
 same_number : {a b : ℕ} → pos a ≡ pos b → a ≡ b

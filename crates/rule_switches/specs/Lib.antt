@@ -1,3 +1,10 @@
+pub mod Counted
 pub mod Counting
 pub mod Edit
+pub mod Fault
+pub mod Found
+pub mod Rules
+pub mod Runs
 pub mod Switches
+pub mod Table
+pub mod Tallied

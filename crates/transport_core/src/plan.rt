@@ -2,15 +2,15 @@
 ghost use Rattle.std.specs.Prelude.{◌≡◌, ◌≢◌, ◌<◌, ◌^◌, ℕ, List, length, sum_by, IfOk, OnOk, IfErr, IsErrOf, MatchResult};
 ghost use Rattle.exposures.specs.Counts.{counts_of};
 ghost use Rattle.bucket_core.specs.Rule.{total_weight};
-ghost use Rattle.transport_instance.specs.Certificate.{IsCertified, certificate_view};
-ghost use Rattle.transport_instance.specs.Fits.{Fits, IsLeast};
-ghost use Rattle.transport_instance.specs.Refusals.{Refuses, RefusesRule, ChecksDuals};
-ghost use Rattle.transport_instance.specs.Tally.{IsTally};
+ghost use Rattle.transport_core.specs.Certificate.{IsCertified, certificate_view};
+ghost use Rattle.transport_core.specs.Fits.{Fits, IsLeast};
+ghost use Rattle.transport_core.specs.Refusals.{Refuses, RefusesRule, ChecksDuals};
+ghost use Rattle.transport_core.specs.Tally.{IsTally};
 
 use bucket_core::Rule;
 use price_core::{Prices, Switching, Totals};
 use std::alloc::Global;
-use transport_instance::{
+use crate::{
     Certificate, CheckFault, are_groups, are_names, first_broken, groups, keeps_limits, sums_to,
 };
 

@@ -15,12 +15,12 @@ use Rattle.min_cost_flow.specs.Problem.{group_at, names_of}
 use Rattle.min_cost_flow.specs.declared.problem.FlowProblem.{FlowProblem}
 use Rattle.min_cost_flow.specs.Flow.{IsFlow}
 use Rattle.min_cost_flow.specs.declared.flow.Flow.{Flow}
-use Rattle.shortest_path.specs.Found.{rank_of}
-use Rattle.shortest_path.specs.declared.search.Search.{Search}
-use Rattle.transport_instance.specs.Assignment.{Arc, flows_of, inflow}
-use Rattle.transport_instance.specs.Deficient.{IsOver, is_among, may_become}
-use Rattle.transport_instance.specs.Groups.{AreSizes}
-use Rattle.transport_instance.specs.Instance.{TransportProblem}
+use Rattle.min_cost_flow.specs.Found.{rank_of}
+use Rattle.min_cost_flow.specs.declared.search.Search.{Search}
+use Rattle.transport_core.specs.Assignment.{Arc, flows_of, inflow}
+use Rattle.transport_core.specs.Deficient.{IsOver, is_among, may_become}
+use Rattle.transport_core.specs.Groups.{AreSizes}
+use Rattle.transport_core.specs.Instance.{TransportProblem}
 use Rattle.transport_plan.specs.Numbered.{IsNumbered, limit_at, name_at, row_at}
 use Rattle.transport_plan.specs.Chosen.{chosen}
 use Rattle.transport_plan.specs.Marked.{AreHeld}

@@ -12,13 +12,13 @@ use Rattle.std.proofs.lemmas.Map.Keys.{Less-from_sorted}
 use Rattle.std.proofs.lemmas.Option.{same_Some, slice_get-get_or, slice_get_within, get_or_from_slice_get}
 use Rattle.bucket_core.specs.Rule.{Entries, total_weight, at, names_at}
 use Rattle.bucket_core.specs.Rule.{points as points_of}
-use Rattle.transport_instance.specs.Assignment.{Arc, HasAssignment, is_same_arc, arc_at, arc_flows}
-use Rattle.transport_instance.specs.Groups.{GroupKey, AreSizesBy, is_same_group, group_at, group_by, group_cmp}
-use Rattle.transport_instance.specs.Rows.{amount_of}
-use Rattle.transport_instance.proofs.DualSums.{stands_group}
-use Rattle.transport_instance.proofs.Keys.{get-map, not_below_itself}
-use Rattle.transport_instance.proofs.Placed.{same_group, is_same_itself, group_order}
-use Rattle.transport_instance.proofs.Points.{length-points}
+use Rattle.transport_core.specs.Assignment.{Arc, HasAssignment, is_same_arc, arc_at, arc_flows}
+use Rattle.transport_core.specs.Groups.{GroupKey, AreSizesBy, is_same_group, group_at, group_by, group_cmp}
+use Rattle.transport_core.specs.Rows.{amount_of}
+use Rattle.transport_core.proofs.DualSums.{stands_group}
+use Rattle.transport_core.proofs.Keys.{get-map, not_below_itself}
+use Rattle.transport_core.proofs.Placed.{same_group, is_same_itself, group_order}
+use Rattle.transport_core.proofs.Points.{length-points}
 use Rattle.transport_plan.specs.Dealing.{IsDealt, IsTally}
 use Rattle.transport_plan.proofs.Tallied.{on_arc, no_key, arcs_tally}
 

@@ -16,14 +16,14 @@ use Rattle.price_core.specs.Pricing.{is_forbidden}
 use Rattle.min_cost_flow.specs.Problem.{IsFlowProblem, group_at, is_allowed, names_of}
 use Rattle.min_cost_flow.specs.declared.problem.FlowProblem.{FlowProblem}
 use Rattle.min_cost_flow.specs.declared.flow.Flow.{Flow}
-use Rattle.shortest_path.specs.Found.{rank_of}
-use Rattle.shortest_path.specs.declared.search.Search.{Search}
-use Rattle.transport_instance.proofs.Arcs.{no_points, not_barred}
-use Rattle.transport_instance.proofs.Plans.{none_over}
-use Rattle.transport_instance.specs.Assignment.{Arc, IsPlaced, flows_of, inflow}
-use Rattle.transport_instance.specs.Deficient.{IsOver, IsUnder, is_among, may_become}
-use Rattle.transport_instance.specs.Groups.{AreSizes}
-use Rattle.transport_instance.specs.Instance.{TransportProblem}
+use Rattle.min_cost_flow.specs.Found.{rank_of}
+use Rattle.min_cost_flow.specs.declared.search.Search.{Search}
+use Rattle.transport_core.proofs.Arcs.{no_points, not_barred}
+use Rattle.transport_core.proofs.Plans.{none_over}
+use Rattle.transport_core.specs.Assignment.{Arc, IsPlaced, flows_of, inflow}
+use Rattle.transport_core.specs.Deficient.{IsOver, IsUnder, is_among, may_become}
+use Rattle.transport_core.specs.Groups.{AreSizes}
+use Rattle.transport_core.specs.Instance.{TransportProblem}
 use Rattle.transport_plan.specs.Numbered.{IsNumbered, limit_at, name_at, row_at}
 use Rattle.transport_plan.specs.Chosen.{chosen}
 use Rattle.transport_plan.specs.Marked.{AreUnsettled}

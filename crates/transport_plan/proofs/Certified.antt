@@ -9,18 +9,18 @@ use Rattle.flag_text.specs.Shape.{is_in_range}
 use Rattle.transport_plan.specs.Slackness.{certificate_of}
 use Rattle.transport_plan.proofs.ProvedFlow.{proved}
 use Rattle.min_cost_flow.specs.Cheapest.{IsCheapest}
-use Rattle.transport_instance.specs.WrittenCertificate.{has_whole_numbers}
+use Rattle.transport_core.specs.WrittenCertificate.{has_whole_numbers}
 use Rattle.min_cost_flow.specs.Problem.{IsFlowProblem, group_at, names_of, switch_cost_at}
 use Rattle.min_cost_flow.specs.declared.problem.FlowProblem.{FlowProblem}
 use Rattle.min_cost_flow.specs.declared.problem.Group.{Group}
 use Rattle.min_cost_flow.specs.Flow.{IsFlow, groups_of, total_at}
 use Rattle.min_cost_flow.specs.declared.flow.Flow.{Flow}
-use Rattle.shortest_path.specs.Found.{potential_of}
-use Rattle.shortest_path.specs.declared.search.Search.{Search}
-use Rattle.transport_instance.specs.Assignment.{IsProved}
-use Rattle.transport_instance.specs.Certificate.{DualPrices}
-use Rattle.transport_instance.specs.Groups.{GroupKey}
-use Rattle.transport_instance.specs.Instance.{TransportProblem, IsProblem}
+use Rattle.min_cost_flow.specs.Found.{potential_of}
+use Rattle.min_cost_flow.specs.declared.search.Search.{Search}
+use Rattle.transport_core.specs.Assignment.{IsProved}
+use Rattle.transport_core.specs.Certificate.{DualPrices}
+use Rattle.transport_core.specs.Groups.{GroupKey}
+use Rattle.transport_core.specs.Instance.{TransportProblem, IsProblem}
 use Rattle.transport_plan.specs.Numbered.{IsNumbered}
 use Rattle.transport_plan.specs.Costs.{all_cost}
 use Rattle.transport_plan.specs.DualPrices.{IsLeastAt}

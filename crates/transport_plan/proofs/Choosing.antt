@@ -11,8 +11,8 @@ use Rattle.std.proofs.lemmas.Cmp.{nat_list_cmp_total}
 use Rattle.std.proofs.lemmas.List.Elements.{All-nil, All-cons}
 use Rattle.std.proofs.lemmas.Map.Keys.{Less-from_sorted, sorted_head, sorted_tail}
 use Rattle.std.proofs.lemmas.Slice.Eq.{bytes_eq-Decides}
-use Rattle.transport_instance.specs.Deficient.{is_among}
-use Rattle.transport_instance.proofs.Keys.{not_below_itself}
+use Rattle.transport_core.specs.Deficient.{is_among}
+use Rattle.transport_core.proofs.Keys.{not_below_itself}
 use Rattle.transport_plan.specs.Chosen.{chosen}
 
 pub chosen_from : (P : List ℕ → Bool) (names : List (List ℕ)) (mark : ℕ → Bool) → list_any P (chosen names mark) ≡ true → (v : ℕ) × (v < length names) × (mark v ≡ true) × (P (get_or names v []) ≡ true)

@@ -12,11 +12,11 @@ use Rattle.min_cost_flow.specs.Problem.{names_of, group_at, is_allowed, switch_c
 use Rattle.min_cost_flow.specs.declared.problem.FlowProblem.{FlowProblem}
 use Rattle.min_cost_flow.specs.Flow.{IsFlowAt, cell_at, groups_of}
 use Rattle.min_cost_flow.proofs.Sums.{sum_same}
-use Rattle.shortest_path.specs.declared.arc.Arc as arcs
-use Rattle.transport_instance.specs.Assignment.{Arc, arc_flows, flow_cost, flows_of, row_flows, spends_all}
-use Rattle.transport_instance.specs.Groups.{GroupKey}
-use Rattle.transport_instance.specs.Instance.{TransportProblem}
-use Rattle.transport_instance.proofs.Arcs.{spends, sum_step}
+use Rattle.min_cost_flow.specs.declared.arc.Arc as arcs
+use Rattle.transport_core.specs.Assignment.{Arc, arc_flows, flow_cost, flows_of, row_flows, spends_all}
+use Rattle.transport_core.specs.Groups.{GroupKey}
+use Rattle.transport_core.specs.Instance.{TransportProblem}
+use Rattle.transport_core.proofs.Arcs.{spends, sum_step}
 use Rattle.transport_plan.specs.Network.{switch_price}
 use Rattle.transport_plan.specs.Numbered.{IsNumbered, name_at, row_at}
 use Rattle.transport_plan.specs.Costs.{all_cost, unit_of}

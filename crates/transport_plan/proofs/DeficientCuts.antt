@@ -16,12 +16,12 @@ use Rattle.std.specs.Str.{bytes_eq}
 use Rattle.std.specs.declared.cmp.Ordering.TheVariants.{Less}
 use Rattle.bucket_core.specs.Rule.{Entries}
 use Rattle.price_core.specs.Limits.{Limits, AreLimits}
-use Rattle.transport_instance.specs.Assignment.{Arc, flows_of, spends_all, inflow}
-use Rattle.transport_instance.specs.Deficient.{may_become, is_among, IsOver, IsUnder}
-use Rattle.transport_instance.specs.Groups.{GroupKey, AreSizes}
-use Rattle.transport_instance.specs.Instance.{TransportProblem}
-use Rattle.transport_instance.proofs.Keys.{not_below_itself}
-use Rattle.transport_instance.proofs.Plans.{groups-test, groups-sum, arcs-listed, arrived-le, same_sums, added}
+use Rattle.transport_core.specs.Assignment.{Arc, flows_of, spends_all, inflow}
+use Rattle.transport_core.specs.Deficient.{may_become, is_among, IsOver, IsUnder}
+use Rattle.transport_core.specs.Groups.{GroupKey, AreSizes}
+use Rattle.transport_core.specs.Instance.{TransportProblem}
+use Rattle.transport_core.proofs.Keys.{not_below_itself}
+use Rattle.transport_core.proofs.Plans.{groups-test, groups-sum, arcs-listed, arrived-le, same_sums, added}
 use Rattle.transport_plan.specs.Cuts.{IsStuck, IsUnmet}
 
 -- ---- sums over arcs

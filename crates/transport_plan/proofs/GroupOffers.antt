@@ -10,8 +10,8 @@ use Rattle.price_core.specs.Pricing.{Pricing, is_forbidden, price_of}
 use Rattle.transport_plan.specs.Slackness.{AreLeastOffers, IsLeastOffer, charge}
 use Rattle.min_cost_flow.specs.Problem.{group_at, names_of, switch_cost_at}
 use Rattle.min_cost_flow.specs.declared.problem.FlowProblem.{FlowProblem}
-use Rattle.transport_instance.specs.Groups.{GroupKey}
-use Rattle.transport_instance.specs.Instance.{TransportProblem}
+use Rattle.transport_core.specs.Groups.{GroupKey}
+use Rattle.transport_core.specs.Instance.{TransportProblem}
 use Rattle.transport_plan.specs.Numbered.{IsNumbered, name_at, row_at}
 use Rattle.transport_plan.specs.DualPrices.{IsLeastAt}
 use Rattle.transport_plan.proofs.Numbering.{switch_at}

@@ -7,10 +7,10 @@ use Rattle.std.specs.List.{zip}
 use Rattle.std.specs.Map.{keys_of}
 use Rattle.flag_text.proofs.Bools.{both}
 use Rattle.flag_text.specs.Shape.{is_in_range, items_are_whole}
-use Rattle.transport_instance.specs.WrittenCertificate.{alpha_written, beta_written, items_by}
+use Rattle.transport_core.specs.WrittenCertificate.{alpha_written, beta_written, items_by}
 use Rattle.min_cost_flow.specs.Offered.{IsSwitchCost}
 use Rattle.min_cost_flow.specs.Problem.{max_count}
-use Rattle.transport_instance.specs.Groups.{GroupKey}
+use Rattle.transport_core.specs.Groups.{GroupKey}
 
 -- a number that a plan file can hold
 pub record IsHeld (z : ℤ) : Type 0 where

@@ -6,9 +6,9 @@ use Rattle.std.proofs.lemmas.List.{get_or-take, get_or-drop, length-take-le}
 use Rattle.std.proofs.lemmas.List.Sums.{sum_by-cons}
 use Rattle.price_core.specs.Limits.{Limits}
 use Rattle.price_core.specs.Pricing.{Pricing, is_forbidden}
-use Rattle.transport_instance.specs.Assignment.{spends_all}
-use Rattle.transport_instance.specs.Groups.{GroupKey}
-use Rattle.transport_instance.proofs.Arcs.{spends}
+use Rattle.transport_core.specs.Assignment.{spends_all}
+use Rattle.transport_core.specs.Groups.{GroupKey}
+use Rattle.transport_core.proofs.Arcs.{spends}
 use Rattle.transport_plan.specs.Slackness.{AreBalanced, AreOptimalRows, charge, columns, plus}
 use Rattle.transport_plan.proofs.Slackness.{length-columns}
 use Rattle.min_cost_flow.specs.Problem.{sum_to}

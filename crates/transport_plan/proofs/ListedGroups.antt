@@ -8,8 +8,8 @@ use Rattle.std.specs.List.{All, Contains, slice_get}
 use Rattle.std.specs.Map.{keys_of}
 use Rattle.price_core.specs.Limits.{limit_view, limits_view}
 use Rattle.price_core.specs.declared.totals.Limit.{Limit}
-use Rattle.transport_instance.specs.Groups.{GroupKey, row_view, rows_view}
-use Rattle.transport_instance.proofs.Keys.{get-map}
+use Rattle.transport_core.specs.Groups.{GroupKey, row_view, rows_view}
+use Rattle.transport_core.proofs.Keys.{get-map}
 use Rattle.transport_plan.specs.Network.{IsGroup, AreGroups}
 use Rattle.min_cost_flow.specs.declared.problem.Group.{Group}
 

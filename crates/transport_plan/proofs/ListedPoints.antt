@@ -9,9 +9,9 @@ use Rattle.std.specs.Str.{bytes_eq}
 use Rattle.std.proofs.lemmas.Bool.{and_from}
 use Rattle.std.proofs.lemmas.List.{get_or-take, get_or-drop, length-take-le, length-drop}
 use Rattle.std.proofs.lemmas.List.Folds.{list_all-append}
-use Rattle.transport_instance.specs.Assignment.{Arc, row_flows, arc_flows, inflow}
-use Rattle.transport_instance.specs.Groups.{GroupKey}
-use Rattle.transport_instance.proofs.Arcs.{arcs_step, name_at_place, row_inflow, sum_step, width_of}
+use Rattle.transport_core.specs.Assignment.{Arc, row_flows, arc_flows, inflow}
+use Rattle.transport_core.specs.Groups.{GroupKey}
+use Rattle.transport_core.proofs.Arcs.{arcs_step, name_at_place, row_inflow, sum_step, width_of}
 use Rattle.std.proofs.lemmas.Bool.{cond-true, cond-false}
 use Rattle.std.proofs.lemmas.List.{map-append}
 use Rattle.bucket_core.specs.Rule.{names_view}

@@ -12,9 +12,9 @@ use Rattle.min_cost_flow.specs.Optimal as numbers
 use Rattle.min_cost_flow.specs.Problem.{cost_at, group_at, is_allowed, may_take, names_of, cost_or_zero, switch_cost_at, sum_to}
 use Rattle.min_cost_flow.specs.declared.problem.FlowProblem.{FlowProblem}
 use Rattle.min_cost_flow.specs.Flow.{IsFlowAt, cell_at, flows_at, groups_of}
-use Rattle.shortest_path.specs.declared.arc.Arc.{Arc}
-use Rattle.transport_instance.specs.Assignment.{spends_all}
-use Rattle.transport_instance.specs.Instance.{TransportProblem}
+use Rattle.min_cost_flow.specs.declared.arc.Arc.{Arc}
+use Rattle.transport_core.specs.Assignment.{spends_all}
+use Rattle.transport_core.specs.Instance.{TransportProblem}
 use Rattle.transport_plan.specs.Numbered.{IsNumbered, name_at, row_at}
 use Rattle.transport_plan.proofs.ListedFlow.{IsOptimalAt, balanced, column_is, optimal_rows, spent_all}
 use Rattle.transport_plan.proofs.Numbering.{switch_at}

@@ -21,9 +21,9 @@ use Rattle.std.proofs.lemmas.Slice.Eq.{bytes_eq-Decides}
 use Rattle.price_core.specs.Pricing.{Pricing}
 use Rattle.min_cost_flow.specs.Problem.{IsFlowProblem, sum_to, group_at, inputs_of, names_of, no_group, switch_cost_at}
 use Rattle.min_cost_flow.specs.declared.problem.FlowProblem.{FlowProblem}
-use Rattle.transport_instance.specs.Groups.{GroupKey, group_cmp}
-use Rattle.transport_instance.specs.Instance.{TransportProblem, IsProblem}
-use Rattle.transport_instance.specs.Rows.{whole_amount}
+use Rattle.transport_core.specs.Groups.{GroupKey, group_cmp}
+use Rattle.transport_core.specs.Instance.{TransportProblem, IsProblem}
+use Rattle.transport_core.specs.Rows.{whole_amount}
 use Rattle.transport_plan.specs.Network.{AreGroups, IsGroup, price_row, switch_price}
 use Rattle.transport_plan.specs.Numbered.{IsNumbered, IsPriced, limit_at, name_at, row_at}
 

@@ -10,12 +10,12 @@ use Rattle.std.proofs.lemmas.Bool.{cases_order, cases_eq, cases_lt, false≢true
 use Rattle.std.proofs.lemmas.List.{length-map, length-take, get_or-take, get_or-drop, get_or_default, get_or_append_left, get_or-append-add}
 use Rattle.std.proofs.lemmas.Map.Keys.{Less-from_sorted}
 use Rattle.std.proofs.lemmas.Option.{slice_get_within, get_or_from_slice_get}
-use Rattle.transport_instance.proofs.Keys.{not_below_itself}
-use Rattle.transport_instance.proofs.DualSums.{size-some, group_stands}
-use Rattle.transport_instance.proofs.Members.{place_from_contains, contains_from_place}
-use Rattle.transport_instance.proofs.Points.{get_below}
+use Rattle.transport_core.proofs.Keys.{not_below_itself}
+use Rattle.transport_core.proofs.DualSums.{size-some, group_stands}
+use Rattle.transport_core.proofs.Members.{place_from_contains, contains_from_place}
+use Rattle.transport_core.proofs.Points.{get_below}
 use Rattle.bucket_core.specs.Rule.{Entries, IsRun, total_weight, at}
-use Rattle.transport_instance.specs.Groups.{GroupKey, AreSizesBy, group_by, row_view, rows_view}
+use Rattle.transport_core.specs.Groups.{GroupKey, AreSizesBy, group_by, row_view, rows_view}
 use Rattle.transport_plan.specs.Placing.{AddsPlaces, AreFamilies}
 use Rattle.std.specs.Map.{keys_of}
 

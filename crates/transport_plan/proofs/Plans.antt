@@ -1,12 +1,12 @@
 -- A certificate that proves what an assignment costs certifies each rule that has it.
 use Rattle.std.proofs.Common.{ℕ, ◌<◌, List, arith}
 use Rattle.bucket_core.specs.Rule.{Entries, total_weight}
-use Rattle.transport_instance.specs.Assignment.{HasAssignment, IsProved, flows_of}
-use Rattle.transport_instance.specs.Certificate.{DualPrices, IsCertified}
-use Rattle.transport_instance.specs.Fits.{IsLeast}
-use Rattle.transport_instance.specs.Groups.{AreSizes}
-use Rattle.transport_instance.specs.Instance.{TransportProblem, IsProblem}
-use Rattle.transport_instance.proofs.Plans.{certified_by, least_by, whole-groups}
+use Rattle.transport_core.specs.Assignment.{HasAssignment, IsProved, flows_of}
+use Rattle.transport_core.specs.Certificate.{DualPrices, IsCertified}
+use Rattle.transport_core.specs.Fits.{IsLeast}
+use Rattle.transport_core.specs.Groups.{AreSizes}
+use Rattle.transport_core.specs.Instance.{TransportProblem, IsProblem}
+use Rattle.transport_core.proofs.Plans.{certified_by, least_by, whole-groups}
 
 pub plan_of : (p : TransportProblem) (numbers : List ℕ) (c : DualPrices) → IsProblem p → IsProved p numbers c → (old new : Entries) (inputs : List (List ℕ)) → AreSizes old inputs p.groups → HasAssignment old new inputs (flows_of p numbers)
     → IsCertified old new p.limits p.pricing inputs c × IsLeast old new p.limits p.pricing inputs

@@ -10,12 +10,12 @@ use Rattle.std.specs.Map.{keys_of}
 use Rattle.std.specs.Prelude.{int_lt}
 use Rattle.price_core.specs.Limits.{AreLimits}
 use Rattle.price_core.specs.Pricing.{Pricing, price_of, is_forbidden}
-use Rattle.transport_instance.specs.Assignment.{row_flows, arc_flows, flows_of, spends_all, is_free_of, has_slack, flow_cost, IsPlaced, IsProved, inflow}
-use Rattle.transport_instance.specs.Certificate.{weighted, group_sum, gains, losses}
-use Rattle.transport_instance.specs.Groups.{GroupKey}
-use Rattle.transport_instance.specs.Instance.{TransportProblem}
-use Rattle.transport_instance.specs.Refusals.{is_broken}
-use Rattle.transport_instance.proofs.Arcs.{spends, free_step}
+use Rattle.transport_core.specs.Assignment.{row_flows, arc_flows, flows_of, spends_all, is_free_of, has_slack, flow_cost, IsPlaced, IsProved, inflow}
+use Rattle.transport_core.specs.Certificate.{weighted, group_sum, gains, losses}
+use Rattle.transport_core.specs.Groups.{GroupKey}
+use Rattle.transport_core.specs.Instance.{TransportProblem}
+use Rattle.transport_core.specs.Refusals.{is_broken}
+use Rattle.transport_core.proofs.Arcs.{spends, free_step}
 use Rattle.transport_plan.specs.Slackness.{IsTightRow, AreTightRows, columns, AreBalanced, charge, IsLeastOffer, IsOptimalRow, AreOptimalRows, AreLeastOffers, IsOptimal, certificate_of}
 use Rattle.transport_plan.proofs.Slackness.{rows-pay, names-balance, length-columns}
 use Rattle.transport_plan.proofs.Totals.{inflow-column, highs-kept, lows-kept}

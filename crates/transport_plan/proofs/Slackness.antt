@@ -11,10 +11,10 @@ use Rattle.std.proofs.lemmas.List.{length-take-le, length-replicate}
 use Rattle.std.proofs.lemmas.List.Sums.{sum_by-cons}
 use Rattle.price_core.specs.Limits.{Limits}
 use Rattle.price_core.specs.Pricing.{Pricing, price_of}
-use Rattle.transport_instance.specs.Assignment.{Arc, row_flows, arc_flows, spends_all, flow_cost}
-use Rattle.transport_instance.specs.Certificate.{weighted, gains, losses}
-use Rattle.transport_instance.specs.Groups.{GroupKey}
-use Rattle.transport_instance.proofs.Arcs.{spends, sum_step}
+use Rattle.transport_core.specs.Assignment.{Arc, row_flows, arc_flows, spends_all, flow_cost}
+use Rattle.transport_core.specs.Certificate.{weighted, gains, losses}
+use Rattle.transport_core.specs.Groups.{GroupKey}
+use Rattle.transport_core.proofs.Arcs.{spends, sum_step}
 use Rattle.transport_plan.specs.Slackness.{IsTightRow, AreTightRows, columns, plus, AreBalanced}
 
 -- ---- products

@@ -5,10 +5,10 @@ use Rattle.std.proofs.lemmas.List.{get_or_default}
 use Rattle.min_cost_flow.specs.Effort.{Searches, nodes_of, points_of}
 use Rattle.min_cost_flow.specs.Problem.{group_at, sum_to}
 use Rattle.min_cost_flow.specs.declared.problem.FlowProblem.{FlowProblem}
-use Rattle.shortest_path.specs.Spent.{Spent}
-use Rattle.transport_instance.specs.Groups.{GroupKey}
-use Rattle.transport_instance.specs.Instance.{TransportProblem, IsProblem}
-use Rattle.transport_instance.specs.Rows.{whole_amount}
+use Rattle.min_cost_flow.specs.Spent.{Spent}
+use Rattle.transport_core.specs.Groups.{GroupKey}
+use Rattle.transport_core.specs.Instance.{TransportProblem, IsProblem}
+use Rattle.transport_core.specs.Rows.{whole_amount}
 use Rattle.transport_plan.specs.Numbered.{IsNumbered}
 use Rattle.transport_plan.proofs.Numbering.{no_row, sum_to-list}
 

@@ -10,9 +10,9 @@ use Rattle.min_cost_flow.specs.Problem.{group_at, is_allowed, may_take, names_of
 use Rattle.min_cost_flow.specs.declared.problem.FlowProblem.{FlowProblem}
 use Rattle.min_cost_flow.specs.Flow.{IsFlow, cell_at, groups_of, total_at}
 use Rattle.min_cost_flow.specs.declared.flow.Flow.{Flow}
-use Rattle.transport_instance.specs.Assignment.{flows_of, inflow, spends_all}
-use Rattle.transport_instance.specs.Deficient.{may_become}
-use Rattle.transport_instance.specs.Instance.{TransportProblem}
+use Rattle.transport_core.specs.Assignment.{flows_of, inflow, spends_all}
+use Rattle.transport_core.specs.Deficient.{may_become}
+use Rattle.transport_core.specs.Instance.{TransportProblem}
 use Rattle.transport_plan.specs.Numbered.{IsNumbered, limit_at, name_at, row_at}
 use Rattle.transport_plan.proofs.ListedFlow.{spent_all}
 use Rattle.transport_plan.proofs.ListedPoints.{inflow_is}

@@ -3,10 +3,10 @@ use Rattle.std.proofs.Common.{◌≡◌, ℕ, zero, suc, ◌+◌, ◌-◌, ◌*�
 use Rattle.std.proofs.lemmas.Bool.{eqb-true}
 use Rattle.std.proofs.lemmas.List.{drop-set-lt, drop-set-add, drop-drop, get_or-drop, take-append-drop}
 use Rattle.std.proofs.lemmas.List.Sums.{sum_by-cons, sum_by-append}
-use Rattle.transport_instance.specs.Assignment.{Arc, is_same_arc, row_flows, arc_flows, spends_all}
-use Rattle.transport_instance.specs.Groups.{GroupKey}
-use Rattle.transport_instance.specs.Rows.{amount_of, whole_amount}
-use Rattle.transport_instance.proofs.Arcs.{spends}
+use Rattle.transport_core.specs.Assignment.{Arc, is_same_arc, row_flows, arc_flows, spends_all}
+use Rattle.transport_core.specs.Groups.{GroupKey}
+use Rattle.transport_core.specs.Rows.{amount_of, whole_amount}
+use Rattle.transport_core.proofs.Arcs.{spends}
 use Rattle.transport_plan.specs.Dealing.{row, IsTally}
 
 -- ---- the numbers of groups that are spent

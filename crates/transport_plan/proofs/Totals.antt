@@ -10,9 +10,9 @@ use Rattle.std.specs.Str.{bytes_eq}
 use Rattle.std.proofs.lemmas.Bool.{and_from, le-leb}
 use Rattle.std.proofs.lemmas.List.{length-take-le}
 use Rattle.price_core.specs.Limits.{Limits}
-use Rattle.transport_instance.specs.Assignment.{Arc, arc_flows, spends_all, inflow}
-use Rattle.transport_instance.specs.Groups.{GroupKey}
-use Rattle.transport_instance.proofs.Arcs.{spends, sum_step, row_inflow}
+use Rattle.transport_core.specs.Assignment.{Arc, arc_flows, spends_all, inflow}
+use Rattle.transport_core.specs.Groups.{GroupKey}
+use Rattle.transport_core.proofs.Arcs.{spends, sum_step, row_inflow}
 use Rattle.transport_plan.specs.Slackness.{columns, plus, AreBalanced}
 use Rattle.transport_plan.proofs.Slackness.{length-columns}
 

@@ -3,9 +3,9 @@
 use Rattle.std.specs.Prelude.{◌≡◌, ◌==◌, ◌||◌, ℕ, ◌<◌, ◌≤◌, Bool, true, not, List, length, Some}
 use Rattle.std.specs.List.{All, Contains, list_all, list_any, slice_get}
 use Rattle.std.specs.Map.{keys_of}
-use Rattle.transport_instance.specs.Assignment.{flows_of, spends_all, inflow}
-use Rattle.transport_instance.specs.Deficient.{may_become, is_among}
-use Rattle.transport_instance.specs.Instance.{TransportProblem}
+use Rattle.transport_core.specs.Assignment.{flows_of, spends_all, inflow}
+use Rattle.transport_core.specs.Deficient.{may_become, is_among}
+use Rattle.transport_core.specs.Instance.{TransportProblem}
 
 -- No point can leave the names inside: the points there have old names of the set, and all that these may keep or change to is
 -- inside and full, and one name of them is above its high limit.

@@ -3,10 +3,10 @@ use Rattle.std.specs.Prelude.{◌≡◌, ℕ, ℤ, Bool, List, length, ◌<◌, 
 use Rattle.std.specs.Map.{keys_of}
 use Rattle.bucket_core.specs.Rule.{Entries}
 use Rattle.price_core.specs.Limits.{AreLimits}
-use Rattle.transport_instance.specs.Assignment.{IsProved, flow_cost, flows_of}
-use Rattle.transport_instance.specs.Deficient.{IsOver, IsUnder}
-use Rattle.transport_instance.specs.Groups.{AreSizes}
-use Rattle.transport_instance.specs.Instance.{TransportProblem}
+use Rattle.transport_core.specs.Assignment.{IsProved, flow_cost, flows_of}
+use Rattle.transport_core.specs.Deficient.{IsOver, IsUnder}
+use Rattle.transport_core.specs.Groups.{AreSizes}
+use Rattle.transport_core.specs.Instance.{TransportProblem}
 use Rattle.transport_plan.specs.Cuts.{IsStuck, IsUnmet}
 use Rattle.transport_plan.specs.Slackness.{IsOptimal, AreLeastOffers, certificate_of}
 use Rattle.transport_plan.specs.Costs.{all_cost}
@@ -14,7 +14,7 @@ use Rattle.transport_plan.specs.DualPrices.{IsLeastAt}
 use Rattle.min_cost_flow.specs.Problem.{names_of}
 use Rattle.min_cost_flow.specs.declared.problem.FlowProblem.{FlowProblem}
 use Rattle.min_cost_flow.specs.Flow.{IsFlowAt, flows_at, groups_of}
-use Rattle.shortest_path.specs.declared.arc.Arc.{Arc}
+use Rattle.min_cost_flow.specs.declared.arc.Arc.{Arc}
 use Rattle.transport_plan.specs.Numbered.{IsNumbered}
 use Rattle.min_cost_flow.specs.Optimal as numbers
 

@@ -4,8 +4,8 @@ use Rattle.min_cost_flow.specs.Problem.{group_at, is_allowed, names_of, switch_c
 use Rattle.min_cost_flow.specs.declared.problem.FlowProblem.{FlowProblem}
 use Rattle.min_cost_flow.specs.Flow.{groups_of, placed_at}
 use Rattle.min_cost_flow.specs.declared.flow.Flow.{Flow}
-use Rattle.shortest_path.specs.Found.{rank_of}
-use Rattle.shortest_path.specs.declared.search.Search.{Search}
+use Rattle.min_cost_flow.specs.Found.{rank_of}
+use Rattle.min_cost_flow.specs.declared.search.Search.{Search}
 
 -- The old names of the groups with points at settled names are marked, and all that a marked name may change to is settled.
 pub record AreHeld (p : FlowProblem) (f : Flow) (s : Search) (marks : List Bool) : Type 0 where

@@ -2,7 +2,7 @@
 use Rattle.std.specs.Prelude.{◌≡◌, ℕ, ℤ, pos, List, length, map, Option, Some, None, if◌then◌else◌}
 use Rattle.std.specs.List.{slice_get}
 use Rattle.price_core.specs.Pricing.{Pricing, price_of, is_forbidden}
-use Rattle.transport_instance.specs.Groups.{GroupKey}
+use Rattle.transport_core.specs.Groups.{GroupKey}
 use Rattle.min_cost_flow.specs.declared.problem.Group.{Group}
 
 -- the price of a switch for an input, and none where it is forbidden

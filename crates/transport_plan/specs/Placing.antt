@@ -1,8 +1,8 @@
 -- Where the groups of points in a row stand.
 use Rattle.std.specs.Prelude.{◌≡◌, ℕ, ◌+◌, ◌<◌, ◌≤◌, List, length, slice_get, slice_index, Some}
 use Rattle.std.specs.List.Sorted.{IsStrictlySortedBy}
-use Rattle.transport_instance.specs.Groups.{GroupKey, group_cmp}
-use Rattle.transport_instance.specs.Instance.{max_planned_total}
+use Rattle.transport_core.specs.Groups.{GroupKey, group_cmp}
+use Rattle.transport_core.specs.Instance.{max_planned_total}
 
 -- Behind what was there, for each of the first numbers the place among the keys of its group of this name.
 pub record AddsPlaces (keys : List GroupKey) (name counts : List ℕ) (many : ℕ) (before after : List ℕ) : Type 0 where

@@ -4,10 +4,10 @@ use Rattle.std.specs.List.{slice_index_or, zip}
 use Rattle.std.specs.Map.{keys_of}
 use Rattle.price_core.specs.Limits.{Limits}
 use Rattle.price_core.specs.Pricing.{Pricing, price_of, is_forbidden}
-use Rattle.transport_instance.specs.Assignment.{spends_all}
-use Rattle.transport_instance.specs.Certificate.{DualPrices}
-use Rattle.transport_instance.specs.Groups.{GroupKey}
-use Rattle.transport_instance.specs.Instance.{TransportProblem}
+use Rattle.transport_core.specs.Assignment.{spends_all}
+use Rattle.transport_core.specs.Certificate.{DualPrices}
+use Rattle.transport_core.specs.Groups.{GroupKey}
+use Rattle.transport_core.specs.Instance.{TransportProblem}
 
 -- where a group gives a name points, their dual prices sum to what the change costs the inputs of a point
 abbrev pub IsTightRow : Pricing → GroupKey → ℤ → List (List ℕ) → List ℕ → List ℤ → Type 0

@@ -4,17 +4,17 @@ use Rattle.std.specs.Cmp.Lexicographic.{slice_cmp}
 use Rattle.std.specs.List.Sorted.{IsStrictlySortedBy}
 use Rattle.std.specs.Ordering.{nat_cmp}
 use Rattle.bucket_core.specs.Rule.{Entries, names_view}
-use Rattle.transport_instance.specs.Assignment.{HasAssignment, IsProved, flows_of}
-use Rattle.transport_instance.specs.Certificate.{IsCertified, certificate_view}
-use Rattle.transport_instance.specs.Deficient.{IsDeficient, IsOver}
-use Rattle.transport_instance.specs.Fits.{IsLeast}
-use Rattle.transport_instance.specs.Groups.{AreSizes}
-use Rattle.transport_instance.specs.Instance.{TransportProblem}
-use Rattle.transport_instance.specs.declared.assignment.Assignment.{Assignment}
-use Rattle.transport_instance.specs.declared.certificate.Certificate.{Certificate}
-use Rattle.transport_instance.specs.declared.certificate.Cut.{Cut}
-use Rattle.transport_instance.specs.declared.certificate.CutKind.TheVariants.{Under}
-use Rattle.transport_instance.specs.WrittenCertificate.{has_whole_numbers}
+use Rattle.transport_core.specs.Assignment.{HasAssignment, IsProved, flows_of}
+use Rattle.transport_core.specs.Certificate.{IsCertified, certificate_view}
+use Rattle.transport_core.specs.Deficient.{IsDeficient, IsOver}
+use Rattle.transport_core.specs.Fits.{IsLeast}
+use Rattle.transport_core.specs.Groups.{AreSizes}
+use Rattle.transport_core.specs.Instance.{TransportProblem}
+use Rattle.transport_core.specs.declared.assignment.Assignment.{Assignment}
+use Rattle.transport_core.specs.declared.certificate.Certificate.{Certificate}
+use Rattle.transport_core.specs.declared.certificate.Cut.{Cut}
+use Rattle.transport_core.specs.declared.certificate.CutKind.TheVariants.{Under}
+use Rattle.transport_core.specs.WrittenCertificate.{has_whole_numbers}
 use Rattle.transport_plan.specs.declared.solving.Solved.{Solved}
 use Rattle.transport_plan.specs.declared.solving.Solved.TheVariants.{Plan, None}
 

@@ -3,20 +3,20 @@ ghost use Rattle.std.specs.List.{zip};
 ghost use Rattle.std.specs.Map.{keys_of};
 ghost use Rattle.std.specs.Prelude.{◌≡◌, IfOk, length, true};
 ghost use Rattle.min_cost_flow.specs.Cheapest.{IsCheapest};
-ghost use Rattle.transport_instance.specs.WrittenCertificate.{has_whole_numbers};
+ghost use Rattle.transport_core.specs.WrittenCertificate.{has_whole_numbers};
 ghost use Rattle.price_core.specs.Limits.{limits_view};
-ghost use Rattle.transport_instance.specs.Assignment.{IsProved};
-ghost use Rattle.transport_instance.specs.Certificate.{alpha_view, beta_view, certificate_view};
-ghost use Rattle.transport_instance.specs.Groups.{rows_view};
+ghost use Rattle.transport_core.specs.Assignment.{IsProved};
+ghost use Rattle.transport_core.specs.Certificate.{alpha_view, beta_view, certificate_view};
+ghost use Rattle.transport_core.specs.Groups.{rows_view};
 ghost use Rattle.transport_plan.specs.Numbered.{IsFlowOf};
 
 use crate::cost::cost_of;
 use crate::dual_prices::{group_dual_prices, name_dual_prices};
 use min_cost_flow::{Flow, FlowProblem};
 use price_core::Limit;
-use shortest_path::Search;
+use min_cost_flow::Search;
 use std::alloc::{AllocError, Global};
-use transport_instance::{Certificate, Instance};
+use transport_core::{Certificate, Instance};
 
 /// The certificate of a cheapest flow of an instance, with the potentials that the last search left. A plan file can hold its
 /// numbers. It takes `O(groups * k)` steps at k names.

@@ -6,16 +6,16 @@ ghost use Rattle.std.specs.Prelude.{◌<◌, ℕ, IfOk, List, false};
 ghost use Rattle.bucket_core.specs.Rule.{Entries, names_view};
 ghost use Rattle.min_cost_flow.specs.Meeting.{IsStuckBelow};
 ghost use Rattle.min_cost_flow.specs.Placing.{IsStuckAbove};
-ghost use Rattle.transport_instance.specs.Deficient.{IsOver, IsUnder};
-ghost use Rattle.transport_instance.specs.Groups.{AreSizes};
+ghost use Rattle.transport_core.specs.Deficient.{IsOver, IsUnder};
+ghost use Rattle.transport_core.specs.Groups.{AreSizes};
 ghost use Rattle.transport_plan.specs.Numbered.{IsFlowOf};
 ghost use Rattle.transport_plan.specs.Solved.{IsNeverOver};
 
 use crate::marks::{mark_held, mark_unsettled, marked};
 use min_cost_flow::{Flow, FlowProblem};
-use shortest_path::Search;
+use min_cost_flow::Search;
 use std::alloc::{AllocError, Global};
-use transport_instance::Instance;
+use transport_core::Instance;
 
 /// The names of a cut over high limits: the old names of the points that stand at the names that the last search settled. It takes
 /// `O(groups * k)` steps at k names.

@@ -2,8 +2,8 @@
 //! of a cut; and the rule of an assignment.
 //!
 //! ```rust
-//! use shortest_path::Effort;
-//! use transport_instance::Instance;
+//! use min_cost_flow::Effort;
+//! use transport_core::Instance;
 //! use transport_plan::{Solved, solve, spread};
 //!
 //! /// A rule that fits at the least cost, nothing where none fits.

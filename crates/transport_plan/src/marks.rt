@@ -6,13 +6,13 @@ ghost use Rattle.min_cost_flow.specs.Flow.{IsFlow, groups_of};
 ghost use Rattle.min_cost_flow.specs.Placing.{IsStuckAbove};
 ghost use Rattle.min_cost_flow.specs.Problem.{IsFlowProblem, names_of};
 ghost use Rattle.price_core.specs.Limits.{limits_view};
-ghost use Rattle.shortest_path.specs.Found.{HasSize};
+ghost use Rattle.min_cost_flow.specs.Found.{HasSize};
 ghost use Rattle.transport_plan.specs.Chosen.{chosen};
 ghost use Rattle.transport_plan.specs.Marked.{AreHeld, AreUnsettled, StandsInside, StandsOutside};
 
 use min_cost_flow::{Flow, FlowProblem};
 use price_core::Limit;
-use shortest_path::Search;
+use min_cost_flow::Search;
 use std::alloc::{AllocError, Global};
 
 /// Marks the old names of the groups that have points at settled names.

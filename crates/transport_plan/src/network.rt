@@ -4,14 +4,14 @@ ghost use Rattle.std.specs.Map.{keys_of};
 ghost use Rattle.std.specs.Prelude.{◌≡◌, ◌++◌, IfOk, OnOk, Some, map, slice_get};
 ghost use Rattle.min_cost_flow.specs.Problem.{IsFlowProblem};
 ghost use Rattle.price_core.specs.Limits.{limits_view};
-ghost use Rattle.transport_instance.specs.Groups.{rows_view};
+ghost use Rattle.transport_core.specs.Groups.{rows_view};
 ghost use Rattle.transport_plan.specs.Network.{AreGroups, price_row, switch_price};
 ghost use Rattle.transport_plan.specs.Numbered.{IsNumbered, IsPriced};
 
 use min_cost_flow::{FlowProblem, Group};
 use price_core::{Limit, Prices};
 use std::alloc::{AllocError, Global};
-use transport_instance::Instance;
+use transport_core::Instance;
 
 /// The problem of an instance in numbers: each name by its place among the limits, and groups by old variant and then by count.
 pub(crate) fn flow_problem(

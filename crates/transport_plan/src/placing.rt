@@ -5,8 +5,8 @@ ghost use Rattle.std.specs.List.{All, Contains};
 ghost use Rattle.std.specs.Map.{keys_of};
 ghost use Rattle.std.specs.Prelude.{◌≡◌, ◌≤◌, ◌<◌, ℕ, List, Some, IfOk, OnOk, length, slice_get, slice_index};
 ghost use Rattle.bucket_core.specs.Rule.{total_weight};
-ghost use Rattle.transport_instance.specs.Groups.{AreSizesBy, group_by, group_cmp, rows_view};
-ghost use Rattle.transport_instance.specs.Instance.{max_planned_total};
+ghost use Rattle.transport_core.specs.Groups.{AreSizesBy, group_by, group_cmp, rows_view};
+ghost use Rattle.transport_core.specs.Instance.{max_planned_total};
 ghost use Rattle.transport_plan.specs.Placing.{AddsPlaces, AreFamilies, HaveFamilies};
 
 use bucket_core::Rule;

@@ -4,7 +4,7 @@ ghost use Rattle.min_cost_flow.specs.Cheapest.{IsCheapest, IsPassed};
 ghost use Rattle.min_cost_flow.specs.Meeting.{IsStuckBelow};
 ghost use Rattle.min_cost_flow.specs.Placing.{IsStuckAbove};
 ghost use Rattle.min_cost_flow.specs.Problem.{IsFlowProblem};
-ghost use Rattle.transport_instance.specs.Rows.{whole_amount};
+ghost use Rattle.transport_core.specs.Rows.{whole_amount};
 ghost use Rattle.transport_plan.specs.Numbered.{IsFlowOf, IsNumbered};
 ghost use Rattle.transport_plan.specs.Solved.{IsSolution};
 
@@ -12,10 +12,10 @@ use crate::certifying::certificate;
 use crate::cuts::{names_over, names_under};
 use crate::network::flow_problem;
 use min_cost_flow::{Flow, FlowProblem, Outcome, Passed, cheapest_flow};
-use shortest_path::{Effort, Search};
+use min_cost_flow::{Effort, Search};
 use std::alloc::{AllocError, Global};
 use std::sync::ledger::Ledger;
-use transport_instance::{Assignment, Certificate, Cut, CutKind, Instance};
+use transport_core::{Assignment, Certificate, Cut, CutKind, Instance};
 
 /// What the planner answers of an instance.
 #[derive(Debug, Drop)]

@@ -8,17 +8,17 @@ ghost use Rattle.exposures.specs.Counts.{counts_of};
 ghost use Rattle.bucket_core.specs.Canonical.{IsCanonical};
 ghost use Rattle.bucket_core.specs.Rule.{names_view, total_weight};
 ghost use Rattle.price_core.specs.Limits.{limits_view};
-ghost use Rattle.transport_instance.specs.Assignment.{HasAssignment, arc_flows, flows_of, spends_all};
-ghost use Rattle.transport_instance.specs.Groups.{AreSizesBy, rows_view};
-ghost use Rattle.transport_instance.specs.Instance.{max_names, max_planned_total};
-ghost use Rattle.transport_instance.specs.Tally.{IsTally};
+ghost use Rattle.transport_core.specs.Assignment.{HasAssignment, arc_flows, flows_of, spends_all};
+ghost use Rattle.transport_core.specs.Groups.{AreSizesBy, rows_view};
+ghost use Rattle.transport_core.specs.Instance.{max_names, max_planned_total};
+ghost use Rattle.transport_core.specs.Tally.{IsTally};
 
 use crate::dealing::deal;
 use crate::placing::groups_of;
 use bucket_core::Rule;
 use price_core::Limit;
 use std::alloc::{AllocError, Global};
-use transport_instance::{Assignment, Instance};
+use transport_core::{Assignment, Instance};
 
 /// The rule whose points have the names of the assignment, and which has no other rule's shape: no entry has weight 0, and
 /// neighbours have different names. Which of a group's points change is no promise: those do that make few entries. It goes

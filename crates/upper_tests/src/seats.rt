@@ -6,7 +6,7 @@ use book_share::Ask;
 use flag_defs::Flags;
 use flag_resolve::resolve;
 use site_pages::{page_at, targeting_of};
-use sized_threads::map_vec;
+use book_share::map_vec;
 use std::alloc::Global;
 use std::sync::Wait;
 use std::thread::Threads;

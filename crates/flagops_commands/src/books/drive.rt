@@ -22,7 +22,7 @@ use crate::books::driving::{drive_output, remark_on};
 use crate::loading::{check_replaceable, load_book, load_losses, load_marked, store};
 use crate::refusal::{ListedRefusal, Refused};
 use book_core::Book;
-use book_losses::of_losses;
+use flagops_files::of_losses;
 use flagops_drive::DriveOutput;
 use flagops_shell::{FileSet, Outcome, Remark, Status};
 use json::Scratch;

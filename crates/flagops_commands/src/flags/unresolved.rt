@@ -9,7 +9,7 @@ use file_diagnostics::{Lines, Opening};
 use flag_defs::{Flag, Flags};
 use flag_resolve::{Code, Kind};
 use flagops_shell::Remark;
-use key_diagnostics::known_keys;
+use flagops_files::known_keys;
 use std::alloc::{AllocError, Global};
 
 /// What a person is told of a resolution with this code, among the flags of the document at a path: that no flag has the key, or of

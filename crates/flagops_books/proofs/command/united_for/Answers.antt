@@ -2,7 +2,7 @@ use Rattle.std.proofs.Common.{ℕ, List, IfSome, [], map, subst, Bor}
 use Rattle.flagops_books.specs.Step.{GivesUnited, HaveSucceeded}
 use Rattle.flagops_books.specs.Union.{IsUnited}
 use Rattle.flagops_books.specs.Words.{uniting_view}
-use Rattle.note_books.specs.Notes.{no_notes}
+use Rattle.note_lines.specs.Notes.{no_notes}
 use Rattle.flagops_books.specs.Attempts.{united_attempts}
 use Rattle.flagops_books.specs.Refusal.{TellsOfFirst}
 use Rattle.flagops_books.proofs.Ending.{file_first, file_succeeds, for_free, not_free, out_first}

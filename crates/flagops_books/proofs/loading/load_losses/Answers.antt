@@ -1,5 +1,5 @@
 use Rattle.std.proofs.Common.{refl}
-use Rattle.book_losses.specs.Losses.{losses_at}
+use Rattle.flagops_files.specs.Losses.{losses_at}
 use Rattle.flagops_shell.proofs.Lifted.{given_so, refused_so}
 use Rattle.flagops_files.specs.Refusal as files
 use Rattle.flagops_books.specs.Refusal.{is_want}

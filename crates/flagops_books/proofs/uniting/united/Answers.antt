@@ -10,7 +10,7 @@ use Rattle.flagops_books.specs.Attempts.{united_attempts}
 use Rattle.flagops_books.specs.Refusal.{Refused, TellsOfFirst, is_want}
 use Rattle.flagops_files.specs.Told.{AllSucceed, NamesFirst}
 use Rattle.flagops_books.proofs.Following.{Ahead, Goes, ahead_on, ahead_refused, all_ahead, before_next, both_known, everywhere, first_left, goes_all, goes_on, goes_refused, goes_stopped, none_before, starts, where_known}
-use Rattle.note_books.specs.Notes.{no_notes}
+use Rattle.note_lines.specs.Notes.{no_notes}
 use Rattle.flagops_books.proofs.uniting.united.Goals as goal
 
 pub loop-path-init : goal.loop-path-init

@@ -3,8 +3,8 @@ use Rattle.book_core.specs.Reading.{book_of}
 use Rattle.flagops_books.specs.Step.{GivesUnited}
 use Rattle.flagops_books.specs.Union.{IsLast, IsWithBook, IsWithBytes}
 use Rattle.flagops_books.proofs.Unions.{read_file}
-use Rattle.note_books.specs.Blank.{begins_book}
-use Rattle.note_books.specs.Notes.{IsBookOf, Notes}
+use Rattle.note_lines.specs.Blank.{begins_book}
+use Rattle.note_lines.specs.Notes.{IsBookOf, Notes}
 use Rattle.flagops_books.proofs.uniting.with_file.Goals as goal
 
 pub returns-then-begins_book-clause-exact : goal.returns-then-begins_book-clause-exact

@@ -1,7 +1,7 @@
 use Rattle.std.proofs.Common.{◌∙◌, Err, string_bytes, subst, sym}
 use Rattle.flagops_books.proofs.Unions.{full_lines, long_line, stopped_lines, taken_lines}
-use Rattle.note_books.specs.Lines.{TakesNotes}
-use Rattle.note_books.specs.declared.fault.NotesFault.{NotesFault}
+use Rattle.note_lines.specs.Lines.{TakesNotes}
+use Rattle.note_lines.specs.declared.fault.NotesFault.{NotesFault}
 use Rattle.flagops_books.proofs.uniting.with_lines.Goals as goal
 
 pub returns-then-is_one_line-clause-exact : goal.returns-then-is_one_line-clause-exact

@@ -1,5 +1,5 @@
 use Rattle.std.proofs.Common.{◌≡◌, rules, ap, string_bytes}
-use Rattle.page_switches.specs.Rules.{rules_view}
+use Rattle.rule_switches.specs.Rules.{rules_view}
 use Rattle.rule_switches.specs.Switches.{rows_view}
 use Rattle.flagops_compare.proofs.Drawings.{drawn_so}
 use Rattle.flagops_compare.proofs.drawing.add_counted.Goals as goal

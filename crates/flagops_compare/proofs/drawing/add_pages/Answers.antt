@@ -1,6 +1,6 @@
 use Rattle.std.proofs.Common.{◌+◌, List, drop, string_bytes, subst, sym}
 use Rattle.flag_defs.specs.Flags.{flags_view}
-use Rattle.page_switches.specs.Found.{PageFound, page_view, pages_view}
+use Rattle.rule_switches.specs.Found.{PageFound, page_view, pages_view}
 use Rattle.picture.specs.Spelling.{Continues}
 use Rattle.picture.proofs.Bodies.{continues_both, continues_none}
 use Rattle.flagops_compare.specs.Drawn.{compared_drawn, drawn_on}

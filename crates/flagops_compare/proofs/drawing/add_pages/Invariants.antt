@@ -2,7 +2,7 @@ use Rattle.std.proofs.Common.{ℕ, List, drop, string_bytes}
 use Rattle.flag_defs.specs.Flags.{flags_view}
 use Rattle.picture.specs.Spelling.{Continues}
 use Rattle.flagops_compare.specs.Drawn.{compared_drawn}
-use Rattle.page_switches.specs.Found.{pages_view}
+use Rattle.rule_switches.specs.Found.{pages_view}
 use Rattle.flagops_compare.proofs.drawing.add_pages.Given as goal
 
 -- the pictures of the pages that are left end where all end

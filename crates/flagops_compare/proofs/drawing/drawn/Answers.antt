@@ -1,6 +1,6 @@
 use Rattle.std.proofs.Common.{ℕ, List, [], refl, subst, sym}
 use Rattle.flag_defs.specs.Flags.{flags_view}
-use Rattle.page_switches.specs.Found.{pages_view}
+use Rattle.rule_switches.specs.Found.{pages_view}
 use Rattle.picture.specs.Spelling.{IsBody}
 use Rattle.picture.proofs.Bodies.{none_yet}
 use Rattle.flagops_compare.specs.Drawn.{compared_drawn, or_no_page}

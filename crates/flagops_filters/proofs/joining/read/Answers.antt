@@ -1,6 +1,6 @@
 use Rattle.std.proofs.Common.{◌∙◌, Bool, false, Result, Ok, Err, ap}
-use Rattle.tally_core.specs.Tally.{PageTally}
-use Rattle.tally_text.specs.declared.fault.TallyFileFault.{TallyFileFault}
+use Rattle.line_tally.specs.Tally.{PageTally}
+use Rattle.line_tally.specs.declared.file_fault.TallyFileFault.{TallyFileFault}
 use Rattle.flagops_filters.specs.Refusal.{is_want}
 use Rattle.flagops_filters.specs.declared.refusal.FilterRefusal.TheVariants.{Load}
 use Rattle.flagops_files.specs.declared.refusal.Refusal.TheVariants.{ReadTally}

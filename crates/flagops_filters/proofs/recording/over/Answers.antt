@@ -1,8 +1,8 @@
 use Rattle.std.proofs.Common.{◌∙◌, IfSome, ap, option_map, subst, ℕ}
 use Rattle.flag_defs.specs.Flags.{flags_view}
 use Rattle.note_streams.specs.Recorded.{recorded_of}
-use Rattle.record_lines.specs.Record.{IsSceneOf}
-use Rattle.record_lines.specs.Scene.{scene_of}
+use Rattle.note_streams.specs.Record.{IsSceneOf}
+use Rattle.note_streams.specs.Scene.{scene_of}
 use Rattle.flagops_filters.specs.Record.{RecordEnds}
 use Rattle.flagops_filters.specs.Start.{moment_of}
 use Rattle.flagops_filters.specs.declared.start.Start.{Start}

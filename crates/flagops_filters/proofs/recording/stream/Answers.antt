@@ -1,7 +1,7 @@
 use Rattle.std.proofs.Common.{IfSome, refl, subst}
 use Rattle.flagops_shell.specs.Console.{Shown}
 use Rattle.note_streams.specs.Recorded.{recorded_of}
-use Rattle.record_lines.specs.Scene.{scene_of}
+use Rattle.note_streams.specs.Scene.{scene_of}
 use Rattle.flagops_filters.specs.Record.{RecordEnds}
 use Rattle.flagops_filters.proofs.Recorded.{all_recorded, gave_up}
 use Rattle.flagops_filters.proofs.recording.stream.Goals as goal

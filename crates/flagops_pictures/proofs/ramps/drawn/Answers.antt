@@ -5,7 +5,7 @@ use Rattle.flagops_ramps.specs.Doubts.{doubt_parts_of_steps}
 use Rattle.flagops_ramps.specs.Judging.{AreRightAnswers, answered_view}
 use Rattle.flagops_ramps.specs.Report.{Came}
 use Rattle.flagops_rollouts.specs.Beside.{Tells}
-use Rattle.ramp_steps.specs.Steps.{requests_view}
+use Rattle.ramp.specs.Steps.{requests_view}
 use Rattle.flagops_pictures.specs.Ramps.{IsRampDrawn}
 use Rattle.flagops_pictures.proofs.ramps.drawn.Goals as goal
 

@@ -2,7 +2,7 @@ use Rattle.std.proofs.Common.{◌∙◌, ℕ, List, option_map, subst, ap}
 use Rattle.std.specs.Result.{result_ok}
 use Rattle.flagops_files.specs.Question.{question_view}
 use Rattle.price_core.specs.Request.{asked_of}
-use Rattle.ramp_steps.specs.Steps.{requests_view}
+use Rattle.ramp.specs.Steps.{requests_view}
 use Rattle.flagops_rollouts.specs.Beside.{Tells}
 use Rattle.flagops_rollouts.specs.Doubts.{doubt_in, recorded_doubt, recorded_parts}
 use Rattle.flagops_rollouts.specs.Foreign.{is_foreign}

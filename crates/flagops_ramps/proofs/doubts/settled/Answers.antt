@@ -1,7 +1,7 @@
 use Rattle.std.proofs.Common.{Option, option_map}
 use Rattle.flagops_files.specs.Question.{question_view}
 use Rattle.flagops_shell.specs.declared.refused.Remark.{Remark}
-use Rattle.ramp_steps.specs.Steps.{requests_view}
+use Rattle.ramp.specs.Steps.{requests_view}
 use Rattle.flagops_rollouts.proofs.Parts.{tells_result}
 use Rattle.flagops_ramps.specs.Doubts.{doubt_parts_of_steps}
 use Rattle.flagops_ramps.proofs.doubts.settled.Goals as goal

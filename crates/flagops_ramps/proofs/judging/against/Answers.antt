@@ -4,7 +4,7 @@ use Rattle.flagops_ramps.specs.declared.judging.RightAnswers.{RightAnswers}
 use Rattle.std.proofs.Common.{◌≡◌, ◌∙◌, Err, Ok, ap, false, map, option_map, refl, rules, subst, sym}
 use Rattle.flagops_files.specs.Question.{question_view}
 use Rattle.plan_text.specs.Answer.{planned_view}
-use Rattle.ramp_steps.specs.Steps.{requests_view, steps_of}
+use Rattle.ramp.specs.Steps.{requests_view, steps_of}
 use Rattle.flagops_ramps.specs.Judging.{IsFoundOf}
 use Rattle.flagops_ramps.specs.Ramp.{of_steps}
 use Rattle.flagops_ramps.specs.Refusal.{is_want}

@@ -1,5 +1,5 @@
 use Rattle.std.proofs.Common.{ℕ, List, subst}
-use Rattle.ramp_steps.specs.Lines.{ramp_of}
+use Rattle.ramp.specs.Lines.{ramp_of}
 use Rattle.flagops_ramps.specs.Judging.{read_as}
 use Rattle.flagops_ramps.specs.Report.{GivesUnlessWant}
 use Rattle.flagops_ramps.proofs.Loaded.{loaded_so, not_loaded, seen}

@@ -4,7 +4,7 @@ use Rattle.flagops_files.specs.Question.{question_view}
 use Rattle.plan_text.specs.Answer.{planned_view}
 use Rattle.plan_text.specs.declared.planned.Planned.{Planned}
 use Rattle.ramp.specs.Right.{IsTold}
-use Rattle.ramp_steps.specs.Steps.{requests_view}
+use Rattle.ramp.specs.Steps.{requests_view}
 use Rattle.flagops_ramps.specs.Ramp.{recorded}
 use Rattle.flagops_ramps.proofs.Stepped.{found_right, found_wrong}
 use Rattle.flagops_ramps.proofs.judging.over.Goals as goal

@@ -1,7 +1,7 @@
 use Rattle.std.proofs.Common.{◌≡◌, ◌∙◌, Err, ap, inl, map, rules, sym}
 use Rattle.flagops_files.specs.Question.{question_view}
 use Rattle.plan_text.specs.Answer.{planned_view}
-use Rattle.ramp_steps.specs.Steps.{requests_view, steps_of}
+use Rattle.ramp.specs.Steps.{requests_view, steps_of}
 use Rattle.flagops_ramps.specs.Words.{keeping_view}
 use Rattle.flagops_ramps.proofs.Kept.{failed_once, kept_once, left_once, of_both, of_no_steps, of_none}
 use Rattle.flagops_ramps.proofs.Noted.{keep_said_from, nothing_said}

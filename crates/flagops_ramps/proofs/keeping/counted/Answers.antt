@@ -2,7 +2,7 @@ use Rattle.std.proofs.Common.{◌≡◌, Err, is_some, map, refl, rules}
 use Rattle.flagops_files.specs.Question.{question_view}
 use Rattle.flagops_rollouts.specs.Keep.{kept_view}
 use Rattle.plan_text.specs.Answer.{planned_view}
-use Rattle.ramp_steps.specs.Steps.{requests_view}
+use Rattle.ramp.specs.Steps.{requests_view}
 use Rattle.flagops_shell.specs.declared.outcome.Outcome.{Outcome}
 use Rattle.flagops_rollouts.proofs.Parts.{tells_result}
 use Rattle.flagops_ramps.specs.Remarks.{keep_parts}

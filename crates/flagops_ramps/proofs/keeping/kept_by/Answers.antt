@@ -6,7 +6,7 @@ use Rattle.plan_text.specs.Answer.{planned_view}
 use Rattle.plan_text.specs.declared.planned.Planned.{Planned}
 use Rattle.price_core.specs.Request.{asked_of}
 use Rattle.price_core.specs.declared.fault.PriceFault.TheVariants.{WantOfMemory}
-use Rattle.transport_instance.specs.Certificate.{certificate_view}
+use Rattle.transport_core.specs.Certificate.{certificate_view}
 use Rattle.flagops_ramps.specs.Keep.{IsKeptWith}
 use Rattle.flagops_ramps.specs.Report.{GivesOne}
 use Rattle.flagops_ramps.proofs.Kept.{onto}

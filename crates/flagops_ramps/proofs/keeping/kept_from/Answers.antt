@@ -1,7 +1,7 @@
 use Rattle.std.proofs.Common.{◌∙◌, option_map}
 use Rattle.flagops_files.specs.Question.{question_view}
 use Rattle.plan_text.specs.Answer.{planned_view}
-use Rattle.ramp_steps.specs.Steps.{requests_view}
+use Rattle.ramp.specs.Steps.{requests_view}
 use Rattle.flagops_ramps.proofs.Kept.{from_asked, from_none, from_right, from_wrong}
 use Rattle.flagops_ramps.proofs.keeping.kept_from.Goals as goal
 

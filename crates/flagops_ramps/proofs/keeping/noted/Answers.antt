@@ -1,7 +1,7 @@
 use Rattle.std.proofs.Common.{◌≡◌, ◌||◌, ℕ, List, Err, is_some, map, rules, subst}
 use Rattle.flagops_files.specs.Question.{question_view}
 use Rattle.plan_text.specs.Answer.{Answer, planned_view}
-use Rattle.ramp_steps.specs.Steps.{requests_view}
+use Rattle.ramp.specs.Steps.{requests_view}
 use Rattle.flagops_rollouts.specs.Beside.{AreBehind}
 use Rattle.flagops_rollouts.proofs.Parts.{noted_so, tells_behind}
 use Rattle.flagops_ramps.specs.Doubts.{doubt_of_steps, doubt_parts_of_steps, settle}

@@ -1,7 +1,7 @@
 use Rattle.std.proofs.Common.{ap, map, ℕ, Vec, Global}
 use Rattle.flagops_files.specs.Question.{question_view}
 use Rattle.plan_text.specs.Answer.{planned_view}
-use Rattle.ramp_steps.specs.Steps.{requests_view}
+use Rattle.ramp.specs.Steps.{requests_view}
 use Rattle.flagops_ramps.specs.Words.{keeping_view}
 use Rattle.flagops_ramps.proofs.Kept.{over_counted, over_want}
 use Rattle.flagops_ramps.proofs.Noted.{keep_counted}

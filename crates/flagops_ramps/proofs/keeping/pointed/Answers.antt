@@ -3,7 +3,7 @@ use Rattle.std.specs.Result.{result_ok}
 use Rattle.flag_defs.specs.Flags.{flags_view}
 use Rattle.plan_text.specs.Answer.{planned_view}
 use Rattle.price_core.specs.Request.{asked_of}
-use Rattle.ramp_steps.specs.Steps.{requests_view}
+use Rattle.ramp.specs.Steps.{requests_view}
 use Rattle.flagops_rollouts.specs.Beside.{AreBehind}
 use Rattle.flagops_rollouts.specs.Finer.{finer_parts, is_finer, times_asked}
 use Rattle.flagops_ramps.proofs.Noted.{put_first, put_none, put_shown, put_unshown}

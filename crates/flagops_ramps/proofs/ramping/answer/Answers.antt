@@ -3,7 +3,7 @@ use Rattle.flagops_files.specs.Question.{Question, question_view}
 use Rattle.flagops_shell.specs.Report.{outcome_view}
 use Rattle.flagops_shell.specs.declared.outcome.Outcome.{Outcome}
 use Rattle.plan_text.specs.Answer.{planned_view}
-use Rattle.ramp_steps.specs.Steps.{requests_view, steps_of}
+use Rattle.ramp.specs.Steps.{requests_view, steps_of}
 use Rattle.flagops_ramps.specs.Ramp.{IsRampOver}
 use Rattle.flagops_ramps.specs.Report.{GivesOne, Told}
 use Rattle.flagops_ramps.specs.declared.refusal.RampRefusal.TheVariants.{Ramp}

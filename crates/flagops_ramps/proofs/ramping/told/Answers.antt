@@ -2,7 +2,7 @@ use Rattle.std.proofs.Common.{ap, is_some, map, option_map, unwrap_or}
 use Rattle.flagops_files.specs.Question.{question_view}
 use Rattle.flagops_shell.specs.declared.outcome.Outcome.{Outcome}
 use Rattle.plan_text.specs.Answer.{planned_view}
-use Rattle.ramp_steps.specs.Steps.{requests_view}
+use Rattle.ramp.specs.Steps.{requests_view}
 use Rattle.flagops_rollouts.specs.Beside.{noted_with}
 use Rattle.flagops_rollouts.specs.Doubts.{NamesDoubted}
 use Rattle.flagops_rollouts.proofs.Parts.{noted_so, says_result, tells_behind, tells_result}

@@ -17,7 +17,7 @@ use Rattle.flagops_shell.specs.declared.outcome.Outcome.{Outcome}
 use Rattle.plan_text.specs.Answer.{planned_view}
 use Rattle.plan_text.specs.declared.planned.Planned.{Planned}
 use Rattle.rollout.specs.Change.{IsLocal}
-use Rattle.transport_instance.specs.Certificate.{certificate_view}
+use Rattle.transport_core.specs.Certificate.{certificate_view}
 
 pub returns-in_ok-remark-in-Ok-clause-exact : goal.returns-in_ok-remark-in-Ok-clause-exact
 returns-in_ok-remark-in-Ok-clause-exact c =

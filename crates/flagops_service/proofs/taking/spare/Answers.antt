@@ -1,5 +1,5 @@
 use Rattle.std.proofs.Common.{Option, MatchOption, inr, refl, rules, subst}
-use Rattle.flag_regressions.specs.declared.regression.Regression.{Regression}
+use Rattle.flag_doubts.specs.declared.regression.Regression.{Regression}
 use Rattle.flagops_service.specs.Rereading.{Harms, MayBeRefused, Spares}
 use Rattle.flagops_service.proofs.taking.spare.Goals as goal
 

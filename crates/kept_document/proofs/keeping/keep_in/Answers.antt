@@ -3,7 +3,7 @@ use Rattle.flag_text.specs.View.{view as tree_view}
 use Rattle.logic_ast.specs.Expr.{view}
 use Rattle.logic_ast.specs.Writing.{written}
 use Rattle.text_spans.specs.View.{path_of}
-use Rattle.site_places.specs.Place.{buckets, site_place}
+use Rattle.kept_document.specs.Place.{buckets, site_place}
 use Rattle.kept_document.proofs.Checked.{refused_text}
 use Rattle.kept_document.proofs.Texts.{text_some}
 use Rattle.kept_document.proofs.keeping.keep_in.Goals as goal

@@ -2,8 +2,8 @@ use Rattle.std.proofs.Common.{◌≡◌, ◌+◌, ℕ, Err, ap, ◌∙◌, sym, 
 use Rattle.std.proofs.lemmas.Result.{err_from_is_err_and}
 use Rattle.line_batches.specs.Lines.{parts_of}
 use Rattle.line_tally.specs.Lines.{untallied}
-use Rattle.tally_filters.specs.Filter.{Filtered, RefusesLine, Takes}
-use Rattle.tally_filters.specs.declared.fault.FilterFault.TheVariants.{Line}
+use Rattle.line_tally.specs.Filter.{Filtered, RefusesLine, Takes}
+use Rattle.line_tally.specs.declared.filter_fault.FilterFault.TheVariants.{Line}
 use Rattle.note_streams.specs.Batch.{Goes}
 use Rattle.note_streams.specs.Tallied.{Tallies, behind}
 use Rattle.note_streams.proofs.Counting.{goes_line, goes_more, goes_none, stops_line, stops_long, stops_rest}

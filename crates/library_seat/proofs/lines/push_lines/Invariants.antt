@@ -2,7 +2,7 @@ use Rattle.std.proofs.Common.{◌≡◌, map, take}
 use Rattle.std.specs.List.{flat_map}
 use Rattle.logic_ast.specs.Expr.{view}
 use Rattle.logic_eval.specs.Views.{reach_view}
-use Rattle.kept_lines.specs.View.{lines_view}
+use Rattle.library_seat.specs.LinesView.{lines_view}
 use Rattle.library_seat.specs.Lines.{line_of}
 use Rattle.library_seat.proofs.lines.push_lines.Given as goal
 

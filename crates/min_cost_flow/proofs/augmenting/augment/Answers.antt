@@ -2,7 +2,7 @@
 use Rattle.std.proofs.Common.{◌≡◌, ◌≢◌, ◌-◌, List, get_or, min, sym, ap, ◌∙◌, subst, arith}
 use Rattle.std.specs.List.{All, AllPairs}
 use Rattle.min_cost_flow.specs.Flow.{total_at}
-use Rattle.shortest_path.specs.Found.{potential_of, rank_of}
+use Rattle.min_cost_flow.specs.Found.{potential_of, rank_of}
 use Rattle.min_cost_flow.specs.Paths.{IsBottleneck, HasZeroReducedCost, IsStep, Leads}
 use Rattle.min_cost_flow.specs.declared.augmenting.Step.{Step}
 use Rattle.min_cost_flow.proofs.Augmented.{start_over, augmented}

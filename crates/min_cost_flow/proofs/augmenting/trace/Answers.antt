@@ -1,9 +1,9 @@
 -- Each turn goes one step back.
 use Rattle.std.proofs.Common.{◌≡◌, ◌⊎◌, inl, inr, ⊎_elim, ◌+◌, length, ◌*◌, refl, sym, ap, ◌∙◌, subst, rules, arith}
 use Rattle.min_cost_flow.specs.Problem.{names_of}
-use Rattle.shortest_path.specs.Found.{predecessor_of, potential_of, rank_of}
-use Rattle.shortest_path.specs.Network.{arc_at}
-use Rattle.shortest_path.specs.Searched.{predecessor_in}
+use Rattle.min_cost_flow.specs.Found.{predecessor_of, potential_of, rank_of}
+use Rattle.min_cost_flow.specs.Network.{arc_at}
+use Rattle.min_cost_flow.specs.Searched.{predecessor_in}
 use Rattle.min_cost_flow.proofs.Tracing.{Traces, before_within, rank_falls, traced_whole, traces_more}
 use Rattle.min_cost_flow.proofs.augmenting.trace.Goals as goal
 

@@ -1,4 +1,4 @@
-use Rattle.shortest_path.specs.Found.{potential_of, rank_of}
+use Rattle.min_cost_flow.specs.Found.{potential_of, rank_of}
 use Rattle.min_cost_flow.proofs.Tracing.{Traces}
 use Rattle.min_cost_flow.proofs.augmenting.trace.Given as goal
 

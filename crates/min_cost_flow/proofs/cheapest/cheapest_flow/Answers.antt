@@ -1,7 +1,7 @@
 -- The first pass begins with potentials of 0.
 use Rattle.std.proofs.Common.{◌≡◌, ◌+◌, ◌∙◌, subst, arith}
 use Rattle.min_cost_flow.specs.Problem.{names_of}
-use Rattle.shortest_path.specs.Found.{HasSize}
+use Rattle.min_cost_flow.specs.Found.{HasSize}
 use Rattle.min_cost_flow.proofs.PassEnds.{first_pass_begins}
 use Rattle.min_cost_flow.proofs.cheapest.cheapest_flow.Goals as goal
 

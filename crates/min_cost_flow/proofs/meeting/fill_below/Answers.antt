@@ -1,7 +1,7 @@
 -- Points move to a name below its low limit.
 use Rattle.std.proofs.Common.{◌∙◌, subst}
 use Rattle.min_cost_flow.specs.Problem.{names_of}
-use Rattle.shortest_path.specs.Found.{potential_of, rank_of}
+use Rattle.min_cost_flow.specs.Found.{potential_of, rank_of}
 use Rattle.min_cost_flow.specs.Paths.{IsAugmented}
 use Rattle.min_cost_flow.proofs.Reached.{less_deficit, second_pass_after}
 use Rattle.min_cost_flow.proofs.meeting.fill_below.Goals as goal

@@ -4,9 +4,9 @@ use Rattle.min_cost_flow.proofs.OptimalLaws.{reduced_from_optimal}
 use Rattle.min_cost_flow.specs.Problem.{names_of}
 use Rattle.min_cost_flow.specs.Flow.{flows_of}
 use Rattle.min_cost_flow.proofs.ArcCosts.{cheap_arcs}
-use Rattle.shortest_path.specs.Found.{potential_of}
-use Rattle.shortest_path.specs.Network.{HasNonNegativeReducedCosts, HasCostsWithin, arc_at, max_cost}
-use Rattle.shortest_path.specs.declared.arc.Arc.{Arc}
+use Rattle.min_cost_flow.specs.Found.{potential_of}
+use Rattle.min_cost_flow.specs.Network.{HasNonNegativeReducedCosts, HasCostsWithin, arc_at, max_cost}
+use Rattle.min_cost_flow.specs.declared.arc.Arc.{Arc}
 use Rattle.min_cost_flow.proofs.Filled.{short_potential}
 use Rattle.min_cost_flow.proofs.Reached.{found_below}
 use Rattle.min_cost_flow.proofs.meeting.find_below.Goals as goal

@@ -1,7 +1,7 @@
 -- Points move within the high limits.
 use Rattle.std.proofs.Common.{◌≡◌, ℕ, ⊎_elim, List, length, get_or, ap, subst, arith}
 use Rattle.min_cost_flow.specs.Flow.{total_at}
-use Rattle.shortest_path.specs.Found.{potential_of, rank_of}
+use Rattle.min_cost_flow.specs.Found.{potential_of, rank_of}
 use Rattle.min_cost_flow.specs.Paths.{IsAugmented}
 use Rattle.min_cost_flow.proofs.Filled.{fewer_after, filled, placed_after}
 use Rattle.min_cost_flow.proofs.Spending.{less_excess}

@@ -5,11 +5,11 @@ use Rattle.min_cost_flow.proofs.OptimalLaws.{reduced_from_optimal}
 use Rattle.min_cost_flow.specs.Problem.{names_of}
 use Rattle.min_cost_flow.specs.Flow.{flows_of}
 use Rattle.min_cost_flow.proofs.ArcCosts.{cheap_arcs}
-use Rattle.shortest_path.specs.Found.{HasFound, HasSize, IsStuck, predecessor_of, potential_of, rank_of}
-use Rattle.shortest_path.specs.Network.{HasNonNegativeReducedCosts, HasCostsWithin, arc_at, max_cost}
-use Rattle.shortest_path.specs.Searched.{no_node}
-use Rattle.shortest_path.specs.declared.arc.Arc.{Arc}
-use Rattle.shortest_path.specs.declared.node.NodeState.{NodeState}
+use Rattle.min_cost_flow.specs.Found.{HasFound, HasSize, IsStuck, predecessor_of, potential_of, rank_of}
+use Rattle.min_cost_flow.specs.Network.{HasNonNegativeReducedCosts, HasCostsWithin, arc_at, max_cost}
+use Rattle.min_cost_flow.specs.Searched.{no_node}
+use Rattle.min_cost_flow.specs.declared.arc.Arc.{Arc}
+use Rattle.min_cost_flow.specs.declared.node.NodeState.{NodeState}
 use Rattle.min_cost_flow.proofs.Filled.{short_potential, stuck_of, path_of}
 use Rattle.min_cost_flow.proofs.placing.find_room.Goals as goal
 

@@ -3,7 +3,7 @@ use Rattle.std.proofs.Common.{◌+◌}
 use Rattle.min_cost_flow.specs.Problem.{cost_at, may_take, names_of}
 use Rattle.min_cost_flow.specs.Flow.{groups_of}
 use Rattle.min_cost_flow.proofs.ResidualRows.{row_takes}
-use Rattle.shortest_path.specs.Network.{arc_at}
+use Rattle.min_cost_flow.specs.Network.{arc_at}
 use Rattle.min_cost_flow.proofs.residual.arrive.Goals as goal
 
 pub returns-then-before-eq0-clause-row : goal.returns-then-before-eq0-clause-row

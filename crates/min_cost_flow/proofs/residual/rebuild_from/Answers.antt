@@ -6,7 +6,7 @@ use Rattle.min_cost_flow.specs.Spans.{ArePlaced, AreSpans}
 use Rattle.min_cost_flow.specs.Residual.{ChangesRow, HasArcs}
 use Rattle.min_cost_flow.proofs.RowParts.{part_of, part_rebuilt, put_row}
 use Rattle.min_cost_flow.proofs.WrittenArcs.{part_size, row_changes}
-use Rattle.shortest_path.specs.Network.{arc_at}
+use Rattle.min_cost_flow.specs.Network.{arc_at}
 use Rattle.min_cost_flow.proofs.residual.rebuild_from.Goals as goal
 
 pub rebuild-requires-clause-supplies : goal.rebuild-requires-clause-supplies

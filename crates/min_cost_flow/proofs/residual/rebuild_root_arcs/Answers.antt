@@ -4,7 +4,7 @@ use Rattle.std.proofs.lemmas.List.{get_or_default}
 use Rattle.min_cost_flow.specs.Problem.{names_of}
 use Rattle.min_cost_flow.specs.Residual.{ChangesRootArcs, HasArcs, IsRootArc}
 use Rattle.min_cost_flow.proofs.WrittenArcs.{from_is, root_arcs_change, root_arcs_set, to_is}
-use Rattle.shortest_path.specs.Network.{arc_at}
+use Rattle.min_cost_flow.specs.Network.{arc_at}
 use Rattle.min_cost_flow.proofs.residual.rebuild_root_arcs.Goals as goal
 
 pub returns-clause-root : goal.returns-clause-root

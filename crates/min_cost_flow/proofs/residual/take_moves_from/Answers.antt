@@ -5,7 +5,7 @@ use Rattle.min_cost_flow.specs.Residual.{TakesMoves}
 use Rattle.min_cost_flow.specs.Residual.{ChangesRow, HasArcs}
 use Rattle.min_cost_flow.proofs.RowParts.{part_entered, put_row}
 use Rattle.min_cost_flow.proofs.WrittenArcs.{part_size, row_changes}
-use Rattle.shortest_path.specs.Network.{arc_at}
+use Rattle.min_cost_flow.specs.Network.{arc_at}
 use Rattle.min_cost_flow.proofs.residual.take_moves_from.Goals as goal
 
 pub take_moves-requires-clause-supplies : goal.take_moves-requires-clause-supplies

@@ -6,7 +6,7 @@ use Rattle.min_cost_flow.specs.Spans.{AreSpans}
 use Rattle.min_cost_flow.proofs.Cells.{cell_in}
 use Rattle.min_cost_flow.proofs.CheapestArcs.{cheapest, no_moves}
 use Rattle.min_cost_flow.proofs.VariantTurns.{IsTurn, RowBelow, row_after, spans_after}
-use Rattle.shortest_path.specs.declared.arc.Arc.{Arc}
+use Rattle.min_cost_flow.specs.declared.arc.Arc.{Arc}
 use Rattle.min_cost_flow.proofs.residual.take_moves_of_groups.Goals as goal
 
 pub loop-variant-init : goal.loop-variant-init

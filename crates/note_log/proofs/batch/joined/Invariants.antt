@@ -1,6 +1,6 @@
 use Rattle.std.proofs.Common.{◌≡◌, take}
 use Rattle.note_log.specs.Batch.{items_of}
-use Rattle.note_memory.specs.Recalled.{joined}
+use Rattle.note_log.specs.Recalled.{joined}
 use Rattle.note_log.proofs.batch.joined.Given as goal
 
 abbrev pub invariant-loop-line : goal.invariant-loop-line

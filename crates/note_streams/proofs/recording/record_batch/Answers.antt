@@ -1,8 +1,8 @@
 use Rattle.std.proofs.Common.{◌+◌, ◌∙◌, ℕ, ap, sym, arith}
-use Rattle.record_lines.proofs.Both.{contexts-both}
-use Rattle.record_lines.specs.Outcomes.{contexts}
-use Rattle.record_lines.specs.Scene.{scene_of}
-use Rattle.record_lines.specs.View.{outcomes_view}
+use Rattle.note_streams.proofs.Both.{contexts-both}
+use Rattle.note_streams.specs.Outcomes.{contexts}
+use Rattle.note_streams.specs.Scene.{scene_of}
+use Rattle.note_streams.specs.View.{outcomes_view}
 use Rattle.note_streams.specs.Runs.{runs_view}
 use Rattle.note_streams.proofs.Batches.{few_recorded}
 use Rattle.note_streams.proofs.Counts.{batch_counts, few_recorded_contexts}

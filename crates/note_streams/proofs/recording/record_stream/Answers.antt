@@ -2,10 +2,10 @@ use Rattle.std.proofs.Common.{◌≡◌, ◌+◌, ◌-◌, ◌∙◌, ℕ, nat_e
 use Rattle.std.proofs.lemmas.List.{length-take-le}
 use Rattle.std.proofs.lemmas.Result.{err_from_is_err_and}
 use Rattle.line_batches.specs.Fill.{Grows}
-use Rattle.record_lines.specs.Outcomes.{contexts}
-use Rattle.record_lines.specs.Scene.{scene_of}
-use Rattle.record_lines.specs.View.{outcomes_view}
-use Rattle.record_lines.specs.declared.outcomes.Outcomes as code
+use Rattle.note_streams.specs.Outcomes.{contexts}
+use Rattle.note_streams.specs.Scene.{scene_of}
+use Rattle.note_streams.specs.View.{outcomes_view}
+use Rattle.note_streams.specs.declared.outcomes.Outcomes as code
 use Rattle.note_streams.specs.Batch.{CountsBatch, Leaves, RecordsBatch}
 use Rattle.note_streams.specs.Recorded.{recorded_of}
 use Rattle.note_streams.specs.Stop.{is_output_fault, of_fill}

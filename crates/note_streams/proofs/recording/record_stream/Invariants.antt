@@ -1,8 +1,8 @@
 use Rattle.std.proofs.Common.{◌≡◌, ◌≤◌, ◌+◌, ◌-◌, false, length}
-use Rattle.record_lines.specs.Record.{most_line}
-use Rattle.record_lines.specs.Outcomes.{contexts}
-use Rattle.record_lines.specs.Scene.{scene_of}
-use Rattle.record_lines.specs.View.{outcomes_view}
+use Rattle.note_streams.specs.Record.{most_line}
+use Rattle.note_streams.specs.Outcomes.{contexts}
+use Rattle.note_streams.specs.Scene.{scene_of}
+use Rattle.note_streams.specs.View.{outcomes_view}
 use Rattle.note_streams.proofs.Batches.{Known}
 use Rattle.note_streams.proofs.Counts.{KnownCounts}
 use Rattle.note_streams.proofs.recording.record_stream.Given as goal

@@ -3,9 +3,9 @@ use Rattle.std.proofs.Crossing.{crosses}
 use Rattle.note_streams.proofs.Crossings.{Recorder-sync}
 use Rattle.std.proofs.Common.{◌≡◌, ◌++◌, ◌∙◌, [], ◌∷◌, ap, rules}
 use Rattle.std.proofs.lemmas.Result.{IfOk-at_ok, IfOk-weaker}
-use Rattle.record_lines.specs.Lines.{lines_view}
-use Rattle.record_lines.specs.Record.{record_of}
-use Rattle.record_lines.specs.Scene.{scene_of}
+use Rattle.note_streams.specs.Lines.{lines_view}
+use Rattle.note_streams.specs.Record.{record_of}
+use Rattle.note_streams.specs.Scene.{scene_of}
 use Rattle.note_streams.specs.Runs.{runs_view}
 use Rattle.note_streams.proofs.Running.{in_order, one_run}
 use Rattle.note_streams.proofs.runs.+runs.Goals as goal

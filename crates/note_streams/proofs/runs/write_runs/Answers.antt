@@ -1,5 +1,5 @@
 use Rattle.std.proofs.Common.{◌+◌, drop, arith, rules}
-use Rattle.record_lines.specs.View.{outcomes_view, recorded_view}
+use Rattle.note_streams.specs.View.{outcomes_view, recorded_view}
 use Rattle.note_streams.specs.Runs.{runs_view}
 use Rattle.note_streams.proofs.Counts.{begun_counts, end_counts, fits_counts, next_counts, stop_counts}
 use Rattle.note_streams.proofs.Running.{at_run, begun, breaks, ended, fits, next, no_run, stops}

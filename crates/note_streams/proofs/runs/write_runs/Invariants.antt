@@ -1,5 +1,5 @@
 use Rattle.std.proofs.Common.{◌≡◌, false, drop}
-use Rattle.record_lines.specs.View.{outcomes_view}
+use Rattle.note_streams.specs.View.{outcomes_view}
 use Rattle.note_streams.specs.Runs.{runs_view}
 use Rattle.note_streams.proofs.Counts.{StillCounts}
 use Rattle.note_streams.proofs.Running.{Underway}

@@ -3,7 +3,7 @@ use Rattle.std.proofs.lemmas.List.{length-take-le}
 use Rattle.std.proofs.lemmas.Result.{err_from_is_err_and}
 use Rattle.line_batches.specs.Fill.{Grows}
 use Rattle.line_tally.specs.Lines.{untallied}
-use Rattle.tally_filters.specs.Filter.{Filtered}
+use Rattle.line_tally.specs.Filter.{Filtered}
 use Rattle.note_streams.specs.Batch.{LeavesLines, TalliesBatch}
 use Rattle.note_streams.specs.Stop.{tallied_fill}
 use Rattle.note_streams.specs.declared.tallying.StreamTally.{StreamTally}

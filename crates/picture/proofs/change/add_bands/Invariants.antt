@@ -1,5 +1,5 @@
 use Rattle.std.proofs.Common.{◌≡◌, ◌≤◌, ◌++◌, drop}
-use Rattle.switch_table.specs.Runs.{runs_view}
+use Rattle.rule_switches.specs.Runs.{runs_view}
 use Rattle.price_core.specs.Limits.{limits_view}
 use Rattle.picture.specs.Told.{runs_told, told}
 use Rattle.picture.proofs.change.add_bands.Given as goal

@@ -2,8 +2,8 @@ use Rattle.std.proofs.Common.{◌≡◌, ◌+◌, ◌-◌, ◌<◌, ◌≤◌, a
 use Rattle.std.specs.List.{range_with_len}
 use Rattle.std.specs.Map.{keys_of}
 use Rattle.price_core.specs.Limits.{limits_view}
-use Rattle.switch_table.specs.Switches.{name_of}
-use Rattle.switch_table.proofs.Placing.{key_at}
+use Rattle.rule_switches.specs.Table.{name_of}
+use Rattle.rule_switches.proofs.TablePlacing.{key_at}
 use Rattle.picture.specs.Changes.{between_end, between_told}
 use Rattle.picture.specs.Told.{told}
 use Rattle.picture.proofs.Remaining.{all_told, at_foot, first_row, range_ended, range_front}

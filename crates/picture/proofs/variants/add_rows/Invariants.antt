@@ -1,6 +1,6 @@
 use Rattle.std.proofs.Common.{◌++◌, drop}
 use Rattle.price_core.specs.Limits.{limits_view}
-use Rattle.transport_instance.specs.Certificate.{beta_view}
+use Rattle.transport_core.specs.Certificate.{beta_view}
 use Rattle.picture.specs.Changes.{variant_end, variant_told}
 use Rattle.picture.specs.Told.{foot, rows_told, told}
 use Rattle.picture.proofs.Remaining.{Stands}

@@ -1,7 +1,7 @@
 use Rattle.std.proofs.Common.{◌≡◌, length}
 use Rattle.std.specs.Map.{keys_of}
-use Rattle.transport_instance.specs.Certificate.{alpha_view}
-use Rattle.transport_instance.specs.Groups.{group_cmp}
+use Rattle.transport_core.specs.Certificate.{alpha_view}
+use Rattle.transport_core.specs.Groups.{group_cmp}
 use Rattle.plan_text.specs.PlanFile.{rises}
 use Rattle.plan_text.proofs.order.alpha_rises.Given as goal
 

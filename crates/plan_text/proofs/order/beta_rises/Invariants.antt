@@ -2,7 +2,7 @@ use Rattle.std.proofs.Common.{◌≡◌, length}
 use Rattle.std.specs.Cmp.Lexicographic.{slice_cmp}
 use Rattle.std.specs.Map.{keys_of}
 use Rattle.std.specs.Ordering.{nat_cmp}
-use Rattle.transport_instance.specs.Certificate.{beta_view}
+use Rattle.transport_core.specs.Certificate.{beta_view}
 use Rattle.plan_text.specs.PlanFile.{rises}
 use Rattle.plan_text.proofs.order.beta_rises.Given as goal
 

@@ -1,7 +1,7 @@
 use Rattle.std.proofs.Common.{◌≡◌, drop}
 use Rattle.flag_text.specs.Shape.{items_are_whole}
-use Rattle.transport_instance.specs.Certificate.{alpha_view}
-use Rattle.transport_instance.specs.WrittenCertificate.{items_by, alpha_written}
+use Rattle.transport_core.specs.Certificate.{alpha_view}
+use Rattle.transport_core.specs.WrittenCertificate.{items_by, alpha_written}
 use Rattle.plan_text.proofs.plain.alpha_is_whole.Given as goal
 
 -- the rest answers as the whole

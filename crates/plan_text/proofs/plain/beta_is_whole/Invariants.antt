@@ -1,7 +1,7 @@
 use Rattle.std.proofs.Common.{◌≡◌, drop}
 use Rattle.flag_text.specs.Shape.{items_are_whole}
-use Rattle.transport_instance.specs.Certificate.{beta_view}
-use Rattle.transport_instance.specs.WrittenCertificate.{items_by, beta_written}
+use Rattle.transport_core.specs.Certificate.{beta_view}
+use Rattle.transport_core.specs.WrittenCertificate.{items_by, beta_written}
 use Rattle.plan_text.proofs.plain.beta_is_whole.Given as goal
 
 -- the rest answers as the whole

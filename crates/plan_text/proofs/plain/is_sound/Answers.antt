@@ -5,9 +5,9 @@ use Rattle.std.proofs.lemmas.Bool.{OnTrue_from}
 use Rattle.flag_text.proofs.Bools.{left, right}
 use Rattle.bucket_core.specs.Canonical.{IsCanonical}
 use Rattle.bucket_core.specs.Rule.{IsRuleTotal}
-use Rattle.transport_instance.specs.Certificate.{certificate_view}
-use Rattle.transport_instance.specs.Groups.{group_cmp}
-use Rattle.transport_instance.specs.WrittenCertificate.{has_whole_numbers}
+use Rattle.transport_core.specs.Certificate.{certificate_view}
+use Rattle.transport_core.specs.Groups.{group_cmp}
+use Rattle.transport_core.specs.WrittenCertificate.{has_whole_numbers}
 use Rattle.plan_text.specs.PlanFile.{rises}
 use Rattle.plan_text.proofs.ReadBack.{emit_by_tests}
 use Rattle.plan_text.proofs.WholeAnswers.{emit_whole}

@@ -1,6 +1,6 @@
 use Rattle.std.proofs.Common.{◌≡◌, ◌++◌, drop, option_map}
 use Rattle.flag_text.specs.View.{items_view}
-use Rattle.transport_instance.specs.Certificate.{alpha_view}
+use Rattle.transport_core.specs.Certificate.{alpha_view}
 use Rattle.plan_text.specs.PlanFile.{each, alpha_of}
 use Rattle.plan_text.proofs.rows.read_alpha.Given as goal
 

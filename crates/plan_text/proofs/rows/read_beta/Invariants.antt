@@ -1,6 +1,6 @@
 use Rattle.std.proofs.Common.{◌≡◌, ◌++◌, drop, option_map}
 use Rattle.flag_text.specs.View.{items_view}
-use Rattle.transport_instance.specs.Certificate.{beta_view}
+use Rattle.transport_core.specs.Certificate.{beta_view}
 use Rattle.plan_text.specs.PlanFile.{each, beta_of}
 use Rattle.plan_text.proofs.rows.read_beta.Given as goal
 

@@ -2,9 +2,9 @@ use Rattle.std.proofs.Common.{◌≡◌, ◌<◌, ◌^◌, ◌++◌, drop, take}
 use Rattle.std.specs.List.{All}
 use Rattle.json.specs.Tree.{json_tokens, items_tokens}
 use Rattle.flag_text.specs.Grammar.{written, items_written}
-use Rattle.transport_instance.specs.Certificate.{alpha_view}
+use Rattle.transport_core.specs.Certificate.{alpha_view}
 use Rattle.flag_text.specs.Shape.{list}
-use Rattle.transport_instance.specs.WrittenCertificate.{items_by, alpha_written}
+use Rattle.transport_core.specs.WrittenCertificate.{items_by, alpha_written}
 use Rattle.plan_text.proofs.writing.write_alpha.Given as goal
 
 -- what was written and what is written of the rest are all

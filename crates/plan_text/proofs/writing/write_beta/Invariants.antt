@@ -1,9 +1,9 @@
 use Rattle.std.proofs.Common.{◌≡◌, ◌++◌, drop}
 use Rattle.json.specs.Tree.{json_tokens, items_tokens}
 use Rattle.flag_text.specs.Grammar.{written, items_written}
-use Rattle.transport_instance.specs.Certificate.{beta_view}
+use Rattle.transport_core.specs.Certificate.{beta_view}
 use Rattle.flag_text.specs.Shape.{list}
-use Rattle.transport_instance.specs.WrittenCertificate.{items_by, beta_written}
+use Rattle.transport_core.specs.WrittenCertificate.{items_by, beta_written}
 use Rattle.plan_text.proofs.writing.write_beta.Given as goal
 
 -- what was written and what is written of the rest are all

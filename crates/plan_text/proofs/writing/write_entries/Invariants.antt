@@ -2,7 +2,7 @@ use Rattle.std.proofs.Common.{◌≡◌, ◌++◌}
 use Rattle.json.specs.Tree.{json_tokens, items_tokens}
 use Rattle.flag_text.specs.Grammar.{written, items_written}
 use Rattle.flag_text.specs.Shape.{list}
-use Rattle.transport_instance.specs.WrittenCertificate.{items_by}
+use Rattle.transport_core.specs.WrittenCertificate.{items_by}
 use Rattle.plan_text.specs.PlanFile.{entry_written}
 use Rattle.plan_text.proofs.writing.write_entries.Given as goal
 

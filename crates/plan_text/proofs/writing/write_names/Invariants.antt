@@ -3,7 +3,7 @@ use Rattle.json.specs.Tree.{json_tokens, items_tokens}
 use Rattle.flag_text.specs.Grammar.{written, items_written}
 use Rattle.bucket_core.specs.Rule.{names_view}
 use Rattle.flag_text.specs.Shape.{list, text}
-use Rattle.transport_instance.specs.WrittenCertificate.{items_by}
+use Rattle.transport_core.specs.WrittenCertificate.{items_by}
 use Rattle.plan_text.proofs.writing.write_names.Given as goal
 
 -- what was written and what is written of the rest are all

@@ -4,8 +4,8 @@ use Rattle.std.proofs.lemmas.Result.{on_ok_weaker}
 use Rattle.json.specs.Tree.{json_tokens}
 use Rattle.flag_text.specs.Grammar.{written}
 use Rattle.flag_text.specs.Shape.{list}
-use Rattle.transport_instance.specs.Certificate.{alpha_view, beta_view}
-use Rattle.transport_instance.specs.WrittenCertificate.{items_by, alpha_written, beta_written}
+use Rattle.transport_core.specs.Certificate.{alpha_view, beta_view}
+use Rattle.transport_core.specs.WrittenCertificate.{items_by, alpha_written, beta_written}
 use Rattle.plan_text.proofs.Writes.{behind}
 use Rattle.plan_text.proofs.writing.write_rule.Goals as goal
 

@@ -1,7 +1,7 @@
 -- What is solved is spent, whatever comes after.
 use Rattle.std.proofs.Common.{inr, ◌∙◌, rules, subst}
 use Rattle.std.specs.List.{slice_index}
-use Rattle.transport_instance.specs.Groups.{AreSizesBy}
+use Rattle.transport_core.specs.Groups.{AreSizesBy}
 use Rattle.rollout_checks.specs.Lawful.{problem_view}
 use Rattle.rollout.proofs.Effort.{bounded}
 use Rattle.rollout.proofs.planner.plan_on.Goals as goal

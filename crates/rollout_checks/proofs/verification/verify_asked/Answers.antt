@@ -1,7 +1,7 @@
 -- What counts of a book is a tally.
 use Rattle.std.proofs.Common.{arith}
 use Rattle.bucket_core.specs.Rule.{total_weight}
-use Rattle.transport_instance.proofs.Costs.{tally_of}
+use Rattle.transport_core.proofs.Costs.{tally_of}
 use Rattle.rollout_checks.proofs.verification.verify_asked.Goals as goal
 
 pub check-requires : goal.check-requires

@@ -2,11 +2,11 @@
 use Rattle.std.proofs.Common.{ℕ, ◌<◌, ◌^◌, string_bytes, sum_by, sym, ap, ◌∙◌, subst, refl, Some, arith}
 use Rattle.std.proofs.lemmas.Bool.{false≢true}
 use Rattle.price_core.specs.Limits.{Limits, limits_view}
-use Rattle.transport_instance.specs.Certificate.{alpha_view, beta_row, beta_view, certificate_view}
-use Rattle.transport_instance.specs.Groups.{rows_view}
-use Rattle.transport_instance.specs.Rows.{whole_amount}
-use Rattle.transport_instance.proofs.Certified.{refuse_groups, refuse_names, groups_exact, names_exact, first_is, sum_is, lows-view}
-use Rattle.transport_instance.proofs.Lengths.{groups_long, names_long}
+use Rattle.transport_core.specs.Certificate.{alpha_view, beta_row, beta_view, certificate_view}
+use Rattle.transport_core.specs.Groups.{rows_view}
+use Rattle.transport_core.specs.Rows.{whole_amount}
+use Rattle.transport_core.proofs.Certified.{refuse_groups, refuse_names, groups_exact, names_exact, first_is, sum_is, lows-view}
+use Rattle.transport_core.proofs.Lengths.{groups_long, names_long}
 use Rattle.transport_core.proofs.plan.check_duals.Goals as goal
 
 pub returns-then-not-are_groups : goal.returns-then-not-are_groups

@@ -5,11 +5,11 @@ use Rattle.bucket_core.specs.Rule.{Entries, total_weight}
 use Rattle.price_core.specs.Cost.{cost_of, tally_cost}
 use Rattle.price_core.specs.Pricing.{Pricing}
 use Rattle.price_core.proofs.Numbered.{Rules}
-use Rattle.transport_instance.specs.Certificate.{certificate_view, IsCertified}
-use Rattle.transport_instance.specs.declared.fault.CheckFault.{CheckFault}
-use Rattle.transport_instance.specs.declared.fault.CheckFault.TheVariants.{WantOfMemory}
-use Rattle.transport_instance.proofs.Certified.{lows-fit, refused_not, refuses_rule, refuses_duals, certified_duals, least_from, err_exit}
-use Rattle.transport_instance.proofs.Costs.{cost-tally}
+use Rattle.transport_core.specs.Certificate.{certificate_view, IsCertified}
+use Rattle.transport_core.specs.declared.fault.CheckFault.{CheckFault}
+use Rattle.transport_core.specs.declared.fault.CheckFault.TheVariants.{WantOfMemory}
+use Rattle.transport_core.proofs.Certified.{lows-fit, refused_not, refuses_rule, refuses_duals, certified_duals, least_from, err_exit}
+use Rattle.transport_core.proofs.Costs.{cost-tally}
 use Rattle.transport_core.proofs.plan.check_plan.Goals as goal
 
 -- the cost that is added up is that of the inputs

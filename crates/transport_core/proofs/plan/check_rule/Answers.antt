@@ -3,8 +3,8 @@ use Rattle.std.proofs.lemmas.Bool.{MatchBool-at_true}
 use Rattle.bucket_core.specs.Rule.{total_weight}
 use Rattle.price_core.specs.Cost.{first_forbidden_of}
 use Rattle.price_core.proofs.Numbered.{Rules}
-use Rattle.transport_instance.specs.Refusals.{KeepsLimits, BreaksLimit}
-use Rattle.transport_instance.proofs.Certified.{fits_from}
+use Rattle.transport_core.specs.Refusals.{KeepsLimits, BreaksLimit}
+use Rattle.transport_core.proofs.Certified.{fits_from}
 use Rattle.transport_core.proofs.plan.check_rule.Goals as goal
 
 pub first_forbidden-requires : goal.first_forbidden-requires

@@ -5,9 +5,9 @@ use Rattle.std.specs.Int.{w64}
 use Rattle.std.proofs.Math.ListN.{drop_of_length-le}
 use Rattle.std.specs.List.{zip}
 use Rattle.std.specs.Map.{keys_of}
-use Rattle.transport_instance.specs.Certificate.{alpha_row}
-use Rattle.transport_instance.specs.Groups.{GroupKey, row_view, rows_view}
-use Rattle.transport_instance.proofs.Arcs.{Row, element_here, no_row}
+use Rattle.transport_core.specs.Certificate.{alpha_row}
+use Rattle.transport_core.specs.Groups.{GroupKey, row_view, rows_view}
+use Rattle.transport_core.proofs.Arcs.{Row, element_here, no_row}
 use Rattle.transport_plan.proofs.PushedRows.{all_pushed, one_more}
 use Rattle.transport_plan.proofs.certifying.alpha_rows.Goals as goal
 

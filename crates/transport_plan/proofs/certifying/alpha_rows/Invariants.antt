@@ -1,8 +1,8 @@
 use Rattle.std.proofs.Common.{◌≡◌, ◌++◌, drop}
 use Rattle.std.specs.List.{zip}
 use Rattle.std.specs.Map.{keys_of}
-use Rattle.transport_instance.specs.Certificate.{alpha_view}
-use Rattle.transport_instance.specs.Groups.{rows_view}
+use Rattle.transport_core.specs.Certificate.{alpha_view}
+use Rattle.transport_core.specs.Groups.{rows_view}
 use Rattle.transport_plan.proofs.certifying.alpha_rows.Given as goal
 
 -- what is pushed, with the rest, is the whole

@@ -7,9 +7,9 @@ use Rattle.std.specs.List.{zip}
 use Rattle.std.specs.Map.{keys_of}
 use Rattle.price_core.specs.Limits.{limits_view}
 use Rattle.price_core.specs.declared.totals.Limit.{Limit}
-use Rattle.transport_instance.specs.Certificate.{beta_row}
-use Rattle.transport_instance.proofs.Arcs.{element_here}
-use Rattle.transport_instance.proofs.Ranges.{from_here}
+use Rattle.transport_core.specs.Certificate.{beta_row}
+use Rattle.transport_core.proofs.Arcs.{element_here}
+use Rattle.transport_core.proofs.Ranges.{from_here}
 use Rattle.transport_plan.proofs.PushedRows.{all_pushed, one_more}
 use Rattle.transport_plan.proofs.certifying.beta_rows.Goals as goal
 

@@ -2,7 +2,7 @@ use Rattle.std.proofs.Common.{◌≡◌, ◌++◌, drop}
 use Rattle.std.specs.List.{zip}
 use Rattle.std.specs.Map.{keys_of}
 use Rattle.price_core.specs.Limits.{limits_view}
-use Rattle.transport_instance.specs.Certificate.{beta_view}
+use Rattle.transport_core.specs.Certificate.{beta_view}
 use Rattle.transport_plan.proofs.certifying.beta_rows.Given as goal
 
 -- what is pushed, with the rest, is the whole

@@ -2,12 +2,12 @@
 use Rattle.std.proofs.Common.{◌≡◌, ℕ, List, true, sym, ap, ◌∙◌, subst, arith}
 use Rattle.std.specs.List.{zip}
 use Rattle.std.specs.Map.{keys_of}
-use Rattle.transport_instance.specs.WrittenCertificate.{has_whole_numbers}
+use Rattle.transport_core.specs.WrittenCertificate.{has_whole_numbers}
 use Rattle.price_core.specs.Limits.{Limits}
 use Rattle.min_cost_flow.specs.Problem.{names_of}
-use Rattle.transport_instance.specs.Assignment.{IsProved}
-use Rattle.transport_instance.specs.Certificate.{DualPrices, alpha_view, beta_view}
-use Rattle.transport_instance.specs.Groups.{GroupKey}
+use Rattle.transport_core.specs.Assignment.{IsProved}
+use Rattle.transport_core.specs.Certificate.{DualPrices, alpha_view, beta_view}
+use Rattle.transport_core.specs.Groups.{GroupKey}
 use Rattle.transport_plan.proofs.Certified.{cost_same, is_proved, is_whole, duals_are, same_certificate}
 use Rattle.transport_plan.proofs.certifying.certificate.Goals as goal
 

@@ -7,8 +7,8 @@ use Rattle.std.specs.Map.{keys_of}
 use Rattle.std.specs.Ordering.{nat_cmp}
 use Rattle.bucket_core.specs.Rule.{Entries, names_view}
 use Rattle.price_core.specs.Limits.{AreLimits, limits_view}
-use Rattle.transport_instance.specs.Deficient.{IsUnder}
-use Rattle.transport_instance.specs.Groups.{AreSizes}
+use Rattle.transport_core.specs.Deficient.{IsUnder}
+use Rattle.transport_core.specs.Groups.{AreSizes}
 use Rattle.transport_plan.specs.Chosen.{chosen}
 use Rattle.transport_plan.proofs.Below.{never_over, under_set}
 use Rattle.transport_plan.proofs.Choosing.{chosen_rise}

@@ -3,7 +3,7 @@ use Rattle.std.proofs.Common.{◌≡◌, true, set, ap, ◌∙◌, rules}
 use Rattle.std.proofs.lemmas.List.{get_or_default}
 use Rattle.min_cost_flow.specs.Problem.{group_at, names_of, no_group}
 use Rattle.min_cost_flow.specs.declared.problem.Group.{Group}
-use Rattle.shortest_path.specs.Found.{rank_of}
+use Rattle.min_cost_flow.specs.Found.{rank_of}
 use Rattle.transport_plan.proofs.Holding.{holds_no, holds_yes}
 use Rattle.transport_plan.proofs.marks.mark_held.Goals as goal
 use Rattle.transport_plan.proofs.marks.mark_held.Goals.{then-stands_inside, else-stands_inside}

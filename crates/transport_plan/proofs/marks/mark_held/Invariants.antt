@@ -1,5 +1,5 @@
 use Rattle.min_cost_flow.specs.Problem.{names_of}
-use Rattle.shortest_path.specs.Found.{rank_of}
+use Rattle.min_cost_flow.specs.Found.{rank_of}
 use Rattle.transport_plan.proofs.Holding.{Holding}
 use Rattle.transport_plan.proofs.marks.mark_held.Given as goal
 

@@ -1,7 +1,7 @@
 use Rattle.std.proofs.Common.{ℕ, ◌<◌, ◌+◌}
 use Rattle.min_cost_flow.specs.Problem.{names_of}
 use Rattle.min_cost_flow.specs.Flow.{placed_at}
-use Rattle.shortest_path.specs.Found.{rank_of}
+use Rattle.min_cost_flow.specs.Found.{rank_of}
 use Rattle.transport_plan.proofs.marks.stands_inside.Given as goal
 
 abbrev pub invariant-loop-v : goal.invariant-loop-v

@@ -5,7 +5,7 @@ use Rattle.std.specs.Map.{keys_of}
 use Rattle.price_core.specs.Limits.{Limits, limits_view}
 use Rattle.price_core.specs.Pricing.{Pricing}
 use Rattle.min_cost_flow.specs.declared.problem.FlowProblem.{FlowProblem}
-use Rattle.transport_instance.specs.Groups.{GroupKey}
+use Rattle.transport_core.specs.Groups.{GroupKey}
 use Rattle.transport_plan.specs.Network.{AreGroups, price_row}
 use Rattle.transport_plan.proofs.Numbering.{numbered, lawful}
 use Rattle.transport_plan.proofs.network.flow_problem.Goals as goal

@@ -2,7 +2,7 @@
 use Rattle.std.proofs.Common.{◌++◌, ◌∷◌, ℕ, [], List, take, get_or, Bor, refl, sym, subst}
 use Rattle.std.specs.Map.{keys_of}
 use Rattle.price_core.specs.Limits.{limits_view}
-use Rattle.transport_instance.specs.Groups.{GroupKey, row_view, rows_view}
+use Rattle.transport_core.specs.Groups.{GroupKey, row_view, rows_view}
 use Rattle.transport_plan.specs.Network.{AreGroups, IsGroup}
 use Rattle.min_cost_flow.specs.declared.problem.Group.{Group}
 use Rattle.transport_plan.proofs.ListedGroups.{group_more, rows-more, row-listed}

@@ -1,7 +1,7 @@
 use Rattle.std.proofs.Common.{take}
 use Rattle.std.specs.Map.{keys_of}
 use Rattle.price_core.specs.Limits.{limits_view}
-use Rattle.transport_instance.specs.Groups.{rows_view}
+use Rattle.transport_core.specs.Groups.{rows_view}
 use Rattle.transport_plan.specs.Network.{AreGroups}
 use Rattle.transport_plan.proofs.network.groups.Given as goal
 

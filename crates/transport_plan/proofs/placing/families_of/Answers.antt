@@ -4,7 +4,7 @@ use Rattle.std.specs.Map.{keys_of}
 use Rattle.std.proofs.lemmas.Bool.{false≢true}
 use Rattle.std.proofs.lemmas.List.{length-map}
 use Rattle.std.proofs.lemmas.Slice.Eq.{bytes_eq-Decides}
-use Rattle.transport_instance.specs.Groups.{GroupKey, row_view, rows_view}
+use Rattle.transport_core.specs.Groups.{GroupKey, row_view, rows_view}
 use Rattle.transport_plan.proofs.Places.{HaveNames, name_at, names_more, are_families, keys-rows}
 use Rattle.transport_plan.proofs.placing.families_of.Goals as goal
 use Rattle.transport_plan.proofs.placing.families_of.Goals.{then-ne, else-ne}

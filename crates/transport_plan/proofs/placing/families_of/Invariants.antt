@@ -1,6 +1,6 @@
 use Rattle.std.proofs.Common.{◌≡◌, ◌≤◌, length}
 use Rattle.std.specs.Map.{keys_of}
-use Rattle.transport_instance.specs.Groups.{rows_view}
+use Rattle.transport_core.specs.Groups.{rows_view}
 use Rattle.transport_plan.proofs.Places.{HaveNames}
 use Rattle.transport_plan.proofs.placing.families_of.Given as goal
 

@@ -4,8 +4,8 @@ use Rattle.std.specs.List.{Contains, slice_get}
 use Rattle.std.specs.List.Sorted.{IsStrictlySortedBy}
 use Rattle.std.specs.Ordering.{is_lt}
 use Rattle.std.proofs.lemmas.List.Sorted.{IsPartitionPoint-from_clause}
-use Rattle.transport_instance.specs.Groups.{GroupKey, group_cmp, row_view}
-use Rattle.transport_instance.proofs.Placed.{group_order}
+use Rattle.transport_core.specs.Groups.{GroupKey, group_cmp, row_view}
+use Rattle.transport_core.proofs.Placed.{group_order}
 use Rattle.transport_plan.proofs.Places.{partitioned, stands_at, keys-rows}
 use Rattle.transport_plan.proofs.placing.group_of.Goals as goal
 

@@ -1,7 +1,7 @@
 -- The points up to the end of an entry have their groups.
 use Rattle.std.proofs.Common.{◌≤◌, ◌∙◌, length, arith}
 use Rattle.std.specs.Map.{keys_of}
-use Rattle.transport_instance.specs.Groups.{rows_view}
+use Rattle.transport_core.specs.Groups.{rows_view}
 use Rattle.transport_plan.proofs.Places.{length-part, run_listed, run_placed}
 use Rattle.transport_plan.proofs.placing.groups_of.Goals as goal
 

@@ -1,7 +1,7 @@
 use Rattle.std.proofs.Common.{◌≡◌, ℕ, ◌-◌, ◌<◌, ◌≤◌, length, get_or, Some}
 use Rattle.std.specs.List.{slice_get, slice_index}
 use Rattle.std.specs.Map.{keys_of}
-use Rattle.transport_instance.specs.Groups.{group_by, rows_view}
+use Rattle.transport_core.specs.Groups.{group_by, rows_view}
 use Rattle.transport_plan.proofs.placing.groups_of.Given as goal
 
 abbrev pub invariant-loop-start : goal.invariant-loop-start

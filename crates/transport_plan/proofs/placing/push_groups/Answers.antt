@@ -1,7 +1,7 @@
 -- The group that is known is that of the number that is known.
 use Rattle.std.proofs.Common.{List}
 use Rattle.std.specs.Map.{keys_of}
-use Rattle.transport_instance.specs.Groups.{GroupKey, rows_view}
+use Rattle.transport_core.specs.Groups.{GroupKey, rows_view}
 use Rattle.transport_plan.proofs.Places.{adds_none, adds_more}
 use Rattle.transport_plan.proofs.placing.push_groups.Goals as goal
 

@@ -1,7 +1,7 @@
 use Rattle.std.proofs.Common.{◌≡◌, ◌<◌, length, Some}
 use Rattle.std.specs.List.{slice_get}
 use Rattle.std.specs.Map.{keys_of}
-use Rattle.transport_instance.specs.Groups.{rows_view}
+use Rattle.transport_core.specs.Groups.{rows_view}
 use Rattle.transport_plan.specs.Placing.{AddsPlaces}
 use Rattle.transport_plan.proofs.placing.push_groups.Given as goal
 

@@ -4,7 +4,7 @@ use Rattle.std.specs.List.{slice_get}
 use Rattle.std.specs.Map.{keys_of}
 use Rattle.std.proofs.lemmas.Bool.{OnTrue_from, eqb-true}
 use Rattle.std.proofs.lemmas.Option.{slice_get-map, slice_get_read}
-use Rattle.transport_instance.specs.Groups.{GroupKey, row_view, rows_view}
+use Rattle.transport_core.specs.Groups.{GroupKey, row_view, rows_view}
 use Rattle.transport_plan.proofs.Places.{keys-rows}
 use Rattle.transport_plan.proofs.placing.stands_at.Goals as goal
 

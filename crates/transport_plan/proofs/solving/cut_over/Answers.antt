@@ -1,6 +1,6 @@
 -- The set is over the high limits.
 use Rattle.std.proofs.Common.{◌≡◌}
-use Rattle.transport_instance.specs.declared.certificate.CutKind.TheVariants.{Over, Under}
+use Rattle.transport_core.specs.declared.certificate.CutKind.TheVariants.{Over, Under}
 use Rattle.transport_plan.proofs.solving.cut_over.Goals as goal
 
 apart : Over ≡ Under → ⊥

@@ -1,5 +1,5 @@
 -- The certificate proves the cost for each rule of lawful groups.
-use Rattle.transport_instance.specs.Certificate.{certificate_view}
+use Rattle.transport_core.specs.Certificate.{certificate_view}
 use Rattle.transport_plan.proofs.Plans.{plan_of}
 use Rattle.transport_plan.proofs.solving.planned.Goals as goal
 

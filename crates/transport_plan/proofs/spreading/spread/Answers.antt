@@ -1,9 +1,9 @@
 -- What holds of the instance holds of its groups and names.
 use Rattle.std.proofs.Common.{◌<◌, ℕ, sym, ap, subst, arith}
 use Rattle.std.specs.List.{All}
-use Rattle.transport_instance.specs.Groups.{GroupKey}
-use Rattle.transport_instance.specs.Rows.{whole_amount}
-use Rattle.transport_instance.proofs.Plans.{few_groups}
+use Rattle.transport_core.specs.Groups.{GroupKey}
+use Rattle.transport_core.specs.Rows.{whole_amount}
+use Rattle.transport_core.proofs.Plans.{few_groups}
 use Rattle.transport_plan.proofs.spreading.spread.Goals as goal
 
 pub spread_over-requires-clause-few : goal.spread_over-requires-clause-few

@@ -7,10 +7,10 @@ use Rattle.std.proofs.lemmas.List.{length-map}
 use Rattle.std.proofs.lemmas.Result.{IfOk-weaker}
 use Rattle.exposures.specs.Counts.{counts_of}
 use Rattle.bucket_core.specs.Rule.{Entries, points, names_at, names_view, total_weight}
-use Rattle.transport_instance.specs.Assignment.{HasAssignment, arc_flows, spends_all}
-use Rattle.transport_instance.specs.Groups.{AreSizesBy, GroupKey, group_at, group_by, row_view, rows_view}
-use Rattle.transport_instance.proofs.Costs.{counted_at}
-use Rattle.transport_instance.proofs.Plans.{whole-sizes}
+use Rattle.transport_core.specs.Assignment.{HasAssignment, arc_flows, spends_all}
+use Rattle.transport_core.specs.Groups.{AreSizesBy, GroupKey, group_at, group_by, row_view, rows_view}
+use Rattle.transport_core.proofs.Costs.{counted_at}
+use Rattle.transport_core.proofs.Plans.{whole-sizes}
 use Rattle.transport_plan.specs.Dealing.{IsDealt}
 use Rattle.transport_plan.proofs.Assigned.{group_within, group_points, has_assignment}
 use Rattle.transport_plan.proofs.Names.{apart}

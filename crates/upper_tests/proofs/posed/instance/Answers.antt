@@ -1,7 +1,7 @@
 use Rattle.std.proofs.Common.{ap, ◌∙◌, arith}
 use Rattle.book_core.specs.Counts.{counts_of}
 use Rattle.bucket_core.specs.Rule.{total_weight}
-use Rattle.transport_instance.proofs.Costs.{tally_of}
+use Rattle.transport_core.proofs.Costs.{tally_of}
 use Rattle.upper_tests.proofs.posed.instance.Goals as goal
 
 pub make-requires-clause-listed : goal.make-requires-clause-listed

@@ -1,6 +1,6 @@
 use Rattle.std.proofs.Common.{◌≡◌, subst, sym}
-use Rattle.control_calls.specs.declared.place.ControlPlace.{ControlPlace}
-use Rattle.control_calls.specs.declared.place.ControlPlace.TheVariants.{History}
+use Rattle.control_flags.specs.declared.place.ControlPlace.{ControlPlace}
+use Rattle.control_flags.specs.declared.place.ControlPlace.TheVariants.{History}
 use Rattle.control_desk.specs.Asked.{call_asked}
 use Rattle.control_desk.specs.Desk.{Answered, hindered, page_view}
 use Rattle.control_desk.specs.Rules.{rules_view}

@@ -1,8 +1,8 @@
 use Rattle.std.proofs.Common.{◌≡◌, ◌∙◌, ℕ, List, ap, map, refl, string_bytes, subst, sym}
 use Rattle.std.specs.Prelude.{OnOk}
 use Rattle.std.proofs.lemmas.Result.{on_ok_weaker}
-use Rattle.control_calls.specs.declared.place.ControlPlace.{ControlPlace}
-use Rattle.control_calls.specs.declared.place.ControlPlace.TheVariants.{Flags, Plan, Check}
+use Rattle.control_flags.specs.declared.place.ControlPlace.{ControlPlace}
+use Rattle.control_flags.specs.declared.place.ControlPlace.TheVariants.{Flags, Plan, Check}
 use Rattle.log_tallies.specs.Lines.{files_view}
 use Rattle.control_desk.specs.Asked.{call_asked}
 use Rattle.control_desk.specs.Bodies.{TellsCheck, TellsFlagsOn, TellsPlan}

@@ -4,8 +4,8 @@ use Rattle.std.proofs.Common.{◌≡◌, ◌+◌, ◌<◌, ℕ, List, [], drop, 
 use Rattle.std.proofs.lemmas.Bool.{lt-leb}
 use Rattle.book_core.specs.Book.{most_bytes}
 use Rattle.flagops_commands.specs.Price.{are_short}
-use Rattle.transport_instance.proofs.Members.{any_default}
-use Rattle.transport_instance.proofs.Ranges.{from_here}
+use Rattle.transport_core.proofs.Members.{any_default}
+use Rattle.transport_core.proofs.Ranges.{from_here}
 use Rattle.flagops_commands.proofs.rules.price.are_short.Goals as goal
 
 long_here : (keys : List (Bor (List ℕ))) (i : ℕ) (key : Bor (List ℕ)) → i < length keys → key ≡ get_or keys i key → most_bytes < length key.now → are_short (drop i keys) ≡ false

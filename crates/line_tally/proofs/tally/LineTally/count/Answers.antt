@@ -3,7 +3,7 @@ use Rattle.std.specs.Option.{option_or}
 use Rattle.std.specs.declared.alloc.Global.{Global}
 use Rattle.std.proofs.lemmas.List.{get_or_read}
 use Rattle.page_tally.specs.Folding.{is_above_last}
-use Rattle.tally_core.specs.Tally.{IsLineOn}
+use Rattle.line_tally.specs.Tally.{IsLineOn}
 use Rattle.line_tally.specs.Last.{last_line}
 use Rattle.line_tally.specs.Lines.{Tallied, has_room, is_alike}
 use Rattle.line_tally.proofs.Kept.{counted_is, none_first, room_is, some_first}

@@ -3,7 +3,7 @@ use Rattle.bucket_core.specs.Point.{point_of}
 use Rattle.book_core.specs.Page.{PageName}
 use Rattle.note_lines.specs.Hashed.{has_hash}
 use Rattle.note_lines.specs.Note.{IsNote}
-use Rattle.tally_core.specs.Tally.{line_on, noted_on}
+use Rattle.line_tally.specs.Tally.{line_on, noted_on}
 use Rattle.line_tally.specs.Lines.{Tallied}
 use Rattle.line_tally.proofs.Refused.{ends_so, matched_hash, matched_input, own_input}
 use Rattle.line_tally.proofs.tally.LineTally.place_of.Goals as goal

@@ -2,7 +2,7 @@ use Rattle.std.proofs.Common.{rules, sum_by, sym, ◌∙◌}
 use Rattle.std.proofs.Math.Logic.{∥∥₁_map, ∥∥₁_map₂}
 use Rattle.log_file.specs.Line.{lines_in}
 use Rattle.log_file.specs.Handed.{handed_in}
-use Rattle.note_memory.specs.Shown.{relied_in}
+use Rattle.note_log.specs.Shown.{relied_in}
 use Rattle.note_log.specs.Sound.{earlier_in}
 use Rattle.note_log.proofs.Moved.{joined, unmoved}
 use Rattle.note_log.proofs.Recorded.{batch_recorded, lines_stand, none_recorded, nothing, part_recorded, relied_more, whole_batch, whole_moved}

@@ -1,9 +1,0 @@
-use Rattle.std.proofs.Common.{length}
-use Rattle.book_losses.proofs.Counted.{Looked}
-use Rattle.book_losses.proofs.counting.lost_first.Given as goal
-
-abbrev pub invariant-inputs : goal.invariant-inputs
-invariant-inputs l = Looked l.new l.page l.bytes l.lost l.rest
-
-abbrev pub decreases-inputs : goal.decreases-inputs
-decreases-inputs l = length l.rest

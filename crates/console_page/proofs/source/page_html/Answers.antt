@@ -1,8 +1,0 @@
-use Rattle.std.proofs.Common.{refl}
-use Rattle.console_page.specs.Page.{page_text}
-use Rattle.console_page.proofs.source.page_html.Goals as goal
-
--- Both are computed, byte by byte.
-pub returns : goal.returns
-unfolding page_text
-returns c = refl

@@ -1,6 +1,0 @@
-mod Kept
-mod Orders
-mod Rationals
-mod Signs
-mod Values
-mod Zeros

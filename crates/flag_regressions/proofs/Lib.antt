@@ -1,2 +1,0 @@
-pub mod FirstBroken
-pub mod Names

@@ -1,6 +1,0 @@
-mod Framed
-mod KeptNumbers
-mod Marked
-mod Read
-mod Spliced
-mod TokenNumbers

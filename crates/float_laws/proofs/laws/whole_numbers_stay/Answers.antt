@@ -1,5 +1,0 @@
-use Rattle.float_laws.proofs.KeptNumbers as numbers
-use Rattle.float_laws.proofs.laws.whole_numbers_stay.Goals as goal
-
-pub returns : goal.returns
-returns c = numbers.whole_numbers_stay c.the_bytes_of_a_part_read_as_it.ensures

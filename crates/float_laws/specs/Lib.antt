@@ -1,4 +1,0 @@
-pub mod Documents
-pub mod Frames
-pub mod Kept
-pub mod Whole

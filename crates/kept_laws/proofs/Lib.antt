@@ -1,3 +1,0 @@
-mod Followed
-mod Replaced
-mod WithFloats

@@ -1,7 +1,0 @@
-use Rattle.std.proofs.Common.{◌≡◌, map, string_bytes, take}
-use Rattle.flag_defs.specs.Flags.{flags_view}
-use Rattle.key_diagnostics.specs.Known.{near_keys}
-use Rattle.key_diagnostics.proofs.known.near_keys.Given as goal
-
-abbrev pub invariant-loop-i : goal.invariant-loop-i
-invariant-loop-i l = map string_bytes l.near.items ≡ near_keys l.key (take l.i (flags_view l.flags))

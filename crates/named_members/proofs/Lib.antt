@@ -1,4 +1,0 @@
-mod Put
-pub mod Same
-mod Texts
-mod Turns

@@ -1,8 +1,0 @@
-use Rattle.ofrep_bodies.proofs.Texts.{flags_text_of_bodies, texts_of_bodies}
-use Rattle.ofrep_bodies.proofs.laws.texts_are_of_bodies.Goals as goal
-
-pub returns-clause-one : goal.returns-clause-one
-returns-clause-one c = texts_of_bodies
-
-pub returns-clause-all : goal.returns-clause-all
-returns-clause-all c = flags_text_of_bodies

@@ -1,4 +1,0 @@
-pub mod Bodies
-pub mod Evaluation
-pub mod Failure
-pub mod Law

@@ -1,2 +1,0 @@
-mod Drawings
-mod Planned

@@ -1,2 +1,0 @@
-pub use Rattle.flag_text.specs.Shape
-pub mod Point

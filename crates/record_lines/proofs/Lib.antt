@@ -1,3 +1,0 @@
-mod Counted
-pub mod Both
-pub mod Folded

@@ -1,5 +1,0 @@
-use Rattle.record_lines.proofs.Counted.{counted}
-use Rattle.record_lines.proofs.outcomes.counted_both.Goals as goal
-
-pub returns : goal.returns
-returns c = counted c.args.one c.args.other c.saturating_add.result c.saturating_add.ensures

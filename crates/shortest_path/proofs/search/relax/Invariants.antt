@@ -1,6 +1,0 @@
-use Rattle.std.proofs.Common.{length}
-use Rattle.shortest_path.proofs.Relaxing.{RelaxesBelow}
-use Rattle.shortest_path.proofs.search.relax.Given as goal
-
-abbrev pub invariant-loop-v : goal.invariant-loop-v
-invariant-loop-v l = RelaxesBelow (length l.arcs) l.node l.node_distance l.arcs l.initial.nodes l.nodes l.v

@@ -1,4 +1,0 @@
-pub mod Found
-pub mod Network
-pub mod Searched
-pub mod Spent

@@ -1,3 +1,0 @@
-mod Counted
-mod Sought
-mod Trees

@@ -1,5 +1,0 @@
-use Rattle.site_places.proofs.Sought.{sought}
-use Rattle.site_places.proofs.laws.the_way_leads_to_the_site.Goals as goal
-
-pub returns : goal.returns
-returns c = λ e n s h found. sought e 0 n s h found

@@ -1,5 +1,0 @@
-pub mod Agreement
-pub mod Following
-pub mod Place
-pub mod Seeking
-pub mod View

@@ -1,6 +1,0 @@
-use Rattle.std.proofs.Common.{◌-◌, arith}
-use Rattle.switch_table.proofs.Tallying.{part_few}
-use Rattle.switch_table.proofs.change.run_at.Goals as goal
-
-pub inputs_on-requires : goal.inputs_on-requires
-inputs_on-requires c = omega (arith, part_few c.args.counts.now c.args.point (c.min-end.result - c.args.point), c.requires.few)

@@ -1,8 +1,0 @@
-//! What the tally of a page tells of its inputs.
-ghost use Rattle.switch_table.specs.Switches.{TalliesTellUsers};
-
-/// By how many inputs fall on each point it is known how many of them go from one variant to another. A law: it computes
-/// nothing.
-pub fn tallies_tell_users()
-    ensures { TalliesTellUsers }
-{}

@@ -1,7 +1,0 @@
-pub mod Ends
-mod Hashes
-pub mod Pages
-mod Reordered
-mod Summed
-mod Union
-pub mod Zeros

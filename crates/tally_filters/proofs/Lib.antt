@@ -1,2 +1,0 @@
-mod Filtering
-mod Uniting

@@ -1,5 +1,0 @@
-use Rattle.transport_instance.proofs.Deficits.{deficient_fits_none}
-use Rattle.transport_instance.proofs.laws.deficient_sets_fit_none.Goals as goal
-
-pub returns : goal.returns
-returns c = record { none = deficient_fits_none }
