@@ -1,7 +1,7 @@
 -- Rows of a history that are cut from it one after another.
 use Rattle.std.proofs.Common.{◌≡◌, ℕ, List, [], ◌∷◌, ◌++◌, filter, append_assoc, append-nil, sym, ap, ◌∙◌}
 use Rattle.std.proofs.lemmas.List.Elements.{filter-append}
-use Rattle.line_batches.specs.Lines.{HasNoFeed, IsFirst}
+use Rattle.byte_streams.specs.Lines.{HasNoFeed, IsFirst}
 use Rattle.log_tallies.proofs.Cut.{lines_first, lines_none}
 use Rattle.log_tallies.specs.Lines.{lines_in}
 use Rattle.control_answers.specs.History.{is_row}

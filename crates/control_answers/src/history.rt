@@ -2,13 +2,13 @@
 ghost use Rattle.std.specs.Prelude.{◌≡◌, ◌++◌, ◌∷◌, [], filter, IfOk, OnOk, string_bytes};
 ghost use Rattle.bucket_core.specs.Rule.{entries_view};
 ghost use Rattle.control_flags.specs.Sites.{rule_text};
-ghost use Rattle.line_batches.specs.Lines.{lines_view};
+ghost use Rattle.byte_streams.specs.Lines.{lines_view};
 ghost use Rattle.control_answers.specs.History.{IsHistory, cost_text, is_row, row_text, row_view, rows_from, rules_text, who_text};
 
 use crate::texts::{comma_if, quoted};
 use control_flags::push_rule;
 use flag_text::{TextFault, read_tree};
-use line_batches::cut_line;
+use byte_streams::cut_line;
 use std::alloc::{AllocError, Global};
 
 /// The most bytes of a row that is told.

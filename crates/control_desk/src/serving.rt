@@ -15,7 +15,7 @@ use bytes::Bytes;
 use http::{Request, StatusCode};
 use http_server::{Response, Service};
 use ofrep_guards::CountsStatus;
-use dated_answers::Recording;
+use service_layers::Recording;
 use snap_share::ShareName;
 use std::alloc::AllocError;
 use std::sync::atomic::Ordering;

@@ -1,7 +1,7 @@
 -- What follows the name of a member that is not read.
 use Rattle.std.specs.Prelude.{◌≡◌, ◌++◌, ◌⊎◌, ℕ, List, codes, true}
-use Rattle.unread_members.specs.Unread.{reads}
-use Rattle.unread_members.specs.declared.reader.Reader.{Reader}
+use Rattle.member_names.specs.Unread.{reads}
+use Rattle.member_names.specs.declared.reader.Reader.{Reader}
 use Rattle.file_diagnostics.specs.Named.{quoted}
 
 -- the end of the line, or before it a member that the reader takes

@@ -7,7 +7,7 @@ ghost use Rattle.file_diagnostics.specs.Named.{Names};
 use crate::lines::{Lines, Opening};
 use flag_text::Tree;
 use std::alloc::{AllocError, Global};
-use unread_members::Reader;
+use member_names::Reader;
 
 /// The most members that are listed.
 const MOST_MEMBERS: usize = 10;

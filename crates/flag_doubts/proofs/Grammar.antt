@@ -3,9 +3,9 @@ use Rattle.std.proofs.Common.{◌≡◌, ℕ, Bool, true, false, not, cond, ◌|
 use Rattle.std.specs.Str.{bytes_eq}
 use Rattle.json.specs.Find.{get_member, later_or}
 use Rattle.json.specs.Json.{Json, Members, no_members, member}
-use Rattle.unread_members.specs.declared.reader.Reader.TheVariants as reader
-use Rattle.unread_members.specs.Repeated.{repeats}
-use Rattle.unread_members.proofs.Grammar.{joined}
+use Rattle.member_names.specs.declared.reader.Reader.TheVariants as reader
+use Rattle.member_names.specs.Repeated.{repeats}
+use Rattle.member_names.proofs.Grammar.{joined}
 use Rattle.flag_doubts.specs.AllRead.{are_definitions_read, are_flags_read, takes_each}
 use Rattle.flag_doubts.specs.Doubled.{members_in}
 use Rattle.flag_doubts.specs.Repeated.{repeats_under, repeats_beside}

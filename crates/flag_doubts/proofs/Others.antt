@@ -8,8 +8,8 @@ use Rattle.std.specs.Ordering.{nat_cmp}
 use Rattle.std.specs.Str.{bytes_eq}
 use Rattle.json.specs.Find.{as_object, get_member}
 use Rattle.json.specs.Json.{Json, null, boolean, number, string, array, object, Members}
-use Rattle.unread_members.specs.declared.reader.Reader.{Reader}
-use Rattle.unread_members.specs.Repeated.{has_twin, member_names}
+use Rattle.member_names.specs.declared.reader.Reader.{Reader}
+use Rattle.member_names.specs.Repeated.{has_twin, member_names}
 use Rattle.flag_doubts.specs.AllRead.{are_all_read, takes_each}
 use Rattle.flag_doubts.specs.FoundFlags.{FindsIn, FindsFlags}
 use Rattle.flag_doubts.specs.Repeated.{Finds, repeats_beside}

@@ -3,9 +3,9 @@ use Rattle.std.specs.Prelude.{codes, Bool, true, false, not, ◌||◌, ◌&&◌,
 use Rattle.std.specs.List.{list_all}
 use Rattle.std.specs.Str.{bytes_eq}
 use Rattle.json.specs.Json.{Json, object, Members, no_members, member}
-use Rattle.unread_members.specs.Unread.{reads}
-use Rattle.unread_members.specs.declared.reader.Reader.{Reader}
-use Rattle.unread_members.specs.declared.reader.Reader.TheVariants as reader
+use Rattle.member_names.specs.Unread.{reads}
+use Rattle.member_names.specs.declared.reader.Reader.{Reader}
+use Rattle.member_names.specs.declared.reader.Reader.TheVariants as reader
 use Rattle.flag_doubts.specs.Doubled.{members_in, names_in}
 
 -- the reader takes each member of an object; what is no object has none

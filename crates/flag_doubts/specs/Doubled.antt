@@ -4,7 +4,7 @@ use Rattle.std.specs.Prelude.{ℕ, List, [], codes, Bool, nat_lt, count_by, Opti
 use Rattle.std.specs.Str.{bytes_eq}
 use Rattle.json.specs.Find.{get}
 use Rattle.json.specs.Json.{Json, object, Members, no_members}
-use Rattle.unread_members.specs.Repeated.{json_of, member_names}
+use Rattle.member_names.specs.Repeated.{json_of, member_names}
 
 -- the members of an object; what is no object has none
 abbrev pub members_in : Option Json → Members

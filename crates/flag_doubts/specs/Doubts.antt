@@ -5,8 +5,8 @@ use Rattle.flag_text.specs.Shape.{Shape}
 use Rattle.flag_defs.specs.Definition.{Definition}
 use Rattle.flag_defs.specs.Flag.{targeting_in, variant_of}
 use Rattle.logic_ast.specs.Expression.{Expression}
-use Rattle.unread_members.specs.Unread.{unread_of}
-use Rattle.unread_members.specs.declared.reader.Reader.TheVariants as reader
+use Rattle.member_names.specs.Unread.{unread_of}
+use Rattle.member_names.specs.declared.reader.Reader.TheVariants as reader
 use Rattle.flag_doubts.specs.Outcomes.{Outcome, named, nameless, truth, computed, outcomes}
 use Rattle.flag_doubts.specs.Weights.{has_bad_site}
 use Rattle.flag_doubts.specs.declared.doubt.Doubt.{Doubt}

@@ -7,8 +7,8 @@ use Rattle.std.specs.List.Sorted.{IsStrictlySortedBy}
 use Rattle.std.specs.Ordering.{nat_cmp}
 use Rattle.std.specs.Str.{bytes_eq}
 use Rattle.json.specs.Json.{Json}
-use Rattle.unread_members.specs.declared.reader.Reader.TheVariants as reader
-use Rattle.unread_members.specs.Repeated.{repeats}
+use Rattle.member_names.specs.declared.reader.Reader.TheVariants as reader
+use Rattle.member_names.specs.Repeated.{repeats}
 use Rattle.flag_doubts.specs.AllRead.{are_definitions_read, takes_each}
 use Rattle.flag_doubts.specs.Doubled.{count_of, members_in, names_in}
 use Rattle.flag_doubts.specs.Repeated.{repeats_under}

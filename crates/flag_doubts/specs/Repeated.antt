@@ -9,7 +9,7 @@ use Rattle.std.specs.Ordering.{nat_cmp}
 use Rattle.std.specs.Str.{bytes_eq}
 use Rattle.json.specs.Find.{get}
 use Rattle.json.specs.Json.{Json, Members, no_members, member}
-use Rattle.unread_members.specs.Repeated.{has_twin, json_of, member_names, repeats}
+use Rattle.member_names.specs.Repeated.{has_twin, json_of, member_names, repeats}
 use Rattle.flag_doubts.specs.AllRead.{are_all_read}
 use Rattle.flag_doubts.specs.Doubled.{count_of, members_in, names_in}
 use Rattle.flag_doubts.specs.declared.repeated.Repeated.{Repeated}

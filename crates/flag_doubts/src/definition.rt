@@ -2,14 +2,14 @@
 ghost use Rattle.std.specs.Prelude.{◌≡◌, ◌<◌, length, map, None, Err, IfOk, OnOk};
 ghost use Rattle.std.specs.List.{list_all};
 ghost use Rattle.json.specs.Json.{object, members, value};
-ghost use Rattle.unread_members.specs.Unread.{reads};
-ghost use Rattle.unread_members.specs.Passed.{Passes};
+ghost use Rattle.member_names.specs.Unread.{reads};
+ghost use Rattle.member_names.specs.Passed.{Passes};
 ghost use Rattle.flag_doubts.specs.FoundFlags.{FindsDefinition};
 
 use json::Reader;
-use unread_members::{Next, Stop, begin, twin_or, with_members};
+use member_names::{Next, Stop, begin, twin_or, with_members};
 use std::alloc::Global;
-use unread_members::Reader as Taker;
+use member_names::Reader as Taker;
 
 /// What is found of a definition.
 #[derive(Drop)]

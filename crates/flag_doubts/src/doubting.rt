@@ -9,7 +9,7 @@ use crate::results::{Sought, is_result};
 use crate::weights::has_bad_site;
 use flag_defs::Flag;
 use flag_text::Tree;
-use unread_members::Reader;
+use member_names::Reader;
 
 /// What is doubted of a flag, which has this definition in its document. A broken one is doubted by its members alone.
 ///

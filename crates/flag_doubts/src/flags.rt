@@ -4,13 +4,13 @@ ghost use Rattle.std.specs.Prelude.{◌≡◌, ◌<◌, ◌||◌, ◌&&◌, ℕ,
 ghost use Rattle.std.specs.BTreeMap.{get_by_text};
 ghost use Rattle.std.specs.Str.{bytes_eq};
 ghost use Rattle.json.specs.Json.{object, members, value};
-ghost use Rattle.unread_members.specs.Passed.{Passes};
+ghost use Rattle.member_names.specs.Passed.{Passes};
 ghost use Rattle.flag_doubts.specs.FoundFlags.{FindsIn};
 
 use crate::definition::in_definition;
 use crate::doubled::doubled_among;
 use json::Reader;
-use unread_members::{Next, Stop, begin};
+use member_names::{Next, Stop, begin};
 use std::alloc::{AllocError, Global};
 use std::collections::BTreeMap;
 

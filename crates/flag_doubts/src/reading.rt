@@ -4,7 +4,7 @@ ghost use Rattle.std.specs.Str.{is_utf8};
 ghost use Rattle.flag_defs.specs.Document.{max_bytes};
 ghost use Rattle.flag_defs.specs.Flags.{HoldsUnless};
 ghost use Rattle.flag_defs.specs.Floats.{MeansAs};
-ghost use Rattle.unread_members.specs.Repeated.{json_of};
+ghost use Rattle.member_names.specs.Repeated.{json_of};
 ghost use Rattle.flag_doubts.specs.ReadBoth.{flags_of};
 ghost use Rattle.flag_doubts.specs.Repeated.{Finds};
 

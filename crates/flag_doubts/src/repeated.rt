@@ -1,19 +1,19 @@
 //! What stands more than once in a document, and whether each member of it is read.
 ghost use Rattle.std.specs.Prelude.{◌≡◌, length, None, Some, Err, IfOk};
 ghost use Rattle.json.specs.Json.{document, max_depth, members, object, value};
-ghost use Rattle.unread_members.specs.Passed.{Passes};
-ghost use Rattle.unread_members.specs.Repeated.{json_of};
+ghost use Rattle.member_names.specs.Passed.{Passes};
+ghost use Rattle.member_names.specs.Repeated.{json_of};
 ghost use Rattle.flag_doubts.specs.FoundFlags.{FindsFlags};
 ghost use Rattle.flag_doubts.specs.Repeated.{Finds};
 
 use crate::definition::takes_each;
 use crate::flags::{RepeatedFlags, in_flags, none};
 use json::{Reader, Scratch};
-use unread_members::{Next, Stop, begin, member_place, place_in, twin_or};
+use member_names::{Next, Stop, begin, member_place, place_in, twin_or};
 use simdutf8::basic;
 use std::alloc::{AllocError, Global};
 use std::collections::BTreeMap;
-use unread_members::Reader as Taker;
+use member_names::Reader as Taker;
 
 /// How deep lists and objects of a document nest at most.
 const MAX_DEPTH: usize = flag_text::JSON_LEVELS + 1;

@@ -18,7 +18,7 @@ use flagops_ramps::{Applying, Keeping, Ramping, Verifying};
 use flagops_service::{Host, ofrep};
 use flagops_shell::{Console, FileSet, complain, run, want};
 use flagops_streams::{follow, serve};
-use line_batches::Inlet;
+use byte_streams::Inlet;
 use std::convert::AsStr;
 use std::io;
 use std::process::ExitCode;

@@ -1,7 +1,7 @@
 //! The standard outputs as the program writes them.
 ghost use Rattle.std.specs.Prelude.{◌≡◌};
 
-use line_batches::PersistentOutput;
+use byte_streams::PersistentOutput;
 use std::io::{self, ErrorKind, Write};
 use std::sync::atomic::{AtomicI32, Ordering};
 

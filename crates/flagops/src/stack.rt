@@ -8,7 +8,7 @@ use flag_text::Outlet;
 use flagops_filters::Opening;
 use flagops_shell::{Console, FileSet};
 use limits::STACK_BYTES;
-use line_batches::Inlet;
+use byte_streams::Inlet;
 use log_file::LogPaths;
 use std::convert::AsStr;
 use std::io;

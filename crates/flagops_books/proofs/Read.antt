@@ -19,8 +19,8 @@ use Rattle.flagops_files.specs.Question.{if_readable, max_book, notes_bytes_at}
 use Rattle.flagops_books.specs.declared.refusal.BookRefusal.{BookRefusal}
 use Rattle.flagops_files.specs.declared.refusal.Refusal.{Refusal}
 use Rattle.flagops_files.specs.declared.refusal.Refusal.TheVariants.{Load}
-use Rattle.line_batches.proofs.Cutting.{some_part}
-use Rattle.line_batches.specs.Lines.{parts_of}
+use Rattle.byte_streams.proofs.Cutting.{some_part}
+use Rattle.byte_streams.specs.Lines.{parts_of}
 use Rattle.note_lines.specs.Blank.{begins_book, is_blank, is_white}
 use Rattle.note_lines.specs.Lines.{IsLineOf, Taken, Takes, ended}
 use Rattle.note_lines.specs.Notes.{Notes}

@@ -20,7 +20,7 @@ use Rattle.flagops_books.specs.Refusal.{is_want, read_refusal, Refused}
 use Rattle.flagops_books.specs.declared.refusal.BookRefusal.{BookRefusal}
 use Rattle.flagops_books.specs.declared.refusal.BookRefusal.TheVariants.{FullBook, Load, WantOfMemory}
 use Rattle.note_lines.specs.Blank.{begins_book}
-use Rattle.line_batches.specs.Lines.{parts_of}
+use Rattle.byte_streams.specs.Lines.{parts_of}
 use Rattle.note_lines.specs.Lines.{Taken, Takes, TakesNotes}
 use Rattle.note_lines.specs.Notes.{HaveNoBook, IsBookOf, Notes, both, notes_in}
 use Rattle.note_lines.specs.declared.fault.NotesFault.{NotesFault}

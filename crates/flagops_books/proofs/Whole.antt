@@ -12,7 +12,7 @@ use Rattle.flagops_shell.specs.Files.{Holding}
 use Rattle.flagops_files.specs.Question.{notes_bytes_at}
 use Rattle.flagops_books.specs.declared.refusal.BookRefusal.{BookRefusal}
 use Rattle.flagops_files.specs.declared.refusal.Refusal.{Refusal}
-use Rattle.line_batches.specs.Lines.{parts_of}
+use Rattle.byte_streams.specs.Lines.{parts_of}
 use Rattle.note_lines.proofs.Noted.{notes_its_lines}
 use Rattle.note_lines.specs.Blank.{begins_book}
 use Rattle.note_lines.specs.BookLaw.{HasNote}

@@ -10,7 +10,7 @@ use Rattle.flagops_shell.specs.Outcomes.{◌>>=◌, refused_by}
 use Rattle.flagops_files.specs.Question.{if_readable, max_book}
 use Rattle.flagops_files.specs.declared.refusal.Refusal.{Refusal}
 use Rattle.flagops_files.specs.declared.refusal.Refusal.TheVariants.{Load}
-use Rattle.line_batches.specs.Lines.{parts_of}
+use Rattle.byte_streams.specs.Lines.{parts_of}
 use Rattle.note_lines.specs.Blank.{begins_book}
 use Rattle.note_lines.specs.BookLaw.{HasNote}
 use Rattle.note_lines.specs.Notes.{Notes, IsBookOf, no_notes, notes_in}

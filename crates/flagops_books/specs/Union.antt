@@ -13,7 +13,7 @@ use Rattle.flagops_files.specs.Question.{notes_bytes_at}
 use Rattle.flagops_books.specs.Refusal.{read_refusal}
 use Rattle.flagops_books.specs.declared.refusal.BookRefusal.{BookRefusal}
 use Rattle.flagops_books.specs.declared.refusal.BookRefusal.TheVariants as refusal
-use Rattle.line_batches.specs.Lines.{parts_of}
+use Rattle.byte_streams.specs.Lines.{parts_of}
 use Rattle.note_lines.specs.Blank.{begins_book}
 use Rattle.note_lines.specs.Lines.{Taken, Takes}
 use Rattle.note_lines.specs.Notes.{Notes, IsBookOf, HaveNoBook, both, notes_in}

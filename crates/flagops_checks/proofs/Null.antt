@@ -7,8 +7,8 @@ use Rattle.flag_text.specs.declared.tree.Tree.TheVariants as tree
 use Rattle.flagops_checks.specs.Judged.{definition_of, is_unread, tree_in}
 use Rattle.flagops_checks.specs.Names.{HasUnread}
 use Rattle.flagops_checks.proofs.PlainTrees.{IsPlain}
-use Rattle.unread_members.specs.Unread.{unread_of}
-use Rattle.unread_members.specs.declared.reader.Reader.TheVariants as reader
+use Rattle.member_names.specs.Unread.{unread_of}
+use Rattle.member_names.specs.declared.reader.Reader.TheVariants as reader
 
 null_view : view tree.Null ≡ null
 null_view = simp the_lemmas refl

@@ -21,12 +21,12 @@ use Rattle.flag_text.specs.declared.fault.TextFault.{TextFault}
 use Rattle.flag_text.specs.declared.fault.TextFault.TheVariants.{NotJson, TooLarge}
 use Rattle.float_variants.specs.Floats.{with_texts}
 use Rattle.float_variants.specs.Reading.{if_tree, text_with_floats}
-use Rattle.unread_members.specs.Unread.{first_unread, reads, unread_of}
-use Rattle.unread_members.specs.declared.reader.Reader.{Reader}
-use Rattle.unread_members.specs.declared.reader.Reader.TheVariants as reader
+use Rattle.member_names.specs.Unread.{first_unread, reads, unread_of}
+use Rattle.member_names.specs.declared.reader.Reader.{Reader}
+use Rattle.member_names.specs.declared.reader.Reader.TheVariants as reader
 use Rattle.flag_defs.specs.Document.{or_no_members}
 use Rattle.flag_doubts.specs.AllRead.{are_all_read}
-use Rattle.unread_members.specs.Repeated.{json_of}
+use Rattle.member_names.specs.Repeated.{json_of}
 use Rattle.flagops_checks.proofs.Plainly.{ArePlainFlags, Each, IsPlainDefinition, IsPlainDocument, IsPlainMember, IsRead, OfObject, document_stays, same_document}
 use Rattle.flagops_checks.specs.Judged.{definition_of, is_unread, or_null, tree_in}
 

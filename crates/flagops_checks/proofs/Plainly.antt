@@ -5,11 +5,11 @@ use Rattle.std.specs.List.{list_all}
 use Rattle.std.specs.Str.{bytes_eq}
 use Rattle.json.specs.Json as json
 use Rattle.float_variants.specs.Floats.{each_member, in_object, of_document, of_flag, of_flags, with_texts}
-use Rattle.unread_members.specs.Unread.{reads}
-use Rattle.unread_members.specs.declared.reader.Reader.{Reader}
-use Rattle.unread_members.specs.declared.reader.Reader.TheVariants as reader
+use Rattle.member_names.specs.Unread.{reads}
+use Rattle.member_names.specs.declared.reader.Reader.{Reader}
+use Rattle.member_names.specs.declared.reader.Reader.TheVariants as reader
 use Rattle.flag_doubts.specs.AllRead.{are_all_read, are_definitions_read, are_flags_read, takes_each}
-use Rattle.unread_members.specs.Repeated.{member_names}
+use Rattle.member_names.specs.Repeated.{member_names}
 use Rattle.flag_doubts.specs.Doubled.{members_in}
 
 -- ---- what was told of the names, member by member

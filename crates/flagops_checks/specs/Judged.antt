@@ -18,8 +18,8 @@ use Rattle.flagops_checks.specs.declared.checked.Checked as code_checked
 use Rattle.flagops_checks.specs.declared.judging.Judged as code
 use Rattle.flagops_checks.specs.Sites.{site_doubts}
 use Rattle.flagops_checks.specs.declared.sites.SiteDoubts.{SiteDoubts}
-use Rattle.unread_members.specs.Unread.{unread_of}
-use Rattle.unread_members.specs.declared.reader.Reader.TheVariants as reader
+use Rattle.member_names.specs.Unread.{unread_of}
+use Rattle.member_names.specs.declared.reader.Reader.TheVariants as reader
 
 -- a flag: its key, whether it is broken, what is doubted of it by itself and of its sites, and whether its key stands twice, or a member of its
 -- definition

@@ -1,13 +1,13 @@
 -- What is known of a document by the names in its text: for private clauses.
 use Rattle.std.specs.Prelude.{◌≡◌, ℕ, Bool, List, true}
-use Rattle.unread_members.specs.Repeated.{json_of}
+use Rattle.member_names.specs.Repeated.{json_of}
 use Rattle.flag_doubts.specs.Repeated.{Finds}
 use Rattle.flag_text.specs.Shape.{Shape, is_tidy}
 use Rattle.flag_text.specs.View.{view}
 use Rattle.flagops_checks.specs.Judged.{definition_of, is_unread, tree_in}
 use Rattle.flagops_checks.specs.declared.names.Names.{Names}
-use Rattle.unread_members.specs.Unread.{unread_of}
-use Rattle.unread_members.specs.declared.reader.Reader.TheVariants as reader
+use Rattle.member_names.specs.Unread.{unread_of}
+use Rattle.member_names.specs.declared.reader.Reader.TheVariants as reader
 
 -- the tree has the members that are not read of the document of the bytes, which may have floats or may not, and of its definitions
 pub record HasUnread (floats : Bool) (bytes : List ℕ) (t : Shape) : Type 0 where

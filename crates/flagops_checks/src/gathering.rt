@@ -1,7 +1,7 @@
 //! From the paths of documents to what is printed and told of them.
 ghost use Rattle.std.specs.Prelude.{◌≡◌, ◌||◌, IfErr, IfOk, IfSome, map, string_bytes};
 ghost use Rattle.flag_defs.specs.Flags.{flags_view};
-ghost use Rattle.unread_members.specs.Repeated.{json_of};
+ghost use Rattle.member_names.specs.Repeated.{json_of};
 ghost use Rattle.flag_doubts.specs.Repeated.{Finds};
 ghost use Rattle.flagops_checks.specs.Calls.{check_calls};
 ghost use Rattle.flagops_checks.specs.Judged.{checked, checked_view};
@@ -25,7 +25,7 @@ use flagops_shell::FileSet;
 use std::alloc::{AllocError, Global};
 use std::mem;
 use std::thread::Threads;
-use unread_members::Reader;
+use member_names::Reader;
 
 /// What is printed and told of the documents so far.
 #[derive(Drop)]

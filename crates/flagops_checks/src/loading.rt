@@ -1,7 +1,7 @@
 //! From the path of a document to its flags, and to what is found by the names in it.
 ghost use Rattle.std.specs.Prelude.{◌≡◌, ◌||◌, false, IfOk, IfSome, Ok};
 ghost use Rattle.flag_defs.specs.Flags.{flags_view};
-ghost use Rattle.unread_members.specs.Repeated.{json_of};
+ghost use Rattle.member_names.specs.Repeated.{json_of};
 ghost use Rattle.flag_doubts.specs.Repeated.{Finds};
 ghost use Rattle.flagops_files.specs.Documents as documents;
 ghost use Rattle.flagops_files.specs.Documents.{IsDocumentInAs};

@@ -2,7 +2,7 @@
 ghost use Rattle.std.specs.Prelude.{◌≡◌, is_some, true, IfOk};
 ghost use Rattle.file_diagnostics.specs.Broken.{document_in};
 ghost use Rattle.flag_doubts.specs.AllRead.{are_all_read};
-ghost use Rattle.unread_members.specs.Repeated.{json_of};
+ghost use Rattle.member_names.specs.Repeated.{json_of};
 ghost use Rattle.flag_doubts.specs.Repeated.{Finds, has_repeated, is_repeated};
 ghost use Rattle.flag_text.specs.Outcome.{GivesUnless};
 ghost use Rattle.flag_text.specs.Shape.{is_tidy};

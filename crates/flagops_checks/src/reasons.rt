@@ -9,9 +9,9 @@ use flag_defs::Flag;
 use flag_doubts::Doubt;
 use flag_text::Tree;
 use flagops_files::quoted;
-use unread_members::within;
+use member_names::within;
 use std::alloc::{AllocError, Global};
-use unread_members::Reader;
+use member_names::Reader;
 
 /// Why this is doubted of a flag, behind its key.
 pub(crate) fn reason(

@@ -15,7 +15,7 @@ use flag_doubts::Doubt;
 use flag_text::Tree;
 use flagops_files::quoted;
 use std::alloc::{AllocError, Global};
-use unread_members::Reader;
+use member_names::Reader;
 
 /// What is told of a document: nothing where nothing is wrong.
 #[tactic(auto, unfolding(crate::specs::Told::TellsDocument))]

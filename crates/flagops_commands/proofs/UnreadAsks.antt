@@ -13,8 +13,8 @@ use Rattle.flag_text.specs.declared.tree.Tree.{Tree}
 use Rattle.flagops_drive.specs.Plain.{asks_shape}
 use Rattle.flagops_drive.specs.declared.plain_ask.PlainAsk.{PlainAsk}
 use Rattle.flagops_commands.specs.DriveSummary.{IsUnreadMember, IsUnreadText, first_unread, unread_count, unread_count_text, unread_member_text}
-use Rattle.unread_members.specs.Unread.{unread_of}
-use Rattle.unread_members.specs.declared.reader.Reader.TheVariants as reader
+use Rattle.member_names.specs.Unread.{unread_of}
+use Rattle.member_names.specs.declared.reader.Reader.TheVariants as reader
 
 -- how many trees have a member that is not read
 pub counted : (asks : List Tree) → count_by (λ t. is_some (unread_of reader.Ask (view t))) asks ≡ unread_count (items_view asks)

@@ -16,8 +16,8 @@ use Rattle.flagops_files.specs.Loading.{max_text}
 use Rattle.flagops_shell.specs.Files.{Holding}
 use Rattle.flagops_commands.specs.Drive.{before_at}
 use Rattle.flagops_commands.specs.Loaded.{AreFlagsAt, tree_at}
-use Rattle.unread_members.specs.Unread.{unread_of}
-use Rattle.unread_members.specs.declared.reader.Reader.TheVariants as reader
+use Rattle.member_names.specs.Unread.{unread_of}
+use Rattle.member_names.specs.declared.reader.Reader.TheVariants as reader
 
 -- what makes a name that of one thing, or of another number of them
 abbrev pub plural : ℕ → List ℕ

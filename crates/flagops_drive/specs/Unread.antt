@@ -1,8 +1,8 @@
 -- Members of asks that nobody reads.
 use Rattle.std.specs.Prelude.{◌||◌, Bool, false, is_some}
 use Rattle.flag_text.specs.Shape.{Shape, list, Items, no_items, item}
-use Rattle.unread_members.specs.Unread.{unread_of}
-use Rattle.unread_members.specs.declared.reader.Reader.TheVariants as reader
+use Rattle.member_names.specs.Unread.{unread_of}
+use Rattle.member_names.specs.declared.reader.Reader.TheVariants as reader
 
 -- one of these asks has a member that the reader of asks passes over
 abbrev pub have_unread : Items → Bool

@@ -6,7 +6,7 @@ ghost use Rattle.flagops_drive.specs.Unread.{has_unread_ask, have_unread};
 
 use crate::asks_file::AsksFile;
 use flag_text::Tree;
-use unread_members::Reader;
+use member_names::Reader;
 
 /// Whether an ask of a file has a member that is not read. What is no list has no asks.
 pub fn has_unread_ask(file: &AsksFile<'_>) -> bool

@@ -15,8 +15,8 @@ use price_core::Request;
 use rollout_checks::{Refining, read_book_asked};
 use std::alloc::Global;
 use std::thread::Threads;
-use line_tally::PageTally;
-use line_tally::read_tally;
+use tallies::PageTally;
+use tallies::read_tally;
 
 /// What the first line of a tally begins with, and that of no book.
 const TALLY_OPENING: &[u8] = b"{\"tally\":";

@@ -6,7 +6,7 @@ use crate::replacing::{plain_file, replace};
 use flagops_shell::{
     FIRST_PIECE, FileSet, LoadFault, NOTES_PIECE, StoreFault, may_begin_record, may_note,
 };
-use line_batches::cut_line;
+use byte_streams::cut_line;
 use note_lines::{begins_astray, begins_book};
 use progress::{Counted, Meter, Progress};
 use std::alloc::{AllocError, Global};

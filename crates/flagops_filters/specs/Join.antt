@@ -5,12 +5,12 @@ use Rattle.flagops_files.specs.Loading.{max_rule}
 use Rattle.flagops_shell.specs.Outcomes.{refused_by}
 use Rattle.flagops_files.specs.declared.refusal.Refusal.{Refusal}
 use Rattle.flagops_files.specs.declared.refusal.Refusal.TheVariants.{Load as Unread, ReadTally}
-use Rattle.line_tally.specs.Join.{Joins}
-use Rattle.line_tally.specs.Tally.{PageTally}
-use Rattle.line_tally.specs.declared.joining.JoinFault.{JoinFault}
-use Rattle.line_tally.specs.File.{tally_text}
-use Rattle.line_tally.specs.Reading.{ReadsTally}
-use Rattle.line_tally.specs.declared.file_fault.TallyFileFault.{TallyFileFault}
+use Rattle.tallies.specs.Join.{Joins}
+use Rattle.tallies.specs.Tally.{PageTally}
+use Rattle.tallies.specs.declared.joining.JoinFault.{JoinFault}
+use Rattle.tallies.specs.File.{tally_text}
+use Rattle.tallies.specs.Reading.{ReadsTally}
+use Rattle.tallies.specs.declared.file_fault.TallyFileFault.{TallyFileFault}
 use Rattle.flagops_filters.specs.Report.{Came}
 use Rattle.flagops_filters.specs.declared.refusal.FilterRefusal.{FilterRefusal}
 use Rattle.flagops_filters.specs.declared.refusal.FilterRefusal.TheVariants.{Load, Join}

@@ -11,7 +11,7 @@
 //! use flagops_files::SystemFiles;
 //! use flagops_filters::{OpenedInlet, record};
 //! use flagops_shell::Console;
-//! use line_batches::ReadInlet;
+//! use byte_streams::ReadInlet;
 //!
 //! let words = ["record", "flags.json", "checkout"];
 //! let mut input = OpenedInlet::new(ReadInlet::new(rt.stdin()));

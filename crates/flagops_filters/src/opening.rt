@@ -4,7 +4,7 @@ ghost use Rattle.file_diagnostics.specs.Ends.{ends_of};
 ghost use Rattle.flagops_filters.specs.Opening.{most_kept};
 
 use file_diagnostics::Ends;
-use line_batches::Inlet;
+use byte_streams::Inlet;
 use std::io;
 
 /// How many of the first bytes are kept.

@@ -30,7 +30,7 @@ use flag_defs::Flags;
 use flag_text::Outlet;
 use flagops_files::load_flags_as;
 use flagops_shell::{Console, FileSet, Refused, Remark, refuse, report_usage, tell};
-use line_batches::Inlet;
+use byte_streams::Inlet;
 use note_streams::{Counted, RecordStop, record_stream};
 use note_streams::{RecordFault, Recorder};
 use rollout_checks::RolloutFault;

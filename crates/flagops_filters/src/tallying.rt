@@ -36,18 +36,18 @@ use flagops_shell::{
     Console, FileSet, Outcome, Refused, Remark, Status, refuse, report, report_usage,
 };
 use flagops_words::factor_of;
-use line_batches::Inlet;
+use byte_streams::Inlet;
 use logic_ast::{Site, site};
 use note_streams::{StreamTally, TallyStop, tally_stream};
 use rollout_checks::RolloutFault;
 use std::alloc::{AllocError, Global};
 use std::convert::AsStr;
-use line_tally::PageTally;
-use line_tally::FilterFault;
-use line_tally::print_tally;
+use tallies::PageTally;
+use tallies::FilterFault;
+use tallies::print_tally;
 
 /// The most points of a tally.
-const MOST_POINTS: u128 = line_tally::MOST_POINTS as u128;
+const MOST_POINTS: u128 = tallies::MOST_POINTS as u128;
 
 /// Does what the words after the program's name ask of `tally`, which is the first of them, and gives the status to end with.
 /// It prints the tally of the note lines of the standard input that are of the page of a site, or the line of a refusal with

@@ -18,7 +18,7 @@ use Rattle.price_core.specs.Request.{asked_of}
 use Rattle.ramp.specs.declared.fault.RampFault.{RampFault}
 use Rattle.ramp.specs.Steps.{steps_of}
 use Rattle.ramp.specs.declared.file_fault.StepsFault.{StepsFault}
-use Rattle.unread_members.specs.Repeated.{is_repeating}
+use Rattle.member_names.specs.Repeated.{is_repeating}
 use Rattle.flagops_rollouts.specs.Beside.{AreBehind, AreBoth, Tells, noted_with, part_if}
 use Rattle.flagops_rollouts.specs.Finer.{finer_parts, is_finer, times_asked}
 use Rattle.flagops_rollouts.specs.Remarks.{applied_parts}

@@ -4,9 +4,9 @@ use Rattle.std.specs.Str.{bytes_eq}
 use Rattle.flag_text.specs.Reading.{tree_of}
 use Rattle.flag_text.specs.Shape.{Shape, object, Members, no_members, member}
 use Rattle.flag_text.specs.declared.fault.TextFault.{TextFault}
-use Rattle.unread_members.specs.Repeated.{is_repeating}
-use Rattle.unread_members.specs.Unread.{reads}
-use Rattle.unread_members.specs.declared.reader.Reader.TheVariants as reader
+use Rattle.member_names.specs.Repeated.{is_repeating}
+use Rattle.member_names.specs.Unread.{reads}
+use Rattle.member_names.specs.declared.reader.Reader.TheVariants as reader
 use Rattle.file_diagnostics.specs.Named.{Names}
 use Rattle.flagops_rollouts.specs.Beside.{Part, part_if}
 use Rattle.flagops_rollouts.specs.Doubts.{first_doubt, recorded_doubt, recorded_parts}

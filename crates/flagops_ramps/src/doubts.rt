@@ -25,7 +25,7 @@ use flagops_rollouts::{
 use flagops_shell::{Refused, Remark};
 use std::alloc::{AllocError, Global};
 use std::thread::Threads;
-use unread_members::Reader;
+use member_names::Reader;
 
 /// What a person is told beside the answers to the steps of a question, which was loaded for what is asked; or that the call
 /// refuses them, where they are doubted and that is to be refused.

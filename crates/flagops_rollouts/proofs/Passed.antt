@@ -5,9 +5,9 @@ use Rattle.std.proofs.lemmas.Slice.Eq.{bytes_eq-Decides}
 use Rattle.flag_text.specs.Readers.{find_member}
 use Rattle.flag_text.specs.Shape.{Shape, null, boolean, whole, other, text, list, object, Members, no_members, member}
 use Rattle.price_core.specs.Request.{request_of}
-use Rattle.unread_members.specs.Unread.{reads}
-use Rattle.unread_members.specs.declared.reader.Reader.{Reader}
-use Rattle.unread_members.specs.declared.reader.Reader.TheVariants as reader
+use Rattle.member_names.specs.Unread.{reads}
+use Rattle.member_names.specs.declared.reader.Reader.{Reader}
+use Rattle.member_names.specs.declared.reader.Reader.TheVariants as reader
 use Rattle.flagops_rollouts.specs.Passed.{members_read, part_read}
 
 -- a member that is taken is found as before

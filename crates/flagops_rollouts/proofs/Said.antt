@@ -19,7 +19,7 @@ use Rattle.transport_core.specs.Certificate.{DualPrices}
 use Rattle.flagops_shell.specs.Outcomes.{◌>>=◌, beside, done, refused_by}
 use Rattle.flagops_shell.specs.Report.{Report, outcome_view}
 use Rattle.flagops_rollouts.specs.Apply.{IsLocalReport, applied_report, document_line, told_report}
-use Rattle.unread_members.specs.Repeated.{is_repeating}
+use Rattle.member_names.specs.Repeated.{is_repeating}
 use Rattle.flag_text.specs.Reading.{tree_of}
 use Rattle.flagops_rollouts.specs.Beside.{AreBefore, AreBehind, AreBoth, Part, Tells, noted_with, part_if}
 use Rattle.flagops_rollouts.specs.ByHand.{TellsEdit}

@@ -4,9 +4,9 @@ use Rattle.book_core.specs.Page.{PageName}
 use Rattle.flag_text.specs.Reading.{tree_of}
 use Rattle.flag_text.specs.Shape.{Shape}
 use Rattle.flag_text.specs.declared.fault.TextFault.{TextFault}
-use Rattle.unread_members.specs.Repeated.{is_repeating}
-use Rattle.unread_members.specs.Unread.{unread_of}
-use Rattle.unread_members.specs.declared.reader.Reader.TheVariants as reader
+use Rattle.member_names.specs.Repeated.{is_repeating}
+use Rattle.member_names.specs.Unread.{unread_of}
+use Rattle.member_names.specs.declared.reader.Reader.TheVariants as reader
 use Rattle.flagops_rollouts.specs.Beside.{Part, part_if}
 use Rattle.flagops_rollouts.specs.Foreign.{is_foreign, is_mixed}
 use Rattle.flagops_rollouts.specs.Unrecorded.{is_bare, is_unrecorded}

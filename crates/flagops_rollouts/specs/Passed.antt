@@ -2,9 +2,9 @@
 use Rattle.std.specs.Prelude.{◌≡◌, if◌then◌else◌}
 use Rattle.flag_text.specs.Shape.{Shape, object, Members, no_members, member}
 use Rattle.price_core.specs.Request.{request_of}
-use Rattle.unread_members.specs.Unread.{reads}
-use Rattle.unread_members.specs.declared.reader.Reader.{Reader}
-use Rattle.unread_members.specs.declared.reader.Reader.TheVariants as reader
+use Rattle.member_names.specs.Unread.{reads}
+use Rattle.member_names.specs.declared.reader.Reader.{Reader}
+use Rattle.member_names.specs.declared.reader.Reader.TheVariants as reader
 
 -- the members that the reader takes
 abbrev pub members_read : Reader → Members → Members

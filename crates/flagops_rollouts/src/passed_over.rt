@@ -3,7 +3,7 @@ ghost use Rattle.std.specs.Prelude.{◌≡◌, ◌||◌, is_some, string_bytes, 
 ghost use Rattle.flag_text.specs.Reading.{tree_of};
 ghost use Rattle.flag_text.specs.View.{view};
 ghost use Rattle.flagops_files.specs.Loading.{max_text};
-ghost use Rattle.unread_members.specs.Repeated.{is_repeating};
+ghost use Rattle.member_names.specs.Repeated.{is_repeating};
 ghost use Rattle.flagops_rollouts.specs.Beside.{AreBoth, Tells};
 ghost use Rattle.flagops_rollouts.specs.Doubts.{has_unread, is_unread, request_parts};
 ghost use Rattle.flagops_shell.specs.Diagnostic.{Says};
@@ -14,10 +14,10 @@ use file_diagnostics::{Lines, Opening, of_unread};
 use flag_text::{TextFault, Tree, read_tree};
 use flagops_files::TEXT_LIMIT;
 use flagops_shell::Remark;
-use unread_members::{repeated_place, within};
+use member_names::{repeated_place, within};
 use rollout_checks::RequestFile;
 use std::alloc::{AllocError, Global};
-use unread_members::Reader;
+use member_names::Reader;
 
 /// What is told of members of a request that are not read, where there are any.
 pub fn unread(alloc: Global, path: &str, bytes: &[u8]) -> Result<Option<Remark>, AllocError>

@@ -4,7 +4,7 @@ ghost use Rattle.flagops_service.specs.Words.{answering_view, applied_to, form_o
 
 use crate::asked::Answering;
 use crate::remembering::memory_of;
-use dated_answers::AccessLines;
+use service_layers::AccessLines;
 use control_desk::DeskRules;
 use note_lines::NoteForm;
 use note_log::SharedMemory;

@@ -16,7 +16,7 @@ use crate::timely::Timely;
 use core::mem::replace_with;
 use flag_text::{Outlet, write_whole};
 use flagops_shell::write_three;
-use line_batches::PersistentInput;
+use byte_streams::PersistentInput;
 use snap_core::Snapshot;
 use std::alloc::{AllocError, Global};
 use std::cell::Cell;

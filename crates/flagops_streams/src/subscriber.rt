@@ -10,7 +10,7 @@ use crate::numbers::Numbers;
 use crate::parting::part;
 use crate::timed::Timed;
 use flag_text::{Outlet, WriteOutlet};
-use line_batches::PersistentOutput;
+use byte_streams::PersistentOutput;
 use snap_share::{Current, ReadSeat, ShareFault, ShareName, Told};
 use std::cell::Cell;
 use std::io::Write;

@@ -20,8 +20,8 @@ use plan_text::{Planned, read_planned};
 use rollout_checks::{RequestFile, verify_file_on_tally};
 use std::alloc::Global;
 use std::str;
-use line_tally::PageTally;
-use line_tally::read_tally;
+use tallies::PageTally;
+use tallies::read_tally;
 
 /// Writes the document with the rule of a right answer at the site of its request, and all else as it was.
 ///

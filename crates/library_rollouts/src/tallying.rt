@@ -3,8 +3,8 @@ ghost use Rattle.std.specs.Prelude.{◌≡◌, ◌<◌, ◌≤◌, false, length
 ghost use Rattle.std.specs.Str.{is_utf8};
 ghost use Rattle.flag_defs.specs.Document.{max_bytes};
 ghost use Rattle.flag_defs.specs.declared.fault.DefFault.TheVariants as fault;
-ghost use Rattle.line_tally.specs.Lines.{untallied};
-ghost use Rattle.line_tally.specs.Tally.{IsTallyTotal};
+ghost use Rattle.tallies.specs.Lines.{untallied};
+ghost use Rattle.tallies.specs.Tally.{IsTallyTotal};
 ghost use Rattle.library_rollouts.specs.Tally.{IsTally, IsTallyOver, TalliesLines};
 ghost use Rattle.library_rollouts.specs.Target.{target_view};
 ghost use Rattle.library_rollouts.specs.View.{text_view};
@@ -18,11 +18,11 @@ use crate::writing::write;
 use book_core::Page;
 use flag_defs::read_flags;
 use limits::TEXT_BYTES;
-use line_batches::cut_line;
+use byte_streams::cut_line;
 use std::alloc::Global;
-use line_tally::PageTally;
-use line_tally::{FilterFault, TallyFilter};
-use line_tally::print_tally;
+use tallies::PageTally;
+use tallies::{FilterFault, TallyFilter};
+use tallies::print_tally;
 
 /// Writes the tally of note lines, which rise strictly, at the site of a request: of its page, in as many points as the rule's
 /// weights sum to. Bytes behind the last line feed are passed over.

@@ -6,7 +6,7 @@ use Rattle.std.proofs.lemmas.List.Sums.{sum_by-append, sum_by-cons}
 use Rattle.std.proofs.Math.ListN.{drop_of_length-le}
 use Rattle.std.proofs.Math.Seq.{drop-append-add}
 use Rattle.std.specs.List.{slice_index}
-use Rattle.line_batches.specs.Lines.{HasNoFeed, IsFirst}
+use Rattle.byte_streams.specs.Lines.{HasNoFeed, IsFirst}
 use Rattle.log_file.specs.File.{Shows}
 use Rattle.log_file.specs.Last.{AreLastLines, IsLastStart, LeavesOf, SkipsLines}
 use Rattle.log_file.specs.Line.{EndsLine, IsWholePart, ends_line, lines_in}

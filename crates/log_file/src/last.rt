@@ -7,7 +7,7 @@ ghost use Rattle.log_file.specs.Line.{EndsLine, lines_in};
 use crate::file::LogFile;
 use crate::torn::PIECE;
 use crate::whole::{lines_in, whole_lines};
-use line_batches::cut_line;
+use byte_streams::cut_line;
 use std::alloc::Global;
 use std::io;
 

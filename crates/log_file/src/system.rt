@@ -7,7 +7,7 @@ use crate::file::LogFile;
 use crate::loss::{FileMark, Loss, loss_of, loss_with_links};
 use crate::paths::{FILE_MODE, FOLDER_MODE, LogPaths};
 use http_server::Log;
-use line_batches::PersistentOutput;
+use byte_streams::PersistentOutput;
 use std::fs::{File, Metadata, TryLockError};
 use std::io::{self, ErrorKind, Write};
 use std::os::unix::fs::{FileExt, MetadataExt};

@@ -2,8 +2,8 @@
 use denote.Ref.{Bor}
 use Rattle.std.proofs.Common.{◌≡◌, ◌≢◌, ◌<◌, ◌+◌, add-one, ℕ, List, [], ◌∷◌, ◌++◌, length, drop, drop-cons, get_or, append_assoc, append-nil, refl, sym, ap, ◌∙◌}
 use Rattle.std.proofs.lemmas.List.{map-append}
-use Rattle.line_batches.proofs.Cutting.{line_first, no_line, some_part}
-use Rattle.line_batches.specs.Lines.{HasNoFeed, IsFirst, lines_view, parts_of}
+use Rattle.byte_streams.proofs.Cutting.{line_first, no_line, some_part}
+use Rattle.byte_streams.specs.Lines.{HasNoFeed, IsFirst, lines_view, parts_of}
 use Rattle.log_tallies.specs.Lines.{all_lines, ended_parts, files_view, lines_in}
 use Rattle.log_tallies.specs.declared.file.LogFile as program
 

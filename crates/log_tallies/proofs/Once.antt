@@ -9,7 +9,7 @@ use Rattle.std.specs.List.Sorted.{IsSorted, IsStrictlySortedBy}
 use Rattle.std.specs.Ordering.{nat_cmp}
 use Rattle.std.specs.declared.cmp.Ordering.TheVariants.{Less}
 use Rattle.book_core.specs.Page.{bytes_cmp}
-use Rattle.line_batches.specs.Lines.{lines_view}
+use Rattle.byte_streams.specs.Lines.{lines_view}
 use Rattle.log_tallies.proofs.Among.{In, from_in, in_map, map_in, to_in}
 use Rattle.log_tallies.specs.Lines.{all_lines}
 use Rattle.log_tallies.specs.Sorted.{AreDistinct}

@@ -1,6 +1,6 @@
 -- The lines of log files (JSON Lines, https://jsonlines.org): each ends with a line feed.
 use Rattle.std.specs.Prelude.{ℕ, List, [], ◌∷◌, ◌++◌, flat_map, map}
-use Rattle.line_batches.specs.Lines.{parts_of}
+use Rattle.byte_streams.specs.Lines.{parts_of}
 use Rattle.log_tallies.specs.declared.file.LogFile as program
 
 -- the parts before the line feeds, each with its own; the last part is no line

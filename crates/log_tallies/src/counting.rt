@@ -1,6 +1,6 @@
 //! How many notes log files hold of each page.
 ghost use Rattle.std.specs.Prelude.{◌≡◌, false, true, IfOk, OnOk};
-ghost use Rattle.line_batches.specs.Lines.{lines_view};
+ghost use Rattle.byte_streams.specs.Lines.{lines_view};
 ghost use Rattle.note_lines.specs.Hashed.{has_hash};
 ghost use Rattle.log_tallies.specs.Counts.{AreCounts, CountsLine, CountsLines, HasOneMore, HasRoom, SaysPage};
 ghost use Rattle.log_tallies.specs.Lines.{files_view};

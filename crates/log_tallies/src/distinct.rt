@@ -1,11 +1,11 @@
 //! The lines of log files, each once.
 ghost use Rattle.std.specs.Prelude.{◌≡◌, ◌++◌, IfOk, OnOk};
-ghost use Rattle.line_batches.specs.Lines.{lines_view};
+ghost use Rattle.byte_streams.specs.Lines.{lines_view};
 ghost use Rattle.log_tallies.specs.Lines.{all_lines, files_view, lines_in};
 ghost use Rattle.log_tallies.specs.Sorted.{AreDistinct};
 
 use crate::file::LogFile;
-use line_batches::cut_line;
+use byte_streams::cut_line;
 use std::alloc::{AllocError, Global};
 
 /// The lines of files, with their line feeds, in the order of their bytes and each once. What stands behind the last line feed of

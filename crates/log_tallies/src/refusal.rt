@@ -1,7 +1,7 @@
 //! Why log files have no tally of a page.
 ghost use Rattle.std.specs.Prelude.{◌≡◌, ◌&&◌, IfOk};
 ghost use Rattle.std.specs.List.{list_any};
-ghost use Rattle.line_batches.specs.Lines.{lines_view};
+ghost use Rattle.byte_streams.specs.Lines.{lines_view};
 ghost use Rattle.log_tallies.specs.Lines.{files_view};
 ghost use Rattle.log_tallies.specs.Sorted.{AreDistinct, IsRefusedFor, IsWhy, is_hash_line, is_input_line};
 
@@ -10,7 +10,7 @@ use crate::file::LogFile;
 use crate::stray::{first_stray, is_blank};
 use note_lines::has_hash;
 use std::alloc::{AllocError, Global};
-use line_tally::FilterFault;
+use tallies::FilterFault;
 
 /// Why files have no tally, where their lines, each once, are refused for this: a stray line before notes of both kinds, and these
 /// before too many inputs.

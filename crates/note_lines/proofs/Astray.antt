@@ -1,7 +1,7 @@
 -- Lines that are looked at one after another.
 use Rattle.std.proofs.Common.{◌≡◌, ◌≢◌, ◌⊎◌, ℕ, zero, suc, Bool, true, false, List, [], ◌∷◌, refl, sym, ap, ◌∙◌, subst}
-use Rattle.line_batches.proofs.Cutting.{line_first, no_line, some_part}
-use Rattle.line_batches.specs.Lines.{HasNoFeed, IsFirst, parts_of}
+use Rattle.byte_streams.proofs.Cutting.{line_first, no_line, some_part}
+use Rattle.byte_streams.specs.Lines.{HasNoFeed, IsFirst, parts_of}
 use Rattle.note_lines.specs.Lines.{IsStray, ended}
 use Rattle.note_lines.specs.Astray.{IsAstray, IsKept}
 

@@ -12,8 +12,8 @@ use Rattle.book_core.specs.Union.{HaveNoUnion, after_reply, with_pages}
 use Rattle.book_core.specs.declared.fault.BookFault.{BookFault}
 use Rattle.book_core.specs.declared.fault.BookFault.TheVariants as book
 use Rattle.book_core.specs.declared.noted.Noted.TheVariants.{New, Again}
-use Rattle.line_batches.proofs.Cutting.{line_first, no_line, some_part}
-use Rattle.line_batches.specs.Lines.{HasNoFeed, IsFirst, parts_of}
+use Rattle.byte_streams.proofs.Cutting.{line_first, no_line, some_part}
+use Rattle.byte_streams.specs.Lines.{HasNoFeed, IsFirst, parts_of}
 use Rattle.note_lines.specs.Note.{Noted}
 use Rattle.note_lines.specs.Blank.{is_blank}
 use Rattle.note_lines.specs.Fault.{of_note}

@@ -1,7 +1,7 @@
 -- What the lines of a file note (JSON Lines, https://jsonlines.org). Each ends with a line feed.
 use Rattle.std.specs.Prelude.{◌≡◌, ◌≢◌, ◌⊎◌, ℕ, ◌+◌, List, [], ◌∷◌, ◌++◌, ◌==◌, length, Bool, true, false, not, Result, Ok, Err}
 use Rattle.book_core.specs.Book.{Contents}
-use Rattle.line_batches.specs.Lines.{parts_of}
+use Rattle.byte_streams.specs.Lines.{parts_of}
 use Rattle.note_lines.specs.Note.{Noted, IsNote, note_line}
 use Rattle.note_lines.specs.Blank.{is_blank}
 use Rattle.note_lines.specs.Notes.{Notes, IsBookOf, HaveNoBook, both, one_note}

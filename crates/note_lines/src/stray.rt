@@ -1,10 +1,10 @@
 //! Whether a file goes wrong near its beginning.
 ghost use Rattle.std.specs.Prelude.{◌≡◌, IfOk};
-ghost use Rattle.line_batches.specs.Lines.{parts_of};
+ghost use Rattle.byte_streams.specs.Lines.{parts_of};
 ghost use Rattle.note_lines.specs.Astray.{IsAstray, IsTold};
 
 use crate::blank::is_blank;
-use line_batches::cut_line;
+use byte_streams::cut_line;
 use crate::read_note;
 use std::alloc::{AllocError, Global};
 

@@ -11,7 +11,7 @@ ghost use Rattle.note_lines.specs.declared.fault.NotesFault.TheVariants.{Line, P
 use crate::blank::is_blank;
 use crate::fault::{NotesFault, of_note};
 use book_core::{Book, Page};
-use line_batches::cut_line;
+use byte_streams::cut_line;
 use crate::read_note;
 use std::alloc::Global;
 

@@ -10,7 +10,7 @@ use Rattle.std.proofs.lemmas.Grind.{flat_map-append}
 use Rattle.std.proofs.lemmas.List.{length-append, length-take, take_all}
 use Rattle.std.proofs.lemmas.List.Elements.{Contains-append_right, Contains-push_cases, Contains-append_cases}
 use Rattle.std.proofs.lemmas.List.Sums.{sum_by-cons}
-use Rattle.line_batches.specs.Lines.{HasNoFeed, IsFirst}
+use Rattle.byte_streams.specs.Lines.{HasNoFeed, IsFirst}
 use Rattle.log_file.specs.Line.{EndsLine, ends_line, lines_in}
 use Rattle.log_file.proofs.LastLines.{ends_rest, lines_both, no_lines}
 use Rattle.lru.specs.LruCache.{LruCache, put_entries}

@@ -4,7 +4,7 @@ use Rattle.std.specs.List.{flat_map}
 use Rattle.std.specs.Cmp.Lexicographic.{pointwise}
 use Rattle.std.specs.declared.alloc.Global.{Global}
 use Rattle.lru.specs.LruCache.{LruCache, put_entries}
-use Rattle.line_batches.specs.Lines.{HasNoFeed}
+use Rattle.byte_streams.specs.Lines.{HasNoFeed}
 use Rattle.log_file.specs.Line.{EndsLine, lines_in}
 use Rattle.note_log.specs.Files.{History}
 use Rattle.note_log.specs.Line.{HasLine}

@@ -5,7 +5,7 @@ ghost use Rattle.note_log.specs.Files.{History};
 ghost use Rattle.note_log.specs.Memory.{AllStand};
 ghost use Rattle.note_log.specs.Recalled.{EachStandsAt, Puts, Recalls};
 
-use line_batches::cut_line;
+use byte_streams::cut_line;
 use lru::LruCache;
 use std::alloc::{AllocError, Global};
 use std::hash::RandomState;

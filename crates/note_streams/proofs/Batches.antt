@@ -7,9 +7,9 @@ use Rattle.std.proofs.Math.Seq.{take-append-add, take-append_seam}
 use Rattle.std.proofs.lemmas.List.{length-map, take-append-le}
 use Rattle.std.specs.Io.KnownBytes.{Appends, IsAtEnd}
 use Rattle.flag_text.specs.Outlet.{AppendsPart}
-use Rattle.line_batches.proofs.Cutting.{begins, no_line, some_part}
-use Rattle.line_batches.specs.Fill.{Grows}
-use Rattle.line_batches.specs.Lines.{HasNoFeed, IsCut, parts_of}
+use Rattle.byte_streams.proofs.Cutting.{begins, no_line, some_part}
+use Rattle.byte_streams.specs.Fill.{Grows}
+use Rattle.byte_streams.specs.Lines.{HasNoFeed, IsCut, parts_of}
 use Rattle.note_streams.proofs.Folded.{few_lines, joined-assoc, joined-first, joined-last, joined-refused}
 use Rattle.note_streams.specs.Outcomes.{Outcomes}
 use Rattle.note_streams.specs.Record.{Recorded, Scene, joined, most_line, nothing, of_line, record_of, refused}

@@ -1,7 +1,7 @@
 -- What stands behind the last line, of bytes in parts.
 use Rattle.std.proofs.Common.{◌≡◌, ◌≢◌, nat_lt, ℕ, List, [], ◌∷◌, ◌++◌, length, append-nil, refl, sym, ap, ◌∙◌}
-use Rattle.line_batches.proofs.Cutting.{no_line, some_part}
-use Rattle.line_batches.specs.Lines.{HasNoFeed, IsCut, parts_of}
+use Rattle.byte_streams.proofs.Cutting.{no_line, some_part}
+use Rattle.byte_streams.specs.Lines.{HasNoFeed, IsCut, parts_of}
 use Rattle.note_streams.specs.Batch.{KeepsRest}
 use Rattle.note_streams.specs.Rest.{has_rest, is_torn}
 

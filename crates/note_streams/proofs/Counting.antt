@@ -2,16 +2,16 @@
 use Rattle.std.proofs.Common.{◌≡◌, ◌≢◌, ◌<◌, ◌≤◌, ◌⊎◌, ◌+◌, ◌-◌, ℕ, nat_eq, nat_lt, Bool, true, false, if◌then◌else◌, List, [], ◌∷◌, ◌++◌, length, Option, Some, None, IfSome, Result, Ok, Err, append-nil, append_assoc, length-append, refl, sym, ap, ◌∙◌, subst, inl, inr, arith}
 use Rattle.std.proofs.lemmas.Bool.{le-ltb, lt-ltb}
 use Rattle.std.specs.Io.KnownBytes.{IsAtEnd}
-use Rattle.line_batches.proofs.Cutting.{begins, line_first, no_line, some_part}
-use Rattle.line_batches.specs.Fill.{Grows}
-use Rattle.line_batches.specs.Lines.{HasNoFeed, IsFirst, parts_of}
-use Rattle.line_tally.specs.Law.{hashes_of, inputs_of}
-use Rattle.line_tally.specs.Lines.{Tallied, finished, untallied}
-use Rattle.line_tally.specs.JoinLaw.{HashesStandForInputs, TalliesInAnyOrder}
+use Rattle.byte_streams.proofs.Cutting.{begins, line_first, no_line, some_part}
+use Rattle.byte_streams.specs.Fill.{Grows}
+use Rattle.byte_streams.specs.Lines.{HasNoFeed, IsFirst, parts_of}
+use Rattle.tallies.specs.Law.{hashes_of, inputs_of}
+use Rattle.tallies.specs.Lines.{Tallied, finished, untallied}
+use Rattle.tallies.specs.JoinLaw.{HashesStandForInputs, TalliesInAnyOrder}
 use Rattle.note_streams.specs.Record.{most_line}
-use Rattle.line_tally.specs.Filter.{Filtered, RefusesLine, StreamIsTallied, Takes, TakesAll}
-use Rattle.line_tally.specs.declared.filter_fault.FilterFault.{FilterFault}
-use Rattle.line_tally.specs.declared.filter_fault.FilterFault.TheVariants.{Line, WantOfMemory}
+use Rattle.tallies.specs.Filter.{Filtered, RefusesLine, StreamIsTallied, Takes, TakesAll}
+use Rattle.tallies.specs.declared.filter_fault.FilterFault.{FilterFault}
+use Rattle.tallies.specs.declared.filter_fault.FilterFault.TheVariants.{Line, WantOfMemory}
 use Rattle.note_streams.specs.Batch.{Goes, GoesOn, KeepsRest}
 use Rattle.note_streams.specs.Law.{StreamIsOfItsInputs, StreamIsOfItsLines, lines_in}
 use Rattle.note_streams.specs.Rest.{has_rest, is_empty, is_torn}

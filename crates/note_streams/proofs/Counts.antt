@@ -2,8 +2,8 @@
 use denote.Ref.{Bor}
 use Rattle.std.proofs.Common.{◌≡◌, ◌<◌, ◌≤◌, ◌+◌, ℕ, Bool, true, false, List, [], ◌++◌, length, drop, get_or, Option, None, Some, IfSome, append_assoc, refl, sym, ap, ◌∙◌, arith}
 use Rattle.std.specs.Io.KnownBytes.{IsAtEnd}
-use Rattle.line_batches.specs.Fill.{Grows}
-use Rattle.line_batches.specs.Lines.{HasNoFeed, IsCut, lines_view}
+use Rattle.byte_streams.specs.Fill.{Grows}
+use Rattle.byte_streams.specs.Lines.{HasNoFeed, IsCut, lines_view}
 use Rattle.note_streams.proofs.Folded.{few_contexts, joined-refused}
 use Rattle.note_streams.proofs.Both.{both-assoc, both-first, both-last, contexts-both}
 use Rattle.note_streams.specs.Outcomes.{Outcomes, both, contexts, no_outcomes}

@@ -1,14 +1,14 @@
 -- How the tally of a stream ends, by how each of its parts ends.
 use Rattle.std.proofs.Common.{◌≡◌, ◌≤◌, ◌<◌, ◌+◌, ◌-◌, ℕ, nat_eq, nat_lt, Bool, true, List, length, Option, Some, None, IfSome, Result, Ok, Err, refl, ◌∙◌, arith}
 use Rattle.std.specs.Io.KnownBytes.{IsAtEnd}
-use Rattle.line_batches.specs.Fill.{Grows}
-use Rattle.line_batches.specs.Lines.{HasNoFeed, parts_of}
-use Rattle.line_batches.specs.declared.filling.FillFault.{FillFault}
-use Rattle.line_batches.specs.declared.filling.FillFault.TheVariants as fill
-use Rattle.line_tally.specs.Lines.{Tallied, finished}
+use Rattle.byte_streams.specs.Fill.{Grows}
+use Rattle.byte_streams.specs.Lines.{HasNoFeed, parts_of}
+use Rattle.byte_streams.specs.declared.filling.FillFault.{FillFault}
+use Rattle.byte_streams.specs.declared.filling.FillFault.TheVariants as fill
+use Rattle.tallies.specs.Lines.{Tallied, finished}
 use Rattle.note_streams.specs.Record.{most_line}
-use Rattle.line_tally.specs.Filter.{Filtered}
-use Rattle.line_tally.specs.declared.filter_fault.FilterFault.TheVariants.{WantOfMemory}
+use Rattle.tallies.specs.Filter.{Filtered}
+use Rattle.tallies.specs.declared.filter_fault.FilterFault.TheVariants.{WantOfMemory}
 use Rattle.note_streams.specs.Batch.{LeavesLines, TalliesBatch}
 use Rattle.note_streams.specs.Recorded.{most_bytes}
 use Rattle.note_streams.specs.Rest.{is_empty, is_torn}

@@ -2,10 +2,10 @@
 use Rattle.std.proofs.Common.{◌≡◌, ◌≤◌, ◌<◌, ◌+◌, ◌-◌, ℕ, Bool, true, false, List, [], length, Option, None, Some, IfSome, Result, Err, nat_eq, nat_lt, refl, sym, ◌∙◌, subst, arith}
 use Rattle.std.specs.Io.KnownBytes.{Appends, IsAtEnd}
 use Rattle.flag_text.specs.Outlet.{AppendsPart}
-use Rattle.line_batches.specs.Fill.{Grows}
-use Rattle.line_batches.specs.Lines.{HasNoFeed}
-use Rattle.line_batches.specs.declared.filling.FillFault.{FillFault}
-use Rattle.line_batches.specs.declared.filling.FillFault.TheVariants as fill
+use Rattle.byte_streams.specs.Fill.{Grows}
+use Rattle.byte_streams.specs.Lines.{HasNoFeed}
+use Rattle.byte_streams.specs.declared.filling.FillFault.{FillFault}
+use Rattle.byte_streams.specs.declared.filling.FillFault.TheVariants as fill
 use Rattle.note_streams.specs.Record.{Scene, most_line}
 use Rattle.note_streams.specs.View.{outcomes_view}
 use Rattle.note_streams.specs.Batch.{Leaves, RecordsBatch, Stands}

@@ -3,7 +3,7 @@ use denote.Ref.{Bor}
 use Rattle.std.proofs.Common.{◌≡◌, ◌≤◌, ◌<◌, ◌+◌, ℕ, true, false, List, length, Option, ap, ◌∙◌, sym, subst, inl, inr, arith}
 use Rattle.std.specs.Io.KnownBytes.{Appends}
 use Rattle.flag_text.specs.Outlet.{AppendsPart}
-use Rattle.line_batches.specs.Lines.{HasNoFeed, IsCut, lines_view}
+use Rattle.byte_streams.specs.Lines.{HasNoFeed, IsCut, lines_view}
 use Rattle.note_streams.specs.Record.{Recorded, Scene, most_line, record_of}
 use Rattle.note_streams.specs.Batch.{Fronts, Leaves, Stops}
 use Rattle.note_streams.proofs.Batches.{few_recorded}

@@ -3,13 +3,13 @@ use denote.Ref.{Bor}
 use Rattle.std.specs.Prelude.{◌≡◌, ◌≢◌, ◌<◌, ◌≤◌, ◌⊎◌, ℕ, ◌+◌, true, false, List, ◌++◌, length, Option, Some, None, Result, Ok, Err}
 use Rattle.std.specs.Io.KnownBytes.{Appends}
 use Rattle.flag_text.specs.Outlet.{AppendsPart}
-use Rattle.line_batches.specs.Lines.{HasNoFeed, IsCut, parts_of}
-use Rattle.line_tally.specs.Lines.{Tallied}
+use Rattle.byte_streams.specs.Lines.{HasNoFeed, IsCut, parts_of}
+use Rattle.tallies.specs.Lines.{Tallied}
 use Rattle.note_streams.specs.Outcomes.{Outcomes, both}
 use Rattle.note_streams.specs.Record.{Recorded, Scene, joined, most_line, record_of}
-use Rattle.line_tally.specs.Filter.{Filtered}
-use Rattle.line_tally.specs.declared.filter_fault.FilterFault.{FilterFault}
-use Rattle.line_tally.specs.declared.filter_fault.FilterFault.TheVariants as filter
+use Rattle.tallies.specs.Filter.{Filtered}
+use Rattle.tallies.specs.declared.filter_fault.FilterFault.{FilterFault}
+use Rattle.tallies.specs.declared.filter_fault.FilterFault.TheVariants as filter
 use Rattle.note_streams.specs.Recorded.{recorded_of}
 use Rattle.note_streams.specs.Rest.{is_torn}
 use Rattle.note_streams.specs.Tallied.{Tallies}

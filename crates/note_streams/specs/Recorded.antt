@@ -2,7 +2,7 @@
 use Rattle.std.specs.Prelude.{◌≡◌, ◌<◌, ℕ, nat_lt, Bool, true, false, List, [], ◌∷◌, length, Option, if◌then◌else◌, Result, Ok, Err}
 use Rattle.std.specs.Io.KnownBytes.{Appends}
 use Rattle.flag_text.specs.Outlet.{AppendsPart}
-use Rattle.line_batches.specs.Lines.{parts_of}
+use Rattle.byte_streams.specs.Lines.{parts_of}
 use Rattle.note_streams.specs.View.{outcomes_view}
 use Rattle.note_streams.specs.Record.{Recorded, Scene, joined, most_line, nothing, of_line, refused}
 use Rattle.note_streams.specs.Rest.{is_empty, is_torn}

@@ -1,6 +1,6 @@
 -- What stands behind the last line of a stream, and whether there is anything at all.
 use Rattle.std.specs.Prelude.{ℕ, nat_eq, nat_lt, Bool, false, List, [], ◌∷◌, length}
-use Rattle.line_batches.specs.Lines.{parts_of}
+use Rattle.byte_streams.specs.Lines.{parts_of}
 
 -- the last of these parts, which is no line, has bytes
 abbrev pub has_rest : List (List ℕ) → Bool

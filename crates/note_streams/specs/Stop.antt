@@ -1,9 +1,9 @@
 -- The numbers that refusals are printed with, and what becomes of a batch that is not filled.
 use Rattle.std.specs.Prelude.{ℕ, Bool, true, false, Result, Ok, Err}
-use Rattle.line_batches.specs.declared.filling.FillFault.{FillFault}
-use Rattle.line_batches.specs.declared.filling.FillFault.TheVariants as fill
-use Rattle.line_tally.specs.FilterFault as filters
-use Rattle.line_tally.specs.declared.filter_fault.FilterFault.TheVariants as filter
+use Rattle.byte_streams.specs.declared.filling.FillFault.{FillFault}
+use Rattle.byte_streams.specs.declared.filling.FillFault.TheVariants as fill
+use Rattle.tallies.specs.FilterFault as filters
+use Rattle.tallies.specs.declared.filter_fault.FilterFault.TheVariants as filter
 use Rattle.note_streams.specs.declared.stop.RecordStop.{RecordStop}
 use Rattle.note_streams.specs.declared.stop.RecordStop.TheVariants.{WantOfMemory, Line, Unreadable, TooLong, Broken}
 use Rattle.note_streams.specs.declared.stop.TallyStop.{TallyStop}

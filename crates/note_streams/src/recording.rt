@@ -11,7 +11,7 @@ use crate::runs::{record_runs, write_runs};
 use crate::stop::RecordStop;
 use flag_text::Outlet;
 use limits::TEXT_BYTES;
-use line_batches::{Inlet, cut_lines, fill};
+use byte_streams::{Inlet, cut_lines, fill};
 use crate::{Outcomes, Recorder};
 use std::alloc::Global;
 use std::thread::Threads;

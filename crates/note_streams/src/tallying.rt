@@ -1,7 +1,7 @@
 //! From a stream of note lines to a tally.
 ghost use Rattle.std.specs.Prelude.{nat_eq, nat_lt, ◌≡◌, ◌<◌, ◌+◌, ◌^◌, length, false, IfSome};
-ghost use Rattle.line_tally.specs.Tally.{IsTallyTotal};
-ghost use Rattle.line_tally.specs.Lines.{untallied};
+ghost use Rattle.tallies.specs.Tally.{IsTallyTotal};
+ghost use Rattle.tallies.specs.Lines.{untallied};
 ghost use Rattle.note_streams.specs.Batch.{TalliesBatch};
 ghost use Rattle.note_streams.specs.Tallied.{TalliesStream};
 
@@ -9,10 +9,10 @@ use crate::recording::{BATCH, MOST_BYTES, PIECE};
 use crate::stop::TallyStop;
 use book_core::Page;
 use limits::TEXT_BYTES;
-use line_batches::{Inlet, cut_line, fill};
+use byte_streams::{Inlet, cut_line, fill};
 use std::alloc::Global;
-use line_tally::PageTally;
-use line_tally::{FilterFault, TallyFilter};
+use tallies::PageTally;
+use tallies::{FilterFault, TallyFilter};
 
 /// The tally of a stream.
 #[derive(Debug, Drop)]

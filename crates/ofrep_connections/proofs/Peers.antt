@@ -7,8 +7,8 @@ use Rattle.http_server.specs.Connection.{history}
 use Rattle.http_server.specs.declared.connection.Connection.{Connection}
 use Rattle.slab.specs.Slab.{Slab, Updates, get, with_value}
 use Rattle.slab.proofs.SlabLemmas.{Updates-with_value}
-use Rattle.dated_answers.specs.Stand.{AllStand}
-use Rattle.dated_answers.proofs.Standing.{Leads, still_stand}
+use Rattle.service_layers.specs.Stand.{AllStand}
+use Rattle.service_layers.proofs.Standing.{Leads, still_stand}
 use Rattle.ofrep_connections.specs.Socket.{IsTied}
 use Rattle.ofrep_connections.specs.Stand.{PeerStands, PeersStand}
 use Rattle.ofrep_connections.specs.declared.peer.Peer.{Peer}

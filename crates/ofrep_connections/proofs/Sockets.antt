@@ -6,7 +6,7 @@ use Rattle.http_server.specs.declared.response.Response.{Response}
 use Rattle.http_server.specs.Connection.{history}
 use Rattle.http_server.specs.History.{History, IsQuiet, after_read, after_sent}
 use Rattle.http_server.specs.declared.connection.Connection.{Connection}
-use Rattle.dated_answers.specs.Stand.{AllStand}
+use Rattle.service_layers.specs.Stand.{AllStand}
 use Rattle.std.proofs.lemmas.List.{take-take}
 use Rattle.ofrep_connections.specs.Socket.{Exchanges, IsTied}
 use Rattle.ofrep_connections.specs.Waiting.{IsFront}

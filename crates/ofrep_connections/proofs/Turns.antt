@@ -3,8 +3,8 @@ use Rattle.std.proofs.Common.{ℕ, List, [], ◌∷◌, ◌++◌, subst}
 use Rattle.http.specs.declared.request.Request.{Request}
 use Rattle.http_server.specs.declared.response.Response.{Response}
 use Rattle.http_server.specs.Exchange.{Call}
-use Rattle.dated_answers.specs.Stand.{Works}
-use Rattle.dated_answers.proofs.Standing.{Goes}
+use Rattle.service_layers.specs.Stand.{Works}
+use Rattle.service_layers.proofs.Standing.{Goes}
 
 module _ {S : Type 0} (answers : S → Request (List ℕ) → Response → S → Type 0) (looked : S → S → Type 0) where
   works_append : (xs ys : List (List Call)) (a b c : S) → Works answers looked a xs b → Works answers looked b ys c → Works answers looked a (xs ++ ys) c

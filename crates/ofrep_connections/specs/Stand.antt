@@ -4,7 +4,7 @@ use Rattle.http.specs.declared.request.Request.{Request}
 use Rattle.http_server.specs.declared.response.Response.{Response}
 use Rattle.http_server.specs.Connection.{history}
 use Rattle.slab.specs.Slab.{Slab, get}
-use Rattle.dated_answers.specs.Stand.{AllStand}
+use Rattle.service_layers.specs.Stand.{AllStand}
 use Rattle.ofrep_connections.specs.Socket.{IsTied}
 use Rattle.ofrep_connections.specs.declared.peer.Peer.{Peer}
 

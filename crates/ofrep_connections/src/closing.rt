@@ -12,11 +12,11 @@ use crate::work::Making;
 use http_server::Refusal;
 use httpdate::HttpDate;
 use mio::Registry;
-use dated_answers::Recording;
+use service_layers::Recording;
 use slab::Slab;
 use std::alloc::Global;
 use std::time::Instant;
-use dated_answers::Closing;
+use service_layers::Closing;
 
 /// Once a request was refused, its client has so many seconds to read the refusal.
 const DROPPING_SECONDS: u64 = 2;

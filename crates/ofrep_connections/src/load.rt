@@ -1,6 +1,6 @@
 //! How the workers of a listener share the connections that come.
 use std::sync::atomic::{AtomicUsize, Ordering};
-use dated_answers::Traffic;
+use service_layers::Traffic;
 
 /// How many workers take the connections of a listener, and how many connections they hold together.
 #[derive(Drop)]

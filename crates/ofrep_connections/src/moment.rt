@@ -1,5 +1,5 @@
 //! When something happens.
-use dated_answers::{date_at, second_of};
+use service_layers::{date_at, second_of};
 use httpdate::HttpDate;
 use std::io;
 use std::time::{Clock, Instant};

@@ -1,7 +1,7 @@
 //! The loop of a worker.
 ghost use Rattle.std.specs.Prelude.{◌≡◌, List};
 ghost use Rattle.http_server.specs.Exchange.{Call, Chain};
-ghost use Rattle.dated_answers.specs.Stand.{Works};
+ghost use Rattle.service_layers.specs.Stand.{Works};
 ghost use Rattle.ofrep_connections.specs.Stand.{PeersStand};
 
 use crate::admission::{MAX_PEERS, Queue, admit};
@@ -16,7 +16,7 @@ use http_server::Config;
 use mio::event::Event;
 use mio::net::{TcpListener, TcpStream};
 use mio::{Events, Interest, Poll, Registry, Token};
-use dated_answers::Recording;
+use service_layers::Recording;
 use slab::Slab;
 use std::alloc::Global;
 use std::hash::RandomState;
@@ -24,7 +24,7 @@ use std::net::Net;
 use std::sync::atomic::{AtomicBool, Ordering};
 use std::time::{Clock, Duration, Instant};
 use std::{io, net};
-use dated_answers::Traffic;
+use service_layers::Traffic;
 
 /// The token of the listener; those of the peers are below.
 const LISTENER: usize = MAX_PEERS;

@@ -16,7 +16,7 @@ use crate::replying::{respond, share};
 use bytes::Bytes;
 use http::{HeaderValue, Request};
 use http_server::{Response, Service};
-use dated_answers::Recording;
+use service_layers::Recording;
 use std::alloc::AllocError;
 use std::sync::atomic::{AtomicBool, Ordering};
 

@@ -14,7 +14,7 @@ use crate::rules::Rules;
 use bytes::Bytes;
 use http::{HeaderValue, Request, StatusCode};
 use http_server::{Response, Service};
-use dated_answers::Recording;
+use service_layers::Recording;
 use std::alloc::AllocError;
 
 /// What counts the statuses of answers.

@@ -21,7 +21,7 @@ use Rattle.snap_share.specs.declared.history.ShareName as ShareName
 use Rattle.snap_share.specs.contracts.seat.ReadSeat as ReadSeat
 use Rattle.snap_share.proofs.Crossings.{ReadSeat-send}
 use Rattle.ofrep_connections.specs.contracts.load.Load as Load
-use Rattle.dated_answers.proofs.Crossings.{AccessLines-sync}
+use Rattle.service_layers.proofs.Crossings.{AccessLines-sync}
 use Rattle.control_desk.specs.contracts.sources.PublishedSources as PublishedSources
 use Rattle.control_desk.proofs.Crossings.{DeskPost-sync, PublishedSources-sync}
 use Rattle.ofrep_guards.proofs.Crossings.{KeyRing-sync}

@@ -4,8 +4,8 @@ use Rattle.std.specs.List.{flat_map}
 use Rattle.http.specs.declared.request.Request.{Request}
 use Rattle.http_server.specs.declared.response.Response.{Response}
 use Rattle.http_server.specs.Exchange.{Call}
-use Rattle.dated_answers.specs.Stand.{AllStand, Works}
-use Rattle.dated_answers.proofs.Standing.{all_stand}
+use Rattle.service_layers.specs.Stand.{AllStand, Works}
+use Rattle.service_layers.proofs.Standing.{all_stand}
 
 module _ {S : Type 0} (answers : S → Request (List ℕ) → Response → S → Type 0) (looked : S → S → Type 0) (stands : S → Request (List ℕ) → Response → Type 0)
     (given : (old : S) (request : Request (List ℕ)) (response : Response) (new : S) → answers old request response new → stands new request response)

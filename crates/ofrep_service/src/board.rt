@@ -2,7 +2,7 @@
 ghost use Rattle.std.specs.Prelude.{◌≡◌, IfSome, Some, is_some, option_map};
 ghost use Rattle.std.specs.Sync.Mutex.{mutex_guard_value};
 
-use dated_answers::{AccessLines, WaitingLines};
+use service_layers::{AccessLines, WaitingLines};
 use control_desk::{DeskPost, DeskRules};
 use log_file::Loss;
 use note_lines::NoteForm;

@@ -3,7 +3,7 @@ ghost use Rattle.std.specs.Prelude.{◌≡◌, ◌<◌, false, IfSome};
 
 use crate::board::Board;
 use flag_text::WriteOutlet;
-use line_batches::PersistentOutput;
+use byte_streams::PersistentOutput;
 use snap_share::{Current, ReadSeat, ShareName};
 use std::io;
 use std::io::{ErrorKind, Read, Write};

@@ -5,7 +5,7 @@ ghost use Rattle.ofrep_worker.specs.Counted.{EndsWithSizes, gauge_text, sizes_te
 use crate::counts::{Counts, bit_of};
 use std::alloc::{AllocError, Global};
 use std::sync::atomic::{AtomicU64, Ordering};
-use dated_answers::{Kind, begin_family};
+use service_layers::{Kind, begin_family};
 
 /// The most documents that are told of.
 const MOST_DOCUMENTS: u64 = 64;

@@ -5,7 +5,7 @@ ghost use Rattle.ofrep_worker.specs.Standing.{responded, still_stands, still_sta
 
 use crate::worker::OfrepWorker;
 use log_file::{LogFile, LogPaths};
-use dated_answers::Recording;
+use service_layers::Recording;
 use snap_share::ShareName;
 use std::sync::Wait;
 use std::time::Clock;

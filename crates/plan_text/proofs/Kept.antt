@@ -7,8 +7,8 @@ use Rattle.flag_text.specs.Shape.{Shape, is_whole}
 use Rattle.flag_text.specs.View.{view}
 use Rattle.flag_text.specs.declared.tree.Tree.{Tree}
 use Rattle.transport_core.specs.declared.certificate.CutKind.{CutKind}
-use Rattle.unread_members.specs.Kept.{is_among, Keeps, IsKeptOf}
-use Rattle.unread_members.proofs.Same.{same_member, is_whole-tree_of}
+use Rattle.member_names.specs.Kept.{is_among, Keeps, IsKeptOf}
+use Rattle.member_names.proofs.Same.{same_member, is_whole-tree_of}
 use Rattle.plan_text.specs.Answer.{Answer, planned_view}
 use Rattle.plan_text.specs.PlanFile.{max_plan, plan_members, planned_written, has, has_rule_member, items_in, alpha_in, beta_in, cost_in, rule_in, names_in, emit_in, set_in, first_form, second_form, form_of, form_in, answer_by, planned_of, if_plan, if_tree, answer_of}
 use Rattle.plan_text.specs.declared.fault.PlanFileFault.{PlanFileFault}

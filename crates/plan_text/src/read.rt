@@ -17,7 +17,7 @@ use crate::rows::{read_alpha, read_beta, read_entries, read_names};
 use bucket_core::{Rule, RuleFault};
 use flag_text::Tree;
 use limits::FILE_BYTES;
-use unread_members::read_named;
+use member_names::read_named;
 use std::alloc::Global;
 use transport_core::{Certificate, Cut, CutKind};
 

@@ -9,7 +9,7 @@ ghost use Rattle.sync_server.specs.Reads.{ReadWithin};
 
 use crate::end::{ReadEnd, end_by};
 use crate::sink::Sink;
-use line_batches::Inlet;
+use byte_streams::Inlet;
 use snap_core::Snapshot;
 use std::alloc::Global;
 use sync_frames::Feed;

@@ -29,7 +29,7 @@ mod sink;
 
 pub use end::{ReadEnd, StreamEnd};
 pub use follow::follow_stream;
-pub use line_batches::{Inlet, ReadInlet};
+pub use byte_streams::{Inlet, ReadInlet};
 pub use next::NextNumber;
 pub use read::read_stream;
 pub use serve::serve_stream;

@@ -7,7 +7,7 @@ ghost use Rattle.sync_server.specs.Reads.{ReadWithin};
 use crate::end::ReadEnd;
 use crate::follow::follow_stream;
 use crate::sink::Sink;
-use line_batches::Inlet;
+use byte_streams::Inlet;
 use snap_core::Snapshot;
 use std::alloc::Global;
 

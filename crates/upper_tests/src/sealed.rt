@@ -14,7 +14,7 @@ use flagops_drive::{asks_of, read_asks};
 use flagops_shell::{Console, FileSet, run};
 use json::Scratch;
 use rollout::{RolloutFault, plan, print_planned_line};
-use command_laws::{PlanRefused, plan_sealed};
+use product_laws::{PlanRefused, plan_sealed};
 use min_cost_flow::Effort;
 use site_pages::{page_at, targeting_of};
 use std::alloc::Global;

@@ -10,7 +10,7 @@ use flag_text::Tree;
 use flagops_drive::{DriveRefusal, Endings, Misfit, Tally};
 use limits::SEATS;
 use std::alloc::{AllocError, Global};
-use unread_members::Reader;
+use member_names::Reader;
 
 /// The asks for each input from which on a line says how many there are.
 const MANY: u128 = 20;

@@ -1,7 +1,7 @@
 use denote.Ref.{Bor}
 use Rattle.std.proofs.Common.{◌∙◌, ◌++◌, List, ℕ, filter, sym, ap}
 use Rattle.std.proofs.lemmas.Result.{IfOk-weaker}
-use Rattle.line_batches.specs.Lines.{lines_view}
+use Rattle.byte_streams.specs.Lines.{lines_view}
 use Rattle.log_tallies.specs.Lines.{lines_in}
 use Rattle.control_answers.specs.History.{is_row, rows_from}
 use Rattle.control_answers.proofs.Rows.{more_rows, no_more}

@@ -1,5 +1,5 @@
 use Rattle.std.proofs.Common.{◌≡◌, ◌++◌, filter, length}
-use Rattle.line_batches.specs.Lines.{lines_view}
+use Rattle.byte_streams.specs.Lines.{lines_view}
 use Rattle.log_tallies.specs.Lines.{lines_in}
 use Rattle.control_answers.specs.History.{is_row}
 use Rattle.control_answers.proofs.history.history_answer.Given as goal

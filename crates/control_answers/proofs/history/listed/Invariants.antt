@@ -1,5 +1,5 @@
 use Rattle.std.proofs.Common.{◌≡◌, ◌++◌, codes, drop}
-use Rattle.line_batches.specs.Lines.{lines_view}
+use Rattle.byte_streams.specs.Lines.{lines_view}
 use Rattle.control_answers.specs.History.{has_some, newest_first}
 use Rattle.control_answers.proofs.history.listed.Given as goal
 

@@ -2,9 +2,9 @@ use Rattle.std.proofs.Common.{sym, ap, ◌∙◌, subst}
 use Rattle.std.proofs.lemmas.Result.{IfOk-weaker}
 use Rattle.json.specs.Json.{parse_map, value, object}
 use Rattle.json.proofs.Grammar.{value-begin_object}
-use Rattle.unread_members.specs.declared.reader.Reader.TheVariants as reader
-use Rattle.unread_members.specs.Passed.{Begins}
-use Rattle.unread_members.proofs.Placing.{place_is_told}
+use Rattle.member_names.specs.declared.reader.Reader.TheVariants as reader
+use Rattle.member_names.specs.Passed.{Begins}
+use Rattle.member_names.proofs.Placing.{place_is_told}
 use Rattle.flag_doubts.proofs.Others.{none_taken}
 use Rattle.flag_doubts.proofs.definition.in_definition.Goals as goal
 

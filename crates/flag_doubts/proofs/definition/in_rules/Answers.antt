@@ -1,10 +1,10 @@
 use Rattle.std.proofs.Common.{◌≡◌, ◌||◌, length, ap, ◌∙◌, arith}
 use Rattle.std.specs.List.{list_all}
-use Rattle.unread_members.specs.Unread.{reads}
-use Rattle.unread_members.specs.declared.reader.Reader.TheVariants as reader
-use Rattle.unread_members.specs.Repeated.{has_twin, member_names}
-use Rattle.unread_members.proofs.Open.{added_names}
-use Rattle.unread_members.proofs.Placing.{members_are_told, twin_is_told}
+use Rattle.member_names.specs.Unread.{reads}
+use Rattle.member_names.specs.declared.reader.Reader.TheVariants as reader
+use Rattle.member_names.specs.Repeated.{has_twin, member_names}
+use Rattle.member_names.proofs.Open.{added_names}
+use Rattle.member_names.proofs.Placing.{members_are_told, twin_is_told}
 use Rattle.flag_doubts.proofs.definition.in_rules.Goals as goal
 
 pub returns-clause-ok : goal.returns-clause-ok

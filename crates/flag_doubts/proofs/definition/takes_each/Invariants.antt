@@ -1,6 +1,6 @@
 use Rattle.std.proofs.Common.{◌≡◌, drop, map}
 use Rattle.std.specs.List.{list_all}
-use Rattle.unread_members.specs.Unread.{reads}
+use Rattle.member_names.specs.Unread.{reads}
 use Rattle.flag_doubts.proofs.definition.takes_each.Given as goal
 
 abbrev pub invariant-loop-name : goal.invariant-loop-name

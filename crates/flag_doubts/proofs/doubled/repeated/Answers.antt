@@ -3,7 +3,7 @@ use Rattle.std.proofs.lemmas.List.{get_or_default, take_all}
 use Rattle.std.proofs.lemmas.Map.Text.{btree_set_updates_text}
 use Rattle.std.specs.BTreeSet.{contains_text}
 use Rattle.std.specs.Str.{bytes_eq}
-use Rattle.unread_members.proofs.SecondNames.{nameless, was_met, was_new}
+use Rattle.member_names.proofs.SecondNames.{nameless, was_met, was_new}
 use Rattle.flag_doubts.proofs.Counts.{count, counted, met_once, met_twice, met_first}
 use Rattle.flag_doubts.proofs.doubled.repeated.Goals as goal
 use Rattle.flag_doubts.proofs.doubled.repeated.Goals.{then-not-branch+in_ok-from_str-2+in_ok-insert-2, else-not-branch}

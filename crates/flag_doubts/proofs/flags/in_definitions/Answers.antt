@@ -6,9 +6,9 @@ use Rattle.std.specs.Ordering.{nat_cmp}
 use Rattle.std.specs.Str.{bytes_eq}
 use Rattle.json.specs.Json.{read_key, members, value, no_members, member}
 use Rattle.json.proofs.Grammar.{read_key-shorter}
-use Rattle.unread_members.specs.Repeated.{member_names}
-use Rattle.unread_members.proofs.Grammar.{joined, members_first, member_taken, member_refused, key_refused, members_over, member_names-more}
-use Rattle.unread_members.proofs.Open.{no_key, one_name, seen_more, added_names}
+use Rattle.member_names.specs.Repeated.{member_names}
+use Rattle.member_names.proofs.Grammar.{joined, members_first, member_taken, member_refused, key_refused, members_over, member_names-more}
+use Rattle.member_names.proofs.Open.{no_key, one_name, seen_more, added_names}
 use Rattle.flag_doubts.specs.Doubled.{count_of}
 use Rattle.flag_doubts.proofs.Grammar.{repeats_under-more, are_definitions_read-more}
 use Rattle.flag_doubts.proofs.flags.in_definitions.Goals as goal

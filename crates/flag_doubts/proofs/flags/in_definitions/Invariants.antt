@@ -1,8 +1,8 @@
 use Rattle.std.proofs.Common.{◌≡◌, ℕ, ◌≤◌, ◌++◌, List, Bor, length, map, is_some}
 use Rattle.std.specs.BTreeMap.{get_by_text}
 use Rattle.json.specs.Json.{Members, members, value, parse_map}
-use Rattle.unread_members.specs.Repeated.{member_names}
-use Rattle.unread_members.proofs.Grammar.{joined}
+use Rattle.member_names.specs.Repeated.{member_names}
+use Rattle.member_names.proofs.Grammar.{joined}
 use Rattle.flag_doubts.specs.AllRead.{are_definitions_read}
 use Rattle.flag_doubts.specs.Repeated.{repeats_under}
 use Rattle.flag_doubts.proofs.flags.in_definitions.Given as goal

@@ -4,12 +4,12 @@ use Rattle.std.specs.Str.{bytes_eq}
 use Rattle.json.specs.Find.{get_member}
 use Rattle.json.specs.Json.{read_key, members, value, no_members, member}
 use Rattle.json.proofs.Grammar.{read_key-shorter}
-use Rattle.unread_members.specs.Unread.{reads}
-use Rattle.unread_members.specs.declared.reader.Reader.TheVariants as reader
-use Rattle.unread_members.specs.Repeated.{has_twin, member_names, repeats}
-use Rattle.unread_members.proofs.Grammar.{joined, members_first, member_taken, member_refused, key_refused, members_over, member_names-more}
-use Rattle.unread_members.proofs.Open.{no_key, one_name, seen_more, added_names}
-use Rattle.unread_members.proofs.Placing.{behind_is_told, place_is_told, twin_is_told}
+use Rattle.member_names.specs.Unread.{reads}
+use Rattle.member_names.specs.declared.reader.Reader.TheVariants as reader
+use Rattle.member_names.specs.Repeated.{has_twin, member_names, repeats}
+use Rattle.member_names.proofs.Grammar.{joined, members_first, member_taken, member_refused, key_refused, members_over, member_names-more}
+use Rattle.member_names.proofs.Open.{no_key, one_name, seen_more, added_names}
+use Rattle.member_names.proofs.Placing.{behind_is_told, place_is_told, twin_is_told}
 use Rattle.flag_doubts.specs.AllRead.{are_definitions_read, are_flags_read}
 use Rattle.flag_doubts.specs.Doubled.{members_in}
 use Rattle.flag_doubts.specs.FoundFlags.{FindsIn}

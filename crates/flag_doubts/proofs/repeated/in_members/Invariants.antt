@@ -1,8 +1,8 @@
 use Rattle.std.proofs.Common.{◌≡◌, ℕ, ◌≤◌, ◌++◌, List, Bor, codes, length, map, is_some}
 use Rattle.json.specs.Find.{get_member}
 use Rattle.json.specs.Json.{Members, members, value, parse_map}
-use Rattle.unread_members.specs.Repeated.{member_names}
-use Rattle.unread_members.proofs.Grammar.{joined}
+use Rattle.member_names.specs.Repeated.{member_names}
+use Rattle.member_names.proofs.Grammar.{joined}
 use Rattle.flag_doubts.specs.AllRead.{are_flags_read}
 use Rattle.flag_doubts.specs.FoundFlags.{FindsIn}
 use Rattle.flag_doubts.specs.Repeated.{repeats_beside}

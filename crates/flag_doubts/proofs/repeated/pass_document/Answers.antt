@@ -2,7 +2,7 @@ use Rattle.std.proofs.Common.{sym, ap, ◌∙◌, subst}
 use Rattle.std.proofs.lemmas.Result.{IfOk-weaker}
 use Rattle.json.specs.Json.{parse_map, value, object}
 use Rattle.json.proofs.Grammar.{value-begin_object}
-use Rattle.unread_members.specs.Passed.{Begins}
+use Rattle.member_names.specs.Passed.{Begins}
 use Rattle.flag_doubts.proofs.Others.{finds_nothing}
 use Rattle.json.specs.Json.{max_depth}
 use Rattle.flag_doubts.proofs.repeated.pass_document.Goals as goal

@@ -1,6 +1,6 @@
 use Rattle.std.proofs.Common.{ap, sym, subst, ◌∙◌}
 use Rattle.json.specs.Json.{document}
-use Rattle.unread_members.proofs.Documents.{json_text, no_json}
+use Rattle.member_names.proofs.Documents.{json_text, no_json}
 use Rattle.flag_doubts.specs.Repeated.{Finds}
 use Rattle.flag_doubts.proofs.repeated.repeated_in.Goals as goal
 

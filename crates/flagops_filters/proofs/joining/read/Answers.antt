@@ -1,6 +1,6 @@
 use Rattle.std.proofs.Common.{◌∙◌, Bool, false, Result, Ok, Err, ap}
-use Rattle.line_tally.specs.Tally.{PageTally}
-use Rattle.line_tally.specs.declared.file_fault.TallyFileFault.{TallyFileFault}
+use Rattle.tallies.specs.Tally.{PageTally}
+use Rattle.tallies.specs.declared.file_fault.TallyFileFault.{TallyFileFault}
 use Rattle.flagops_filters.specs.Refusal.{is_want}
 use Rattle.flagops_filters.specs.declared.refusal.FilterRefusal.TheVariants.{Load}
 use Rattle.flagops_files.specs.declared.refusal.Refusal.TheVariants.{ReadTally}

@@ -1,6 +1,6 @@
 use Rattle.std.proofs.Common.{◌≡◌, ℕ, List, subst}
 use Rattle.std.specs.Prelude.{is_some}
-use Rattle.unread_members.specs.Repeated.{is_repeating}
+use Rattle.member_names.specs.Repeated.{is_repeating}
 use Rattle.flagops_rollouts.proofs.Said.{request_told}
 use Rattle.flagops_rollouts.proofs.passed_over.unread_in_file.Goals as goal
 

@@ -1,7 +1,7 @@
 use denote.Ref.{Bor}
 use Rattle.std.proofs.Common.{◌≡◌, ◌<◌, ◌+◌, ◌-◌, ℕ, List, length, length-drop, drop, ap, arith}
 use Rattle.std.proofs.lemmas.List.{drop_all, length-map}
-use Rattle.line_batches.specs.Lines.{lines_view}
+use Rattle.byte_streams.specs.Lines.{lines_view}
 use Rattle.log_tallies.proofs.Counted.{counted_all, counted_next, counted_none, has_room}
 use Rattle.log_tallies.proofs.Cut.{first_line_left}
 use Rattle.log_tallies.proofs.counting.count_lines.Goals as goal

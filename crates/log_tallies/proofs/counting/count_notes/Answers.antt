@@ -1,7 +1,7 @@
 use denote.Ref.{Bor}
 use Rattle.std.proofs.Common.{List, ℕ, subst}
 use Rattle.std.proofs.lemmas.Result.{IfOk-weaker}
-use Rattle.line_batches.specs.Lines.{lines_view}
+use Rattle.byte_streams.specs.Lines.{lines_view}
 use Rattle.log_tallies.proofs.Counted.{counted}
 use Rattle.log_tallies.specs.Counts.{CountsLines}
 use Rattle.log_tallies.specs.Lines.{files_view}

@@ -1,6 +1,6 @@
 use Rattle.std.proofs.Common.{◌+◌, drop, ◌∙◌}
 use Rattle.std.proofs.lemmas.List.{drop_all}
-use Rattle.line_batches.specs.Lines.{lines_view}
+use Rattle.byte_streams.specs.Lines.{lines_view}
 use Rattle.log_tallies.proofs.Cut.{all_cut, first_file_left, more_files}
 use Rattle.log_tallies.specs.Lines.{all_lines, files_view}
 use Rattle.log_tallies.proofs.distinct.all_lines.Goals as goal

@@ -1,5 +1,5 @@
 use Rattle.std.proofs.Common.{◌≡◌, ◌++◌, drop}
-use Rattle.line_batches.specs.Lines.{lines_view}
+use Rattle.byte_streams.specs.Lines.{lines_view}
 use Rattle.log_tallies.specs.Lines.{all_lines, files_view}
 use Rattle.log_tallies.proofs.distinct.all_lines.Given as goal
 

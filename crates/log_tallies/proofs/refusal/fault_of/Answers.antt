@@ -1,5 +1,5 @@
 use Rattle.std.proofs.Common.{◌∙◌, sym, subst}
-use Rattle.line_batches.specs.Lines.{lines_view}
+use Rattle.byte_streams.specs.Lines.{lines_view}
 use Rattle.log_tallies.proofs.Refusals.{mixed_told, no_mixture, no_stray, one_kind}
 use Rattle.log_tallies.proofs.Strays.{none_told}
 use Rattle.log_tallies.specs.Lines.{files_view}

@@ -1,6 +1,6 @@
 use Rattle.std.proofs.Common.{sym, subst, List, ℕ}
 use denote.Ref.{Bor}
-use Rattle.line_batches.specs.Lines.{lines_view}
+use Rattle.byte_streams.specs.Lines.{lines_view}
 use Rattle.log_tallies.proofs.Held.{tallied_all}
 use Rattle.log_tallies.proofs.Refusals.{refused_for, told_of}
 use Rattle.log_tallies.specs.Lines.{files_view}

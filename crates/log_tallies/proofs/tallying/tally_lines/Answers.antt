@@ -1,10 +1,10 @@
 use Rattle.std.proofs.Common.{◌≡◌, ◌∙◌, ◌+◌, ℕ, drop, Err, ap, sym, subst}
 use Rattle.std.proofs.lemmas.List.{drop_all}
 use Rattle.std.proofs.lemmas.Result.{err_from_is_err_and}
-use Rattle.line_batches.specs.Lines.{lines_view}
+use Rattle.byte_streams.specs.Lines.{lines_view}
 use Rattle.log_tallies.proofs.Cut.{first_line_left}
 use Rattle.log_tallies.proofs.Taken.{begun, ended, refused, taken}
-use Rattle.line_tally.specs.Filter.{Filtered}
+use Rattle.tallies.specs.Filter.{Filtered}
 use Rattle.log_tallies.specs.Sorted.{TalliesLines}
 use Rattle.log_tallies.proofs.tallying.tally_lines.Goals as goal
 

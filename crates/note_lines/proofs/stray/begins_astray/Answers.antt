@@ -1,5 +1,5 @@
 use Rattle.std.proofs.Common.{◌≡◌, ◌-◌, suc, true, false, refl, subst, inl, inr, arith}
-use Rattle.line_batches.specs.Lines.{parts_of}
+use Rattle.byte_streams.specs.Lines.{parts_of}
 use Rattle.note_lines.specs.Astray.{IsAstray, IsTold}
 use Rattle.note_lines.proofs.Astray.{astray_line, none_left}
 use Rattle.note_lines.proofs.stray.begins_astray.Goals as goal

@@ -1,5 +1,5 @@
 use Rattle.std.proofs.Common.{Bool}
-use Rattle.line_batches.specs.Lines.{parts_of}
+use Rattle.byte_streams.specs.Lines.{parts_of}
 use Rattle.note_lines.specs.Astray.{IsAstray}
 use Rattle.note_lines.proofs.stray.begins_astray.Given as goal
 

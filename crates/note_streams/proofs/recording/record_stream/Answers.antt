@@ -1,7 +1,7 @@
 use Rattle.std.proofs.Common.{◌≡◌, ◌+◌, ◌-◌, ◌∙◌, ℕ, nat_eq, IfSome, List, [], length, Result, Err, ap, length-append, drop, ◌++◌, sym, subst, arith, rules}
 use Rattle.std.proofs.lemmas.List.{length-take-le}
 use Rattle.std.proofs.lemmas.Result.{err_from_is_err_and}
-use Rattle.line_batches.specs.Fill.{Grows}
+use Rattle.byte_streams.specs.Fill.{Grows}
 use Rattle.note_streams.specs.Outcomes.{contexts}
 use Rattle.note_streams.specs.Scene.{scene_of}
 use Rattle.note_streams.specs.View.{outcomes_view}

@@ -1,9 +1,9 @@
 use Rattle.std.proofs.Common.{◌≡◌, ◌+◌, ◌-◌, ◌∙◌, ℕ, nat_eq, List, [], length, Result, Err, ap, length-append, drop, ◌++◌, sym, subst, arith, rules}
 use Rattle.std.proofs.lemmas.List.{length-take-le}
 use Rattle.std.proofs.lemmas.Result.{err_from_is_err_and}
-use Rattle.line_batches.specs.Fill.{Grows}
-use Rattle.line_tally.specs.Lines.{untallied}
-use Rattle.line_tally.specs.Filter.{Filtered}
+use Rattle.byte_streams.specs.Fill.{Grows}
+use Rattle.tallies.specs.Lines.{untallied}
+use Rattle.tallies.specs.Filter.{Filtered}
 use Rattle.note_streams.specs.Batch.{LeavesLines, TalliesBatch}
 use Rattle.note_streams.specs.Stop.{tallied_fill}
 use Rattle.note_streams.specs.declared.tallying.StreamTally.{StreamTally}

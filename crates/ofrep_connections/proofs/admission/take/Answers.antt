@@ -1,6 +1,6 @@
 use Rattle.std.proofs.Common.{subst, sym}
 use Rattle.http_server.specs.History.{History}
-use Rattle.dated_answers.specs.Stand.{AllStand}
+use Rattle.service_layers.specs.Stand.{AllStand}
 use Rattle.ofrep_connections.specs.Socket.{IsTied}
 use Rattle.ofrep_connections.proofs.Sockets.{nothing_stands, tied_new}
 use Rattle.ofrep_connections.proofs.admission.take.Goals as goal

@@ -1,5 +1,5 @@
 use Rattle.std.proofs.Common.{None, [], refl}
-use Rattle.dated_answers.proofs.Standing.{goes_call, goes_look, goes_turn}
+use Rattle.service_layers.proofs.Standing.{goes_call, goes_look, goes_turn}
 use Rattle.ofrep_connections.proofs.Peers.{peers_looked}
 use Rattle.ofrep_connections.proofs.work.answer_ready.Goals as goal
 

@@ -1,6 +1,6 @@
 use Rattle.std.proofs.Common.{None}
 use Rattle.ofrep_connections.specs.Stand.{PeersStand}
-use Rattle.dated_answers.proofs.Standing.{GoesOn}
+use Rattle.service_layers.proofs.Standing.{GoesOn}
 use Rattle.ofrep_connections.proofs.work.answer_ready.Given as goal
 
 abbrev pub invariant-loop-event : goal.invariant-loop-event

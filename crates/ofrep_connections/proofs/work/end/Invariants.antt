@@ -1,6 +1,6 @@
 use Rattle.std.proofs.Common.{None}
 use Rattle.ofrep_connections.specs.Stand.{PeersStand}
-use Rattle.dated_answers.proofs.Standing.{Goes}
+use Rattle.service_layers.proofs.Standing.{Goes}
 use Rattle.ofrep_connections.proofs.work.end.Given as goal
 
 abbrev pub invariant-loop : goal.invariant-loop

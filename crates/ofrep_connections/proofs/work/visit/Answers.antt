@@ -1,7 +1,7 @@
 use Rattle.std.proofs.Common.{◌≡◌, ℕ, List, None, Option, subst, sym, ◌∙◌}
 use Rattle.http_server.specs.Connection.{history}
 use Rattle.http_server.specs.declared.connection.Connection.{Connection}
-use Rattle.dated_answers.specs.Stand.{AllStand}
+use Rattle.service_layers.specs.Stand.{AllStand}
 use Rattle.ofrep_connections.specs.Socket.{IsTied}
 use Rattle.ofrep_connections.proofs.Peers.{peers_stay, replaced}
 use Rattle.ofrep_connections.proofs.Sockets.{tied_on}

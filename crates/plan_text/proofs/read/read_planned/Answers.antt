@@ -1,7 +1,7 @@
 use Rattle.std.proofs.Common.{subst}
 use Rattle.flag_text.specs.Outcome.{GivesUnless}
 use Rattle.flag_text.specs.Reading.{tree_of}
-use Rattle.unread_members.specs.Kept.{IsKeptOf}
+use Rattle.member_names.specs.Kept.{IsKeptOf}
 use Rattle.plan_text.specs.Answer.{planned_view}
 use Rattle.plan_text.specs.PlanFile.{max_plan, plan_members}
 use Rattle.plan_text.specs.declared.fault.PlanFileFault.TheVariants.{WantOfMemory}

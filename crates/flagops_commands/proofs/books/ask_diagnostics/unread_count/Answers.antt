@@ -4,8 +4,8 @@ use Rattle.flag_text.specs.View.{view}
 use Rattle.flag_text.specs.declared.tree.Tree.{Tree}
 use Rattle.flagops_commands.proofs.UnreadAsks.{counted}
 use Rattle.flagops_commands.proofs.books.ask_diagnostics.unread_count.Goals as goal
-use Rattle.unread_members.specs.Unread.{unread_of}
-use Rattle.unread_members.specs.declared.reader.Reader.TheVariants as reader
+use Rattle.member_names.specs.Unread.{unread_of}
+use Rattle.member_names.specs.declared.reader.Reader.TheVariants as reader
 
 pub returns : goal.returns
 returns c =

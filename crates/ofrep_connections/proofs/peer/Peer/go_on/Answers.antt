@@ -2,8 +2,8 @@ use Rattle.std.proofs.Common.{sym, subst, refl, [], List, ◌∙◌}
 use Rattle.http_server.specs.Connection.{history}
 use Rattle.http_server.specs.Exchange.{Call}
 use Rattle.http_server.proofs.Theorems.{always_served}
-use Rattle.dated_answers.specs.Stand.{AllStand}
-use Rattle.dated_answers.proofs.Standing.{leads_on, stand_after}
+use Rattle.service_layers.specs.Stand.{AllStand}
+use Rattle.service_layers.proofs.Standing.{leads_on, stand_after}
 use Rattle.ofrep_connections.proofs.Sockets.{exchanges_none, exchanges_quiet, exchanges_then}
 use Rattle.ofrep_connections.proofs.peer.Peer.go_on.Goals as goal
 

@@ -1,7 +1,7 @@
 use Rattle.std.proofs.Common.{◌≡◌}
 use Rattle.http_server.specs.Connection.{history}
-use Rattle.dated_answers.specs.Stand.{AllStand}
-use Rattle.dated_answers.proofs.Standing.{Leads}
+use Rattle.service_layers.specs.Stand.{AllStand}
+use Rattle.service_layers.proofs.Standing.{Leads}
 use Rattle.ofrep_connections.specs.Socket.{Exchanges}
 use Rattle.ofrep_connections.proofs.peer.Peer.go_on.Given as goal
 

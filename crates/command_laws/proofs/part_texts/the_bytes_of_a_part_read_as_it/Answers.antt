@@ -1,5 +1,0 @@
-use Rattle.command_laws.proofs.Parts.{bytes_read}
-use Rattle.command_laws.proofs.part_texts.the_bytes_of_a_part_read_as_it.Goals as goal
-
-pub returns : goal.returns
-returns c = λ text limit path front old back t. bytes_read text limit path front old back t

@@ -1,5 +1,0 @@
-use Rattle.line_tally.proofs.Reordered.{in_any_order}
-use Rattle.line_tally.proofs.join_laws.a_tally_is_in_any_order.Goals as goal
-
-pub returns : goal.returns
-returns c = in_any_order

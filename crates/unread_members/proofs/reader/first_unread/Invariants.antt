@@ -1,7 +1,0 @@
-use Rattle.std.proofs.Common.{◌≡◌, drop}
-use Rattle.flag_text.specs.View.{members_view}
-use Rattle.unread_members.specs.Unread.{first_unread}
-use Rattle.unread_members.proofs.reader.first_unread.Given as goal
-
-abbrev pub invariant-loop-name : goal.invariant-loop-name
-invariant-loop-name l = first_unread l.reader (members_view (drop l.name-index l.members)) ≡ first_unread l.reader (members_view l.members)

@@ -1,6 +1,0 @@
-use Rattle.std.proofs.Common.{◌≡◌, drop, map}
-use Rattle.unread_members.specs.Kept.{is_among}
-use Rattle.unread_members.proofs.reading.is_among.Given as goal
-
-abbrev pub invariant-loop-known : goal.invariant-loop-known
-invariant-loop-known l = is_among (map (λ n. n.now) (drop l.known-index l.names)) l.name ≡ is_among (map (λ n. n.now) l.names) l.name

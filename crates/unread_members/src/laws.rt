@@ -1,7 +1,0 @@
-//! What holds of the definitions alone.
-ghost use Rattle.unread_members.specs.Kept.{SameMembers};
-
-/// A member of one of the names is that of the whole tree.
-pub fn a_kept_member_is_the_same()
-    ensures { SameMembers }
-{}
