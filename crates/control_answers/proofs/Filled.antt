@@ -12,7 +12,7 @@ use Rattle.book_core.specs.Page.{PageName, page_cmp, page_eq}
 use Rattle.book_core.specs.PageOrder.{pages_total}
 use Rattle.flag_defs.specs.Document.{Definitions}
 use Rattle.log_tallies.specs.Counts.{AreCounts, IsCountOf, counted_on}
-use Rattle.tallies.proofs.Pages.{same_page}
+use Rattle.note_tallies.proofs.Pages.{same_page}
 use Rattle.control_flags.specs.Sites.{Recorded, recorded_on}
 use Rattle.control_answers.specs.SiteCounts.{AreSiteCounts, Fills, IsSiteCount, site_pages}
 

@@ -8,7 +8,7 @@ use Rattle.rollout_checks.specs.Lawful.{and_then, by_price}
 use Rattle.rollout_checks.specs.Tallied.{IsTallyOutcome, tally_problem_asked, tally_problem_of}
 use Rattle.rollout_checks.specs.declared.refining.Refining.{Refining}
 use Rattle.rollout_checks.specs.declared.verify_fault.VerifyFault.{VerifyFault}
-use Rattle.tallies.specs.Tally.{PageTally}
+use Rattle.note_tallies.specs.Tally.{PageTally}
 use Rattle.control_answers.specs.Apply.{Applied, IsApplied, IsAppliedOn, IsApplyAnswer, IsApplyOf, unless_doubted}
 use Rattle.control_answers.specs.Check.{MayBeTold}
 use Rattle.control_answers.specs.Doubts.{doubt_of}

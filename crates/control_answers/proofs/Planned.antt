@@ -13,7 +13,7 @@ use Rattle.rollout_checks.specs.Plan.{IsTallyPlanned}
 use Rattle.rollout_checks.specs.Tallied.{tally_problem_asked, tally_problem_of}
 use Rattle.rollout_checks.specs.declared.fault.RolloutFault.{RolloutFault}
 use Rattle.rollout_checks.specs.declared.refining.Refining.TheVariants.{Times}
-use Rattle.tallies.specs.Tally.{PageTally}
+use Rattle.note_tallies.specs.Tally.{PageTally}
 use Rattle.control_answers.specs.Body.{Told, told_text}
 use Rattle.control_answers.specs.Plan.{IsPlanOn, IsPrinted, IsTold}
 use Rattle.control_answers.specs.Snapshot.{Snapshot}

@@ -14,8 +14,8 @@ use Rattle.rollout_checks.specs.Plan.{IsTallyPlanned}
 use Rattle.rollout_checks.specs.Tallied.{TallyProblem, tally_problem_of}
 use Rattle.rollout_checks.specs.declared.fault.RolloutFault.{RolloutFault}
 use Rattle.rollout_checks.specs.declared.refining.Refining.TheVariants.{Times}
-use Rattle.tallies.specs.JoinLaw.{HashesStandForInputs, IsTallyOf}
-use Rattle.tallies.specs.Tally.{PageTally}
+use Rattle.note_tallies.specs.JoinLaw.{HashesStandForInputs, IsTallyOf}
+use Rattle.note_tallies.specs.Tally.{PageTally}
 use Rattle.control_answers.proofs.Tallied.{tallied}
 use Rattle.control_answers.specs.Law.{AnswersPlanTheRecord, IsAnswerFor, PlansHashes, PlansInputs, PlansTheRecord}
 use Rattle.control_answers.specs.Plan.{IsPlanOn, IsPrinted, IsReported}

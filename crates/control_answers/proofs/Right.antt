@@ -14,8 +14,8 @@ use Rattle.rollout_checks.specs.Tallied.{IsTallyShown, TallyProblem, tally_probl
 use Rattle.rollout_checks.specs.Verified.{refining_for}
 use Rattle.rollout_checks.specs.declared.fault.RolloutFault.{RolloutFault}
 use Rattle.rollout_checks.specs.declared.verify_fault.VerifyFault.{VerifyFault}
-use Rattle.tallies.specs.JoinLaw.{HashesStandForInputs, IsTallyOf}
-use Rattle.tallies.specs.Tally.{PageTally}
+use Rattle.note_tallies.specs.JoinLaw.{HashesStandForInputs, IsTallyOf}
+use Rattle.note_tallies.specs.Tally.{PageTally}
 use Rattle.control_answers.proofs.Tallied.{tallied}
 use Rattle.control_answers.specs.Apply.{Applied, IsApplied, IsAppliedOf, IsAppliedOn, IsApplyOf, WhereRight, given, unless_doubted}
 use Rattle.control_answers.specs.Check.{IsVerdictOf, IsVerdictOn, MayBeTold, WithAnswer, valid_text, verdict_report}

@@ -9,8 +9,8 @@ use Rattle.flag_defs.specs.Document.{Definitions}
 use Rattle.rollout.specs.Tallied.{TalliesAskAsBooks}
 use Rattle.rollout_checks.specs.Tallied.{AreTallied, TallyProblem, tally_problem_of}
 use Rattle.rollout_checks.specs.declared.refining.Refining.{Refining}
-use Rattle.tallies.specs.JoinLaw.{IsTallyOf}
-use Rattle.tallies.specs.Tally.{PageTally}
+use Rattle.note_tallies.specs.JoinLaw.{IsTallyOf}
+use Rattle.note_tallies.specs.Tally.{PageTally}
 
 page_itself : (page : PageName) → page_eq page page ≡ true
 page_itself page = ap is_eq (tied_itself pages_total page)

@@ -7,7 +7,7 @@ use Rattle.plan_text.specs.declared.fault.PlanFileFault.{PlanFileFault}
 use Rattle.rollout_checks.specs.Tallied.{IsTallyOutcome, IsTallyShown, tally_problem_of}
 use Rattle.rollout_checks.specs.Verified.{refining_for}
 use Rattle.rollout_checks.specs.declared.verify_fault.VerifyFault.{VerifyFault}
-use Rattle.tallies.specs.Tally.{PageTally}
+use Rattle.note_tallies.specs.Tally.{PageTally}
 use Rattle.control_answers.specs.Refusal.{of_read, of_verdict}
 use Rattle.control_answers.specs.Target.{target_of}
 use Rattle.control_answers.specs.Turns.{OfFiles, Outcomes, WithTarget}

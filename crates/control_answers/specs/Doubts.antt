@@ -5,7 +5,7 @@ use Rattle.flag_text.specs.Shape.{Shape}
 use Rattle.flag_text.specs.declared.fault.TextFault.{TextFault}
 use Rattle.price_core.specs.Request.{max_request}
 use Rattle.member_names.specs.Repeated.{is_repeating}
-use Rattle.tallies.specs.Tally.{PageTally}
+use Rattle.note_tallies.specs.Tally.{PageTally}
 use Rattle.member_names.specs.Unread.{unread_of}
 use Rattle.member_names.specs.declared.reader.Reader.TheVariants as reader
 use Rattle.control_answers.specs.declared.refusal.ControlRefusal.{ControlRefusal}

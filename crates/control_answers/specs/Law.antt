@@ -12,8 +12,8 @@ use Rattle.rollout_checks.specs.Plan.{IsPlan}
 use Rattle.rollout_checks.specs.Tallied.{AreTallied, TallyProblem, tally_problem_of, with_inputs}
 use Rattle.rollout_checks.specs.Verified.{Shows, refining_for}
 use Rattle.rollout_checks.specs.declared.refining.Refining.TheVariants.{Times}
-use Rattle.tallies.specs.JoinLaw.{AreHashesOf, IsEachOnce}
-use Rattle.tallies.specs.Tally.{PageTally}
+use Rattle.note_tallies.specs.JoinLaw.{AreHashesOf, IsEachOnce}
+use Rattle.note_tallies.specs.Tally.{PageTally}
 use Rattle.control_answers.specs.Apply.{Applied, IsApplyAnswer}
 use Rattle.control_answers.specs.Body.{Told, told_text}
 use Rattle.control_answers.specs.Check.{IsCheckAnswer, valid_text}

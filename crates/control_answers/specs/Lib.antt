@@ -19,6 +19,6 @@ pub mod Turns
 pub mod View
 pub use Rattle.book_core.specs.Page
 pub use Rattle.bucket_core.specs.Rule
-pub use Rattle.tallies.specs.Tally
+pub use Rattle.note_tallies.specs.Tally
 pub use Rattle.rollout_checks.specs.Tallied
 pub use Rattle.rule_switches.specs.Switches

@@ -11,13 +11,13 @@ use Rattle.plan_text.specs.Answer.{Answer, emit, none_exists}
 use Rattle.rollout_checks.specs.Tallied.{TallyProblem}
 use Rattle.rule_switches.specs.Runs.{Run, AreRuns}
 use Rattle.rule_switches.specs.Table.{IsSwitchTable}
-use Rattle.rule_switches.specs.declared.table.Switch.{Switch}
+use Rattle.rule_switches.specs.declared.table.PairSwitches.{PairSwitches}
 use Rattle.transport_core.specs.Certificate.{DualPrices}
 
 -- what is told of a rule that a problem is answered with: its runs and its switches are those of the inputs on each point
 pub record IsChangeTold (p : TallyProblem) (rule : Entries) (duals : DualPrices) (high : ℕ) (items : List Item) : Type 0 where
   pub runs : List Run
-  pub table : ℕ × List Switch
+  pub table : ℕ × List PairSwitches
   pub in_runs : AreRuns p.old rule p.counts 0 runs (total_weight p.old)
   pub switched : IsSwitchTable p.old rule (keys_of p.limits) p.counts table
   pub told : items ≡ change_told p.old rule p.limits p.pricing runs table duals

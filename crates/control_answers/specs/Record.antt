@@ -1,9 +1,9 @@
 -- What is recorded at a site.
 use Rattle.std.specs.Prelude.{◌≡◌, ℕ, List, Ok}
 use Rattle.flag_defs.specs.Document.{Definitions}
-use Rattle.tallies.specs.Tally.{PageTally}
-use Rattle.tallies.specs.File.{tally_text}
-use Rattle.tallies.specs.Reading.{ReadsAs}
+use Rattle.note_tallies.specs.Tally.{PageTally}
+use Rattle.note_tallies.specs.File.{tally_text}
+use Rattle.note_tallies.specs.Reading.{ReadsAs}
 use Rattle.control_answers.specs.Target.{Target, target_in}
 use Rattle.control_answers.specs.Turns.{OfFiles, Outcomes, WithTarget}
 

@@ -4,7 +4,7 @@ use Rattle.flag_defs.specs.Document.{Definitions}
 use Rattle.log_tallies.specs.Tallies.{TalliesFiles}
 use Rattle.log_tallies.specs.declared.fault.LogTallyFault.{LogTallyFault}
 use Rattle.rollout_checks.specs.declared.fault.RolloutFault.{RolloutFault}
-use Rattle.tallies.specs.Tally.{PageTally}
+use Rattle.note_tallies.specs.Tally.{PageTally}
 use Rattle.control_answers.specs.Refusal.{of_logs, of_rollout}
 use Rattle.control_answers.specs.Target.{Target, target_of, target_view}
 use Rattle.control_answers.specs.declared.question.Question as program

@@ -23,7 +23,7 @@ use log_tallies::{LogFile, tally_files};
 use plan_text::{Planned, read_planned};
 use rollout_checks::{RequestFile, verify_file_on_tally};
 use std::alloc::Global;
-use tallies::PageTally;
+use note_tallies::PageTally;
 
 /// What is to be written, and what is told of it in the history.
 #[derive(Drop)]

@@ -19,7 +19,7 @@ use log_tallies::{LogFile, tally_files};
 use plan_text::{Planned, read_planned};
 use rollout_checks::{RequestFile, verify_file_on_tally};
 use std::alloc::{AllocError, Global};
-use tallies::PageTally;
+use note_tallies::PageTally;
 
 /// That the answer of a plan file is right on what log files hold, with its cost, as JSON.
 ///

@@ -8,7 +8,7 @@ use crate::refusal::ControlRefusal;
 use member_names::repeated_place;
 use rollout_checks::RequestFile;
 use std::alloc::{AllocError, Global};
-use tallies::PageTally;
+use note_tallies::PageTally;
 use member_names::Reader;
 
 /// Why a right answer to a request is not applied: the request may not ask what was meant, or nobody is recorded.

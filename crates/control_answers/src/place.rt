@@ -16,7 +16,7 @@ use flag_defs::Flags;
 use logic_ast::{Site, site};
 use rollout_checks::{RequestFile, RolloutFault};
 use std::alloc::Global;
-use tallies::MOST_POINTS;
+use note_tallies::MOST_POINTS;
 
 /// What is tallied for the file of a request.
 pub(crate) fn target_of(

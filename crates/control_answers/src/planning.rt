@@ -32,7 +32,7 @@ use rollout::plan_file_on_tally;
 use rollout_checks::RequestFile;
 use rollout_diagnostics::of_planned;
 use std::alloc::{AllocError, Global};
-use tallies::PageTally;
+use note_tallies::PageTally;
 
 /// The plan of a request on the flags of a snapshot and on what log files hold of the request's page, at the rule's total, as JSON:
 /// the plan file, how many of the recorded inputs switch, from which name to which, beside how many the edit that comes to mind

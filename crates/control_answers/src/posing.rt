@@ -11,7 +11,7 @@ use flag_defs::Flags;
 use plan_text::Planned;
 use rollout_checks::{Problem, Refining, RequestFile, RolloutFault, problem_of_tally};
 use std::alloc::{AllocError, Global};
-use tallies::PageTally;
+use note_tallies::PageTally;
 
 /// What was asked of a tally and has been planned: the rule that a planned rule takes the place of, and how many inputs fall on each
 /// of its points. The condition is that this is planned.

@@ -16,7 +16,7 @@ use crate::target::Target;
 use flag_defs::Flags;
 use log_tallies::{LogFile, tally_files};
 use std::alloc::Global;
-use tallies::print_tally;
+use note_tallies::print_tally;
 
 /// The file of the tally of the inputs that log files hold of the page of a site, at the rule's total.
 ///

@@ -6,7 +6,7 @@ use crate::books::put_misread;
 use crate::ends::Ends;
 use crate::lines::{Lines, Opening};
 use std::alloc::{AllocError, Global};
-use tallies::TallyFileFault;
+use note_tallies::TallyFileFault;
 
 /// Explains why the file at `path`, which begins as a tally, is not one.
 pub fn of_tally(

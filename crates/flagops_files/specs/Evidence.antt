@@ -4,10 +4,10 @@ use Rattle.std.specs.List.{starts_with}
 use Rattle.book_core.specs.Book.{Contents}
 use Rattle.book_core.specs.Reading.{book_of}
 use Rattle.book_core.specs.declared.fault.BookFileFault.{BookFileFault}
-use Rattle.tallies.specs.Tally.{PageTally}
-use Rattle.tallies.specs.Reading.{ReadsTally}
-use Rattle.tallies.specs.declared.file_fault.TallyFileFault.{TallyFileFault}
-use Rattle.tallies.specs.declared.file_fault.TallyFileFault.TheVariants.{WantOfMemory}
+use Rattle.note_tallies.specs.Tally.{PageTally}
+use Rattle.note_tallies.specs.Reading.{ReadsTally}
+use Rattle.note_tallies.specs.declared.file_fault.TallyFileFault.{TallyFileFault}
+use Rattle.note_tallies.specs.declared.file_fault.TallyFileFault.TheVariants.{WantOfMemory}
 use Rattle.flagops_shell.specs.Outcomes.{◌>>=◌, refused_by}
 use Rattle.flagops_files.specs.declared.evidence.Evidence.{Evidence}
 use Rattle.flagops_files.specs.declared.evidence.Evidence.TheVariants.{Book, Tally}

@@ -5,8 +5,8 @@ use Rattle.book_core.specs.declared.fault.BookFileFault.TheVariants as book
 use Rattle.price_core.specs.Fault as requests
 use Rattle.rollout_checks.specs.declared.fault.RolloutFault.{RolloutFault}
 use Rattle.rollout_checks.specs.declared.fault.RolloutFault.TheVariants as rollout
-use Rattle.tallies.specs.declared.file_fault.TallyFileFault.{TallyFileFault}
-use Rattle.tallies.specs.declared.file_fault.TallyFileFault.TheVariants as tally
+use Rattle.note_tallies.specs.declared.file_fault.TallyFileFault.{TallyFileFault}
+use Rattle.note_tallies.specs.declared.file_fault.TallyFileFault.TheVariants as tally
 
 -- a number, behind a blank
 abbrev pub number_item : ℕ → List ℕ

@@ -10,7 +10,7 @@ use Rattle.flag_defs.specs.Fault as documents
 use Rattle.flag_defs.specs.declared.fault.DefFault.TheVariants as document
 use Rattle.plan_text.specs.Fault as plan_files
 use Rattle.plan_text.specs.declared.fault.PlanFileFault.TheVariants as plan
-use Rattle.tallies.specs.declared.file_fault.TallyFileFault.TheVariants as tally
+use Rattle.note_tallies.specs.declared.file_fault.TallyFileFault.TheVariants as tally
 use Rattle.flagops_shell.specs.Files.{load_number, load_name, store_number, store_name}
 use Rattle.flagops_shell.specs.Ending as shell
 use Rattle.flagops_shell.specs.Given as given

@@ -1,8 +1,8 @@
 -- The number and the name that a refusal of the file of a tally is written with.
 use Rattle.std.specs.Prelude.{ℕ, List, codes}
-use Rattle.tallies.specs.Fault as tallies
-use Rattle.tallies.specs.declared.file_fault.TallyFileFault.{TallyFileFault}
-use Rattle.tallies.specs.declared.file_fault.TallyFileFault.TheVariants.{WantOfMemory, Header, Page, Line, Order, Inputs}
+use Rattle.note_tallies.specs.Fault as tallies
+use Rattle.note_tallies.specs.declared.file_fault.TallyFileFault.{TallyFileFault}
+use Rattle.note_tallies.specs.declared.file_fault.TallyFileFault.TheVariants.{WantOfMemory, Header, Page, Line, Order, Inputs}
 
 abbrev pub number_of : TallyFileFault → ℕ
 number_of e = tallies.number_of e

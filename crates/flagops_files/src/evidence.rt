@@ -15,8 +15,8 @@ use price_core::Request;
 use rollout_checks::{Refining, read_book_asked};
 use std::alloc::Global;
 use std::thread::Threads;
-use tallies::PageTally;
-use tallies::read_tally;
+use note_tallies::PageTally;
+use note_tallies::read_tally;
 
 /// What the first line of a tally begins with, and that of no book.
 const TALLY_OPENING: &[u8] = b"{\"tally\":";

@@ -7,7 +7,7 @@ use crate::refusal::Refusal;
 use book_core::BookFileFault;
 use rollout_checks::RolloutFault;
 use std::alloc::{AllocError, Global};
-use tallies::TallyFileFault;
+use note_tallies::TallyFileFault;
 
 /// The items of a refusal's payload, a blank before each: numbers in decimal.
 pub fn payload(alloc: Global, refusal: &Refusal) -> Result<String, AllocError>

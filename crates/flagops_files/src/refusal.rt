@@ -13,7 +13,7 @@ use flag_text::TextFault;
 use flagops_shell::{CommandRefusal, LoadFault, Remark, StoreFault};
 use plan_text::PlanFileFault;
 use std::alloc::{AllocError, Global};
-use tallies::TallyFileFault;
+use note_tallies::TallyFileFault;
 
 /// A call by which a file is read or written, by the name that a refusal's line has.
 #[derive(Clone, Copy, Debug)]
@@ -28,7 +28,7 @@ pub enum Call {
     ReadFlags,
     /// `book_core::read_book`.
     ReadBook,
-    /// `tallies::read_tally`.
+    /// `note_tallies::read_tally`.
     ReadTally,
     /// `plan_text::read_planned`.
     ReadPlanned,

@@ -2,7 +2,7 @@
 ghost use Rattle.std.specs.Prelude.{◌≡◌};
 ghost use Rattle.flagops_files.specs.Tallies.{name_of};
 
-use tallies::TallyFileFault;
+use note_tallies::TallyFileFault;
 
 /// The name that a refusal is written with: the variant's.
 pub(crate) fn name_of_tally_fault(fault: TallyFileFault) -> &'static str

@@ -2,9 +2,9 @@
 use Rattle.std.proofs.Common.{◌≡◌, ◌∙◌, ℕ, List, [], ◌∷◌, ◌++◌, Result, Ok, Err, append-nil, append_assoc, ap, refl, sym, subst, inl, inr}
 use Rattle.book_core.specs.Book.{Inputs}
 use Rattle.flagops_shell.specs.Files.{Holding}
-use Rattle.tallies.specs.JoinLaw as tally
-use Rattle.tallies.specs.Tally.{PageTally}
-use Rattle.tallies.specs.Joined.{all_of}
+use Rattle.note_tallies.specs.JoinLaw as tally
+use Rattle.note_tallies.specs.Tally.{PageTally}
+use Rattle.note_tallies.specs.Joined.{all_of}
 use Rattle.flagops_filters.specs.Join.{JoinsFiles}
 use Rattle.flagops_filters.specs.Law.{HoldTallies, JoinsFileSets}
 use Rattle.flagops_filters.specs.declared.refusal.FilterRefusal.{FilterRefusal}

@@ -12,9 +12,9 @@ use Rattle.flagops_shell.specs.declared.refused.Remark.{Remark}
 use Rattle.flagops_files.specs.declared.refusal.Refusal.{Refusal}
 use Rattle.flagops_files.specs.declared.refusal.Refusal.TheVariants.{Load as Unread, ReadTally}
 use Rattle.flagops_files.specs.Refusal.{Refused}
-use Rattle.tallies.specs.Tally.{PageTally}
-use Rattle.tallies.specs.Reading.{ReadsTally}
-use Rattle.tallies.specs.declared.file_fault.TallyFileFault.{TallyFileFault}
+use Rattle.note_tallies.specs.Tally.{PageTally}
+use Rattle.note_tallies.specs.Reading.{ReadsTally}
+use Rattle.note_tallies.specs.declared.file_fault.TallyFileFault.{TallyFileFault}
 use Rattle.flagops_filters.specs.Join.{IsJoinReport, IsTallyIn, IsTallyOf, JoinsAllFiles, JoinsFiles, report_joined}
 use Rattle.flagops_filters.specs.Joined.{JoinsNext, JoinsTwo, JoinsUnless}
 use Rattle.flagops_filters.specs.Refusal.{is_want}

@@ -7,7 +7,7 @@ use Rattle.flagops_shell.specs.Report.{Report}
 use Rattle.flagops_shell.specs.declared.outcome.Outcome.{Outcome}
 use Rattle.flagops_shell.specs.declared.refused.Remark.{Remark}
 use Rattle.flagops_shell.specs.declared.refused.Remark.TheVariants.{Lines, Short}
-use Rattle.tallies.specs.Lines.{finished, untallied}
+use Rattle.note_tallies.specs.Lines.{finished, untallied}
 use Rattle.note_streams.specs.Rest.{is_empty, is_torn}
 use Rattle.note_streams.specs.Tallied.{TalliesStream}
 use Rattle.note_streams.specs.declared.stop.TallyStop.{TallyStop}
@@ -15,10 +15,10 @@ use Rattle.note_streams.specs.declared.stop.TallyStop.TheVariants.{Filter, Unrea
 use Rattle.note_streams.specs.declared.tallying.StreamTally.{StreamTally}
 use Rattle.rollout_checks.specs.declared.fault.RolloutFault.{RolloutFault}
 use Rattle.rollout_checks.specs.declared.fault.RolloutFault.TheVariants as rollout
-use Rattle.tallies.specs.Tally.{PageTally}
-use Rattle.tallies.specs.declared.filter_fault.FilterFault.{FilterFault}
-use Rattle.tallies.specs.declared.filter_fault.FilterFault.TheVariants.{WantOfMemory}
-use Rattle.tallies.specs.File.{tally_text}
+use Rattle.note_tallies.specs.Tally.{PageTally}
+use Rattle.note_tallies.specs.declared.filter_fault.FilterFault.{FilterFault}
+use Rattle.note_tallies.specs.declared.filter_fault.FilterFault.TheVariants.{WantOfMemory}
+use Rattle.note_tallies.specs.File.{tally_text}
 use Rattle.flagops_filters.specs.Beside.{Reads, IsBesideTally, has_none, is_beside, tally_beside, tally_lines}
 use Rattle.flagops_filters.specs.Place.{PrintsTally}
 use Rattle.flagops_filters.specs.Refusal.{is_want}

@@ -4,8 +4,8 @@ use Rattle.flagops_shell.specs.Diagnostic.{PutsRemark, Says}
 use Rattle.flagops_shell.specs.declared.refused.Remark.{Remark}
 use Rattle.note_streams.specs.Rest.{is_empty, is_torn}
 use Rattle.note_streams.specs.Outcomes.{Outcomes, contexts}
-use Rattle.tallies.specs.Tally.{PageTally}
-use Rattle.tallies.specs.File.{tally_text}
+use Rattle.note_tallies.specs.Tally.{PageTally}
+use Rattle.note_tallies.specs.File.{tally_text}
 use Rattle.flagops_filters.specs.declared.start.Start.{Start}
 
 -- lines are this text

@@ -5,12 +5,12 @@ use Rattle.flagops_files.specs.Loading.{max_rule}
 use Rattle.flagops_shell.specs.Outcomes.{refused_by}
 use Rattle.flagops_files.specs.declared.refusal.Refusal.{Refusal}
 use Rattle.flagops_files.specs.declared.refusal.Refusal.TheVariants.{Load as Unread, ReadTally}
-use Rattle.tallies.specs.Join.{Joins}
-use Rattle.tallies.specs.Tally.{PageTally}
-use Rattle.tallies.specs.declared.joining.JoinFault.{JoinFault}
-use Rattle.tallies.specs.File.{tally_text}
-use Rattle.tallies.specs.Reading.{ReadsTally}
-use Rattle.tallies.specs.declared.file_fault.TallyFileFault.{TallyFileFault}
+use Rattle.note_tallies.specs.Join.{Joins}
+use Rattle.note_tallies.specs.Tally.{PageTally}
+use Rattle.note_tallies.specs.declared.joining.JoinFault.{JoinFault}
+use Rattle.note_tallies.specs.File.{tally_text}
+use Rattle.note_tallies.specs.Reading.{ReadsTally}
+use Rattle.note_tallies.specs.declared.file_fault.TallyFileFault.{TallyFileFault}
 use Rattle.flagops_filters.specs.Report.{Came}
 use Rattle.flagops_filters.specs.declared.refusal.FilterRefusal.{FilterRefusal}
 use Rattle.flagops_filters.specs.declared.refusal.FilterRefusal.TheVariants.{Load, Join}

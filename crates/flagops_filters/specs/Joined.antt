@@ -2,9 +2,9 @@
 use Rattle.std.specs.Prelude.{◌≡◌, ◌⊎◌, ℕ, List, Result, Ok, Err}
 use Rattle.flagops_shell.specs.Files.{Holding}
 use Rattle.flagops_shell.specs.Given.{GivesOne}
-use Rattle.tallies.specs.Join.{Joins}
-use Rattle.tallies.specs.Tally.{PageTally}
-use Rattle.tallies.specs.declared.joining.JoinFault.{JoinFault}
+use Rattle.note_tallies.specs.Join.{Joins}
+use Rattle.note_tallies.specs.Tally.{PageTally}
+use Rattle.note_tallies.specs.declared.joining.JoinFault.{JoinFault}
 use Rattle.flagops_filters.specs.Join.{IsTallyOf}
 use Rattle.flagops_filters.specs.Refusal.{is_want}
 use Rattle.flagops_filters.specs.declared.refusal.FilterRefusal.{FilterRefusal}

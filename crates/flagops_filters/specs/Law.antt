@@ -2,9 +2,9 @@
 use Rattle.std.specs.Prelude.{◌≡◌, ℕ, List, [], ◌∷◌, Ok}
 use Rattle.book_core.specs.Book.{Inputs}
 use Rattle.flagops_shell.specs.Files.{Holding}
-use Rattle.tallies.specs.JoinLaw as tally
-use Rattle.tallies.specs.Tally.{PageTally}
-use Rattle.tallies.specs.Joined.{all_of}
+use Rattle.note_tallies.specs.JoinLaw as tally
+use Rattle.note_tallies.specs.Tally.{PageTally}
+use Rattle.note_tallies.specs.Joined.{all_of}
 use Rattle.flagops_filters.specs.Join.{IsTallyOf, JoinsAllFiles}
 
 -- what is read at a path is the tally of these inputs

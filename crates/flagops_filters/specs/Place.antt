@@ -5,7 +5,7 @@ use Rattle.bucket_core.specs.Rule.{Entries, entries_view}
 use Rattle.flagops_shell.specs.Report.{outcome_view}
 use Rattle.flagops_shell.specs.declared.outcome.Outcome.{Outcome}
 use Rattle.note_streams.specs.declared.tallying.StreamTally.{StreamTally}
-use Rattle.tallies.specs.File.{tally_text}
+use Rattle.note_tallies.specs.File.{tally_text}
 use Rattle.flagops_filters.specs.Beside.{has_none, is_beside}
 use Rattle.flagops_filters.specs.Refusal.{is_want}
 use Rattle.flagops_filters.specs.Tally.{Target}

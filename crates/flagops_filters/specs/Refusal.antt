@@ -10,10 +10,10 @@ use Rattle.note_streams.specs.declared.stop.TallyStop.{TallyStop}
 use Rattle.note_streams.specs.declared.stop.TallyStop.TheVariants as tallying
 use Rattle.rollout_checks.specs.Fault as rollouts
 use Rattle.rollout_checks.specs.declared.fault.RolloutFault.TheVariants as rollout
-use Rattle.tallies.specs.declared.joining.JoinFault.{JoinFault}
-use Rattle.tallies.specs.declared.joining.JoinFault.TheVariants as joining
-use Rattle.tallies.specs.declared.filter_fault.FilterFault.{FilterFault}
-use Rattle.tallies.specs.declared.filter_fault.FilterFault.TheVariants as filter
+use Rattle.note_tallies.specs.declared.joining.JoinFault.{JoinFault}
+use Rattle.note_tallies.specs.declared.joining.JoinFault.TheVariants as joining
+use Rattle.note_tallies.specs.declared.filter_fault.FilterFault.{FilterFault}
+use Rattle.note_tallies.specs.declared.filter_fault.FilterFault.TheVariants as filter
 use Rattle.flagops_filters.specs.declared.refusal.FilterRefusal.{FilterRefusal}
 use Rattle.flagops_filters.specs.declared.refusal.FilterRefusal.TheVariants.{Load, Flag, Record, Tally, Join}
 

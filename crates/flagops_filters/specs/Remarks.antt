@@ -5,7 +5,7 @@ use Rattle.file_diagnostics.specs.Named.{Names, NamesWord}
 use Rattle.flagops_shell.specs.Diagnostic.{Says}
 use Rattle.flagops_shell.specs.Files.{Holding}
 use Rattle.flagops_shell.specs.declared.refused.Remark.{Remark}
-use Rattle.tallies.specs.Tally.{PageTally}
+use Rattle.note_tallies.specs.Tally.{PageTally}
 use Rattle.flagops_filters.specs.Beside.{IsBesideTally}
 use Rattle.flagops_filters.specs.Join.{IsTallyOf}
 use Rattle.flagops_filters.specs.Joined.{JoinsNext}

@@ -7,7 +7,7 @@ use Rattle.flagops_files.specs.Documents.{IsDocumentAs}
 use Rattle.flagops_shell.specs.Files.{Holding}
 use Rattle.flagops_files.specs.declared.refusal.Refusal.{Refusal}
 use Rattle.byte_streams.specs.Lines.{parts_of}
-use Rattle.tallies.specs.Lines.{Tallied, finished, untallied}
+use Rattle.note_tallies.specs.Lines.{Tallied, finished, untallied}
 use Rattle.note_streams.specs.Recorded.{most_bytes}
 use Rattle.note_streams.specs.Rest.{is_empty, is_torn}
 use Rattle.note_streams.specs.Tallied.{Tallies}
@@ -15,9 +15,9 @@ use Rattle.note_streams.specs.declared.stop.TallyStop.TheVariants.{Filter, Unrea
 use Rattle.rollout_checks.specs.Lawful.{Place, and_then, max_planned, place_of}
 use Rattle.rollout_checks.specs.declared.fault.RolloutFault.{RolloutFault}
 use Rattle.rollout_checks.specs.declared.fault.RolloutFault.TheVariants.{NoWeight, TotalTooLarge}
-use Rattle.tallies.specs.declared.filter_fault.FilterFault.{FilterFault}
-use Rattle.tallies.specs.declared.filter_fault.FilterFault.TheVariants.{WantOfMemory}
-use Rattle.tallies.specs.File.{tally_text}
+use Rattle.note_tallies.specs.declared.filter_fault.FilterFault.{FilterFault}
+use Rattle.note_tallies.specs.declared.filter_fault.FilterFault.TheVariants.{WantOfMemory}
+use Rattle.note_tallies.specs.File.{tally_text}
 use Rattle.flagops_filters.specs.Beside.{has_none, is_beside}
 use Rattle.flagops_filters.specs.Report.{Came}
 use Rattle.flagops_filters.specs.Words.{Tallying}

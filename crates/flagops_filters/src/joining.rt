@@ -12,8 +12,8 @@ ghost use Rattle.flagops_filters.specs.Words as words;
 ghost use Rattle.flagops_filters.specs.Words.{joining_view};
 ghost use Rattle.flagops_filters.specs.declared.refusal.FilterRefusal.TheVariants.{Join, Load};
 ghost use Rattle.flagops_files.specs.declared.refusal.Refusal.TheVariants.{ReadTally};
-ghost use Rattle.tallies.specs.File.{header_shape};
-ghost use Rattle.tallies.specs.declared.file_fault.TallyFileFault.TheVariants.{WantOfMemory};
+ghost use Rattle.note_tallies.specs.File.{header_shape};
+ghost use Rattle.note_tallies.specs.declared.file_fault.TallyFileFault.TheVariants.{WantOfMemory};
 
 use crate::asked::Joining;
 use crate::refusal::FilterRefusal;
@@ -23,8 +23,8 @@ use flagops_files::{Refusal, file_line, load, whole_line};
 use flagops_shell::{Command, FileSet, Outcome, Refused, Remark, Status};
 use std::alloc::{AllocError, Global};
 use std::convert::AsStr;
-use tallies::{JoinFault, PageTally, join as joined};
-use tallies::{TallyFileFault, print_tally, read_tally};
+use note_tallies::{JoinFault, PageTally, join as joined};
+use note_tallies::{TallyFileFault, print_tally, read_tally};
 
 /// The largest file of a tally, in bytes.
 const TALLY_LIMIT: u64 = limits::FILE_BYTES as u64;

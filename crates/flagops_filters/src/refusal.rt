@@ -1,7 +1,7 @@
 //! Why a filter refuses.
 ghost use Rattle.std.specs.Prelude.{◌≡◌, IfOk, codes, decimal, string_bytes};
 ghost use Rattle.flagops_files.specs.Refusal.{line_with};
-ghost use Rattle.tallies.specs.FilterFault as filters;
+ghost use Rattle.note_tallies.specs.FilterFault as filters;
 ghost use Rattle.flagops_filters.specs.FileLines.{file_line};
 ghost use Rattle.flagops_filters.specs.Refusal.{filter_items, filter_name, is_unread, is_want, join_name, join_number, line_of, record_name};
 ghost use Rattle.flagops_filters.specs.declared.refusal.FilterRefusal.TheVariants.{Load, Flag, Record, Tally};
@@ -11,8 +11,8 @@ use flagops_shell::CommandRefusal;
 use note_streams::{RecordStop, TallyStop};
 use rollout_checks::RolloutFault;
 use std::alloc::{AllocError, Global};
-use tallies::JoinFault;
-use tallies::FilterFault;
+use note_tallies::JoinFault;
+use note_tallies::FilterFault;
 
 /// Why a filter refuses.
 #[derive(Debug, Drop)]

@@ -42,12 +42,12 @@ use note_streams::{StreamTally, TallyStop, tally_stream};
 use rollout_checks::RolloutFault;
 use std::alloc::{AllocError, Global};
 use std::convert::AsStr;
-use tallies::PageTally;
-use tallies::FilterFault;
-use tallies::print_tally;
+use note_tallies::PageTally;
+use note_tallies::FilterFault;
+use note_tallies::print_tally;
 
 /// The most points of a tally.
-const MOST_POINTS: u128 = tallies::MOST_POINTS as u128;
+const MOST_POINTS: u128 = note_tallies::MOST_POINTS as u128;
 
 /// Does what the words after the program's name ask of `tally`, which is the first of them, and gives the status to end with.
 /// It prints the tally of the note lines of the standard input that are of the page of a site, or the line of a refusal with

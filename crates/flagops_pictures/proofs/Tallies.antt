@@ -14,8 +14,8 @@ use Rattle.rollout_checks.specs.Refined.{refining_checked}
 use Rattle.rollout_checks.specs.Tallied.{TallyProblem, tally_problem_of, with_counts, with_inputs}
 use Rattle.rollout_checks.specs.declared.fault.RolloutFault.{RolloutFault}
 use Rattle.rollout_checks.specs.declared.refining.Refining.{Refining}
-use Rattle.tallies.specs.JoinLaw.{IsTallyOf}
-use Rattle.tallies.specs.Tally.{PageTally}
+use Rattle.note_tallies.specs.JoinLaw.{IsTallyOf}
+use Rattle.note_tallies.specs.Tally.{PageTally}
 
 module _ (asks : TalliesAskAsBooks) (book : Contents) (t : PageTally) (of : IsTallyOf (inputs_on book t.page) t) where
   -- what is asked of the tally is asked of the book

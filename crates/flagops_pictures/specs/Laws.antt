@@ -9,8 +9,8 @@ use Rattle.picture.specs.Spelling.{Pictures}
 use Rattle.plan_text.specs.Answer.{Answer}
 use Rattle.ramp.specs.Ramp.{Standing, in_book, in_tally}
 use Rattle.rollout_checks.specs.declared.refining.Refining.{Refining}
-use Rattle.tallies.specs.JoinLaw.{IsTallyOf}
-use Rattle.tallies.specs.Tally.{PageTally}
+use Rattle.note_tallies.specs.JoinLaw.{IsTallyOf}
+use Rattle.note_tallies.specs.Tally.{PageTally}
 
 -- A picture of an answer on the tally of a page's inputs is one of it on the book that has them.
 abbrev pub TallyPicturesAreOfBooks : Type 0

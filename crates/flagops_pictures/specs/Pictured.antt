@@ -29,7 +29,7 @@ use Rattle.rollout_checks.specs.declared.fault.RolloutFault.{RolloutFault}
 use Rattle.rollout_checks.specs.declared.verify_fault.VerifyFault.{VerifyFault}
 use Rattle.rule_switches.specs.Runs.{Run, AreRuns}
 use Rattle.rule_switches.specs.Table.{IsSwitchTable}
-use Rattle.rule_switches.specs.declared.table.Switch.{Switch}
+use Rattle.rule_switches.specs.declared.table.PairSwitches.{PairSwitches}
 use Rattle.transport_core.specs.Certificate.{DualPrices}
 use Rattle.flagops_pictures.specs.Asked.{asked_over}
 use Rattle.flagops_pictures.specs.Words.{Picturing}
@@ -37,7 +37,7 @@ use Rattle.flagops_pictures.specs.Words.{Picturing}
 -- what is told of a rule that a problem is answered with: its runs and its switches are those of the inputs on each point
 pub record IsChangeTold (p : TallyProblem) (rule : Entries) (duals : DualPrices) (high : ℕ) (items : List Item) : Type 0 where
   pub runs : List Run
-  pub table : ℕ × List Switch
+  pub table : ℕ × List PairSwitches
   pub in_runs : AreRuns p.old rule p.counts 0 runs (total_weight p.old)
   pub switched : IsSwitchTable p.old rule (keys_of p.limits) p.counts table
   pub told : items ≡ change_told p.old rule p.limits p.pricing runs table duals

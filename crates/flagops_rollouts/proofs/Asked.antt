@@ -16,7 +16,7 @@ use Rattle.rollout_checks.specs.Tallied.{AreTallied, TallyProblem, tally_problem
 use Rattle.rollout_checks.specs.declared.fault.RolloutFault.{RolloutFault}
 use Rattle.rollout_checks.specs.declared.fault.RolloutFault.TheVariants.{NoWeight, OtherTally}
 use Rattle.rollout_checks.specs.declared.refining.Refining.{Refining}
-use Rattle.tallies.specs.Tally.{PageTally}
+use Rattle.note_tallies.specs.Tally.{PageTally}
 
 refused : {X E : Type 0} {e : E} {x : X} → Err e ≡ Ok x → ⊥
 refused h = cc

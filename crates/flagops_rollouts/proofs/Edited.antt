@@ -25,7 +25,7 @@ use Rattle.rollout_checks.specs.declared.fault.RolloutFault.{RolloutFault}
 use Rattle.rollout_checks.specs.declared.refining.Refining.{Refining}
 use Rattle.rollout_checks.specs.declared.refining.Refining.TheVariants.{Times}
 use Rattle.kept_document.specs.Place.{SitePlace}
-use Rattle.tallies.specs.Tally.{PageTally}
+use Rattle.note_tallies.specs.Tally.{PageTally}
 use Rattle.transport_core.specs.Certificate.{DualPrices}
 use Rattle.transport_core.specs.declared.certificate.CutKind.{CutKind}
 use Rattle.flagops_shell.specs.Files.{Holding, load_of}

@@ -32,9 +32,9 @@ use Rattle.rollout_checks.specs.declared.refining.Refining.{Refining}
 use Rattle.rollout_checks.specs.declared.refining.Refining.TheVariants.{Times}
 use Rattle.rollout_checks.specs.declared.verify_fault.VerifyFault.{VerifyFault}
 use Rattle.rollout_checks.specs.declared.verify_fault.VerifyFault.TheVariants.{Request, Check}
-use Rattle.tallies.proofs.Pages.{same_page}
-use Rattle.tallies.specs.JoinLaw.{IsTallyOf}
-use Rattle.tallies.specs.Tally.{PageTally}
+use Rattle.note_tallies.proofs.Pages.{same_page}
+use Rattle.note_tallies.specs.JoinLaw.{IsTallyOf}
+use Rattle.note_tallies.specs.Tally.{PageTally}
 use Rattle.flagops_rollouts.proofs.Asked.{asked_is, placed, refused_alike}
 use Rattle.flagops_rollouts.proofs.Valid.{outcome_over}
 use Rattle.flagops_rollouts.specs.Doubts.{doubt_of, first_doubt, is_unread, recorded_doubt, settle}

@@ -26,7 +26,7 @@ use Rattle.rollout_checks.specs.Refined.{problem_checked, problem_refined}
 use Rattle.rollout_checks.specs.Tallied.{AreTallied, IsTallyOutcome, TallyProblem, tally_problem_of, with_inputs}
 use Rattle.rollout_checks.specs.Verified.{IsOutcome, Proves, refining_for}
 use Rattle.rollout_checks.specs.declared.refining.Refining.TheVariants.{Times}
-use Rattle.tallies.specs.Tally.{PageTally}
+use Rattle.note_tallies.specs.Tally.{PageTally}
 use Rattle.flagops_rollouts.proofs.Asked.{IsPlaced, are_tallied, asked_by_again, asked_is, placed}
 use Rattle.rollout_checks.specs.declared.fault.RolloutFault.{RolloutFault}
 use Rattle.rollout_checks.specs.declared.fault.RolloutFault.TheVariants.{NoWeight}

@@ -7,8 +7,8 @@ use Rattle.plan_text.specs.Answer.{Answer}
 use Rattle.rollout_checks.specs.Tallied.{tally_problem_of}
 use Rattle.rollout_checks.specs.declared.fault.RolloutFault.TheVariants.{OtherTally}
 use Rattle.rollout_checks.specs.declared.refining.Refining.TheVariants.{Times}
-use Rattle.tallies.specs.JoinLaw.{IsTallyOf}
-use Rattle.tallies.specs.Tally.{PageTally}
+use Rattle.note_tallies.specs.JoinLaw.{IsTallyOf}
+use Rattle.note_tallies.specs.Tally.{PageTally}
 use Rattle.flagops_rollouts.specs.Plan.{IsPlanOf}
 use Rattle.flagops_rollouts.specs.Verify.{IsVerdict, tally_problem_checked}
 use Rattle.flagops_files.specs.Question.{Question}

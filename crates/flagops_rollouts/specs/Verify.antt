@@ -7,7 +7,7 @@ use Rattle.rollout_checks.specs.Tallied.{IsTallyOutcome, IsTallyShown, TallyProb
 use Rattle.rollout_checks.specs.Verified.{IsOutcome, IsShown}
 use Rattle.rollout_checks.specs.declared.fault.RolloutFault.{RolloutFault}
 use Rattle.rollout_checks.specs.declared.verify_fault.VerifyFault.{VerifyFault}
-use Rattle.tallies.specs.Tally.{PageTally}
+use Rattle.note_tallies.specs.Tally.{PageTally}
 use Rattle.flagops_shell.specs.Files.{Holding}
 use Rattle.flagops_shell.specs.Outcomes.{◌>>=◌, refused_by, beside, done}
 use Rattle.flagops_rollouts.specs.Loaded.{plan_at, IsQuestionAt}

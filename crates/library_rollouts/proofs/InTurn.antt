@@ -13,12 +13,12 @@ use Rattle.rollout_checks.specs.declared.verify_fault.VerifyFault.{VerifyFault}
 use Rattle.rollout_checks.specs.declared.verify_fault.VerifyFault.TheVariants as verdict
 use Rattle.kept_document.specs.declared.fault.KeepFault.{KeepFault}
 use Rattle.kept_document.specs.declared.fault.KeepFault.TheVariants as keep_fault
-use Rattle.tallies.specs.Tally.{PageTally}
-use Rattle.tallies.specs.declared.filter_fault.FilterFault.{FilterFault}
-use Rattle.tallies.specs.declared.filter_fault.FilterFault.TheVariants as notes_fault
-use Rattle.tallies.specs.Reading.{ReadsTally}
-use Rattle.tallies.specs.declared.file_fault.TallyFileFault.{TallyFileFault}
-use Rattle.tallies.specs.declared.file_fault.TallyFileFault.TheVariants as tally_fault
+use Rattle.note_tallies.specs.Tally.{PageTally}
+use Rattle.note_tallies.specs.declared.filter_fault.FilterFault.{FilterFault}
+use Rattle.note_tallies.specs.declared.filter_fault.FilterFault.TheVariants as notes_fault
+use Rattle.note_tallies.specs.Reading.{ReadsTally}
+use Rattle.note_tallies.specs.declared.file_fault.TallyFileFault.{TallyFileFault}
+use Rattle.note_tallies.specs.declared.file_fault.TallyFileFault.TheVariants as tally_fault
 use Rattle.transport_core.specs.declared.fault.CheckFault.{CheckFault}
 use Rattle.transport_core.specs.declared.fault.CheckFault.TheVariants as check_fault
 use Rattle.library_rollouts.specs.Reading.{OfAnswer, OfFlags, OfTally, Outcomes, WithAnswer}

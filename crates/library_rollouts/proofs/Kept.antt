@@ -26,7 +26,7 @@ use Rattle.rollout_checks.specs.declared.fault.RolloutFault.{RolloutFault}
 use Rattle.rollout_checks.specs.declared.fault.RolloutFault.TheVariants as rollout_fault
 use Rattle.rollout_checks.specs.declared.refining.Refining.{Refining}
 use Rattle.rollout_checks.specs.declared.verify_fault.VerifyFault.{VerifyFault}
-use Rattle.tallies.specs.Tally.{PageTally}
+use Rattle.note_tallies.specs.Tally.{PageTally}
 use Rattle.transport_core.specs.Certificate.{DualPrices}
 use Rattle.transport_core.specs.declared.certificate.CutKind.{CutKind}
 use Rattle.library_rollouts.specs.Apply.{IsEditedTo, IsKeptAt, IsKeptOn, IsKeptWith}

@@ -1,13 +1,13 @@
 -- The lines of some bytes, tallied one after another.
 use Rattle.std.proofs.Common.{◌≤◌, ℕ, List, [], ◌++◌, length, append-nil, Result, Ok, Err, subst}
 use Rattle.byte_streams.specs.Lines.{HasNoFeed, parts_of}
-use Rattle.tallies.specs.Lines.{Tallied}
+use Rattle.note_tallies.specs.Lines.{Tallied}
 use Rattle.note_streams.proofs.Counting.{ends_rest}
 use Rattle.note_streams.specs.Batch.{Goes}
 use Rattle.note_streams.specs.Tallied.{Tallies, behind}
 use Rattle.note_streams.specs.Record.{most_line}
-use Rattle.tallies.specs.Filter.{Filtered}
-use Rattle.tallies.specs.declared.filter_fault.FilterFault.{FilterFault}
+use Rattle.note_tallies.specs.Filter.{Filtered}
+use Rattle.note_tallies.specs.declared.filter_fault.FilterFault.{FilterFault}
 
 module _ (start : Tallied) (notes rest : List ℕ) (f : Filtered) (goes : Goes (behind start 0) notes f rest) where
   whole : (r : Result Tallied FilterFault) → Tallies f.tally f.lines (parts_of (rest ++ [])) r → Tallies start 0 (parts_of notes) r

@@ -12,7 +12,7 @@ use Rattle.rollout_checks.specs.Verified.{refining_for}
 use Rattle.rollout_checks.specs.declared.fault.RolloutFault.{RolloutFault}
 use Rattle.rollout_checks.specs.declared.refining.Refining.TheVariants.{Times}
 use Rattle.rollout_checks.specs.declared.verify_fault.VerifyFault.{VerifyFault}
-use Rattle.tallies.specs.Tally.{PageTally}
+use Rattle.note_tallies.specs.Tally.{PageTally}
 use Rattle.library_rollouts.specs.Plan.{IsPlanOn, has_rule, line_report}
 use Rattle.library_rollouts.specs.Refusal.{of_plan, of_rollout, of_verdict}
 use Rattle.library_rollouts.specs.Verify.{IsVerdictOn, MayBeTold}

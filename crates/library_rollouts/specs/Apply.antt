@@ -10,7 +10,7 @@ use Rattle.rollout.specs.Applied.{applied}
 use Rattle.rollout_checks.specs.declared.fault.RolloutFault.{RolloutFault}
 use Rattle.rollout_checks.specs.declared.verify_fault.VerifyFault.{VerifyFault}
 use Rattle.kept_document.specs.Place.{SitePlace}
-use Rattle.tallies.specs.Tally.{PageTally}
+use Rattle.note_tallies.specs.Tally.{PageTally}
 use Rattle.library_rollouts.specs.Reading.{OfAnswer, OfFlags, OfTally}
 use Rattle.library_rollouts.specs.Refusal.{of_keep, of_rollout, of_verdict}
 use Rattle.library_rollouts.specs.Verify.{MayBeTold}

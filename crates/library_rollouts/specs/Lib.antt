@@ -1,6 +1,6 @@
 pub use Rattle.bucket_core.specs.Rule
 pub use Rattle.flag_defs.specs.Document
-pub use Rattle.tallies.specs.Lines
+pub use Rattle.note_tallies.specs.Lines
 pub use Rattle.library_seat.specs.Room
 pub mod Apply
 pub mod Plan

@@ -9,7 +9,7 @@ use Rattle.rollout_checks.specs.Plan.{IsTallyPlanned}
 use Rattle.rollout_checks.specs.Tallied.{tally_problem_of}
 use Rattle.rollout_checks.specs.declared.fault.RolloutFault.{RolloutFault}
 use Rattle.rollout_checks.specs.declared.refining.Refining.TheVariants.{Times}
-use Rattle.tallies.specs.Tally.{PageTally}
+use Rattle.note_tallies.specs.Tally.{PageTally}
 use Rattle.library_rollouts.specs.Reading.{OfFlags, OfTally}
 use Rattle.library_rollouts.specs.Refusal.{of_plan, of_rollout}
 use Rattle.library_rollouts.specs.Writing.{Meaning}

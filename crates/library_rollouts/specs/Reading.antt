@@ -5,9 +5,9 @@ use Rattle.flag_defs.specs.declared.fault.DefFault.{DefFault}
 use Rattle.plan_text.specs.Answer.{Answer}
 use Rattle.plan_text.specs.PlanFile.{answer_of}
 use Rattle.plan_text.specs.declared.fault.PlanFileFault.{PlanFileFault}
-use Rattle.tallies.specs.Tally.{PageTally}
-use Rattle.tallies.specs.Reading.{ReadsTally}
-use Rattle.tallies.specs.declared.file_fault.TallyFileFault.{TallyFileFault}
+use Rattle.note_tallies.specs.Tally.{PageTally}
+use Rattle.note_tallies.specs.Reading.{ReadsTally}
+use Rattle.note_tallies.specs.declared.file_fault.TallyFileFault.{TallyFileFault}
 use Rattle.library_rollouts.specs.Refusal.{of_document, of_plan, of_tally}
 use Rattle.library_rollouts.specs.declared.refusal.RolloutRefusal.{RolloutRefusal}
 

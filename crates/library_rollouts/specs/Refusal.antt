@@ -15,12 +15,12 @@ use Rattle.rollout_checks.specs.declared.fault.RolloutFault.{RolloutFault}
 use Rattle.rollout_checks.specs.declared.fault.RolloutFault.TheVariants as rollout_fault
 use Rattle.rollout_checks.specs.declared.verify_fault.VerifyFault.{VerifyFault}
 use Rattle.rollout_checks.specs.declared.verify_fault.VerifyFault.TheVariants as verdict
-use Rattle.tallies.specs.FilterFault.{number_of as notes_number}
-use Rattle.tallies.specs.declared.filter_fault.FilterFault.{FilterFault}
-use Rattle.tallies.specs.declared.filter_fault.FilterFault.TheVariants as notes_fault
-use Rattle.tallies.specs.Fault.{number_of as tally_number}
-use Rattle.tallies.specs.declared.file_fault.TallyFileFault.{TallyFileFault}
-use Rattle.tallies.specs.declared.file_fault.TallyFileFault.TheVariants as tally_fault
+use Rattle.note_tallies.specs.FilterFault.{number_of as notes_number}
+use Rattle.note_tallies.specs.declared.filter_fault.FilterFault.{FilterFault}
+use Rattle.note_tallies.specs.declared.filter_fault.FilterFault.TheVariants as notes_fault
+use Rattle.note_tallies.specs.Fault.{number_of as tally_number}
+use Rattle.note_tallies.specs.declared.file_fault.TallyFileFault.{TallyFileFault}
+use Rattle.note_tallies.specs.declared.file_fault.TallyFileFault.TheVariants as tally_fault
 use Rattle.transport_core.specs.Fault.{number_of as check_number}
 use Rattle.transport_core.specs.declared.fault.CheckFault.{CheckFault}
 use Rattle.transport_core.specs.declared.fault.CheckFault.TheVariants as check_fault

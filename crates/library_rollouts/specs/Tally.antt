@@ -1,13 +1,13 @@
 -- What is tallied of note lines for a request.
 use Rattle.std.specs.Prelude.{◌≡◌, ◌≢◌, ℕ, List, Result, Ok, Err}
 use Rattle.byte_streams.specs.Lines.{parts_of}
-use Rattle.tallies.specs.Lines.{Tallied, finished, untallied}
+use Rattle.note_tallies.specs.Lines.{Tallied, finished, untallied}
 use Rattle.note_streams.specs.Tallied.{Tallies}
-use Rattle.tallies.specs.Tally.{PageTally}
-use Rattle.tallies.specs.declared.filter_fault.FilterFault.{FilterFault}
-use Rattle.tallies.specs.declared.filter_fault.FilterFault.TheVariants.{WantOfMemory}
-use Rattle.tallies.specs.File.{tally_text}
-use Rattle.tallies.specs.Reading.{ReadsAs}
+use Rattle.note_tallies.specs.Tally.{PageTally}
+use Rattle.note_tallies.specs.declared.filter_fault.FilterFault.{FilterFault}
+use Rattle.note_tallies.specs.declared.filter_fault.FilterFault.TheVariants.{WantOfMemory}
+use Rattle.note_tallies.specs.File.{tally_text}
+use Rattle.note_tallies.specs.Reading.{ReadsAs}
 use Rattle.library_rollouts.specs.Reading.{OfFlags}
 use Rattle.library_rollouts.specs.Refusal.{of_notes}
 use Rattle.library_rollouts.specs.Target.{Target, WithTarget, target_of}

@@ -5,7 +5,7 @@ use Rattle.plan_text.specs.Answer.{Answer}
 use Rattle.rollout_checks.specs.Tallied.{IsTallyOutcome, IsTallyShown, tally_problem_of}
 use Rattle.rollout_checks.specs.Verified.{refining_for}
 use Rattle.rollout_checks.specs.declared.verify_fault.VerifyFault.{VerifyFault}
-use Rattle.tallies.specs.Tally.{PageTally}
+use Rattle.note_tallies.specs.Tally.{PageTally}
 use Rattle.library_rollouts.specs.Reading.{OfAnswer, OfFlags, OfTally}
 use Rattle.library_rollouts.specs.Refusal.{of_verdict}
 use Rattle.library_rollouts.specs.declared.refusal.RolloutRefusal.{RolloutRefusal}

@@ -20,8 +20,8 @@ use plan_text::{Planned, read_planned};
 use rollout_checks::{RequestFile, verify_file_on_tally};
 use std::alloc::Global;
 use std::str;
-use tallies::PageTally;
-use tallies::read_tally;
+use note_tallies::PageTally;
+use note_tallies::read_tally;
 
 /// Writes the document with the rule of a right answer at the site of its request, and all else as it was.
 ///

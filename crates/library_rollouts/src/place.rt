@@ -13,7 +13,7 @@ use logic_ast::{Site, site};
 use price_core::Request;
 use rollout_checks::RolloutFault;
 use std::alloc::Global;
-use tallies::MOST_POINTS;
+use note_tallies::MOST_POINTS;
 
 /// What is tallied for the bytes of a request.
 pub(crate) fn target_of(

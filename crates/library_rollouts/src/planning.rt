@@ -16,8 +16,8 @@ use flag_defs::{Flags, read_flags};
 use plan_text::{Planned, print_planned_line};
 use rollout::plan_tally;
 use std::alloc::Global;
-use tallies::PageTally;
-use tallies::read_tally;
+use note_tallies::PageTally;
+use note_tallies::read_tally;
 
 /// Writes the plan file of the rule that fits a request and costs the inputs of a tally the least, or of a set of names which
 /// shows that no rule fits, as a line. It tells which of the two: true where a rule fits.

@@ -9,8 +9,8 @@ use plan_text::PlanFileFault;
 use price_core::PriceFault;
 use rollout_checks::{RolloutFault, VerifyFault};
 use std::alloc::{AllocError, AllocFailed};
-use tallies::FilterFault;
-use tallies::TallyFileFault;
+use note_tallies::FilterFault;
+use note_tallies::TallyFileFault;
 use transport_core::CheckFault;
 
 /// Why a rollout is refused.

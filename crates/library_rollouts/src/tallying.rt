@@ -3,8 +3,8 @@ ghost use Rattle.std.specs.Prelude.{◌≡◌, ◌<◌, ◌≤◌, false, length
 ghost use Rattle.std.specs.Str.{is_utf8};
 ghost use Rattle.flag_defs.specs.Document.{max_bytes};
 ghost use Rattle.flag_defs.specs.declared.fault.DefFault.TheVariants as fault;
-ghost use Rattle.tallies.specs.Lines.{untallied};
-ghost use Rattle.tallies.specs.Tally.{IsTallyTotal};
+ghost use Rattle.note_tallies.specs.Lines.{untallied};
+ghost use Rattle.note_tallies.specs.Tally.{IsTallyTotal};
 ghost use Rattle.library_rollouts.specs.Tally.{IsTally, IsTallyOver, TalliesLines};
 ghost use Rattle.library_rollouts.specs.Target.{target_view};
 ghost use Rattle.library_rollouts.specs.View.{text_view};
@@ -20,9 +20,9 @@ use flag_defs::read_flags;
 use limits::TEXT_BYTES;
 use byte_streams::cut_line;
 use std::alloc::Global;
-use tallies::PageTally;
-use tallies::{FilterFault, TallyFilter};
-use tallies::print_tally;
+use note_tallies::PageTally;
+use note_tallies::{FilterFault, TallyFilter};
+use note_tallies::print_tally;
 
 /// Writes the tally of note lines, which rise strictly, at the site of a request: of its page, in as many points as the rule's
 /// weights sum to. Bytes behind the last line feed are passed over.

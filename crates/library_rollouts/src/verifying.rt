@@ -15,8 +15,8 @@ use flag_defs::{Flags, read_flags};
 use plan_text::{Planned, read_planned};
 use rollout_checks::verify_tally;
 use std::alloc::Global;
-use tallies::PageTally;
-use tallies::read_tally;
+use note_tallies::PageTally;
+use note_tallies::read_tally;
 
 /// Checks that the answer of a plan file is right for a request over a tally. Its rule may stand on the site's rule refined, and
 /// the tally then has as many points.

@@ -8,13 +8,13 @@ use Rattle.std.specs.List.Sorted.{IsStrictlySortedBy}
 use Rattle.std.specs.Map.{lookup}
 use Rattle.std.specs.declared.cmp.Ordering.TheVariants.{Less}
 use Rattle.book_core.specs.Page.{PageName, bytes_cmp, page_cmp, page_eq}
-use Rattle.tallies.proofs.Refused.{no_hash, no_input}
-use Rattle.tallies.specs.Lines.{IsSaid, Said, of_hash, of_input, said_line, said_page}
-use Rattle.tallies.specs.Refusals.{SaysNothing}
+use Rattle.note_tallies.proofs.Refused.{no_hash, no_input}
+use Rattle.note_tallies.specs.Lines.{IsSaid, Said, of_hash, of_input, said_line, said_page}
+use Rattle.note_tallies.specs.Refusals.{SaysNothing}
 use Rattle.note_lines.specs.Hashed.{Hashed, has_hash}
 use Rattle.note_lines.specs.Note.{Noted}
 use Rattle.note_lines.specs.Reading.{Reads, ReadsHashed}
-use Rattle.tallies.proofs.Pages.{same_page}
+use Rattle.note_tallies.proofs.Pages.{same_page}
 use Rattle.log_tallies.proofs.Among.{In, from_in, to_in}
 use Rattle.log_tallies.proofs.Members.{one_said, page_itself}
 use Rattle.log_tallies.specs.Counts.{AreCounts, CountsLine, CountsLines, HasOneMore, HasRoom, IsNoteOf, SayAll, SaysPage, counted_on}

@@ -10,14 +10,14 @@ use Rattle.std.specs.declared.cmp.Ordering.TheVariants.{Less}
 use Rattle.bucket_core.specs.Point.{point_of, scale}
 use Rattle.bucket_core.proofs.Hashes.{point_of-below, scale-below}
 use Rattle.book_core.specs.Page.{PageName, bytes_cmp, page_eq}
-use Rattle.tallies.specs.Law.{hashes_of, inputs_of}
-use Rattle.tallies.specs.Lines.{IsSaid, Said, Tallied, finished, has_room, of_hash, of_input, said_line, said_page, said_point, untallied}
+use Rattle.note_tallies.specs.Law.{hashes_of, inputs_of}
+use Rattle.note_tallies.specs.Lines.{IsSaid, Said, Tallied, finished, has_room, of_hash, of_input, said_line, said_page, said_point, untallied}
 use Rattle.note_lines.specs.Hashed.{Hashed, hashed_line}
 use Rattle.note_lines.specs.Note.{Noted, note_line}
-use Rattle.tallies.proofs.Pages.{same_page}
-use Rattle.tallies.specs.JoinLaw.{IsTallyBy}
-use Rattle.tallies.specs.Tally.{hash_line_on, hashed_on, line_on, most_at_point, most_in_all, noted_on}
-use Rattle.tallies.specs.Filter.{AreTalliedHashes, AreTalliedInputs, StreamIsTallied}
+use Rattle.note_tallies.proofs.Pages.{same_page}
+use Rattle.note_tallies.specs.JoinLaw.{IsTallyBy}
+use Rattle.note_tallies.specs.Tally.{hash_line_on, hashed_on, line_on, most_at_point, most_in_all, noted_on}
+use Rattle.note_tallies.specs.Filter.{AreTalliedHashes, AreTalliedInputs, StreamIsTallied}
 use Rattle.log_tallies.proofs.Among.{In, from_in, in_front, in_middle}
 use Rattle.log_tallies.proofs.Held.{on_this, total_stays}
 use Rattle.log_tallies.proofs.Members.{all_map, all_members, each_said, hashed_is_on, note_is_on}

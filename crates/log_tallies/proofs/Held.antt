@@ -4,18 +4,18 @@ use Rattle.std.specs.List.{AllByRecursion, Contains}
 use Rattle.std.specs.List.Sorted.{IsStrictlySortedBy}
 use Rattle.bucket_core.specs.Point.{point_of, scale}
 use Rattle.book_core.specs.Page.{PageName, bytes_cmp, page_eq}
-use Rattle.tallies.specs.Law.{hashes_of, inputs_of}
-use Rattle.tallies.specs.Lines.{IsSaid, Said, Tallied, finished, has_room, is_alike, of_hash, of_input, passed, said_line, said_page, said_point, tallied, untallied}
-use Rattle.tallies.specs.Refusals.{TakesSaid}
-use Rattle.tallies.specs.declared.fault.LineTallyFault.{LineTallyFault}
-use Rattle.tallies.specs.declared.fault.LineTallyFault.TheVariants.{Order, TooMany, Mixed}
+use Rattle.note_tallies.specs.Law.{hashes_of, inputs_of}
+use Rattle.note_tallies.specs.Lines.{IsSaid, Said, Tallied, finished, has_room, is_alike, of_hash, of_input, passed, said_line, said_page, said_point, tallied, untallied}
+use Rattle.note_tallies.specs.Refusals.{TakesSaid}
+use Rattle.note_tallies.specs.declared.fault.LineTallyFault.{LineTallyFault}
+use Rattle.note_tallies.specs.declared.fault.LineTallyFault.TheVariants.{Order, TooMany, Mixed}
 use Rattle.note_lines.specs.Hashed.{Hashed, IsHashed}
 use Rattle.note_lines.specs.Note.{IsNote, Noted}
 use Rattle.page_tally.specs.Folding.{is_above_last}
-use Rattle.tallies.specs.JoinLaw.{IsRangeBy, IsRangeOf, IsRangeOfHashes}
-use Rattle.tallies.specs.Tally.{PageTally, hash_line_on, hashed_on, line_on, noted_on}
-use Rattle.tallies.specs.Blank.{is_blank}
-use Rattle.tallies.specs.Filter.{AreLinesOf, AreTalliedHashes, AreTalliedInputs, StreamIsTallied, TakesAll}
+use Rattle.note_tallies.specs.JoinLaw.{IsRangeBy, IsRangeOf, IsRangeOfHashes}
+use Rattle.note_tallies.specs.Tally.{PageTally, hash_line_on, hashed_on, line_on, noted_on}
+use Rattle.note_tallies.specs.Blank.{is_blank}
+use Rattle.note_tallies.specs.Filter.{AreLinesOf, AreTalliedHashes, AreTalliedInputs, StreamIsTallied, TakesAll}
 use Rattle.log_tallies.proofs.Among.{In, all_of, from_in, of_all, to_in}
 use Rattle.log_tallies.proofs.Members.{all_map, all_members, each_said, hashed_is_on, in_hashes, in_members, in_notes, kept_lines, no_hash_in, no_note_in, note_is_on, page_itself, said_there}
 use Rattle.log_tallies.specs.Lines.{all_lines}

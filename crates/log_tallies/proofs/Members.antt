@@ -7,15 +7,15 @@ use Rattle.std.specs.Ordering.{is_eq}
 use Rattle.book_core.specs.Page.{PageName, page_eq}
 use Rattle.book_core.specs.PageOrder.{pages_total}
 use Rattle.flag_text.specs.Printing.{text_of}
-use Rattle.tallies.specs.Lines.{IsSaid, Said, of_hash, of_input, said_line}
+use Rattle.note_tallies.specs.Lines.{IsSaid, Said, of_hash, of_input, said_line}
 use Rattle.note_lines.proofs.Lines as notes
 use Rattle.note_lines.proofs.OneKind.{not_both}
 use Rattle.note_lines.specs.Hashed.{Hashed, hashed_line}
 use Rattle.note_lines.specs.Note.{Noted, note_line}
-use Rattle.tallies.proofs.Pages.{same_page}
-use Rattle.tallies.specs.Tally.{hashed_on, noted_on}
-use Rattle.tallies.specs.Blank.{is_blank}
-use Rattle.tallies.specs.Filter.{AreLinesOf}
+use Rattle.note_tallies.proofs.Pages.{same_page}
+use Rattle.note_tallies.specs.Tally.{hashed_on, noted_on}
+use Rattle.note_tallies.specs.Blank.{is_blank}
+use Rattle.note_tallies.specs.Filter.{AreLinesOf}
 use Rattle.log_tallies.proofs.Among.{In}
 use Rattle.log_tallies.specs.Stray.{AreKept}
 

@@ -5,13 +5,13 @@ use Rattle.std.proofs.lemmas.List.Folds.{Any-from_list_any, list_any-from_Any}
 use Rattle.std.specs.List.{Contains, list_any}
 use Rattle.book_core.specs.Page.{PageName}
 use Rattle.byte_streams.specs.Lines.{lines_view}
-use Rattle.tallies.specs.Lines.{IsSaid, Said, of_hash, of_input, said_line}
+use Rattle.note_tallies.specs.Lines.{IsSaid, Said, of_hash, of_input, said_line}
 use Rattle.note_lines.proofs.OneKind.{hash_kind, input_kind}
 use Rattle.note_lines.specs.Hashed.{Hashed, IsHashed, has_hash, hashed_line}
 use Rattle.note_lines.specs.Note.{IsNote, Noted, note_line}
-use Rattle.tallies.specs.Blank.{is_blank}
-use Rattle.tallies.specs.declared.filter_fault.FilterFault.{FilterFault}
-use Rattle.tallies.specs.declared.filter_fault.FilterFault.TheVariants.{WantOfMemory, Line, Order, TooMany, Mixed}
+use Rattle.note_tallies.specs.Blank.{is_blank}
+use Rattle.note_tallies.specs.declared.filter_fault.FilterFault.{FilterFault}
+use Rattle.note_tallies.specs.declared.filter_fault.FilterFault.TheVariants.{WantOfMemory, Line, Order, TooMany, Mixed}
 use Rattle.log_tallies.proofs.Among.{In, from_in, in_map, map_in, of_all, to_in}
 use Rattle.log_tallies.proofs.Crowded.{crowded, mixed}
 use Rattle.log_tallies.proofs.Members.{not_blank}
@@ -23,7 +23,7 @@ use Rattle.log_tallies.specs.Stray.{AreKept, IsKept}
 use Rattle.log_tallies.specs.Tallies.{AreOfOneKind, TalliesFiles}
 use Rattle.log_tallies.specs.declared.fault.LogTallyFault.{LogTallyFault}
 use Rattle.log_tallies.specs.declared.fault.LogTallyFault.TheVariants as told
-use Rattle.tallies.specs.Filter.{StreamIsTallied}
+use Rattle.note_tallies.specs.Filter.{StreamIsTallied}
 
 -- ---- lines of a kind
 

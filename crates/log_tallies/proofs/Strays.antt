@@ -2,12 +2,12 @@
 use Rattle.std.proofs.Common.{◌≡◌, ◌+◌, ℕ, suc, true, false, List, [], ◌∷◌, Option, Some, None, is_some, refl, sym, ◌∙◌, subst, inl, inr, arith, Bool, not}
 use Rattle.std.specs.Option.{MatchOption}
 use Rattle.byte_streams.specs.Lines.{HasNoFeed, IsFirst}
-use Rattle.tallies.proofs.Refused.{no_hash, no_input}
-use Rattle.tallies.specs.Lines.{of_hash, of_input}
+use Rattle.note_tallies.proofs.Refused.{no_hash, no_input}
+use Rattle.note_tallies.specs.Lines.{of_hash, of_input}
 use Rattle.note_lines.specs.Hashed.{Hashed, has_hash}
 use Rattle.note_lines.specs.Note.{Noted}
 use Rattle.note_lines.specs.Reading.{Reads, ReadsHashed}
-use Rattle.tallies.specs.Blank.{is_blank}
+use Rattle.note_tallies.specs.Blank.{is_blank}
 use Rattle.log_tallies.proofs.Among.{all_both}
 use Rattle.log_tallies.proofs.Cut.{lines_first, lines_none}
 use Rattle.log_tallies.specs.Lines.{all_lines, lines_in}

@@ -8,18 +8,18 @@ use Rattle.std.specs.declared.cmp.Ordering.TheVariants.{Less}
 use Rattle.std.proofs.lemmas.Map.Keys.{sorted_head, sorted_tail}
 use Rattle.book_core.proofs.Ordered.{All-weaker}
 use Rattle.book_core.specs.Page.{PageName, bytes_cmp, page_eq}
-use Rattle.tallies.specs.Lines.{IsSaid, Said, Tallied, finished, has_room, is_alike, of_hash, of_input, passed, said_line, said_page, said_point, tallied, untallied, with_said}
-use Rattle.tallies.specs.Refusals.{Refuses}
-use Rattle.tallies.specs.declared.fault.LineTallyFault.{LineTallyFault}
-use Rattle.tallies.specs.declared.fault.LineTallyFault.TheVariants as line
+use Rattle.note_tallies.specs.Lines.{IsSaid, Said, Tallied, finished, has_room, is_alike, of_hash, of_input, passed, said_line, said_page, said_point, tallied, untallied, with_said}
+use Rattle.note_tallies.specs.Refusals.{Refuses}
+use Rattle.note_tallies.specs.declared.fault.LineTallyFault.{LineTallyFault}
+use Rattle.note_tallies.specs.declared.fault.LineTallyFault.TheVariants as line
 use Rattle.note_lines.proofs.OneKind.{hash_kind, input_kind}
 use Rattle.note_lines.specs.Hashed.{has_hash, hashed_line}
 use Rattle.note_lines.specs.Note.{note_line}
 use Rattle.page_tally.specs.Folding.{is_above_last}
-use Rattle.tallies.specs.Tally.{PageTally}
-use Rattle.tallies.specs.Blank.{is_blank}
-use Rattle.tallies.specs.Filter.{Filtered, RefusesLine, Takes, TakesAll, numbered}
-use Rattle.tallies.specs.declared.filter_fault.FilterFault.{FilterFault}
+use Rattle.note_tallies.specs.Tally.{PageTally}
+use Rattle.note_tallies.specs.Blank.{is_blank}
+use Rattle.note_tallies.specs.Filter.{Filtered, RefusesLine, Takes, TakesAll, numbered}
+use Rattle.note_tallies.specs.declared.filter_fault.FilterFault.{FilterFault}
 use Rattle.log_tallies.proofs.Among.{In, from_in, in_front, in_middle}
 use Rattle.log_tallies.specs.Recorded.{AreMixed}
 use Rattle.log_tallies.specs.Sorted.{TalliesLines}

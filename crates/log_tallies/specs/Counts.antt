@@ -3,8 +3,8 @@ use Rattle.std.specs.Prelude.{◌≡◌, ◌+◌, ◌<◌, ◌^◌, ◌⊎◌, �
 use Rattle.std.specs.BTreeMap.{is_at}
 use Rattle.std.specs.Map.{lookup}
 use Rattle.book_core.specs.Page.{PageName, page_cmp, page_eq}
-use Rattle.tallies.specs.Lines.{IsSaid, Said, said_line, said_page}
-use Rattle.tallies.specs.Refusals.{SaysNothing}
+use Rattle.note_tallies.specs.Lines.{IsSaid, Said, said_line, said_page}
+use Rattle.note_tallies.specs.Refusals.{SaysNothing}
 use Rattle.log_tallies.specs.Recorded.{AreHeldAs}
 
 -- how many are counted of a page, none where it has no entry

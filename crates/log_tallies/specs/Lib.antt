@@ -1,6 +1,6 @@
 pub use Rattle.book_core.specs.Page
 pub use Rattle.note_lines.specs.Note
-pub use Rattle.tallies.specs.Tally
+pub use Rattle.note_tallies.specs.Tally
 pub mod Lines
 pub mod Stray
 pub mod Recorded

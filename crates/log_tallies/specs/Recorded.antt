@@ -5,11 +5,11 @@ use Rattle.std.specs.List.{AllByRecursion, Contains}
 use Rattle.std.specs.List.Sorted.{IsStrictlySortedBy}
 use Rattle.book_core.specs.Book.{Inputs}
 use Rattle.book_core.specs.Page.{PageName, bytes_cmp}
-use Rattle.tallies.specs.Lines.{IsSaid, Said, said_line, said_page, said_point}
+use Rattle.note_tallies.specs.Lines.{IsSaid, Said, said_line, said_page, said_point}
 use Rattle.note_lines.specs.Hashed.{Hashed, IsHashed, hashed_line}
 use Rattle.note_lines.specs.Note.{IsNote, Noted, note_line}
-use Rattle.tallies.specs.JoinLaw.{IsRangeOf, IsRangeOfHashes}
-use Rattle.tallies.specs.Tally.{PageTally, hash_line_on, hashed_on, line_on, most_at_point, most_in_all, noted_on}
+use Rattle.note_tallies.specs.JoinLaw.{IsRangeOf, IsRangeOfHashes}
+use Rattle.note_tallies.specs.Tally.{PageTally, hash_line_on, hashed_on, line_on, most_at_point, most_in_all, noted_on}
 use Rattle.log_tallies.specs.Lines.{all_lines}
 
 -- ---- what is recorded

@@ -3,13 +3,13 @@ use Rattle.std.specs.Prelude.{◌≡◌, ℕ, List, ◌∷◌, ◌++◌, Bool, f
 use Rattle.std.specs.List.{Contains}
 use Rattle.std.specs.List.Sorted.{IsStrictlySortedBy}
 use Rattle.book_core.specs.Page.{PageName, bytes_cmp, page_eq}
-use Rattle.tallies.specs.Lines.{IsSaid, Said, Tallied, finished, has_room, said_line, said_page, said_point, untallied}
+use Rattle.note_tallies.specs.Lines.{IsSaid, Said, Tallied, finished, has_room, said_line, said_page, said_point, untallied}
 use Rattle.note_lines.specs.Hashed.{has_hash}
-use Rattle.tallies.specs.Tally.{PageTally}
-use Rattle.tallies.specs.Blank.{is_blank}
-use Rattle.tallies.specs.Filter.{TakesAll}
-use Rattle.tallies.specs.declared.filter_fault.FilterFault.{FilterFault}
-use Rattle.tallies.specs.declared.filter_fault.FilterFault.TheVariants.{WantOfMemory, Line, Order, TooMany, Mixed}
+use Rattle.note_tallies.specs.Tally.{PageTally}
+use Rattle.note_tallies.specs.Blank.{is_blank}
+use Rattle.note_tallies.specs.Filter.{TakesAll}
+use Rattle.note_tallies.specs.declared.filter_fault.FilterFault.{FilterFault}
+use Rattle.note_tallies.specs.declared.filter_fault.FilterFault.TheVariants.{WantOfMemory, Line, Order, TooMany, Mixed}
 use Rattle.log_tallies.specs.Lines.{all_lines}
 use Rattle.log_tallies.specs.Recorded.{AreMixed}
 use Rattle.log_tallies.specs.Stray.{AreKept, IsFirstStray, IsStray}

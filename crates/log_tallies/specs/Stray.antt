@@ -1,9 +1,9 @@
 -- Lines that are neither blank nor those of notes, with an input or without, and where the first of them stands.
 use Rattle.std.specs.Prelude.{◌≡◌, ◌⊎◌, ℕ, zero, suc, Bool, true, false, List, [], ◌∷◌}
 use Rattle.std.specs.List.{AllByRecursion}
-use Rattle.tallies.specs.Lines.{IsSaid, Said, said_line}
-use Rattle.tallies.specs.Refusals.{SaysNothing}
-use Rattle.tallies.specs.Blank.{is_blank}
+use Rattle.note_tallies.specs.Lines.{IsSaid, Said, said_line}
+use Rattle.note_tallies.specs.Refusals.{SaysNothing}
+use Rattle.note_tallies.specs.Blank.{is_blank}
 use Rattle.log_tallies.specs.Lines.{lines_in}
 
 -- the line is not blank, and is that of no note

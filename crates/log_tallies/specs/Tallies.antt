@@ -1,7 +1,7 @@
 -- What comes of log files for a page: its tally, where each line is blank or that of a note, all of these of one kind, or why there is none.
 use Rattle.std.specs.Prelude.{ℕ, List, Result, Ok, Err}
 use Rattle.book_core.specs.Page.{PageName}
-use Rattle.tallies.specs.Tally.{PageTally}
+use Rattle.note_tallies.specs.Tally.{PageTally}
 use Rattle.log_tallies.specs.Lines.{all_lines}
 use Rattle.log_tallies.specs.Recorded.{AreMixed, IsCrowded, IsRecordTally}
 use Rattle.log_tallies.specs.Stray.{AreKept, IsFirstStray}

@@ -10,7 +10,7 @@ use crate::file::LogFile;
 use crate::stray::{first_stray, is_blank};
 use note_lines::has_hash;
 use std::alloc::{AllocError, Global};
-use tallies::FilterFault;
+use note_tallies::FilterFault;
 
 /// Why files have no tally, where their lines, each once, are refused for this: a stray line before notes of both kinds, and these
 /// before too many inputs.

@@ -3,7 +3,7 @@ ghost use Rattle.std.specs.Prelude.{◌≡◌, false, true, IfOk, MatchOption};
 ghost use Rattle.note_lines.specs.Hashed.{has_hash};
 ghost use Rattle.log_tallies.specs.Lines.{all_lines, files_view, lines_in};
 ghost use Rattle.log_tallies.specs.Stray.{AreKept, IsFirstIn, IsFirstStray, IsTold, SaysWhether};
-ghost use Rattle.tallies.specs.Blank.{is_blank};
+ghost use Rattle.note_tallies.specs.Blank.{is_blank};
 
 use crate::file::LogFile;
 use byte_streams::cut_line;

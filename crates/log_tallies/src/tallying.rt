@@ -3,7 +3,7 @@ ghost use Rattle.std.specs.Prelude.{◌≡◌};
 ghost use Rattle.std.specs.List.Sorted.{IsStrictlySortedBy};
 ghost use Rattle.book_core.specs.Page.{bytes_cmp};
 ghost use Rattle.byte_streams.specs.Lines.{lines_view};
-ghost use Rattle.tallies.specs.Tally.{IsTallyTotal};
+ghost use Rattle.note_tallies.specs.Tally.{IsTallyTotal};
 ghost use Rattle.log_tallies.specs.Lines.{files_view};
 ghost use Rattle.log_tallies.specs.Sorted.{TalliesLines};
 ghost use Rattle.log_tallies.specs.Tallies.{TalliesFiles};
@@ -14,8 +14,8 @@ use crate::file::LogFile;
 use crate::refusal::fault_of;
 use book_core::Page;
 use std::alloc::Global;
-use tallies::PageTally;
-use tallies::{FilterFault, TallyFilter, a_stream_is_tallied};
+use note_tallies::PageTally;
+use note_tallies::{FilterFault, TallyFilter, a_stream_is_tallied};
 
 /// The tally of the hash inputs of a page that files hold, each counted once, in so many points; or of the hashes, where the notes
 /// are without inputs. Blank lines are passed over, and so is what stands behind the last line feed of a file. The condition is a

@@ -5,13 +5,13 @@ use Rattle.std.specs.Io.KnownBytes.{IsAtEnd}
 use Rattle.byte_streams.proofs.Cutting.{begins, line_first, no_line, some_part}
 use Rattle.byte_streams.specs.Fill.{Grows}
 use Rattle.byte_streams.specs.Lines.{HasNoFeed, IsFirst, parts_of}
-use Rattle.tallies.specs.Law.{hashes_of, inputs_of}
-use Rattle.tallies.specs.Lines.{Tallied, finished, untallied}
-use Rattle.tallies.specs.JoinLaw.{HashesStandForInputs, TalliesInAnyOrder}
+use Rattle.note_tallies.specs.Law.{hashes_of, inputs_of}
+use Rattle.note_tallies.specs.Lines.{Tallied, finished, untallied}
+use Rattle.note_tallies.specs.JoinLaw.{HashesStandForInputs, TalliesInAnyOrder}
 use Rattle.note_streams.specs.Record.{most_line}
-use Rattle.tallies.specs.Filter.{Filtered, RefusesLine, StreamIsTallied, Takes, TakesAll}
-use Rattle.tallies.specs.declared.filter_fault.FilterFault.{FilterFault}
-use Rattle.tallies.specs.declared.filter_fault.FilterFault.TheVariants.{Line, WantOfMemory}
+use Rattle.note_tallies.specs.Filter.{Filtered, RefusesLine, StreamIsTallied, Takes, TakesAll}
+use Rattle.note_tallies.specs.declared.filter_fault.FilterFault.{FilterFault}
+use Rattle.note_tallies.specs.declared.filter_fault.FilterFault.TheVariants.{Line, WantOfMemory}
 use Rattle.note_streams.specs.Batch.{Goes, GoesOn, KeepsRest}
 use Rattle.note_streams.specs.Law.{StreamIsOfItsInputs, StreamIsOfItsLines, lines_in}
 use Rattle.note_streams.specs.Rest.{has_rest, is_empty, is_torn}

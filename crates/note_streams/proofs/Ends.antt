@@ -5,10 +5,10 @@ use Rattle.byte_streams.specs.Fill.{Grows}
 use Rattle.byte_streams.specs.Lines.{HasNoFeed, parts_of}
 use Rattle.byte_streams.specs.declared.filling.FillFault.{FillFault}
 use Rattle.byte_streams.specs.declared.filling.FillFault.TheVariants as fill
-use Rattle.tallies.specs.Lines.{Tallied, finished}
+use Rattle.note_tallies.specs.Lines.{Tallied, finished}
 use Rattle.note_streams.specs.Record.{most_line}
-use Rattle.tallies.specs.Filter.{Filtered}
-use Rattle.tallies.specs.declared.filter_fault.FilterFault.TheVariants.{WantOfMemory}
+use Rattle.note_tallies.specs.Filter.{Filtered}
+use Rattle.note_tallies.specs.declared.filter_fault.FilterFault.TheVariants.{WantOfMemory}
 use Rattle.note_streams.specs.Batch.{LeavesLines, TalliesBatch}
 use Rattle.note_streams.specs.Recorded.{most_bytes}
 use Rattle.note_streams.specs.Rest.{is_empty, is_torn}

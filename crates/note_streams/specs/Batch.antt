@@ -4,12 +4,12 @@ use Rattle.std.specs.Prelude.{◌≡◌, ◌≢◌, ◌<◌, ◌≤◌, ◌⊎�
 use Rattle.std.specs.Io.KnownBytes.{Appends}
 use Rattle.flag_text.specs.Outlet.{AppendsPart}
 use Rattle.byte_streams.specs.Lines.{HasNoFeed, IsCut, parts_of}
-use Rattle.tallies.specs.Lines.{Tallied}
+use Rattle.note_tallies.specs.Lines.{Tallied}
 use Rattle.note_streams.specs.Outcomes.{Outcomes, both}
 use Rattle.note_streams.specs.Record.{Recorded, Scene, joined, most_line, record_of}
-use Rattle.tallies.specs.Filter.{Filtered}
-use Rattle.tallies.specs.declared.filter_fault.FilterFault.{FilterFault}
-use Rattle.tallies.specs.declared.filter_fault.FilterFault.TheVariants as filter
+use Rattle.note_tallies.specs.Filter.{Filtered}
+use Rattle.note_tallies.specs.declared.filter_fault.FilterFault.{FilterFault}
+use Rattle.note_tallies.specs.declared.filter_fault.FilterFault.TheVariants as filter
 use Rattle.note_streams.specs.Recorded.{recorded_of}
 use Rattle.note_streams.specs.Rest.{is_torn}
 use Rattle.note_streams.specs.Tallied.{Tallies}

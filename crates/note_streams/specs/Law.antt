@@ -5,10 +5,10 @@ use Rattle.book_core.specs.Page.{PageName}
 use Rattle.note_lines.specs.Hashed.{Hashed, hash_of}
 use Rattle.note_lines.specs.Note.{Noted}
 use Rattle.byte_streams.specs.Lines.{parts_of}
-use Rattle.tallies.specs.Law.{hashes_of, inputs_of}
-use Rattle.tallies.specs.Lines.{Tallied, finished, of_hash, of_input, untallied}
-use Rattle.tallies.specs.JoinLaw.{AreHashesOf, IsEachOnce, IsTallyOf}
-use Rattle.tallies.specs.Filter.{AreLinesOf, AreTalliedHashes, AreTalliedInputs}
+use Rattle.note_tallies.specs.Law.{hashes_of, inputs_of}
+use Rattle.note_tallies.specs.Lines.{Tallied, finished, of_hash, of_input, untallied}
+use Rattle.note_tallies.specs.JoinLaw.{AreHashesOf, IsEachOnce, IsTallyOf}
+use Rattle.note_tallies.specs.Filter.{AreLinesOf, AreTalliedHashes, AreTalliedInputs}
 use Rattle.note_streams.specs.Tallied.{Tallies}
 
 -- the lines of a stream with their line feeds, of whose parts the last is none

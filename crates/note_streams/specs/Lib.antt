@@ -14,8 +14,8 @@ pub mod View
 pub use Rattle.book_core.specs.Page
 pub use Rattle.bucket_core.specs.Rule
 pub use Rattle.flag_text.specs.Shape
-pub use Rattle.tallies.specs.Filter
-pub use Rattle.tallies.specs.Lines
-pub use Rattle.tallies.specs.Tally
+pub use Rattle.note_tallies.specs.Filter
+pub use Rattle.note_tallies.specs.Lines
+pub use Rattle.note_tallies.specs.Tally
 pub use Rattle.note_lines.specs.Note
 pub use Rattle.site_pages.specs.Pages

@@ -2,8 +2,8 @@
 use Rattle.std.specs.Prelude.{ℕ, Bool, true, false, Result, Ok, Err}
 use Rattle.byte_streams.specs.declared.filling.FillFault.{FillFault}
 use Rattle.byte_streams.specs.declared.filling.FillFault.TheVariants as fill
-use Rattle.tallies.specs.FilterFault as filters
-use Rattle.tallies.specs.declared.filter_fault.FilterFault.TheVariants as filter
+use Rattle.note_tallies.specs.FilterFault as filters
+use Rattle.note_tallies.specs.declared.filter_fault.FilterFault.TheVariants as filter
 use Rattle.note_streams.specs.declared.stop.RecordStop.{RecordStop}
 use Rattle.note_streams.specs.declared.stop.RecordStop.TheVariants.{WantOfMemory, Line, Unreadable, TooLong, Broken}
 use Rattle.note_streams.specs.declared.stop.TallyStop.{TallyStop}

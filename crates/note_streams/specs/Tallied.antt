@@ -1,11 +1,11 @@
 -- What is tallied of the bytes of a stream.
 use Rattle.std.specs.Prelude.{◌≡◌, ◌≢◌, ◌<◌, ◌⊎◌, ℕ, ◌+◌, nat_lt, Bool, true, false, List, [], ◌∷◌, ◌++◌, length, if◌then◌else◌, Result, Ok, Err}
 use Rattle.byte_streams.specs.Lines.{parts_of}
-use Rattle.tallies.specs.Lines.{Tallied, finished}
+use Rattle.note_tallies.specs.Lines.{Tallied, finished}
 use Rattle.note_streams.specs.Record.{most_line}
-use Rattle.tallies.specs.Filter.{Filtered, RefusesLine, Takes}
-use Rattle.tallies.specs.declared.filter_fault.FilterFault.{FilterFault}
-use Rattle.tallies.specs.declared.filter_fault.FilterFault.TheVariants as filter
+use Rattle.note_tallies.specs.Filter.{Filtered, RefusesLine, Takes}
+use Rattle.note_tallies.specs.declared.filter_fault.FilterFault.{FilterFault}
+use Rattle.note_tallies.specs.declared.filter_fault.FilterFault.TheVariants as filter
 use Rattle.note_streams.specs.Recorded.{most_bytes}
 use Rattle.note_streams.specs.Rest.{is_empty, is_torn}
 use Rattle.note_streams.specs.declared.stop.TallyStop.{TallyStop}

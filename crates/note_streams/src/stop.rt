@@ -3,11 +3,11 @@ ghost use Rattle.std.specs.Prelude.{◌≡◌};
 ghost use Rattle.note_streams.specs.Stop.{of_fill, record_number, tally_number, tallied_fill};
 ghost use Rattle.note_streams.specs.declared.stop.RecordStop.TheVariants as recording;
 ghost use Rattle.note_streams.specs.declared.stop.TallyStop.TheVariants as tally;
-ghost use Rattle.tallies.specs.declared.filter_fault.FilterFault.TheVariants as filter;
+ghost use Rattle.note_tallies.specs.declared.filter_fault.FilterFault.TheVariants as filter;
 
 use byte_streams::FillFault;
 use std::alloc::AllocError;
-use tallies::FilterFault;
+use note_tallies::FilterFault;
 use thiserror::Error;
 
 /// Why contexts are not recorded to the end of their stream, in the order of the numbers, with the number of the line at fault,

@@ -1,7 +1,7 @@
 //! From a stream of note lines to a tally.
 ghost use Rattle.std.specs.Prelude.{nat_eq, nat_lt, ◌≡◌, ◌<◌, ◌+◌, ◌^◌, length, false, IfSome};
-ghost use Rattle.tallies.specs.Tally.{IsTallyTotal};
-ghost use Rattle.tallies.specs.Lines.{untallied};
+ghost use Rattle.note_tallies.specs.Tally.{IsTallyTotal};
+ghost use Rattle.note_tallies.specs.Lines.{untallied};
 ghost use Rattle.note_streams.specs.Batch.{TalliesBatch};
 ghost use Rattle.note_streams.specs.Tallied.{TalliesStream};
 
@@ -11,8 +11,8 @@ use book_core::Page;
 use limits::TEXT_BYTES;
 use byte_streams::{Inlet, cut_line, fill};
 use std::alloc::Global;
-use tallies::PageTally;
-use tallies::{FilterFault, TallyFilter};
+use note_tallies::PageTally;
+use note_tallies::{FilterFault, TallyFilter};
 
 /// The tally of a stream.
 #[derive(Debug, Drop)]

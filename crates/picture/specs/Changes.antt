@@ -8,7 +8,7 @@ use Rattle.price_core.specs.Limits.{Limits}
 use Rattle.price_core.specs.Pricing.{Pricing, is_forbidden, price_of}
 use Rattle.rule_switches.specs.Runs.{Run}
 use Rattle.rule_switches.specs.Table.{name_of, switch_at}
-use Rattle.rule_switches.specs.declared.table.Switch.{Switch}
+use Rattle.rule_switches.specs.declared.table.PairSwitches.{PairSwitches}
 use Rattle.transport_core.specs.Certificate.{DualPrices}
 use Rattle.picture.specs.Told.{Item, text, name, bar_told, column, foot, heading, next_row, number, numbers_at, rows_told, runs_told, spot, swatch}
 use Rattle.picture.specs.declared.element.Content.TheVariants as content
@@ -78,44 +78,44 @@ abbrev pub pair_end : ℕ → List ℕ → List ℕ → ℕ
 pair_end y a b = if are_long a b then next_row (next_row y) else y
 
 -- whether a switch is in the table: it has points or is not allowed
-abbrev pub is_listed : Pricing → List ℕ → List ℕ → Switch → Bool
+abbrev pub is_listed : Pricing → List ℕ → List ℕ → PairSwitches → Bool
 is_listed pricing a b s = nat_lt 0 s.points || is_forbidden pricing a b
 
 -- such a switch with its names, its points, its users and its price
-abbrev pub switch_told : Pricing → ℕ → List ℕ → List ℕ → Switch → List Item
+abbrev pub switch_told : Pricing → ℕ → List ℕ → List ℕ → PairSwitches → List Item
 switch_told pricing y a b s =
     if is_listed pricing a b s then names_told y a b ++ (number 820 (pair_end y a b) s.points ∷ number 970 (pair_end y a b) s.users ∷ text style.Value (spot 1160 (pair_end y a b)) (content.Price (price_told pricing a b)) ∷ []) else []
 
-abbrev pub switch_end : Pricing → ℕ → List ℕ → List ℕ → Switch → ℕ
+abbrev pub switch_end : Pricing → ℕ → List ℕ → List ℕ → PairSwitches → ℕ
 switch_end pricing y a b s = if is_listed pricing a b s then next_row (pair_end y a b) else y
 
 -- the switch from one variant to another, by their numbers
-abbrev pub between_told : Pricing → List (List ℕ) → ℕ × List Switch → ℕ → ℕ → ℕ → List Item
+abbrev pub between_told : Pricing → List (List ℕ) → ℕ × List PairSwitches → ℕ → ℕ → ℕ → List Item
 between_told pricing names t i y j = switch_told pricing y (name_of names i) (name_of names j) (switch_at t i j)
 
-abbrev pub between_end : Pricing → List (List ℕ) → ℕ × List Switch → ℕ → ℕ → ℕ → ℕ
+abbrev pub between_end : Pricing → List (List ℕ) → ℕ × List PairSwitches → ℕ → ℕ → ℕ → ℕ
 between_end pricing names t i y j = switch_end pricing y (name_of names i) (name_of names j) (switch_at t i j)
 
 -- those from one variant to each
-abbrev pub row_told : Pricing → List (List ℕ) → ℕ × List Switch → ℕ → ℕ → List Item
+abbrev pub row_told : Pricing → List (List ℕ) → ℕ × List PairSwitches → ℕ → ℕ → List Item
 row_told pricing names t y i = rows_told (between_told pricing names t i) (between_end pricing names t i) y (range_with_len 0 t.0)
 
-abbrev pub row_end : Pricing → List (List ℕ) → ℕ × List Switch → ℕ → ℕ → ℕ
+abbrev pub row_end : Pricing → List (List ℕ) → ℕ × List PairSwitches → ℕ → ℕ → ℕ
 row_end pricing names t y i = foot (between_end pricing names t i) y (range_with_len 0 t.0)
 
 -- those from each, below their headings
-abbrev pub table_told : Pricing → List (List ℕ) → ℕ × List Switch → ℕ → List Item
+abbrev pub table_told : Pricing → List (List ℕ) → ℕ × List PairSwitches → ℕ → List Item
 table_told pricing names t y = switch_headings y ++ rows_told (row_told pricing names t) (row_end pricing names t) (next_row y) (range_with_len 0 t.0)
 
-abbrev pub table_end : Pricing → List (List ℕ) → ℕ × List Switch → ℕ → ℕ
+abbrev pub table_end : Pricing → List (List ℕ) → ℕ × List PairSwitches → ℕ → ℕ
 table_end pricing names t y = foot (row_end pricing names t) (next_row y) (range_with_len 0 t.0)
 
 -- ---- the picture
 
 -- the cost and the points, both rules and the runs that move between them, the variants, and the switches between these
-unfoldable pub change_told : Entries → Entries → Limits → Pricing → List Run → ℕ × List Switch → DualPrices → List Item
+unfoldable pub change_told : Entries → Entries → Limits → Pricing → List Run → ℕ × List PairSwitches → DualPrices → List Item
 change_told old new limits pricing runs t duals =
     head_told duals.cost (total_weight old) ++ (bars_told limits old new runs ++ (variants_told old new limits duals.beta 540 ++ table_told pricing (keys_of limits) t (variants_end limits 540)))
 
-unfoldable pub change_height : Limits → Pricing → ℕ × List Switch → ℕ
+unfoldable pub change_height : Limits → Pricing → ℕ × List PairSwitches → ℕ
 change_height limits pricing t = table_end pricing (keys_of limits) t (variants_end limits 540)

@@ -12,7 +12,7 @@ use crate::rows::{NAMES, ROW, add_headings, number_at, size_for};
 use crate::words::{Style, Word};
 use price_core::{Limit, Prices};
 use std::alloc::AllocError;
-use rule_switches::Switch;
+use rule_switches::PairSwitches;
 
 const HEADINGS: &[(Style, u64, Word)] = &[
     (Style::Heading, NAMES, Word::From),
@@ -83,7 +83,7 @@ fn add_switch<'a>(
     prices: &Prices,
     from: &'a str,
     to: &'a str,
-    switch: Switch,
+    switch: PairSwitches,
     y: u64,
 ) -> Result<u64, AllocError>
     ensures told { OnOk result (told elements.new.items ≡ told elements.old.items ++ switch_told prices.now y from.now to.now switch) }

@@ -13,7 +13,7 @@ use Rattle.rollout_checks.specs.Tallied.{TallyProblem, tally_problem_of}
 use Rattle.rollout_checks.specs.declared.fault.RolloutFault.{RolloutFault}
 use Rattle.rollout_checks.specs.declared.refining.Refining.TheVariants.{Times}
 use Rattle.rollout_checks.specs.declared.verify_fault.VerifyFault.{VerifyFault}
-use Rattle.tallies.specs.Tally.{PageTally}
+use Rattle.note_tallies.specs.Tally.{PageTally}
 use Rattle.ramp.specs.Ramp.{AnswersStep, Recorded, in_book, in_tally}
 use Rattle.ramp.specs.Right.{IsStepShown, IsStepTold, TellsStep}
 

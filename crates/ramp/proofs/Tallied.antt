@@ -26,7 +26,7 @@ use Rattle.rollout_checks.specs.declared.refining.Refining.{Refining}
 use Rattle.rollout_checks.specs.declared.refining.Refining.TheVariants.{Times, ToTotal}
 use Rattle.rollout_checks.specs.declared.verify_fault.VerifyFault.{VerifyFault}
 use Rattle.rollout_checks.specs.declared.verify_fault.VerifyFault.TheVariants.{Request, Check}
-use Rattle.tallies.specs.Tally.{PageTally}
+use Rattle.note_tallies.specs.Tally.{PageTally}
 use Rattle.transport_core.specs.Certificate.{DualPrices}
 use Rattle.ramp.specs.Laws.{IsOfInputs, TellsOtherTally}
 use Rattle.ramp.specs.Ramp.{ArePlans, IsPlanOn, IsRefusedAfter, IsStep, IsStepRefused, Recorded, Standing, in_book, in_tally, left_by, still}

@@ -10,7 +10,7 @@ use Rattle.rollout_checks.specs.Tallied.{IsTallyOutcome, TallyProblem}
 use Rattle.rollout_checks.specs.VerifyFault.{is_want}
 use Rattle.rollout_checks.specs.declared.fault.RolloutFault.{RolloutFault}
 use Rattle.rollout_checks.specs.declared.verify_fault.VerifyFault.{VerifyFault}
-use Rattle.tallies.specs.Tally.{PageTally}
+use Rattle.note_tallies.specs.Tally.{PageTally}
 use Rattle.transport_core.specs.Certificate.{DualPrices}
 use Rattle.ramp.specs.Laws.{IsOfInputs, IsValid}
 use Rattle.ramp.specs.Ramp.{ArePlans, IsPlanOn, IsStep, Recorded, Standing, in_book, in_tally, left_by, still}

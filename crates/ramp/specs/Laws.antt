@@ -14,8 +14,8 @@ use Rattle.rollout_checks.specs.VerifyFault.{is_want}
 use Rattle.transport_core.specs.Certificate.{DualPrices}
 use Rattle.rollout_checks.specs.declared.fault.RolloutFault.TheVariants.{OtherTally}
 use Rattle.rollout_checks.specs.declared.verify_fault.VerifyFault.TheVariants.{Request}
-use Rattle.tallies.specs.JoinLaw.{IsTallyOf}
-use Rattle.tallies.specs.Tally.{PageTally}
+use Rattle.note_tallies.specs.JoinLaw.{IsTallyOf}
+use Rattle.note_tallies.specs.Tally.{PageTally}
 use Rattle.ramp.specs.Ramp.{ArePlans, IsRefused, Recorded, in_book, in_tally, Standing}
 use Rattle.ramp.specs.Right.{IsTold}
 use Rattle.ramp.specs.declared.fault.RampFault.{RampFault}

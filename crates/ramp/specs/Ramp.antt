@@ -16,7 +16,7 @@ use Rattle.rollout_checks.specs.Tallied.{AreTallied, TallyProblem, tally_problem
 use Rattle.rollout_checks.specs.declared.fault.RolloutFault.{RolloutFault}
 use Rattle.rollout_checks.specs.declared.fault.RolloutFault.TheVariants.{WantOfMemory}
 use Rattle.rollout_checks.specs.declared.refining.Refining.TheVariants.{Times}
-use Rattle.tallies.specs.Tally.{PageTally}
+use Rattle.note_tallies.specs.Tally.{PageTally}
 use Rattle.ramp.specs.declared.fault.StepFault.{StepFault}
 
 -- the flags that a step stands on, or why there are none

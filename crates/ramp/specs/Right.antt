@@ -9,7 +9,7 @@ use Rattle.rollout_checks.specs.Verified.{IsOutcome, IsShown}
 use Rattle.rollout_checks.specs.VerifyFault.{is_want}
 use Rattle.rollout_checks.specs.declared.fault.RolloutFault.{RolloutFault}
 use Rattle.rollout_checks.specs.declared.verify_fault.VerifyFault.{VerifyFault}
-use Rattle.tallies.specs.Tally.{PageTally}
+use Rattle.note_tallies.specs.Tally.{PageTally}
 use Rattle.ramp.specs.Ramp.{Recorded, in_book, in_tally, Standing, left_by, still}
 use Rattle.ramp.specs.declared.fault.RampFault.{RampFault}
 use Rattle.ramp.specs.declared.fault.RampFault.TheVariants.{Step, Lines}

@@ -14,9 +14,9 @@ use Rattle.price_core.specs.Cost.{cost_of}
 use Rattle.price_core.specs.Limits.{Limits}
 use Rattle.price_core.specs.Pricing.{price_of}
 use Rattle.price_core.specs.Request.{Asked, asked_of}
-use Rattle.tallies.specs.JoinLaw.{IsTallyOf}
-use Rattle.tallies.specs.Tally.{PageTally}
-use Rattle.tallies.proofs.Pages.{same_page}
+use Rattle.note_tallies.specs.JoinLaw.{IsTallyOf}
+use Rattle.note_tallies.specs.Tally.{PageTally}
+use Rattle.note_tallies.proofs.Pages.{same_page}
 use Rattle.transport_core.specs.Certificate.{DualPrices, IsCertified, alpha_at, beta_of}
 use Rattle.transport_core.specs.Dual.{inputs_at, least_value}
 use Rattle.transport_core.specs.Fits.{IsLeast}

@@ -8,8 +8,8 @@ use Rattle.rollout_checks.specs.Lawful.{problem_of}
 use Rattle.rollout_checks.specs.Plan.{IsPlan, IsPlanned, IsTallyPlanned}
 use Rattle.rollout_checks.specs.Tallied.{AreTallied, TallyProblem, tally_problem_of, with_inputs}
 use Rattle.rollout_checks.specs.declared.refining.Refining.{Refining}
-use Rattle.tallies.specs.JoinLaw.{IsTallyOf}
-use Rattle.tallies.specs.Tally.{PageTally}
+use Rattle.note_tallies.specs.JoinLaw.{IsTallyOf}
+use Rattle.note_tallies.specs.Tally.{PageTally}
 
 -- A plan is one for all inputs of which equally many fall on each point: it knows of them no more than these numbers.
 abbrev pub PlansAreByCounts : Type 0

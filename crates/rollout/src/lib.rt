@@ -48,4 +48,4 @@ pub use rollout_checks::{
     verify_refined, verify_tally, verify_tally_refined,
 };
 pub use tallied::{plan_file_on_tally, plan_tally};
-pub use tallies::PageTally;
+pub use note_tallies::PageTally;

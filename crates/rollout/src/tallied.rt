@@ -17,7 +17,7 @@ use min_cost_flow::Effort;
 use std::alloc::Global;
 use std::marker::Brand;
 use std::sync::ledger::{Blank, Ledger};
-use tallies::PageTally;
+use note_tallies::PageTally;
 
 /// As [`crate::plan_refined`], on a tally of the request's page: up to 67,108,864 inputs on a point and 8,589,934,592 in all. The
 /// rule that is answered costs all inputs of which so many fall on each point the least. The condition is m from 1.

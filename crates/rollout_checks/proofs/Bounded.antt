@@ -22,7 +22,7 @@ use Rattle.book_core.specs.Site.{page_at}
 use Rattle.price_core.specs.Limits.{Limits, limits_of}
 use Rattle.price_core.specs.Request.{Asked, limits_on, all_known}
 use Rattle.price_core.specs.declared.fault.PriceFault.TheVariants as price
-use Rattle.tallies.specs.Tally.{PageTally}
+use Rattle.note_tallies.specs.Tally.{PageTally}
 use Rattle.transport_core.specs.Instance.{AreListed, MissTotal, max_planned_total, max_names}
 use Rattle.rollout_checks.proofs.Variants.{names_limited}
 use Rattle.rollout_checks.specs.Lawful.{Problem, Place, and_then, by_price, by_logic, or_refuse, place_in, place_of, names_are_variants, limits_for, is_unmet, max_planned, factor, sized, weighed, problem_asked, problem_at, problem_on}

@@ -3,7 +3,7 @@ use Rattle.std.proofs.Common.{◌≡◌, ◌==◌, ◌-◌, ◌*◌, ◌^◌, �
 use Rattle.std.proofs.lemmas.Bool.{eq-eqb, eqb-true}
 use Rattle.bucket_core.specs.Rule.{Entries, total_weight, refinement}
 use Rattle.bucket_core.proofs.Refined.{total_weight-refinement}
-use Rattle.tallies.specs.Tally.{PageTally, IsPageTally, most_in_all}
+use Rattle.note_tallies.specs.Tally.{PageTally, IsPageTally, most_in_all}
 use Rattle.transport_core.specs.Tally.{IsTally}
 
 same_tests : (b c : Bool) → (b ≡ true → c ≡ true) → (c ≡ true → b ≡ true) → b ≡ c

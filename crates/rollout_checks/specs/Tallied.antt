@@ -8,7 +8,7 @@ use Rattle.book_core.specs.Page.{page_eq}
 use Rattle.price_core.specs.Limits.{Limits}
 use Rattle.price_core.specs.Pricing.{Pricing}
 use Rattle.price_core.specs.Request.{Asked, asked_of}
-use Rattle.tallies.specs.Tally.{PageTally}
+use Rattle.note_tallies.specs.Tally.{PageTally}
 use Rattle.plan_text.specs.Answer.{Answer}
 use Rattle.rollout_checks.specs.Lawful.{Place, Problem, and_then, by_price, factor, place_of, problem_on, weighed}
 use Rattle.rollout_checks.specs.Verified.{Denies, Proves, Shows}

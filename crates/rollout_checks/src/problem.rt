@@ -10,7 +10,7 @@ ghost use Rattle.price_core.specs.Request.{max_request};
 ghost use Rattle.price_core.specs.declared.fault.PriceFault.TheVariants.{BadRequest};
 ghost use Rattle.rollout_checks.specs.Lawful.{IsRefining, PosesUnless, max_planned, problem_of, problem_asked, problem_at, sized, place_view};
 ghost use Rattle.rollout_checks.specs.Tallied.{tally_problem_of, tally_problem_asked, tally_problem_at, tally_view};
-ghost use Rattle.tallies.specs.Tally.{IsPageTally};
+ghost use Rattle.note_tallies.specs.Tally.{IsPageTally};
 ghost use Rattle.transport_core.specs.Tally.{IsTally};
 
 use crate::fault::RolloutFault;
@@ -24,7 +24,7 @@ use page_tally::Recorded;
 use price_core::{Request, Totals};
 use std::alloc::Global;
 use std::thread::Threads;
-use tallies::PageTally;
+use note_tallies::PageTally;
 
 /// The largest total that is planned on: no tally has more points.
 pub(crate) const MAX_PLANNED: u128 = limits::PLANNED_TOTAL as u128;

@@ -25,7 +25,7 @@ use plan_text::Planned;
 use price_core::Request;
 use std::alloc::Global;
 use std::thread::Threads;
-use tallies::PageTally;
+use note_tallies::PageTally;
 use transport_core::{CheckFault, check_cut, check_plan};
 
 /// Checks that a request is lawful and that an answer is right for it. A rule is checked against the site's rule, refined

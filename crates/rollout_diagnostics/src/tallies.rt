@@ -10,7 +10,7 @@ use flag_defs::Flags;
 use logic_ast::LogicFault;
 use rollout_checks::RequestFile;
 use std::alloc::{AllocError, Global};
-use tallies::PageTally;
+use note_tallies::PageTally;
 
 /// Says that the tally at `path` has no input.
 pub fn of_empty_tally(alloc: Global, path: &str, page: &Page) -> Result<String, AllocError>

@@ -15,7 +15,7 @@ use Rattle.rule_switches.specs.declared.fault.TallyFault.TheVariants.{OtherTally
 use Rattle.rule_switches.specs.declared.rules.Rules as program_rules
 use Rattle.rule_switches.specs.declared.rules.Rules.TheVariants as code
 use Rattle.rule_switches.specs.Switches.{AreSwitches, Rows}
-use Rattle.tallies.specs.Tally.{PageTally}
+use Rattle.note_tallies.specs.Tally.{PageTally}
 
 -- ---- on a page
 

@@ -9,7 +9,7 @@ use Rattle.limits.specs.Limits.{tally_inputs}
 use Rattle.rule_switches.specs.Runs.{Run, AreFew, run_view, runs_view}
 use Rattle.rule_switches.specs.declared.change.Run as program
 use Rattle.rule_switches.specs.Table.{AreSmall, HasRun, IsTableOf, is_between, is_of_place, name_of, no_switch, run_points, run_users}
-use Rattle.rule_switches.specs.declared.table.Switch.{Switch}
+use Rattle.rule_switches.specs.declared.table.PairSwitches.{PairSwitches}
 use Rattle.rule_switches.proofs.TablePlacing.{below, elsewhere, own_place}
 
 -- the points and users of a place, of these runs
@@ -20,13 +20,13 @@ abbrev pub place_users : List (List ℕ) → ℕ → List Run → ℕ
 place_users names c rs = run_users (name_of names (c / length names)) (name_of names (c % length names)) rs
 
 -- with those that are left, the table has the points and users of all runs
-pub record IsFilled (names : List (List ℕ)) (rs rest : List Run) (xs : List Switch) : Type 0 where
+pub record IsFilled (names : List (List ℕ)) (rs rest : List Run) (xs : List PairSwitches) : Type 0 where
   pub long : length xs ≡ length names * length names
   pub points : (c : ℕ) → c < length xs → (slice_index_or xs c no_switch).points + place_points names c rest ≡ place_points names c rs
   pub users : (c : ℕ) → c < length xs → (slice_index_or xs c no_switch).users + place_users names c rest ≡ place_users names c rs
   pub few : sum_by (λ r. r.users) rest ≤ sum_by (λ r. r.users) rs
 
-pub filled_none : (names : List (List ℕ)) (rs : List Run) (xs : List Switch) → xs ≡ replicate (length names * length names) no_switch → IsFilled names rs rs xs
+pub filled_none : (names : List (List ℕ)) (rs : List Run) (xs : List PairSwitches) → xs ≡ replicate (length names * length names) no_switch → IsFilled names rs rs xs
 filled_none names rs xs is =
     let n = length names * length names in
     let long : length xs ≡ n = ap length is ∙ length-replicate n no_switch in
@@ -46,7 +46,7 @@ part_le test f (r ∷ rs) = omega (arith, sum_by-cons (λ x. cond (test x) (f x)
     one_le true n = omega arith
     one_le false n = omega arith
 
-pub filled_small : (names : List (List ℕ)) (rs rest : List Run) (xs : List Switch) → AreFew rs → IsFilled names rs rest xs → AreSmall xs
+pub filled_small : (names : List (List ℕ)) (rs rest : List Run) (xs : List PairSwitches) → AreFew rs → IsFilled names rs rest xs → AreSmall xs
 filled_small names rs rest xs few filled = λ c low.
     let a = name_of names (c / length names) in
     let b = name_of names (c % length names) in (
@@ -54,10 +54,10 @@ filled_small names rs rest xs few filled = λ c low.
       omega (arith, filled.users c low, part_le (is_between a b) (λ r. r.users) rs, few.users),
     )
 
-pub first_few : (names : List (List ℕ)) (rs left : List Run) (r : Run) (xs : List Switch) → AreFew rs → IsFilled names rs (r ∷ left) xs → r.users ≤ tally_inputs
+pub first_few : (names : List (List ℕ)) (rs left : List Run) (r : Run) (xs : List PairSwitches) → AreFew rs → IsFilled names rs (r ∷ left) xs → r.users ≤ tally_inputs
 first_few names rs left r xs few filled = omega (arith, sum_by-cons (λ (x : Run). x.users) r left, filled.few, few.users)
 
-pub filled_more : (names : List (List ℕ)) (rs left : List Run) (r : Run) (xs ys : List Switch) → IsFilled names rs (r ∷ left) xs → HasRun names r xs ys → IsFilled names rs left ys
+pub filled_more : (names : List (List ℕ)) (rs left : List Run) (r : Run) (xs ys : List PairSwitches) → IsFilled names rs (r ∷ left) xs → HasRun names r xs ys → IsFilled names rs left ys
 filled_more names rs left r xs ys filled has = record {
   long = has.long ∙ filled.long;
   points = λ c low.
@@ -70,7 +70,7 @@ filled_more names rs left r xs ys filled has = record {
   few = omega (arith, sum_by-cons (λ (x : Run). x.users) r left, filled.few);
 }
 
-pub filled_all : (names : List (List ℕ)) (rs : List Run) (w : ℕ) (xs : List Switch) → w ≡ length names → IsFilled names rs [] xs → IsTableOf names rs (w, xs)
+pub filled_all : (names : List (List ℕ)) (rs : List Run) (w : ℕ) (xs : List PairSwitches) → w ≡ length names → IsFilled names rs [] xs → IsTableOf names rs (w, xs)
 filled_all names rs w xs width filled = record {
   width = width;
   points = λ i j first second.
@@ -96,14 +96,14 @@ next_run runs i d low =
 
 -- ---- one run
 
-pub unchanged : (names : List (List ℕ)) (r : Run) (xs : List Switch) → length xs ≡ length names * length names → ((c : ℕ) → c < length names * length names → is_of_place names c r ≡ false) → HasRun names r xs xs
+pub unchanged : (names : List (List ℕ)) (r : Run) (xs : List PairSwitches) → length xs ≡ length names * length names → ((c : ℕ) → c < length names * length names → is_of_place names c r ≡ false) → HasRun names r xs xs
 unchanged names r xs square none = record {
   long = refl;
   points = λ c low. omega (arith, ap (λ (b : Bool). cond b r.points 0) (none c (omega (arith, low, square))));
   users = λ c low. omega (arith, ap (λ (b : Bool). cond b r.users 0) (none c (omega (arith, low, square))));
 }
 
-pub added : (names : List (List ℕ)) (r : Run) (xs : List Switch) (i j at : ℕ) (d have : Switch) → length xs ≡ length names * length names → AllPairs (λ x y. x ≢ y) names
+pub added : (names : List (List ℕ)) (r : Run) (xs : List PairSwitches) (i j at : ℕ) (d have : PairSwitches) → length xs ≡ length names * length names → AllPairs (λ x y. x ≢ y) names
     → i < length names → j < length names → name_of names i ≡ r.from → name_of names j ≡ r.to → at ≡ i * length names + j
     → have.points ≡ (get_or xs at d).points + r.points → have.users ≡ (get_or xs at d).users + r.users → HasRun names r xs (set xs at have)
 added names r xs i j at d have square pairs first second from to is points users =
@@ -117,12 +117,12 @@ added names r xs i j at d have square pairs first second from to is points users
       long = length-set xs at have;
       points = λ c inside. ⊎_elim
           (λ (e : c ≡ at). subst (λ k. (slice_index_or (set xs at have) k no_switch).points ≡ (slice_index_or xs k no_switch).points + cond (is_of_place names k r) r.points 0) (sym e)
-          (ap (λ s. s.points) now ∙ (points ∙ (ap (λ (s : Switch). s.points + r.points) (sym old) ∙ ap (λ (b : Bool). (slice_index_or xs at no_switch).points + cond b r.points 0) (sym mine)))))
+          (ap (λ s. s.points) now ∙ (points ∙ (ap (λ (s : PairSwitches). s.points + r.points) (sym old) ∙ ap (λ (b : Bool). (slice_index_or xs at no_switch).points + cond b r.points 0) (sym mine)))))
           (λ ne. ap (λ s. s.points) (get_or-set_other xs at c have no_switch ne) ∙ omega (arith, ap (λ (b : Bool). cond b r.points 0) (other c inside ne)))
           (cases_eq c at);
       users = λ c inside. ⊎_elim
           (λ (e : c ≡ at). subst (λ k. (slice_index_or (set xs at have) k no_switch).users ≡ (slice_index_or xs k no_switch).users + cond (is_of_place names k r) r.users 0) (sym e)
-          (ap (λ s. s.users) now ∙ (users ∙ (ap (λ (s : Switch). s.users + r.users) (sym old) ∙ ap (λ (b : Bool). (slice_index_or xs at no_switch).users + cond b r.users 0) (sym mine)))))
+          (ap (λ s. s.users) now ∙ (users ∙ (ap (λ (s : PairSwitches). s.users + r.users) (sym old) ∙ ap (λ (b : Bool). (slice_index_or xs at no_switch).users + cond b r.users 0) (sym mine)))))
           (λ ne. ap (λ s. s.users) (get_or-set_other xs at c have no_switch ne) ∙ omega (arith, ap (λ (b : Bool). cond b r.users 0) (other c inside ne)))
           (cases_eq c at);
     }

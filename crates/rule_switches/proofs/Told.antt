@@ -5,7 +5,7 @@ use Rattle.bucket_core.specs.Rule.{Entries, total_weight}
 use Rattle.limits.specs.Limits.{tally_inputs}
 use Rattle.rule_switches.specs.Runs.{Run, AreFew, AreRuns}
 use Rattle.rule_switches.specs.Table.{IsSwitchTable, IsTableOf, is_switched, name_of}
-use Rattle.rule_switches.specs.declared.table.Switch.{Switch}
+use Rattle.rule_switches.specs.declared.table.PairSwitches.{PairSwitches}
 use Rattle.rule_switches.proofs.Tallying.{all_points, all_users, points_told, users_told}
 
 pub few_runs : (old new : Entries) (counts : List ℕ) (rs : List Run) → AreRuns old new counts 0 rs (total_weight old) → total_weight old < 2 ^ 31 → sum counts ≤ tally_inputs → AreFew rs
@@ -17,7 +17,7 @@ few_runs old new counts rs are small few = record {
     whole : (xs : List ℕ) → sum (drop 0 xs) ≡ sum xs
     whole xs = refl
 
-pub told : (old new : Entries) (counts : List ℕ) (names : List (List ℕ)) (rs : List Run) (t : ℕ × List Switch) → AreRuns old new counts 0 rs (total_weight old) → length counts ≡ total_weight old
+pub told : (old new : Entries) (counts : List ℕ) (names : List (List ℕ)) (rs : List Run) (t : ℕ × List PairSwitches) → AreRuns old new counts 0 rs (total_weight old) → length counts ≡ total_weight old
     → IsTableOf names rs t → IsSwitchTable old new names counts t
 told old new counts names rs t are whole table =
     let n = total_weight old in

@@ -8,7 +8,7 @@ use Rattle.bucket_core.specs.Rule.{Entries, total_weight}
 use Rattle.limits.specs.Limits.{tally_inputs}
 use Rattle.price_core.specs.Cost.{name_at, name_of_input}
 use Rattle.rule_switches.specs.Runs.{Run}
-use Rattle.rule_switches.specs.declared.table.Switch.{Switch}
+use Rattle.rule_switches.specs.declared.table.PairSwitches.{PairSwitches}
 
 -- whether the rules give a point these names
 abbrev pub is_switched : Entries → Entries → List ℕ → List ℕ → ℕ → Bool
@@ -33,18 +33,18 @@ TalliesTellUsers = (old new : Entries) (inputs : Inputs) (a b : List ℕ) → 0 
 
 -- ---- the table
 
-abbrev pub no_switch : Switch
+abbrev pub no_switch : PairSwitches
 no_switch = record { points = 0; users = 0 }
 
 -- what goes from one place to another
-abbrev pub switch_at : ℕ × List Switch → ℕ → ℕ → Switch
+abbrev pub switch_at : ℕ × List PairSwitches → ℕ → ℕ → PairSwitches
 switch_at t i j = slice_index_or t.1 (i * t.0 + j) no_switch
 
 abbrev pub name_of : List (List ℕ) → ℕ → List ℕ
 name_of names i = slice_index_or names i []
 
 -- a place for each of the names; between each two the points and the users that go from the one to the other
-pub record IsSwitchTable (old new : Entries) (names : List (List ℕ)) (counts : List ℕ) (t : ℕ × List Switch) : Type 0 where
+pub record IsSwitchTable (old new : Entries) (names : List (List ℕ)) (counts : List ℕ) (t : ℕ × List PairSwitches) : Type 0 where
   pub width : t.0 ≡ length names
   pub points : (i j : ℕ) → i < length names → j < length names → (switch_at t i j).points ≡ points_between old new (name_of names i) (name_of names j)
   pub users : (i j : ℕ) → i < length names → j < length names → (switch_at t i j).users ≡ tally_between old new counts (name_of names i) (name_of names j)
@@ -62,13 +62,13 @@ abbrev pub run_users : List ℕ → List ℕ → List Run → ℕ
 run_users a b rs = sum_by (λ r. if is_between a b r then r.users else 0) rs
 
 -- the points and users of the runs
-pub record IsTableOf (names : List (List ℕ)) (rs : List Run) (t : ℕ × List Switch) : Type 0 where
+pub record IsTableOf (names : List (List ℕ)) (rs : List Run) (t : ℕ × List PairSwitches) : Type 0 where
   pub width : t.0 ≡ length names
   pub points : (i j : ℕ) → i < length names → j < length names → (switch_at t i j).points ≡ run_points (name_of names i) (name_of names j) rs
   pub users : (i j : ℕ) → i < length names → j < length names → (switch_at t i j).users ≡ run_users (name_of names i) (name_of names j) rs
 
 -- numbers that one more run may be added to
-abbrev pub AreSmall : List Switch → Type 0
+abbrev pub AreSmall : List PairSwitches → Type 0
 AreSmall switches = (c : ℕ) → c < length switches → ((slice_index_or switches c no_switch).points < 2 ^ 31) × ((slice_index_or switches c no_switch).users ≤ tally_inputs)
 
 -- the two names that a place of the table is for
@@ -76,7 +76,7 @@ abbrev pub is_of_place : List (List ℕ) → ℕ → Run → Bool
 is_of_place names c r = is_between (name_of names (c / length names)) (name_of names (c % length names)) r
 
 -- a run was added at the place of its names, and nothing elsewhere
-pub record HasRun (names : List (List ℕ)) (r : Run) (before after : List Switch) : Type 0 where
+pub record HasRun (names : List (List ℕ)) (r : Run) (before after : List PairSwitches) : Type 0 where
   pub long : length after ≡ length before
   pub points : (c : ℕ) → c < length before → (slice_index_or after c no_switch).points ≡ (slice_index_or before c no_switch).points + (if is_of_place names c r then r.points else 0)
   pub users : (c : ℕ) → c < length before → (slice_index_or after c no_switch).users ≡ (slice_index_or before c no_switch).users + (if is_of_place names c r then r.users else 0)

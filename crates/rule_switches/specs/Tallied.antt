@@ -12,7 +12,7 @@ use Rattle.rule_switches.specs.declared.comparison.Found as program
 use Rattle.rule_switches.specs.declared.fault.TallyFault.{TallyFault}
 use Rattle.rule_switches.specs.declared.fault.TallyFault.TheVariants.{OtherTally, WantOfMemory}
 use Rattle.rule_switches.specs.Switches.{AreSwitches, Rows}
-use Rattle.tallies.specs.Tally.{PageTally}
+use Rattle.note_tallies.specs.Tally.{PageTally}
 
 -- the totals of both rules divide the tally's, so that its numbers tell what each point of either has
 abbrev pub fits : PageTally → Entries → Entries → Bool

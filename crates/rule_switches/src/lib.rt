@@ -55,7 +55,7 @@ pub use laws::switches_are_cost;
 pub use page_edit::{Edit, Side};
 pub use rules::{Rules, rules_on};
 pub use switch::Switch;
-pub use table::{Switch, SwitchTable, switch_table};
+pub use table::{PairSwitches, SwitchTable, switch_table};
 pub use table_laws::tallies_tell_users;
 pub use tally::tally_switches;
 pub use tally_switches::compare_tally;

@@ -16,7 +16,7 @@ use std::marker::Model;
 
 /// How many points and users go from one variant to another.
 #[derive(Clone, Copy, Debug, PartialEq, Eq)]
-pub struct Switch {
+pub struct PairSwitches {
     /// The number of points.
     pub points: u64,
     /// The number of inputs that fall on them.
@@ -28,14 +28,14 @@ pub struct Switch {
 pub struct SwitchTable {
     width: usize,
     // row by row: the switches from the first variant to each, then those from the second
-    switches: Vec<Switch>,
+    switches: Vec<PairSwitches>,
 }
 
 impl Model for SwitchTable {
     ghost use Rattle.std.specs.Prelude.{◌≡◌, ◌*◌, length, ℕ, List};
-    ghost use Rattle.rule_switches.specs.declared.table.Switch.{Switch};
+    ghost use Rattle.rule_switches.specs.declared.table.PairSwitches.{PairSwitches};
 
-    ghost Value = { ℕ × List Switch };
+    ghost Value = { ℕ × List PairSwitches };
 
     ghost view = { λ t. (t.width, t.switches.items) };
 
@@ -51,7 +51,7 @@ impl SwitchTable {
     }
 
     /// What goes from one variant to another, by their places.
-    pub fn get(&self, from: usize, to: usize) -> Switch
+    pub fn get(&self, from: usize, to: usize) -> PairSwitches
         requires from { from < self.now.0 }
         requires to { to < self.now.0 }
         ensures { result ≡ switch_at self.now from to }
@@ -79,7 +79,7 @@ pub fn switch_table(
     Ok(table)
 }
 
-const NO_SWITCH: Switch = Switch {
+const NO_SWITCH: PairSwitches = PairSwitches {
     points: 0,
     users: 0,
 };
@@ -103,7 +103,7 @@ fn table_of(alloc: Global, names: &[Limit], runs: &[Run<'_>]) -> Result<SwitchTa
 
 /// No switch from any name to any.
 #[tactic(auto, using(crate::proofs::TablePlacing::long_keys))]
-fn no_switches(alloc: Global, names: &[Limit]) -> Result<Vec<Switch>, AllocError>
+fn no_switches(alloc: Global, names: &[Limit]) -> Result<Vec<PairSwitches>, AllocError>
     ensures { IfOk result (λ v. v.items ≡ replicate (length (keys_of (limits_view names.now)) * length (keys_of (limits_view names.now))) no_switch) }
 {
     let row = vec![in alloc; NO_SWITCH; names.len()]?;
@@ -116,7 +116,7 @@ fn no_switches(alloc: Global, names: &[Limit]) -> Result<Vec<Switch>, AllocError
 
 /// Adds the points and users of a run to the switches from its one name to its other, where both are known.
 #[tactic(auto, using(crate::proofs::TablePlacing::long_keys))]
-fn add_run(switches: &mut Vec<Switch>, names: &[Limit], run: &Run<'_>)
+fn add_run(switches: &mut Vec<PairSwitches>, names: &[Limit], run: &Run<'_>)
     requires square { length switches.old.items ≡ length (keys_of (limits_view names.now)) * length (keys_of (limits_view names.now)) }
     requires apart { AllPairs (λ x y. x ≢ y) (keys_of (limits_view names.now)) }
     requires small { AreSmall switches.old.items }
@@ -134,14 +134,14 @@ fn add_run(switches: &mut Vec<Switch>, names: &[Limit], run: &Run<'_>)
 }
 
 /// With the points and users of a run.
-fn more(switch: Switch, run: &Run<'_>) -> Switch
+fn more(switch: PairSwitches, run: &Run<'_>) -> PairSwitches
     requires points { switch.points < 2 ^ 31 }
     requires users { switch.users ≤ tally_inputs }
     requires few { run.now.users ≤ tally_inputs }
     ensures points { result.points ≡ switch.points + run.now.points }
     ensures users { result.users ≡ switch.users + run.now.users }
 {
-    Switch {
+    PairSwitches {
         points: switch.points + u64::from(run.points),
         users: switch.users + run.users,
     }

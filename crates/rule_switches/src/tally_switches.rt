@@ -5,7 +5,7 @@ ghost use Rattle.limits.specs.Limits.{tally_inputs};
 ghost use Rattle.rule_switches.specs.Found.{found_view, inputs_in, switches_in};
 ghost use Rattle.rule_switches.specs.Rules.{rules_on};
 ghost use Rattle.rule_switches.specs.Tallied.{AreTallyFound, ComparesTally, GivesFound, IsTallyFound, IsWhereFits, fits};
-ghost use Rattle.tallies.specs.Tally.{IsPageTally};
+ghost use Rattle.note_tallies.specs.Tally.{IsPageTally};
 
 use crate::book::is_asked;
 use crate::comparison::{Comparison, Found};
@@ -16,7 +16,7 @@ use crate::rules::{Rules, rules_on};
 use bucket_core::Rule;
 use crate::tally_switches;
 use std::alloc::Global;
-use tallies::PageTally;
+use note_tallies::PageTally;
 
 /// What an edit does on the page of a tally, where it is asked for. It is refused with `OtherTally` where both documents have a
 /// rule there, and the total of one does not divide the number of points of the tally.

@@ -64,7 +64,3 @@ pub use plan::check_plan;
 pub use rows::Row;
 pub use slack::first_broken;
 pub use totals::keeps_limits;
-pub use crate::{
-    Assignment, AssignmentRow, Certificate, CheckFault, Cut, CutKind, Instance, check_cut,
-    deficient_sets_fit_none, weak_duality,
-};

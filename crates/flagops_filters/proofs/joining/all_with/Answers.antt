@@ -1,7 +1,7 @@
 use Rattle.std.proofs.Common.{rules, arith, ◌+◌, ◌≡◌, ◌∙◌, IfSome, Result, Ok, Err, ap, drop, map, refl, sym, subst}
 use Rattle.std.proofs.lemmas.List.{drop_all}
 use Rattle.std.proofs.lemmas.Result.{err_from_is_err_and}
-use Rattle.tallies.specs.Tally.{PageTally}
+use Rattle.note_tallies.specs.Tally.{PageTally}
 use Rattle.flagops_filters.specs.Join.{JoinsFiles}
 use Rattle.flagops_filters.specs.Joined.{JoinsUnless}
 use Rattle.flagops_filters.specs.Remarks.{RemarksUnjoined}

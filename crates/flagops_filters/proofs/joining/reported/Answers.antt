@@ -1,5 +1,5 @@
 use Rattle.std.proofs.Common.{Bor, ◌∷◌, ℕ, List, IfSome, Ok, Err, map, subst}
-use Rattle.tallies.specs.Tally.{PageTally}
+use Rattle.note_tallies.specs.Tally.{PageTally}
 use Rattle.flagops_filters.specs.Join.{JoinsAllFiles}
 use Rattle.flagops_filters.specs.Joined.{JoinsUnless}
 use Rattle.flagops_filters.specs.Remarks.{RemarksUnjoinedOf}

@@ -1,6 +1,6 @@
 use Rattle.std.proofs.Common.{◌≡◌, ◌∙◌, IfSome, Result, Err, ap, sym, subst}
 use Rattle.std.proofs.lemmas.Result.{err_from_is_err_and}
-use Rattle.tallies.specs.Tally.{PageTally}
+use Rattle.note_tallies.specs.Tally.{PageTally}
 use Rattle.flagops_filters.specs.Joined.{JoinsNext, JoinsUnless}
 use Rattle.flagops_filters.specs.Report.{Told}
 use Rattle.flagops_filters.proofs.Joins.{next_joined, next_refused}

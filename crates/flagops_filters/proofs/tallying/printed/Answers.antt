@@ -1,6 +1,6 @@
 use Rattle.std.proofs.Common.{ℕ, Bool, List, is_some, Vec, Global, ap, ◌∙◌}
 use Rattle.flagops_shell.specs.Report.{Report}
-use Rattle.tallies.specs.File.{tally_text}
+use Rattle.note_tallies.specs.File.{tally_text}
 use Rattle.flagops_filters.specs.Beside.{is_beside}
 use Rattle.flagops_filters.proofs.tallying.printed.Goals as goal
 

@@ -1,8 +1,8 @@
 use Rattle.std.proofs.Common.{◌≡◌, ◌∙◌, Err, Ok, refl, ap, subst}
 use Rattle.std.proofs.lemmas.Result.{err_from_is_err_and}
 use Rattle.std.specs.Prelude.{string_bytes}
-use Rattle.tallies.specs.File.{tally_text}
-use Rattle.tallies.specs.Reading.{ReadsAs}
+use Rattle.note_tallies.specs.File.{tally_text}
+use Rattle.note_tallies.specs.Reading.{ReadsAs}
 use Rattle.library_rollouts.specs.Refusal.{of_notes}
 use Rattle.library_rollouts.specs.Tally.{IsTallyOver}
 use Rattle.library_rollouts.specs.Target.{target_view}

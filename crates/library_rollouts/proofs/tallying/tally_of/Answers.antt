@@ -1,9 +1,9 @@
 use Rattle.std.proofs.Common.{◌≡◌, ◌+◌, ℕ, Err, ap, ◌∙◌, sym, subst, arith, rules}
 use Rattle.std.proofs.lemmas.Result.{err_from_is_err_and}
 use Rattle.byte_streams.specs.Lines.{parts_of}
-use Rattle.tallies.specs.Lines.{untallied}
-use Rattle.tallies.specs.Filter.{Filtered, RefusesLine, Takes}
-use Rattle.tallies.specs.declared.filter_fault.FilterFault.TheVariants.{Line}
+use Rattle.note_tallies.specs.Lines.{untallied}
+use Rattle.note_tallies.specs.Filter.{Filtered, RefusesLine, Takes}
+use Rattle.note_tallies.specs.declared.filter_fault.FilterFault.TheVariants.{Line}
 use Rattle.note_streams.specs.Batch.{Goes}
 use Rattle.note_streams.specs.Tallied.{Tallies, behind}
 use Rattle.note_streams.proofs.Counting.{goes_line, goes_more, goes_none, stops_line, stops_long, stops_rest}

@@ -1,5 +1,5 @@
 use Rattle.std.proofs.Common.{◌≤◌, ◌+◌, length}
-use Rattle.tallies.specs.Lines.{untallied}
+use Rattle.note_tallies.specs.Lines.{untallied}
 use Rattle.note_streams.specs.Batch.{Goes}
 use Rattle.note_streams.specs.Tallied.{behind}
 use Rattle.library_rollouts.proofs.tallying.tally_of.Given as goal

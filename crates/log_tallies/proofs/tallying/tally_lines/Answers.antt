@@ -4,7 +4,7 @@ use Rattle.std.proofs.lemmas.Result.{err_from_is_err_and}
 use Rattle.byte_streams.specs.Lines.{lines_view}
 use Rattle.log_tallies.proofs.Cut.{first_line_left}
 use Rattle.log_tallies.proofs.Taken.{begun, ended, refused, taken}
-use Rattle.tallies.specs.Filter.{Filtered}
+use Rattle.note_tallies.specs.Filter.{Filtered}
 use Rattle.log_tallies.specs.Sorted.{TalliesLines}
 use Rattle.log_tallies.proofs.tallying.tally_lines.Goals as goal
 

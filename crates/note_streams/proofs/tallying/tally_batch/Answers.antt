@@ -1,8 +1,8 @@
 use Rattle.std.proofs.Common.{◌≡◌, ◌+◌, ◌++◌, ℕ, Err, ap, ◌∙◌, sym, subst, arith, rules}
 use Rattle.std.proofs.lemmas.Result.{err_from_is_err_and}
 use Rattle.byte_streams.specs.Lines.{parts_of}
-use Rattle.tallies.specs.Filter.{RefusesLine, Takes}
-use Rattle.tallies.specs.declared.filter_fault.FilterFault.TheVariants.{Line}
+use Rattle.note_tallies.specs.Filter.{RefusesLine, Takes}
+use Rattle.note_tallies.specs.declared.filter_fault.FilterFault.TheVariants.{Line}
 use Rattle.note_streams.specs.Batch.{TalliesBatch}
 use Rattle.note_streams.specs.Tallied.{Tallies}
 use Rattle.note_streams.specs.declared.stop.TallyStop.TheVariants.{Filter}

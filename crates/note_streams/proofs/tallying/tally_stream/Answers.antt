@@ -2,8 +2,8 @@ use Rattle.std.proofs.Common.{◌≡◌, ◌+◌, ◌-◌, ◌∙◌, ℕ, nat_e
 use Rattle.std.proofs.lemmas.List.{length-take-le}
 use Rattle.std.proofs.lemmas.Result.{err_from_is_err_and}
 use Rattle.byte_streams.specs.Fill.{Grows}
-use Rattle.tallies.specs.Lines.{untallied}
-use Rattle.tallies.specs.Filter.{Filtered}
+use Rattle.note_tallies.specs.Lines.{untallied}
+use Rattle.note_tallies.specs.Filter.{Filtered}
 use Rattle.note_streams.specs.Batch.{LeavesLines, TalliesBatch}
 use Rattle.note_streams.specs.Stop.{tallied_fill}
 use Rattle.note_streams.specs.declared.tallying.StreamTally.{StreamTally}

@@ -1,0 +1,5 @@
+use Rattle.note_tallies.proofs.Tallying.{tally_of_hashes}
+use Rattle.note_tallies.proofs.laws.a_tally_is_of_its_hashes.Goals as goal
+
+pub returns : goal.returns
+returns c = tally_of_hashes

@@ -1,9 +1,0 @@
-use Rattle.std.proofs.Common.{Result}
-use Rattle.std.specs.Vec.Iter.{into_iter_items}
-use Rattle.tallies.specs.Tally.{PageTally}
-use Rattle.tallies.specs.declared.joining.JoinFault.{JoinFault}
-use Rattle.tallies.specs.Joined.{JoinsAll}
-use Rattle.tallies.proofs.filter_join.join_all.Given as goal
-
-abbrev pub invariant-loop-next : goal.invariant-loop-next
-invariant-loop-next l = (r : Result PageTally JoinFault) → JoinsAll l.all (into_iter_items l.next-iterator) r → JoinsAll l.fn.first l.fn.others.items r

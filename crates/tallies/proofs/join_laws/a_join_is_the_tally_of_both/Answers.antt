@@ -1,5 +1,0 @@
-use Rattle.tallies.proofs.Union.{union}
-use Rattle.tallies.proofs.join_laws.a_join_is_the_tally_of_both.Goals as goal
-
-pub returns : goal.returns
-returns c = union

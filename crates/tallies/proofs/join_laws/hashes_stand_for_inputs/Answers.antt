@@ -1,5 +1,0 @@
-use Rattle.tallies.proofs.Hashes.{stand_for_inputs}
-use Rattle.tallies.proofs.join_laws.hashes_stand_for_inputs.Goals as goal
-
-pub returns : goal.returns
-returns c = stand_for_inputs

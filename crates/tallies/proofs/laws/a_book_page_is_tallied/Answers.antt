@@ -1,5 +1,0 @@
-use Rattle.tallies.proofs.Sorted.{book_pages}
-use Rattle.tallies.proofs.laws.a_book_page_is_tallied.Goals as goal
-
-pub returns : goal.returns
-returns c = book_pages c.a_tally_is_in_any_order.ensures

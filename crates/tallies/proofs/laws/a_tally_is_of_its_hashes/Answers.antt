@@ -1,5 +1,0 @@
-use Rattle.tallies.proofs.Tallying.{tally_of_hashes}
-use Rattle.tallies.proofs.laws.a_tally_is_of_its_hashes.Goals as goal
-
-pub returns : goal.returns
-returns c = tally_of_hashes

@@ -1,5 +1,0 @@
-use Rattle.tallies.proofs.Tallying.{of_one_kind}
-use Rattle.tallies.proofs.laws.tallied_lines_are_of_one_kind.Goals as goal
-
-pub returns : goal.returns
-returns c = of_one_kind
