@@ -11,7 +11,7 @@ use Rattle.std.proofs.lemmas.List.Folds.{list_any-append, list_any_at}
 use Rattle.book_core.specs.Page.{PageName, page_cmp, page_eq}
 use Rattle.book_core.specs.PageOrder.{pages_total}
 use Rattle.flag_defs.specs.Document.{Definitions}
-use Rattle.log_tallies.specs.Counts.{AreCounts, IsCountOf, counted_on}
+use Rattle.note_streams.specs.Counts.{AreCounts, IsCountOf, counted_on}
 use Rattle.note_tallies.proofs.Pages.{same_page}
 use Rattle.control_flags.specs.Sites.{Recorded, recorded_on}
 use Rattle.control_answers.specs.SiteCounts.{AreSiteCounts, Fills, IsSiteCount, site_pages}

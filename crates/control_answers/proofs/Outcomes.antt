@@ -4,10 +4,10 @@ use Rattle.flag_defs.specs.Document.{Definitions}
 use Rattle.plan_text.specs.Answer.{Answer}
 use Rattle.price_core.specs.Request.{Asked, asked_of}
 use Rattle.price_core.specs.declared.fault.PriceFault.{PriceFault}
-use Rattle.rollout_checks.specs.Lawful.{and_then, by_price}
-use Rattle.rollout_checks.specs.Tallied.{IsTallyOutcome, tally_problem_asked, tally_problem_of}
-use Rattle.rollout_checks.specs.declared.refining.Refining.{Refining}
-use Rattle.rollout_checks.specs.declared.verify_fault.VerifyFault.{VerifyFault}
+use Rattle.rollout.specs.Lawful.{and_then, by_price}
+use Rattle.rollout.specs.CheckedTally.{IsTallyOutcome, tally_problem_asked, tally_problem_of}
+use Rattle.rollout.specs.declared.refining.Refining.{Refining}
+use Rattle.rollout.specs.declared.verify_fault.VerifyFault.{VerifyFault}
 use Rattle.note_tallies.specs.Tally.{PageTally}
 use Rattle.control_answers.specs.Apply.{Applied, IsApplied, IsAppliedOn, IsApplyAnswer, IsApplyOf, unless_doubted}
 use Rattle.control_answers.specs.Check.{MayBeTold}

@@ -8,11 +8,11 @@ use Rattle.plan_text.specs.declared.fault.PlanFileFault.TheVariants as plan_faul
 use Rattle.plan_text.specs.declared.planned.Planned.{Planned}
 use Rattle.price_core.specs.Request.{Asked, asked_of}
 use Rattle.price_core.specs.declared.fault.PriceFault.{PriceFault}
-use Rattle.rollout_checks.specs.Lawful.{and_then, by_price}
-use Rattle.rollout_checks.specs.Plan.{IsTallyPlanned}
-use Rattle.rollout_checks.specs.Tallied.{tally_problem_asked, tally_problem_of}
-use Rattle.rollout_checks.specs.declared.fault.RolloutFault.{RolloutFault}
-use Rattle.rollout_checks.specs.declared.refining.Refining.TheVariants.{Times}
+use Rattle.rollout.specs.Lawful.{and_then, by_price}
+use Rattle.rollout.specs.Plan.{IsTallyPlanned}
+use Rattle.rollout.specs.CheckedTally.{tally_problem_asked, tally_problem_of}
+use Rattle.rollout.specs.declared.fault.RolloutFault.{RolloutFault}
+use Rattle.rollout.specs.declared.refining.Refining.TheVariants.{Times}
 use Rattle.note_tallies.specs.Tally.{PageTally}
 use Rattle.control_answers.specs.Body.{Told, told_text}
 use Rattle.control_answers.specs.Plan.{IsPlanOn, IsPrinted, IsTold}

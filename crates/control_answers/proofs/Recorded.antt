@@ -2,18 +2,18 @@
 use Rattle.std.proofs.Common.{◌≡◌, ◌⊎◌, ℕ, List, Result, Ok, Err, inl, inr, refl, subst}
 use Rattle.book_core.specs.Book.{Inputs}
 use Rattle.book_core.specs.Page.{PageName}
-use Rattle.log_tallies.specs.Recorded.{IsRecordTally, IsTallyOfHashes, IsTallyOfInputs}
-use Rattle.log_tallies.specs.Tallies.{TalliesFiles}
-use Rattle.log_tallies.specs.declared.fault.LogTallyFault.{LogTallyFault}
+use Rattle.note_streams.specs.LogRecorded.{IsRecordTally, IsTallyOfHashes, IsTallyOfInputs}
+use Rattle.note_streams.specs.Tallies.{TalliesFiles}
+use Rattle.note_streams.specs.declared.log_fault.LogTallyFault.{LogTallyFault}
 use Rattle.plan_text.specs.Answer.{planned_view}
 use Rattle.plan_text.specs.PlanFile.{plan_file}
 use Rattle.plan_text.specs.declared.fault.PlanFileFault.{PlanFileFault}
 use Rattle.plan_text.specs.declared.planned.Planned.{Planned}
 use Rattle.rollout.specs.Tallied.{TalliesAskAsBooks}
-use Rattle.rollout_checks.specs.Plan.{IsTallyPlanned}
-use Rattle.rollout_checks.specs.Tallied.{TallyProblem, tally_problem_of}
-use Rattle.rollout_checks.specs.declared.fault.RolloutFault.{RolloutFault}
-use Rattle.rollout_checks.specs.declared.refining.Refining.TheVariants.{Times}
+use Rattle.rollout.specs.Plan.{IsTallyPlanned}
+use Rattle.rollout.specs.CheckedTally.{TallyProblem, tally_problem_of}
+use Rattle.rollout.specs.declared.fault.RolloutFault.{RolloutFault}
+use Rattle.rollout.specs.declared.refining.Refining.TheVariants.{Times}
 use Rattle.note_tallies.specs.JoinLaw.{HashesStandForInputs, IsTallyOf}
 use Rattle.note_tallies.specs.Tally.{PageTally}
 use Rattle.control_answers.proofs.Tallied.{tallied}

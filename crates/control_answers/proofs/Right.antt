@@ -3,17 +3,17 @@ use Rattle.std.proofs.Common.{◌≡◌, ◌⊎◌, ℕ, List, true, false, Opti
 use Rattle.book_core.specs.Book.{Inputs}
 use Rattle.book_core.specs.Page.{PageName}
 use Rattle.flag_defs.specs.Document.{Definitions}
-use Rattle.log_tallies.specs.Recorded.{IsRecordTally, IsTallyOfHashes, IsTallyOfInputs}
-use Rattle.log_tallies.specs.Tallies.{TalliesFiles}
-use Rattle.log_tallies.specs.declared.fault.LogTallyFault.{LogTallyFault}
+use Rattle.note_streams.specs.LogRecorded.{IsRecordTally, IsTallyOfHashes, IsTallyOfInputs}
+use Rattle.note_streams.specs.Tallies.{TalliesFiles}
+use Rattle.note_streams.specs.declared.log_fault.LogTallyFault.{LogTallyFault}
 use Rattle.plan_text.specs.Answer.{Answer}
 use Rattle.plan_text.specs.PlanFile.{answer_of}
 use Rattle.plan_text.specs.declared.fault.PlanFileFault.{PlanFileFault}
 use Rattle.rollout.specs.Tallied.{TalliesAskAsBooks}
-use Rattle.rollout_checks.specs.Tallied.{IsTallyShown, TallyProblem, tally_problem_of}
-use Rattle.rollout_checks.specs.Verified.{refining_for}
-use Rattle.rollout_checks.specs.declared.fault.RolloutFault.{RolloutFault}
-use Rattle.rollout_checks.specs.declared.verify_fault.VerifyFault.{VerifyFault}
+use Rattle.rollout.specs.CheckedTally.{IsTallyShown, TallyProblem, tally_problem_of}
+use Rattle.rollout.specs.Verified.{refining_for}
+use Rattle.rollout.specs.declared.fault.RolloutFault.{RolloutFault}
+use Rattle.rollout.specs.declared.verify_fault.VerifyFault.{VerifyFault}
 use Rattle.note_tallies.specs.JoinLaw.{HashesStandForInputs, IsTallyOf}
 use Rattle.note_tallies.specs.Tally.{PageTally}
 use Rattle.control_answers.proofs.Tallied.{tallied}

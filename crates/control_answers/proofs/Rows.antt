@@ -2,8 +2,8 @@
 use Rattle.std.proofs.Common.{◌≡◌, ℕ, List, [], ◌∷◌, ◌++◌, filter, append_assoc, append-nil, sym, ap, ◌∙◌}
 use Rattle.std.proofs.lemmas.List.Elements.{filter-append}
 use Rattle.byte_streams.specs.Lines.{HasNoFeed, IsFirst}
-use Rattle.log_tallies.proofs.Cut.{lines_first, lines_none}
-use Rattle.log_tallies.specs.Lines.{lines_in}
+use Rattle.note_streams.proofs.Cut.{lines_first, lines_none}
+use Rattle.note_streams.specs.LogLines.{lines_in}
 use Rattle.control_answers.specs.History.{is_row}
 
 abbrev rows_in : List ℕ → List (List ℕ)

@@ -7,8 +7,8 @@ use Rattle.book_core.specs.Page.{PageName, page_eq}
 use Rattle.book_core.specs.PageOrder.{pages_total}
 use Rattle.flag_defs.specs.Document.{Definitions}
 use Rattle.rollout.specs.Tallied.{TalliesAskAsBooks}
-use Rattle.rollout_checks.specs.Tallied.{AreTallied, TallyProblem, tally_problem_of}
-use Rattle.rollout_checks.specs.declared.refining.Refining.{Refining}
+use Rattle.rollout.specs.CheckedTally.{AreTallied, TallyProblem, tally_problem_of}
+use Rattle.rollout.specs.declared.refining.Refining.{Refining}
 use Rattle.note_tallies.specs.JoinLaw.{IsTallyOf}
 use Rattle.note_tallies.specs.Tally.{PageTally}
 

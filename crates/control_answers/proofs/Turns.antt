@@ -1,10 +1,10 @@
 -- What a call comes to, by what was found before.
 use Rattle.std.proofs.Common.{◌≡◌, ◌≢◌, ◌∙◌, ℕ, List, Result, Ok, Err, refl, sym, subst, ap}
 use Rattle.flag_defs.specs.Document.{Definitions}
-use Rattle.log_tallies.specs.Tallies.{TalliesFiles}
-use Rattle.log_tallies.specs.declared.fault.LogTallyFault.{LogTallyFault}
-use Rattle.rollout_checks.specs.declared.fault.RolloutFault.{RolloutFault}
-use Rattle.rollout_checks.specs.declared.fault.RolloutFault.TheVariants as rollout_fault
+use Rattle.note_streams.specs.Tallies.{TalliesFiles}
+use Rattle.note_streams.specs.declared.log_fault.LogTallyFault.{LogTallyFault}
+use Rattle.rollout.specs.declared.fault.RolloutFault.{RolloutFault}
+use Rattle.rollout.specs.declared.fault.RolloutFault.TheVariants as rollout_fault
 use Rattle.note_tallies.specs.Tally.{PageTally}
 use Rattle.control_answers.specs.Refusal.{of_logs, of_rollout}
 use Rattle.control_answers.specs.Target.{Target, target_of}

@@ -5,8 +5,8 @@ use Rattle.flag_defs.specs.Document.{Definitions}
 use Rattle.kept_document.specs.Kept.{place_in}
 use Rattle.price_core.specs.Request.{Asked}
 use Rattle.rollout.specs.Applied.{applied}
-use Rattle.rollout_checks.specs.declared.fault.RolloutFault.{RolloutFault}
-use Rattle.rollout_checks.specs.declared.fault.RolloutFault.TheVariants as rollout_fault
+use Rattle.rollout.specs.declared.fault.RolloutFault.{RolloutFault}
+use Rattle.rollout.specs.declared.fault.RolloutFault.TheVariants as rollout_fault
 use Rattle.control_answers.specs.Kept.{IsEdited, IsEditedTo, IsKeptAt}
 use Rattle.control_answers.specs.Refusal.{of_rollout}
 use Rattle.control_answers.specs.Snapshot.{Snapshot}

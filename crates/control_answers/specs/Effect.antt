@@ -3,7 +3,7 @@ use Rattle.std.specs.Prelude.{◌≡◌, ◌≢◌, ℕ, Bool, true, false, [], 
 use Rattle.book_core.specs.Book.{Inputs}
 use Rattle.bucket_core.specs.Rule.{Entries, total_weight}
 use Rattle.plan_text.specs.Answer.{Answer, emit, none_exists}
-use Rattle.rollout_checks.specs.Tallied.{AreTallied, TallyProblem}
+use Rattle.rollout.specs.CheckedTally.{AreTallied, TallyProblem}
 use Rattle.rule_switches.specs.Edit.{IsObvious}
 use Rattle.rule_switches.specs.Switches.{AreSwitches, Rows, rows_view}
 use Rattle.control_answers.specs.declared.effect.Effect as program

@@ -1,7 +1,7 @@
 -- What is answered to whoever asks for the document of a snapshot (RFC 9110, 13.1.2: If-None-Match).
 use denote.Ref.{Bor}
 use Rattle.std.specs.Prelude.{◌≡◌, ℕ, Bool, false, List, Option, Some, None, option_map, string_bytes}
-use Rattle.entity_tags.specs.Tag.{entity_tag, is_listed, opaque_tag}
+use Rattle.ofrep_requests.specs.Tag.{entity_tag, is_listed, opaque_tag}
 use Rattle.control_answers.specs.declared.holding.DocumentTag as program
 
 -- whoever asks names the tag of a document that it has

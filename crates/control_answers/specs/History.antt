@@ -4,7 +4,7 @@ use Rattle.bucket_core.specs.Rule.{Entries, entries_view}
 use Rattle.flag_text.specs.Reading.{tree_of}
 use Rattle.control_flags.specs.Joined.{quoted}
 use Rattle.control_flags.specs.Sites.{rule_text}
-use Rattle.log_tallies.specs.Lines.{lines_in}
+use Rattle.note_streams.specs.LogLines.{lines_in}
 use Rattle.control_answers.specs.Body.{comma_if}
 use Rattle.control_answers.specs.declared.history.AppliedRow as program
 

@@ -8,7 +8,7 @@ use Rattle.kept_document.specs.declared.fault.KeepFault.{KeepFault}
 use Rattle.plan_text.specs.Answer.{Answer, emit, none_exists}
 use Rattle.price_core.specs.Request.{Asked, asked_of}
 use Rattle.rollout.specs.Applied.{applied}
-use Rattle.rollout_checks.specs.declared.fault.RolloutFault.{RolloutFault}
+use Rattle.rollout.specs.declared.fault.RolloutFault.{RolloutFault}
 use Rattle.kept_document.specs.Place.{SitePlace}
 use Rattle.control_answers.specs.Refusal.{of_keep, of_rollout}
 use Rattle.control_answers.specs.Snapshot.{Snapshot}

@@ -2,16 +2,16 @@
 use Rattle.std.specs.Prelude.{◌≡◌, ◌⊎◌, ℕ, List, true, map, None, Ok}
 use Rattle.book_core.specs.Book.{Inputs}
 use Rattle.book_core.specs.Page.{PageName}
-use Rattle.log_tallies.specs.Recorded.{AreHashesRecorded, AreRecorded, IsRecordTally}
+use Rattle.note_streams.specs.LogRecorded.{AreHashesRecorded, AreRecorded, IsRecordTally}
 use Rattle.note_lines.specs.Hashed.{hash_of}
 use Rattle.flag_defs.specs.Document.{Definitions}
 use Rattle.plan_text.specs.Answer.{Answer}
 use Rattle.plan_text.specs.PlanFile.{answer_of}
-use Rattle.rollout_checks.specs.Lawful.{IsLawful}
-use Rattle.rollout_checks.specs.Plan.{IsPlan}
-use Rattle.rollout_checks.specs.Tallied.{AreTallied, TallyProblem, tally_problem_of, with_inputs}
-use Rattle.rollout_checks.specs.Verified.{Shows, refining_for}
-use Rattle.rollout_checks.specs.declared.refining.Refining.TheVariants.{Times}
+use Rattle.rollout.specs.Lawful.{IsLawful}
+use Rattle.rollout.specs.Plan.{IsPlan}
+use Rattle.rollout.specs.CheckedTally.{AreTallied, TallyProblem, tally_problem_of, with_inputs}
+use Rattle.rollout.specs.Verified.{Shows, refining_for}
+use Rattle.rollout.specs.declared.refining.Refining.TheVariants.{Times}
 use Rattle.note_tallies.specs.JoinLaw.{AreHashesOf, IsEachOnce}
 use Rattle.note_tallies.specs.Tally.{PageTally}
 use Rattle.control_answers.specs.Apply.{Applied, IsApplyAnswer}

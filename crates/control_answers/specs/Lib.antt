@@ -20,5 +20,5 @@ pub mod View
 pub use Rattle.book_core.specs.Page
 pub use Rattle.bucket_core.specs.Rule
 pub use Rattle.note_tallies.specs.Tally
-pub use Rattle.rollout_checks.specs.Tallied
+pub use Rattle.rollout.specs.CheckedTally
 pub use Rattle.rule_switches.specs.Switches

@@ -8,7 +8,7 @@ use Rattle.picture.specs.Spelling.{Adds, IsPicture}
 use Rattle.picture.specs.Told.{Item, down}
 use Rattle.picture.specs.declared.words.Title.TheVariants as title
 use Rattle.plan_text.specs.Answer.{Answer, emit, none_exists}
-use Rattle.rollout_checks.specs.Tallied.{TallyProblem}
+use Rattle.rollout.specs.CheckedTally.{TallyProblem}
 use Rattle.rule_switches.specs.Runs.{Run, AreRuns}
 use Rattle.rule_switches.specs.Table.{IsSwitchTable}
 use Rattle.rule_switches.specs.declared.table.PairSwitches.{PairSwitches}

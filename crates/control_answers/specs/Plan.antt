@@ -5,10 +5,10 @@ use Rattle.plan_text.specs.Answer.{Answer, planned_view}
 use Rattle.plan_text.specs.PlanFile.{plan_file}
 use Rattle.plan_text.specs.declared.fault.PlanFileFault.{PlanFileFault}
 use Rattle.plan_text.specs.declared.planned.Planned.{Planned}
-use Rattle.rollout_checks.specs.Plan.{IsTallyPlanned}
-use Rattle.rollout_checks.specs.Tallied.{TallyProblem, tally_problem_of}
-use Rattle.rollout_checks.specs.declared.fault.RolloutFault.{RolloutFault}
-use Rattle.rollout_checks.specs.declared.refining.Refining.TheVariants.{Times}
+use Rattle.rollout.specs.Plan.{IsTallyPlanned}
+use Rattle.rollout.specs.CheckedTally.{TallyProblem, tally_problem_of}
+use Rattle.rollout.specs.declared.fault.RolloutFault.{RolloutFault}
+use Rattle.rollout.specs.declared.refining.Refining.TheVariants.{Times}
 use Rattle.note_tallies.specs.Tally.{PageTally}
 use Rattle.control_answers.specs.Body.{Told, edit_words, switched_in, told_text}
 use Rattle.control_answers.specs.Token.{token_text}

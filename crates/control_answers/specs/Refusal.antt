@@ -4,18 +4,18 @@ use Rattle.flag_text.specs.Printing.{text_of}
 use Rattle.flag_text.specs.Shape.{text}
 use Rattle.kept_document.specs.declared.fault.KeepFault.{KeepFault}
 use Rattle.kept_document.specs.declared.fault.KeepFault.TheVariants as keep_fault
-use Rattle.log_tallies.specs.declared.fault.LogTallyFault.{LogTallyFault}
-use Rattle.log_tallies.specs.declared.fault.LogTallyFault.TheVariants as logs
+use Rattle.note_streams.specs.declared.log_fault.LogTallyFault.{LogTallyFault}
+use Rattle.note_streams.specs.declared.log_fault.LogTallyFault.TheVariants as logs
 use Rattle.plan_text.specs.Fault.{name_of as plan_name, number_of as plan_number}
 use Rattle.plan_text.specs.declared.fault.PlanFileFault.{PlanFileFault}
 use Rattle.plan_text.specs.declared.fault.PlanFileFault.TheVariants as plan_fault
 use Rattle.price_core.specs.declared.fault.PriceFault.{PriceFault}
 use Rattle.price_core.specs.declared.fault.PriceFault.TheVariants as price_fault
-use Rattle.rollout_checks.specs.Fault as rollouts
-use Rattle.rollout_checks.specs.declared.fault.RolloutFault.{RolloutFault}
-use Rattle.rollout_checks.specs.declared.fault.RolloutFault.TheVariants as rollout_fault
-use Rattle.rollout_checks.specs.declared.verify_fault.VerifyFault.{VerifyFault}
-use Rattle.rollout_checks.specs.declared.verify_fault.VerifyFault.TheVariants as verdict
+use Rattle.rollout.specs.Fault as rollouts
+use Rattle.rollout.specs.declared.fault.RolloutFault.{RolloutFault}
+use Rattle.rollout.specs.declared.fault.RolloutFault.TheVariants as rollout_fault
+use Rattle.rollout.specs.declared.verify_fault.VerifyFault.{VerifyFault}
+use Rattle.rollout.specs.declared.verify_fault.VerifyFault.TheVariants as verdict
 use Rattle.transport_core.specs.Fault.{name_of as check_name, number_of as check_number}
 use Rattle.transport_core.specs.declared.fault.CheckFault.{CheckFault}
 use Rattle.transport_core.specs.declared.fault.CheckFault.TheVariants as check_fault

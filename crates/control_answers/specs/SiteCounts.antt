@@ -5,7 +5,7 @@ use Rattle.book_core.specs.Page.{PageName, page_eq}
 use Rattle.flag_defs.specs.Definition.{Definition}
 use Rattle.flag_defs.specs.Document.{Definitions}
 use Rattle.flag_defs.specs.Flag.{targeting_in}
-use Rattle.log_tallies.specs.Counts.{IsCountOf, counted_on}
+use Rattle.note_streams.specs.Counts.{IsCountOf, counted_on}
 use Rattle.logic_ast.specs.Expression.{Expression}
 use Rattle.control_flags.specs.Sites.{Recorded, pages_in, recorded_on}
 

@@ -4,9 +4,9 @@ use Rattle.bucket_core.specs.Rule.{Entries, entries_view, total_weight}
 use Rattle.book_core.specs.Page.{PageName}
 use Rattle.flag_defs.specs.Document.{Definitions}
 use Rattle.price_core.specs.Request.{asked_of}
-use Rattle.rollout_checks.specs.Lawful.{Place, and_then, by_price, max_planned, place_of}
-use Rattle.rollout_checks.specs.declared.fault.RolloutFault.{RolloutFault}
-use Rattle.rollout_checks.specs.declared.fault.RolloutFault.TheVariants.{NoWeight, TotalTooLarge}
+use Rattle.rollout.specs.Lawful.{Place, and_then, by_price, max_planned, place_of}
+use Rattle.rollout.specs.declared.fault.RolloutFault.{RolloutFault}
+use Rattle.rollout.specs.declared.fault.RolloutFault.TheVariants.{NoWeight, TotalTooLarge}
 use Rattle.control_answers.specs.declared.place.Place as program_place
 use Rattle.control_answers.specs.declared.target.Target as program
 

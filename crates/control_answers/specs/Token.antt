@@ -2,7 +2,7 @@
 use denote.Ref.{Bor}
 use Rattle.std.specs.Prelude.{◌≡◌, ◌≢◌, ◌⊎◌, ℕ, Bool, List, [], ◌∷◌, ◌++◌, codes, Result, Ok, Err}
 use Rattle.std.specs.Str.{IsUtf8, bytes_eq}
-use Rattle.entity_tags.specs.Tag.{entity_tag, opaque_tag}
+use Rattle.ofrep_requests.specs.Tag.{entity_tag, opaque_tag}
 use Rattle.text_spans.specs.Path.{Stands, name}
 use Rattle.control_answers.specs.declared.refusal.ControlRefusal.{ControlRefusal}
 use Rattle.control_answers.specs.declared.refusal.ControlRefusal.TheVariants.{WantOfMemory, BadToken}

@@ -1,9 +1,9 @@
 -- What a call comes to is found in turn: what is tallied, then the tally of the log files; each may be refused.
 use Rattle.std.specs.Prelude.{◌≡◌, ◌≢◌, ℕ, List, Result, Ok, Err}
 use Rattle.flag_defs.specs.Document.{Definitions}
-use Rattle.log_tallies.specs.Tallies.{TalliesFiles}
-use Rattle.log_tallies.specs.declared.fault.LogTallyFault.{LogTallyFault}
-use Rattle.rollout_checks.specs.declared.fault.RolloutFault.{RolloutFault}
+use Rattle.note_streams.specs.Tallies.{TalliesFiles}
+use Rattle.note_streams.specs.declared.log_fault.LogTallyFault.{LogTallyFault}
+use Rattle.rollout.specs.declared.fault.RolloutFault.{RolloutFault}
 use Rattle.note_tallies.specs.Tally.{PageTally}
 use Rattle.control_answers.specs.Refusal.{of_logs, of_rollout}
 use Rattle.control_answers.specs.Target.{Target, target_of, target_view}

@@ -1,10 +1,10 @@
 //! The plan of a token, applied.
 ghost use Rattle.std.specs.Prelude.{Ok, IsErrOf, IsUtf8};
 ghost use Rattle.flag_defs.specs.Flags.{flags_view};
-ghost use Rattle.log_tallies.specs.Lines.{files_view};
+ghost use Rattle.note_streams.specs.LogLines.{files_view};
 ghost use Rattle.plan_text.specs.Answer.{planned_view};
-ghost use Rattle.rollout_checks.specs.Tallied.{IsTallyOutcome, tally_problem_of};
-ghost use Rattle.rollout_checks.specs.Verified.{refining_for};
+ghost use Rattle.rollout.specs.CheckedTally.{IsTallyOutcome, tally_problem_of};
+ghost use Rattle.rollout.specs.Verified.{refining_for};
 ghost use Rattle.control_answers.specs.Apply.{IsApplied, IsAppliedOf, IsAppliedOn, IsApplyAnswer, IsApplyOf, applied_view};
 ghost use Rattle.control_answers.specs.Snapshot.{snapshot_view};
 ghost use Rattle.control_answers.specs.Target.{target_view};
@@ -19,9 +19,9 @@ use crate::refusal::{ControlRefusal, of_read, of_verdict_of_token};
 use crate::snapshot::Snapshot;
 use crate::target::Target;
 use crate::token::{Token, is_tag_of, token_in};
-use log_tallies::{LogFile, tally_files};
+use note_streams::{LogFile, tally_files};
 use plan_text::{Planned, read_planned};
-use rollout_checks::{RequestFile, verify_file_on_tally};
+use rollout::{RequestFile, verify_file_on_tally};
 use std::alloc::Global;
 use note_tallies::PageTally;
 

@@ -2,7 +2,7 @@
 ghost use Rattle.std.specs.Prelude.{◌≡◌, ◌<◌, ◌≤◌, false, length, IfOk, IsErrOf, string_bytes};
 ghost use Rattle.std.specs.Str.{is_utf8};
 ghost use Rattle.flag_defs.specs.Flags.{flags_view};
-ghost use Rattle.log_tallies.specs.Lines.{files_view};
+ghost use Rattle.note_streams.specs.LogLines.{files_view};
 ghost use Rattle.plan_text.specs.Answer.{planned_view};
 ghost use Rattle.plan_text.specs.PlanFile.{max_plan};
 ghost use Rattle.plan_text.specs.declared.fault.PlanFileFault.TheVariants.{BadPlan, TooLarge};
@@ -15,9 +15,9 @@ use crate::question::{Question, question_of};
 use crate::refusal::{ControlRefusal, of_read};
 use crate::target::Target;
 use flag_defs::Flags;
-use log_tallies::{LogFile, tally_files};
+use note_streams::{LogFile, tally_files};
 use plan_text::{Planned, read_planned};
-use rollout_checks::{RequestFile, verify_file_on_tally};
+use rollout::{RequestFile, verify_file_on_tally};
 use std::alloc::{AllocError, Global};
 use note_tallies::PageTally;
 

@@ -2,14 +2,14 @@
 ghost use Rattle.std.specs.Prelude.{◌∷◌, [], IfOk, OnOk};
 ghost use Rattle.flag_defs.specs.Flag.{flag_view};
 ghost use Rattle.flag_defs.specs.Flags.{flags_view};
-ghost use Rattle.log_tallies.specs.Lines.{files_view};
+ghost use Rattle.note_streams.specs.LogLines.{files_view};
 ghost use Rattle.logic_ast.specs.Expr.{view};
 ghost use Rattle.control_flags.specs.Sites.{pages_in};
 ghost use Rattle.control_answers.specs.SiteCounts.{AreSiteCounts, Fills, pages_of_flag, site_pages};
 
 use book_core::Page;
 use flag_defs::{Flag, Flags};
-use log_tallies::{LogFile, count_notes};
+use note_streams::{LogFile, count_notes};
 use logic_ast::Expr;
 use site_pages::pages_of;
 use std::alloc::{AllocError, Global};

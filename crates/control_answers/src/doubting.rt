@@ -6,7 +6,7 @@ ghost use Rattle.control_answers.specs.Doubts.{doubt_of, has_unread, is_unread};
 
 use crate::refusal::ControlRefusal;
 use member_names::repeated_place;
-use rollout_checks::RequestFile;
+use rollout::RequestFile;
 use std::alloc::{AllocError, Global};
 use note_tallies::PageTally;
 use member_names::Reader;

@@ -2,7 +2,7 @@
 ghost use Rattle.std.specs.Prelude.{◌≡◌, Ok, IfOk, string_bytes};
 ghost use Rattle.bucket_core.specs.Rule.{total_weight};
 ghost use Rattle.plan_text.specs.Answer.{planned_view};
-ghost use Rattle.rollout_checks.specs.Tallied.{tally_view};
+ghost use Rattle.rollout.specs.CheckedTally.{tally_view};
 ghost use Rattle.transport_core.specs.Certificate.{certificate_view};
 ghost use Rattle.transport_core.specs.Tally.{IsTally};
 ghost use Rattle.control_answers.specs.Picture.{AddsAnswer, AddsChange, IsPictured};
@@ -10,7 +10,7 @@ ghost use Rattle.control_answers.specs.Picture.{AddsAnswer, AddsChange, IsPictur
 use bucket_core::Rule;
 use picture::{Change, Deficit, Title, draw_change, draw_none, page};
 use plan_text::Planned;
-use rollout_checks::Problem;
+use rollout::Problem;
 use std::alloc::{AllocError, Global};
 use rule_switches::{runs, switch_table};
 use transport_core::Certificate;

@@ -3,14 +3,14 @@ ghost use Rattle.std.specs.Prelude.{◌≡◌, ◌≤◌, true, IfOk, IsOk, sum_
 ghost use Rattle.bucket_core.specs.Rule.{total_weight};
 ghost use Rattle.limits.specs.Limits.{tally_inputs};
 ghost use Rattle.plan_text.specs.Answer.{planned_view};
-ghost use Rattle.rollout_checks.specs.Tallied.{tally_view};
+ghost use Rattle.rollout.specs.CheckedTally.{tally_view};
 ghost use Rattle.rule_switches.specs.Switches.{rows_view};
 ghost use Rattle.transport_core.specs.Tally.{IsTally};
 ghost use Rattle.control_answers.specs.Effect.{IsEffect, IsEffectIfKept, IsEffectOf, effect_view, has_no_rule, nothing};
 
 use bucket_core::Rule;
 use plan_text::Planned;
-use rollout_checks::Problem;
+use rollout::Problem;
 use rule_switches::{Switch, obvious_switches, tally_switches};
 use std::alloc::{AllocError, Global};
 

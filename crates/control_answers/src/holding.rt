@@ -2,7 +2,7 @@
 ghost use Rattle.std.specs.Prelude.{IfOk};
 ghost use Rattle.control_answers.specs.Held.{IsTagOf, field_view};
 
-use entity_tags::{entity_tag, is_listed, opaque_tag};
+use ofrep_requests::{entity_tag, is_listed, opaque_tag};
 use std::alloc::{AllocError, Global};
 
 /// The tag of a document.

@@ -9,7 +9,7 @@
 //!
 //! ```rust
 //! use control_answers::{Snapshot, plan_answer};
-//! use log_tallies::LogFile;
+//! use note_streams::LogFile;
 //!
 //! let snapshot = Snapshot { number: 3, document, flags: &flags };
 //! let files = [LogFile { name: "worker-1.log", bytes: first }, LogFile { name: "worker-2.log", bytes: second }];

@@ -6,7 +6,7 @@ ghost use Rattle.flag_defs.specs.Flags.{flags_view};
 ghost use Rattle.flag_text.specs.Outcome.{GivesUnless};
 ghost use Rattle.price_core.specs.Request.{max_request};
 ghost use Rattle.price_core.specs.declared.fault.PriceFault.TheVariants.{BadRequest};
-ghost use Rattle.rollout_checks.specs.Lawful.{place_of};
+ghost use Rattle.rollout.specs.Lawful.{place_of};
 ghost use Rattle.control_answers.specs.Target.{place_view, points_of, site_of, target_in, target_of, target_view};
 
 use crate::target::Target;
@@ -14,7 +14,7 @@ use book_core::Page;
 use bucket_core::total_weight;
 use flag_defs::Flags;
 use logic_ast::{Site, site};
-use rollout_checks::{RequestFile, RolloutFault};
+use rollout::{RequestFile, RolloutFault};
 use std::alloc::Global;
 use note_tallies::MOST_POINTS;
 

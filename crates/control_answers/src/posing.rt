@@ -2,14 +2,14 @@
 ghost use Rattle.std.specs.Prelude.{◌≡◌, Ok, IfOk};
 ghost use Rattle.bucket_core.specs.Rule.{total_weight};
 ghost use Rattle.flag_defs.specs.Flags.{flags_view};
-ghost use Rattle.rollout_checks.specs.Plan.{IsTallyPlanned};
-ghost use Rattle.rollout_checks.specs.Tallied.{tally_problem_of, tally_view};
-ghost use Rattle.rollout_checks.specs.declared.refining.Refining.TheVariants.{Times};
+ghost use Rattle.rollout.specs.Plan.{IsTallyPlanned};
+ghost use Rattle.rollout.specs.CheckedTally.{tally_problem_of, tally_view};
+ghost use Rattle.rollout.specs.declared.refining.Refining.TheVariants.{Times};
 ghost use Rattle.transport_core.specs.Tally.{IsTally};
 
 use flag_defs::Flags;
 use plan_text::Planned;
-use rollout_checks::{Problem, Refining, RequestFile, RolloutFault, problem_of_tally};
+use rollout::{Problem, Refining, RequestFile, RolloutFault, problem_of_tally};
 use std::alloc::{AllocError, Global};
 use note_tallies::PageTally;
 

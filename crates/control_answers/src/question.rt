@@ -10,7 +10,7 @@ use crate::place::target_of;
 use crate::refusal::ControlRefusal;
 use crate::target::Target;
 use flag_defs::Flags;
-use rollout_checks::RequestFile;
+use rollout::RequestFile;
 use std::alloc::Global;
 
 /// The file of a request, and what is tallied for it.

@@ -5,10 +5,10 @@ ghost use Rattle.control_answers.specs.declared.refusal.ControlRefusal.TheVarian
 
 use crate::texts::quoted;
 use kept_document::KeepFault;
-use log_tallies::LogTallyFault;
+use note_streams::LogTallyFault;
 use plan_text::PlanFileFault;
 use price_core::PriceFault;
-use rollout_checks::{RolloutFault, VerifyFault};
+use rollout::{RolloutFault, VerifyFault};
 use std::alloc::{AllocError, AllocFailed, Global};
 use transport_core::CheckFault;
 

@@ -4,7 +4,7 @@ ghost use Rattle.control_answers.specs.Token.{FindsMember, ReadsToken, is_tag_of
 ghost use Rattle.control_answers.specs.declared.refusal.ControlRefusal.TheVariants.{BadToken};
 
 use crate::refusal::ControlRefusal;
-use entity_tags::{entity_tag, opaque_tag};
+use ofrep_requests::{entity_tag, opaque_tag};
 use simdutf8::basic;
 use std::alloc::{AllocError, Global};
 use text_spans::{Step, find};

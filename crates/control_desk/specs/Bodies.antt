@@ -20,7 +20,7 @@ use Rattle.sync_frames.specs.Snapshots.{Numbered}
 use Rattle.control_flags.specs.Joined.{comma_if, quoted}
 use Rattle.control_flags.specs.Sites.{Recorded}
 use Rattle.control_flags.specs.declared.answer.FlagsAsked.{FlagsAsked}
-use Rattle.entity_tags.specs.Tag.{entity_tag, opaque_tag}
+use Rattle.ofrep_requests.specs.Tag.{entity_tag, opaque_tag}
 use Rattle.http_server.specs.Response.{IsResponse}
 use Rattle.http_server.specs.declared.response.Response.{Response}
 use Rattle.control_desk.specs.Reply.{Replies}

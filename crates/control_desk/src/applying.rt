@@ -5,7 +5,7 @@ ghost use Rattle.control_answers.specs.Apply.{applied_view};
 ghost use Rattle.flag_defs.specs.Flags.{flags_view};
 ghost use Rattle.flagops_shell.specs.Files.{KeepsOthers};
 ghost use Rattle.http_server.specs.Response.{IsBlank};
-ghost use Rattle.log_tallies.specs.Lines.{files_view};
+ghost use Rattle.note_streams.specs.LogLines.{files_view};
 ghost use Rattle.plan_text.specs.Answer.{planned_view};
 ghost use Rattle.price_core.specs.Request.{asked_of};
 ghost use Rattle.control_desk.specs.Apply.{AppliesOr, HoldsText, IsRowOf, TellsApply, Writes, cost_of, old_rule, rule_of, written_text};
@@ -23,7 +23,7 @@ use control_answers::{Applied, AppliedRow, ControlRefusal, apply_answer, history
 use flag_defs::Flags;
 use http::StatusCode;
 use http_server::Response;
-use log_tallies::LogFile;
+use note_streams::LogFile;
 use logic_ast::{LogicFault, site};
 use plan_text::Planned;
 use price_core::Request;

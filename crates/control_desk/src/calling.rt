@@ -1,7 +1,7 @@
 //! The calls of a desk.
 ghost use Rattle.std.specs.Prelude.{◌≡◌, ◌≢◌, ◌≤◌, ◌⊎◌, OnErr, OnOk, Some, string_bytes};
 ghost use Rattle.http_server.specs.Response.{IsBlank};
-ghost use Rattle.log_tallies.specs.Lines.{files_view};
+ghost use Rattle.note_streams.specs.LogLines.{files_view};
 ghost use Rattle.control_desk.specs.Asked.{CallAsked, call_asked};
 ghost use Rattle.control_desk.specs.Desk.{Answered, Answers, IsOnRecord, IsPutOff, RespondsApplied, RespondsOn, RespondsRecorded, TellsAlone, hindered, name_of, page_view};
 ghost use Rattle.control_desk.specs.Held.{held_view, numbered_of};
@@ -27,7 +27,7 @@ use control_flags::ControlPlace;
 use http::Request;
 use http_server::Response;
 use jiff::Timestamp;
-use log_tallies::LogFile;
+use note_streams::LogFile;
 use snap_share::{ShareFault, ShareName};
 use std::alloc::{AllocError, Global};
 use std::collections::BTreeMap;

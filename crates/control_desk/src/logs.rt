@@ -1,6 +1,6 @@
 //! The logs of a folder.
 ghost use Rattle.std.specs.Prelude.{◌≡◌, ◌≤◌, IfErr, IfOk, IfSome, Some, filter, map, string_bytes};
-ghost use Rattle.log_tallies.specs.Lines.{files_view};
+ghost use Rattle.note_streams.specs.LogLines.{files_view};
 ghost use Rattle.control_desk.specs.Files.{path_in};
 ghost use Rattle.control_desk.specs.Logs.{AreAt, AreListed, AreLogs, IsUnread, IsUnreadOf, bytes_of, passed_by};
 ghost use Rattle.control_desk.specs.Names.{is_chosen};
@@ -9,7 +9,7 @@ ghost use Rattle.control_desk.specs.Obstacles.{Grows, met_by};
 use crate::files::DeskFiles;
 use crate::names::is_chosen;
 use crate::obstacles::Obstacles;
-use log_tallies::LogFile;
+use note_streams::LogFile;
 use std::alloc::{AllocError, AllocFailed, Global};
 
 /// How often a folder is listed where a file of it is gone by the time that it is read: it was renamed.

@@ -9,7 +9,7 @@ use crate::giving::{Media, finish};
 use control_answers::ControlRefusal;
 use http::StatusCode;
 use http_server::Response;
-use log_tallies::{LogFile, LogTallyFault};
+use note_streams::{LogFile, LogTallyFault};
 use std::alloc::{AllocError, Global};
 
 /// Fills a response with the refusal of a call that was asked by this name. Want of memory is passed on.

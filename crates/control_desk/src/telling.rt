@@ -1,7 +1,7 @@
 //! What is told of a snapshot, and of what is recorded.
 ghost use Rattle.std.specs.Prelude.{◌≡◌, [], false, Ok, Some, IfOk, MatchOption, OnOk, map, option_map, string_bytes};
 ghost use Rattle.http_server.specs.Response.{IsBlank};
-ghost use Rattle.log_tallies.specs.Lines.{files_view};
+ghost use Rattle.note_streams.specs.LogLines.{files_view};
 ghost use Rattle.control_answers.specs.Token.{HasNoMember, IsMember};
 ghost use Rattle.control_flags.specs.Calls.{asked_view, record_of};
 ghost use Rattle.control_desk.specs.Held.{held_view, numbered_of};
@@ -23,7 +23,7 @@ use control_flags::{FlagsAsked, flags_answer};
 use flag_text::push_string;
 use http::StatusCode;
 use http_server::Response;
-use log_tallies::LogFile;
+use note_streams::LogFile;
 use simdutf8::basic;
 use std::alloc::{AllocError, Global};
 use std::collections::BTreeMap;

@@ -1,6 +1,6 @@
 -- The first number in a value that is not whole, and the way to it: items from the first on, members in the order of their names (JsonLogic: `var`).
 use Rattle.std.specs.Prelude.{ℕ, ◌+◌, Bool, List, [], ◌++◌, codes, decimal, is_some, if◌then◌else◌, Option, Some, None}
-use Rattle.decimal_values.specs.Decimals.{spelling_in}
+use Rattle.logic_values.specs.Decimals.{spelling_in}
 use Rattle.flag_text.specs.Shape.{Shape, null, boolean, whole, other, text, list, object, Items, no_items, item, Members, no_members, member}
 use Rattle.logic_values.specs.Truth.{is_empty_text}
 

@@ -5,7 +5,7 @@ use Rattle.flag_text.specs.Shape.{Shape, null, whole, text}
 use Rattle.logic_ast.specs.Expression.{Expression, literal, list, operation, fractional, Expressions, no_expressions, expression, By, no_by, by, Buckets, no_buckets, bucket, Bucket, literal_bucket, computed_bucket}
 use Rattle.logic_ast.specs.declared.operator.Operator.{Operator}
 use Rattle.logic_ast.specs.declared.operator.Operator.TheVariants as op
-use Rattle.decimal_values.specs.Decimals.{is_readable}
+use Rattle.logic_values.specs.Decimals.{is_readable}
 use Rattle.logic_values.specs.Comparison.{bool_eq}
 use Rattle.logic_values.specs.Truth.{is_true}
 use Rattle.logic_values.specs.declared.fault.EvalFault.{EvalFault}

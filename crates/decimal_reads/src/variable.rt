@@ -9,7 +9,7 @@ ghost use Rattle.decimal_reads.specs.Reads.{path_in, read_at, read_by, read_view
 
 use crate::reading::DecimalRead;
 use crate::way::{first_spelling, way_of};
-use decimal_values::is_readable;
+use logic_values::is_readable;
 use flag_text::Tree;
 use logic_ast::Node;
 use logic_eval::{EvalFault, Inspection};

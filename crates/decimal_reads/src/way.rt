@@ -4,7 +4,7 @@ ghost use Rattle.decimal_reads.specs.Inside.{first_spelling, has_number, inside,
 ghost use Rattle.decimal_reads.specs.Inside as spec;
 ghost use Rattle.flag_text.specs.View.{items_view, members_view, view};
 
-use decimal_values::spelling_of;
+use logic_values::spelling_of;
 use flag_text::Tree;
 use itoa::Buffer;
 use logic_values::seen_tree;

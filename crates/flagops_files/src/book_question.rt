@@ -14,7 +14,7 @@ use file_diagnostics::{Ends, of_book};
 use flag_defs::Flags;
 use flagops_shell::{FileSet, Remark};
 use page_tally::BookFile;
-use rollout_checks::{Refining, RequestFile, read_book_asked};
+use rollout::{Refining, RequestFile, read_book_asked};
 use std::alloc::Global;
 use std::thread::Threads;
 

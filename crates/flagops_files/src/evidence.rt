@@ -12,7 +12,7 @@ use flag_defs::Flags;
 use flagops_shell::{FileSet, Remark};
 use page_tally::BookFile;
 use price_core::Request;
-use rollout_checks::{Refining, read_book_asked};
+use rollout::{Refining, read_book_asked};
 use std::alloc::Global;
 use std::thread::Threads;
 use note_tallies::PageTally;

@@ -5,7 +5,7 @@ ghost use Rattle.flagops_files.specs.Refusal.{payload_of};
 
 use crate::refusal::Refusal;
 use book_core::BookFileFault;
-use rollout_checks::RolloutFault;
+use rollout::RolloutFault;
 use std::alloc::{AllocError, Global};
 use note_tallies::TallyFileFault;
 

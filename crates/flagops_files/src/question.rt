@@ -11,7 +11,7 @@ use crate::refusal::Refused;
 use crate::requests::load_request;
 use flag_defs::Flags;
 use flagops_shell::FileSet;
-use rollout_checks::RequestFile;
+use rollout::RequestFile;
 use std::alloc::Global;
 use std::thread::Threads;
 

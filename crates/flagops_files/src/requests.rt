@@ -10,7 +10,7 @@ ghost use Rattle.flagops_shell.specs.Outcomes.{refused_by};
 use crate::loading::{TEXT_LIMIT, load};
 use crate::refusal::{Call, Refused, out_of_memory};
 use flagops_shell::FileSet;
-use rollout_checks::RequestFile;
+use rollout::RequestFile;
 use std::alloc::{AllocError, Global};
 
 /// The file of a request at a path, read once. Whatever is wrong with its bytes is told by [`RequestFile::asked`].

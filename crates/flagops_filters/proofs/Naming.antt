@@ -7,7 +7,7 @@ use Rattle.file_diagnostics.specs.Named.{Names, NamesWord}
 use Rattle.flagops_shell.specs.Diagnostic.{Says}
 use Rattle.flagops_shell.specs.declared.refused.Remark.{Remark}
 use Rattle.flagops_shell.specs.declared.refused.Remark.TheVariants.{Short, Lines}
-use Rattle.rollout_checks.specs.declared.fault.RolloutFault.{RolloutFault}
+use Rattle.rollout.specs.declared.fault.RolloutFault.{RolloutFault}
 use Rattle.flagops_filters.specs.Refusal.{is_unread, is_want}
 use Rattle.flagops_filters.specs.Remarks.{NamesPath, NamesRefused, RemarksBy}
 use Rattle.flagops_filters.specs.Report.{Told, is_file_fault}

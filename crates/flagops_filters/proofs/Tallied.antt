@@ -13,8 +13,8 @@ use Rattle.note_streams.specs.Tallied.{TalliesStream}
 use Rattle.note_streams.specs.declared.stop.TallyStop.{TallyStop}
 use Rattle.note_streams.specs.declared.stop.TallyStop.TheVariants.{Filter, Unreadable, TooLong}
 use Rattle.note_streams.specs.declared.tallying.StreamTally.{StreamTally}
-use Rattle.rollout_checks.specs.declared.fault.RolloutFault.{RolloutFault}
-use Rattle.rollout_checks.specs.declared.fault.RolloutFault.TheVariants as rollout
+use Rattle.rollout.specs.declared.fault.RolloutFault.{RolloutFault}
+use Rattle.rollout.specs.declared.fault.RolloutFault.TheVariants as rollout
 use Rattle.note_tallies.specs.Tally.{PageTally}
 use Rattle.note_tallies.specs.declared.filter_fault.FilterFault.{FilterFault}
 use Rattle.note_tallies.specs.declared.filter_fault.FilterFault.TheVariants.{WantOfMemory}

@@ -15,8 +15,8 @@ use Rattle.note_streams.specs.Record.{IsSceneOf, Recorded, Scene}
 use Rattle.note_streams.specs.Refusal.{refusal_for}
 use Rattle.note_streams.specs.declared.recorder.RecordFault.{RecordFault}
 use Rattle.note_streams.specs.declared.recorder.RecordFault.TheVariants as recording
-use Rattle.rollout_checks.specs.declared.fault.RolloutFault.{RolloutFault}
-use Rattle.rollout_checks.specs.declared.fault.RolloutFault.TheVariants as rollout
+use Rattle.rollout.specs.declared.fault.RolloutFault.{RolloutFault}
+use Rattle.rollout.specs.declared.fault.RolloutFault.TheVariants as rollout
 use Rattle.flagops_filters.specs.Refusal.{is_unread}
 use Rattle.flagops_filters.specs.Beside.{PutsNoted}
 use Rattle.flagops_filters.specs.Remarks.{NamesInput, NamesPath}

@@ -8,8 +8,8 @@ use Rattle.note_streams.specs.declared.stop.RecordStop.{RecordStop}
 use Rattle.note_streams.specs.declared.stop.RecordStop.TheVariants as recording
 use Rattle.note_streams.specs.declared.stop.TallyStop.{TallyStop}
 use Rattle.note_streams.specs.declared.stop.TallyStop.TheVariants as tallying
-use Rattle.rollout_checks.specs.Fault as rollouts
-use Rattle.rollout_checks.specs.declared.fault.RolloutFault.TheVariants as rollout
+use Rattle.rollout.specs.Fault as rollouts
+use Rattle.rollout.specs.declared.fault.RolloutFault.TheVariants as rollout
 use Rattle.note_tallies.specs.declared.joining.JoinFault.{JoinFault}
 use Rattle.note_tallies.specs.declared.joining.JoinFault.TheVariants as joining
 use Rattle.note_tallies.specs.declared.filter_fault.FilterFault.{FilterFault}

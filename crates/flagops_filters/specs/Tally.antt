@@ -12,9 +12,9 @@ use Rattle.note_streams.specs.Recorded.{most_bytes}
 use Rattle.note_streams.specs.Rest.{is_empty, is_torn}
 use Rattle.note_streams.specs.Tallied.{Tallies}
 use Rattle.note_streams.specs.declared.stop.TallyStop.TheVariants.{Filter, Unreadable, TooLong}
-use Rattle.rollout_checks.specs.Lawful.{Place, and_then, max_planned, place_of}
-use Rattle.rollout_checks.specs.declared.fault.RolloutFault.{RolloutFault}
-use Rattle.rollout_checks.specs.declared.fault.RolloutFault.TheVariants.{NoWeight, TotalTooLarge}
+use Rattle.rollout.specs.Lawful.{Place, and_then, max_planned, place_of}
+use Rattle.rollout.specs.declared.fault.RolloutFault.{RolloutFault}
+use Rattle.rollout.specs.declared.fault.RolloutFault.TheVariants.{NoWeight, TotalTooLarge}
 use Rattle.note_tallies.specs.declared.filter_fault.FilterFault.{FilterFault}
 use Rattle.note_tallies.specs.declared.filter_fault.FilterFault.TheVariants.{WantOfMemory}
 use Rattle.note_tallies.specs.File.{tally_text}

@@ -33,7 +33,7 @@ use flagops_shell::{Console, FileSet, Refused, Remark, refuse, report_usage, tel
 use byte_streams::Inlet;
 use note_streams::{Counted, RecordStop, record_stream};
 use note_streams::{RecordFault, Recorder};
-use rollout_checks::RolloutFault;
+use rollout::RolloutFault;
 use std::alloc::{AllocError, Global};
 use std::convert::AsStr;
 use std::thread::Threads;

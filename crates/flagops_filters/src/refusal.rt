@@ -9,7 +9,7 @@ ghost use Rattle.flagops_filters.specs.declared.refusal.FilterRefusal.TheVariant
 use flagops_files::{Refusal, fault_line, number_item, rollout_items};
 use flagops_shell::CommandRefusal;
 use note_streams::{RecordStop, TallyStop};
-use rollout_checks::RolloutFault;
+use rollout::RolloutFault;
 use std::alloc::{AllocError, Global};
 use note_tallies::JoinFault;
 use note_tallies::FilterFault;

@@ -2,7 +2,7 @@
 ghost use Rattle.std.specs.Prelude.{◌≡◌, ◌<◌, ◌≤◌, ◌||◌, false, true, is_some, map, option_map, IfErr, IfOk, IfSome, Ok, string_bytes};
 ghost use Rattle.flag_defs.specs.Flags.{flags_view};
 ghost use Rattle.flag_text.specs.Outcome.{GivesUnless};
-ghost use Rattle.rollout_checks.specs.Lawful.{place_of};
+ghost use Rattle.rollout.specs.Lawful.{place_of};
 ghost use Rattle.flagops_shell.specs.Console.{IsOpen};
 ghost use Rattle.flagops_shell.specs.Diagnostic.{Says};
 ghost use Rattle.flagops_shell.specs.Ending.{Ends, ShowsUnread};
@@ -39,7 +39,7 @@ use flagops_words::factor_of;
 use byte_streams::Inlet;
 use logic_ast::{Site, site};
 use note_streams::{StreamTally, TallyStop, tally_stream};
-use rollout_checks::RolloutFault;
+use rollout::RolloutFault;
 use std::alloc::{AllocError, Global};
 use std::convert::AsStr;
 use note_tallies::PageTally;

@@ -24,13 +24,13 @@ use Rattle.plan_text.specs.PlanFile.{plan_line}
 use Rattle.plan_text.specs.declared.fault.PlanFileFault.{PlanFileFault}
 use Rattle.plan_text.specs.declared.planned.Planned.{Planned}
 use Rattle.ramp.specs.Right.{IsStepShown}
-use Rattle.rollout_checks.specs.Lawful.{Problem}
-use Rattle.rollout_checks.specs.Plan.{IsPlanned, IsTallyPlanned}
-use Rattle.rollout_checks.specs.Refined.{problem_refined}
-use Rattle.rollout_checks.specs.Tallied.{IsTallyShown, TallyProblem, tally_problem_of}
-use Rattle.rollout_checks.specs.Verified.{IsShown}
-use Rattle.rollout_checks.specs.declared.fault.RolloutFault.{RolloutFault}
-use Rattle.rollout_checks.specs.declared.refining.Refining.TheVariants.{Times}
+use Rattle.rollout.specs.Lawful.{Problem}
+use Rattle.rollout.specs.Plan.{IsPlanned, IsTallyPlanned}
+use Rattle.rollout.specs.Refined.{problem_refined}
+use Rattle.rollout.specs.CheckedTally.{IsTallyShown, TallyProblem, tally_problem_of}
+use Rattle.rollout.specs.Verified.{IsShown}
+use Rattle.rollout.specs.declared.fault.RolloutFault.{RolloutFault}
+use Rattle.rollout.specs.declared.refining.Refining.TheVariants.{Times}
 use Rattle.flagops_ramps.specs.Ramp.{recorded}
 use Rattle.flagops_pictures.specs.Planning.{IsPictureOf, IsPlanPicture, IsPlanWith, KeepsUnlessPlanned}
 use Rattle.flagops_pictures.specs.Words.{Planning}

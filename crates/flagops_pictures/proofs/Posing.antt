@@ -14,15 +14,15 @@ use Rattle.price_core.specs.Request.{Asked, asked_of}
 use Rattle.price_core.specs.declared.fault.PriceFault.{PriceFault}
 use Rattle.ramp.specs.Ramp.{Recorded, in_book, in_tally}
 use Rattle.ramp.specs.Right.{IsStepShown}
-use Rattle.rollout_checks.specs.Fault.{of_price}
-use Rattle.rollout_checks.specs.Lawful.{PosesUnless, Problem, and_then, by_price, problem_asked, problem_of, problem_view}
-use Rattle.rollout_checks.specs.Refined.{refining_checked}
-use Rattle.rollout_checks.specs.Tallied.{IsTallyShown, TallyProblem, tally_problem_asked, tally_view, with_counts}
-use Rattle.rollout_checks.specs.Verified.{IsShown}
-use Rattle.rollout_checks.specs.declared.fault.RolloutFault.{RolloutFault}
-use Rattle.rollout_checks.specs.declared.fault.RolloutFault.TheVariants.{WantOfMemory}
-use Rattle.rollout_checks.specs.declared.problem.Problem as program
-use Rattle.rollout_checks.specs.declared.refining.Refining.{Refining}
+use Rattle.rollout.specs.Fault.{of_price}
+use Rattle.rollout.specs.Lawful.{PosesUnless, Problem, and_then, by_price, problem_asked, problem_of, problem_view}
+use Rattle.rollout.specs.Refined.{refining_checked}
+use Rattle.rollout.specs.CheckedTally.{IsTallyShown, TallyProblem, tally_problem_asked, tally_view, with_counts}
+use Rattle.rollout.specs.Verified.{IsShown}
+use Rattle.rollout.specs.declared.fault.RolloutFault.{RolloutFault}
+use Rattle.rollout.specs.declared.fault.RolloutFault.TheVariants.{WantOfMemory}
+use Rattle.rollout.specs.declared.problem.Problem as program
+use Rattle.rollout.specs.declared.refining.Refining.{Refining}
 use Rattle.transport_core.proofs.Costs.{tally_of}
 use Rattle.transport_core.specs.Tally.{IsTally}
 

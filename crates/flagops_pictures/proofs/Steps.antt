@@ -11,7 +11,7 @@ use Rattle.plan_text.specs.declared.planned.Planned.{Planned}
 use Rattle.ramp.specs.Ramp.{Recorded, Standing, in_book, in_tally, left_by, still}
 use Rattle.ramp.specs.Steps.{requests_view}
 use Rattle.ramp.specs.Right.{AreRight, IsRight}
-use Rattle.rollout_checks.specs.declared.fault.RolloutFault.{RolloutFault}
+use Rattle.rollout.specs.declared.fault.RolloutFault.{RolloutFault}
 use Rattle.flagops_pictures.specs.Asked.{step_asked}
 use Rattle.flagops_pictures.specs.Pictured.{AddsTold}
 use Rattle.flagops_pictures.specs.Ramps.{AreTold, step_picture}

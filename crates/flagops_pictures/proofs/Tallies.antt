@@ -10,10 +10,10 @@ use Rattle.picture.specs.Told.{Item}
 use Rattle.plan_text.specs.Answer.{Answer}
 use Rattle.ramp.specs.Ramp.{Standing, in_book, in_tally, left_by, still}
 use Rattle.rollout.specs.Tallied.{TalliesAskAsBooks}
-use Rattle.rollout_checks.specs.Refined.{refining_checked}
-use Rattle.rollout_checks.specs.Tallied.{TallyProblem, tally_problem_of, with_counts, with_inputs}
-use Rattle.rollout_checks.specs.declared.fault.RolloutFault.{RolloutFault}
-use Rattle.rollout_checks.specs.declared.refining.Refining.{Refining}
+use Rattle.rollout.specs.Refined.{refining_checked}
+use Rattle.rollout.specs.CheckedTally.{TallyProblem, tally_problem_of, with_counts, with_inputs}
+use Rattle.rollout.specs.declared.fault.RolloutFault.{RolloutFault}
+use Rattle.rollout.specs.declared.refining.Refining.{Refining}
 use Rattle.note_tallies.specs.JoinLaw.{IsTallyOf}
 use Rattle.note_tallies.specs.Tally.{PageTally}
 

@@ -5,13 +5,13 @@ use Rattle.flagops_files.specs.declared.evidence.Evidence.{Evidence}
 use Rattle.flagops_files.specs.declared.evidence.Evidence.TheVariants.{Book, Tally}
 use Rattle.flagops_rollouts.specs.Verify.{IsToldOn, tally_problem_checked}
 use Rattle.plan_text.specs.Answer.{Answer}
-use Rattle.rollout_checks.specs.Lawful.{Problem}
-use Rattle.rollout_checks.specs.Refined.{problem_checked}
-use Rattle.rollout_checks.specs.Tallied.{IsTallyOutcome, TallyProblem}
-use Rattle.rollout_checks.specs.Verified.{IsOutcome}
-use Rattle.rollout_checks.specs.declared.fault.RolloutFault.{RolloutFault}
-use Rattle.rollout_checks.specs.declared.fault.RolloutFault.TheVariants.{WantOfMemory}
-use Rattle.rollout_checks.specs.declared.verify_fault.VerifyFault.TheVariants.{Request}
+use Rattle.rollout.specs.Lawful.{Problem}
+use Rattle.rollout.specs.Refined.{problem_checked}
+use Rattle.rollout.specs.CheckedTally.{IsTallyOutcome, TallyProblem}
+use Rattle.rollout.specs.Verified.{IsOutcome}
+use Rattle.rollout.specs.declared.fault.RolloutFault.{RolloutFault}
+use Rattle.rollout.specs.declared.fault.RolloutFault.TheVariants.{WantOfMemory}
+use Rattle.rollout.specs.declared.verify_fault.VerifyFault.TheVariants.{Request}
 
 of_book : (asked : Result Problem RolloutFault) (answer : Answer) → IsOutcome asked answer (Err (Request WantOfMemory))
 of_book (Ok p) answer = refl

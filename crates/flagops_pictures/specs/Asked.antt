@@ -8,11 +8,11 @@ use Rattle.flagops_ramps.specs.Ramp.{recorded}
 use Rattle.plan_text.specs.Answer.{Answer}
 use Rattle.price_core.specs.Request.{Asked}
 use Rattle.ramp.specs.Ramp.{Recorded, in_book, in_tally, Standing}
-use Rattle.rollout_checks.specs.Lawful.{Problem, and_then, problem_asked, problem_of}
-use Rattle.rollout_checks.specs.Refined.{refining_checked}
-use Rattle.rollout_checks.specs.Tallied.{TallyProblem, tally_problem_asked, tally_problem_of, with_counts}
-use Rattle.rollout_checks.specs.declared.fault.RolloutFault.{RolloutFault}
-use Rattle.rollout_checks.specs.declared.refining.Refining.{Refining}
+use Rattle.rollout.specs.Lawful.{Problem, and_then, problem_asked, problem_of}
+use Rattle.rollout.specs.Refined.{refining_checked}
+use Rattle.rollout.specs.CheckedTally.{TallyProblem, tally_problem_asked, tally_problem_of, with_counts}
+use Rattle.rollout.specs.declared.fault.RolloutFault.{RolloutFault}
+use Rattle.rollout.specs.declared.refining.Refining.{Refining}
 
 -- what is asked of inputs, by how many of them fall on each point of the rule that is planned on
 abbrev pub counted : Problem → TallyProblem

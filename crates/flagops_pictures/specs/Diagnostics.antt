@@ -12,7 +12,7 @@ use Rattle.flagops_files.specs.Told.{NamesFirst, by_kind, file, word}
 use Rattle.flagops_shell.specs.Diagnostic.{Says}
 use Rattle.flagops_shell.specs.Files.{Holding}
 use Rattle.flagops_pictures.specs.Words.{Picturing, Planning}
-use Rattle.rollout_checks.specs.declared.verify_fault.VerifyFault.TheVariants as verdict
+use Rattle.rollout.specs.declared.verify_fault.VerifyFault.TheVariants as verdict
 
 -- a plan is no answer to its request
 abbrev pub is_of_check : RolloutRefusal → Bool

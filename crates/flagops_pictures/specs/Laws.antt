@@ -8,7 +8,7 @@ use Rattle.flagops_pictures.specs.Ramps.{AreTold}
 use Rattle.picture.specs.Spelling.{Pictures}
 use Rattle.plan_text.specs.Answer.{Answer}
 use Rattle.ramp.specs.Ramp.{Standing, in_book, in_tally}
-use Rattle.rollout_checks.specs.declared.refining.Refining.{Refining}
+use Rattle.rollout.specs.declared.refining.Refining.{Refining}
 use Rattle.note_tallies.specs.JoinLaw.{IsTallyOf}
 use Rattle.note_tallies.specs.Tally.{PageTally}
 

@@ -24,9 +24,9 @@ use Rattle.picture.specs.Spelling.{Adds, IsPicture}
 use Rattle.picture.specs.Told.{Item, down}
 use Rattle.picture.specs.declared.words.Title.TheVariants as title
 use Rattle.plan_text.specs.Answer.{Answer, emit, none_exists}
-use Rattle.rollout_checks.specs.Tallied.{TallyProblem}
-use Rattle.rollout_checks.specs.declared.fault.RolloutFault.{RolloutFault}
-use Rattle.rollout_checks.specs.declared.verify_fault.VerifyFault.{VerifyFault}
+use Rattle.rollout.specs.CheckedTally.{TallyProblem}
+use Rattle.rollout.specs.declared.fault.RolloutFault.{RolloutFault}
+use Rattle.rollout.specs.declared.verify_fault.VerifyFault.{VerifyFault}
 use Rattle.rule_switches.specs.Runs.{Run, AreRuns}
 use Rattle.rule_switches.specs.Table.{IsSwitchTable}
 use Rattle.rule_switches.specs.declared.table.PairSwitches.{PairSwitches}

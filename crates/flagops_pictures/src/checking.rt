@@ -11,7 +11,7 @@ use flag_defs::Flags;
 use flagops_files::{Evidence, Question};
 use flagops_words::Factor;
 use plan_text::Planned;
-use rollout_checks::{RequestFile, RolloutFault, VerifyFault, verify_file, verify_file_on_tally};
+use rollout::{RequestFile, RolloutFault, VerifyFault, verify_file, verify_file_on_tally};
 use std::alloc::{AllocError, Global};
 use std::thread::Threads;
 

@@ -29,7 +29,7 @@ use flagops_rollouts::{Refused, RolloutCall, RolloutRefusal, load_planned, out_o
 use flagops_shell::{Command, FileSet, Outcome, Remark, Status};
 use flagops_words::factor_of;
 use plan_text::Planned;
-use rollout_checks::{RolloutFault, VerifyFault};
+use rollout::{RolloutFault, VerifyFault};
 use rollout_diagnostics::{of_check, of_other_tally, of_rollout};
 use std::alloc::{AllocError, Global};
 use std::convert::AsStr;

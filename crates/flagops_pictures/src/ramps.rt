@@ -36,7 +36,7 @@ use flagops_words::factor_number;
 use picture::{Title, draw_step, page};
 use plan_text::Planned;
 use ramp::left_by;
-use rollout_checks::RolloutFault;
+use rollout::RolloutFault;
 use std::alloc::{AllocError, Global};
 use std::convert::AsStr;
 use std::thread::Threads;

@@ -23,8 +23,8 @@ use Rattle.flagops_ramps.specs.Commands.{keep_told, ramp_told, step_told, verify
 use Rattle.flagops_ramps.specs.Diagnostics.{Diagnoses, Diagnosis, IsOfAnswers, IsOfDoubted, IsOfKeep, IsOfRamp, IsOfSize, IsOfStep, IsOfVerify, NamesPath, NamesStep, put_subjects, told_with}
 use Rattle.flagops_ramps.specs.Refusal.{is_unread, is_want}
 use Rattle.flagops_shell.proofs.Lifted as lifted
-use Rattle.rollout_checks.specs.declared.fault.RolloutFault.{RolloutFault}
-use Rattle.rollout_checks.specs.declared.verify_fault.VerifyFault.TheVariants as verdict
+use Rattle.rollout.specs.declared.fault.RolloutFault.{RolloutFault}
+use Rattle.rollout.specs.declared.verify_fault.VerifyFault.TheVariants as verdict
 use Rattle.flagops_ramps.specs.Report.{Told}
 use Rattle.flagops_ramps.specs.Words.{Applying, Keeping, Ramping, Verifying}
 use Rattle.flagops_ramps.specs.declared.refusal.RampRefusal.{RampRefusal}

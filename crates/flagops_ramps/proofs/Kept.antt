@@ -29,7 +29,7 @@ use Rattle.ramp.specs.declared.fault.RampFault.{RampFault}
 use Rattle.ramp.specs.Steps.{requests_view, steps_of}
 use Rattle.ramp.specs.declared.file_fault.StepsFault.{StepsFault}
 use Rattle.ramp.specs.declared.file_fault.StepsFault.TheVariants as steps
-use Rattle.rollout_checks.specs.declared.verify_fault.VerifyFault.TheVariants.{Request}
+use Rattle.rollout.specs.declared.verify_fault.VerifyFault.TheVariants.{Request}
 use Rattle.flagops_ramps.specs.Doubts.{first_question, first_request}
 use Rattle.flagops_ramps.specs.Judging.{answers_at, refused_as}
 use Rattle.flagops_ramps.specs.Apply.{answer_to}

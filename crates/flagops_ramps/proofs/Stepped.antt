@@ -14,9 +14,9 @@ use Rattle.ramp.specs.declared.fault.StepFault.{StepFault}
 use Rattle.ramp.specs.Steps.{steps_of}
 use Rattle.ramp.specs.declared.file_fault.StepsFault.{StepsFault}
 use Rattle.ramp.specs.declared.file_fault.StepsFault.TheVariants as steps
-use Rattle.rollout_checks.specs.declared.fault.RolloutFault.{RolloutFault}
-use Rattle.rollout_checks.specs.declared.fault.RolloutFault.TheVariants.{WantOfMemory}
-use Rattle.rollout_checks.specs.declared.verify_fault.VerifyFault.TheVariants.{Request}
+use Rattle.rollout.specs.declared.fault.RolloutFault.{RolloutFault}
+use Rattle.rollout.specs.declared.fault.RolloutFault.TheVariants.{WantOfMemory}
+use Rattle.rollout.specs.declared.verify_fault.VerifyFault.TheVariants.{Request}
 use Rattle.flagops_rollouts.specs.Beside.{noted_with}
 use Rattle.flagops_ramps.specs.Doubts.{beside, doubt_of_steps, settle}
 use Rattle.flagops_ramps.specs.Judging.{Found, IsFoundOf, IsFoundOver, answered_view, refused_as}

@@ -15,7 +15,7 @@ use Rattle.ramp.specs.Lines.{ramp_of}
 use Rattle.ramp.specs.Steps.{most_steps, requests_view, steps_of}
 use Rattle.ramp.specs.declared.file_fault.RampFileFault.{RampFileFault}
 use Rattle.ramp.specs.declared.file_fault.StepsFault.{StepsFault}
-use Rattle.rollout_checks.specs.declared.verify_fault.VerifyFault.TheVariants.{Request}
+use Rattle.rollout.specs.declared.verify_fault.VerifyFault.TheVariants.{Request}
 use Rattle.flagops_ramps.specs.Ramp.{of_steps, recorded}
 use Rattle.flagops_ramps.specs.Words.{Verifying}
 use Rattle.flagops_ramps.specs.declared.judging.RightAnswers.{RightAnswers}

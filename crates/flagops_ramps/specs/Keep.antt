@@ -18,7 +18,7 @@ use Rattle.ramp.specs.Right.{IsTold}
 use Rattle.ramp.specs.declared.fault.RampFault.{RampFault}
 use Rattle.ramp.specs.Steps.{steps_of}
 use Rattle.ramp.specs.declared.file_fault.StepsFault.{StepsFault}
-use Rattle.rollout_checks.specs.declared.verify_fault.VerifyFault.TheVariants.{Request}
+use Rattle.rollout.specs.declared.verify_fault.VerifyFault.TheVariants.{Request}
 use Rattle.flagops_ramps.specs.Apply.{answer_to}
 use Rattle.flagops_ramps.specs.Doubts.{doubt_of_steps, first_request, settle}
 use Rattle.flagops_ramps.specs.Judging.{answers_at, refused_as}

@@ -14,9 +14,9 @@ use Rattle.ramp.specs.Lines.{ramp_file, ramp_of}
 use Rattle.ramp.specs.Steps.{steps_of}
 use Rattle.ramp.specs.declared.file_fault.StepsFault.{StepsFault}
 use Rattle.ramp.specs.declared.file_fault.StepsFault.TheVariants as steps
-use Rattle.rollout_checks.specs.Fault.{of_price}
-use Rattle.rollout_checks.specs.declared.fault.RolloutFault.{RolloutFault}
-use Rattle.rollout_checks.specs.declared.fault.RolloutFault.TheVariants.{WantOfMemory, Request}
+use Rattle.rollout.specs.Fault.{of_price}
+use Rattle.rollout.specs.declared.fault.RolloutFault.{RolloutFault}
+use Rattle.rollout.specs.declared.fault.RolloutFault.TheVariants.{WantOfMemory, Request}
 use Rattle.flagops_rollouts.specs.Beside.{noted_with}
 use Rattle.flagops_rollouts.specs.Finer.{is_finer}
 use Rattle.flagops_ramps.specs.Doubts.{beside, doubt_of_steps, settle}

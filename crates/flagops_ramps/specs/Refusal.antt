@@ -12,9 +12,9 @@ use Rattle.ramp.specs.Fault as ramp_files
 use Rattle.ramp.specs.declared.file_fault.RampFileFault.{RampFileFault}
 use Rattle.ramp.specs.declared.file_fault.RampFileFault.TheVariants as ramp_file
 use Rattle.ramp.specs.declared.file_fault.RampFileFault.TheVariants.{Line}
-use Rattle.rollout_checks.specs.Fault as rollouts
-use Rattle.rollout_checks.specs.VerifyFault as verdicts
-use Rattle.rollout_checks.specs.declared.fault.RolloutFault.TheVariants as rollout
+use Rattle.rollout.specs.Fault as rollouts
+use Rattle.rollout.specs.VerifyFault as verdicts
+use Rattle.rollout.specs.declared.fault.RolloutFault.TheVariants as rollout
 use Rattle.flagops_ramps.specs.declared.refusal.RampRefusal.{RampRefusal}
 use Rattle.flagops_ramps.specs.declared.refusal.RampRefusal.TheVariants.{Load, Rollout, Ramp, Print, Read, Verify, Lines, NoStep, OtherRule, Doubted}
 use Rattle.flagops_ramps.specs.declared.refusal.StepCall.{StepCall}

@@ -12,7 +12,7 @@ ghost use Rattle.flagops_ramps.specs.Ramp.{of_steps, recorded};
 ghost use Rattle.flagops_ramps.specs.Report.{GivesOne, GivesUnlessWant, is_file_fault};
 ghost use Rattle.flagops_ramps.specs.Words.{verifying_view};
 ghost use Rattle.flagops_ramps.specs.declared.refusal.RampRefusal.TheVariants.{Verify};
-ghost use Rattle.rollout_checks.specs.declared.verify_fault.VerifyFault.TheVariants.{Request};
+ghost use Rattle.rollout.specs.declared.verify_fault.VerifyFault.TheVariants.{Request};
 ghost use Rattle.plan_text.specs.Answer.{planned_view};
 ghost use Rattle.ramp.specs.Right.{IsTold};
 ghost use Rattle.ramp.specs.Lines.{ramp_of};
@@ -30,7 +30,7 @@ use flagops_words::{factor_number, factor_of};
 use plan_text::Planned;
 use ramp::{RampFault, verify_steps, verify_steps_on_tally};
 use ramp::{RampFileFault, StepsFault, read_ramp, read_steps};
-use rollout_checks::{RolloutFault, VerifyFault};
+use rollout::{RolloutFault, VerifyFault};
 use std::alloc::{AllocError, Global};
 use std::thread::Threads;
 

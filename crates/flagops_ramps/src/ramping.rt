@@ -41,7 +41,7 @@ use plan_text::Planned;
 use price_core::PriceFault;
 use ramp::{StepFault, plan_steps, plan_steps_on_tally};
 use ramp::{StepsFault, print_ramp, read_steps};
-use rollout_checks::{Refining, RolloutFault, read_book_for};
+use rollout::{Refining, RolloutFault, read_book_for};
 use rollout_diagnostics::of_large_plan;
 use std::alloc::Global;
 use std::convert::AsStr;

@@ -9,7 +9,7 @@ use flagops_rollouts::{Doubt, RolloutRefusal, is_want_of_verify, verify_items};
 use flagops_shell::CommandRefusal;
 use plan_text::PlanFileFault;
 use ramp::RampFileFault;
-use rollout_checks::{RolloutFault, VerifyFault};
+use rollout::{RolloutFault, VerifyFault};
 use std::alloc::{AllocError, Global};
 
 /// The commands on steps whose answers may be doubted.

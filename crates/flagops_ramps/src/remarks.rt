@@ -6,7 +6,7 @@ use crate::sums::of_sums;
 use file_diagnostics::of_text;
 use flagops_files::{Question, TEXT_LIMIT, file_line, quoted};
 use ramp::StepFault;
-use rollout_checks::RolloutFault;
+use rollout::RolloutFault;
 use std::alloc::{AllocError, Global};
 
 /// What a file that has no steps lacks.

@@ -5,7 +5,7 @@ use flagops_files::Question;
 use logic_ast::{LogicFault, site};
 use price_core::{PriceFault, Request};
 use ramp::{StepsFault, read_steps};
-use rollout_checks::RolloutFault;
+use rollout::RolloutFault;
 use std::alloc::{AllocError, Global};
 
 /// What the totals of a step sum to, at least and at most, and the points that the rule of its site has.

@@ -10,12 +10,12 @@ use Rattle.book_core.specs.Page.{page_eq}
 use Rattle.flag_defs.specs.Document.{Definitions}
 use Rattle.price_core.specs.Limits.{Limits}
 use Rattle.price_core.specs.Request.{Asked, asked_of}
-use Rattle.rollout_checks.proofs.Bounded.{came}
-use Rattle.rollout_checks.specs.Lawful.{Place, Problem, and_then, by_price, factor, limits_for, place_of, problem_at, problem_of, sized, weighed}
-use Rattle.rollout_checks.specs.Tallied.{AreTallied, TallyProblem, tally_problem_at, tally_problem_of, with_counts}
-use Rattle.rollout_checks.specs.declared.fault.RolloutFault.{RolloutFault}
-use Rattle.rollout_checks.specs.declared.fault.RolloutFault.TheVariants.{NoWeight, OtherTally}
-use Rattle.rollout_checks.specs.declared.refining.Refining.{Refining}
+use Rattle.rollout.proofs.Bounded.{came}
+use Rattle.rollout.specs.Lawful.{Place, Problem, and_then, by_price, factor, limits_for, place_of, problem_at, problem_of, sized, weighed}
+use Rattle.rollout.specs.CheckedTally.{AreTallied, TallyProblem, tally_problem_at, tally_problem_of, with_counts}
+use Rattle.rollout.specs.declared.fault.RolloutFault.{RolloutFault}
+use Rattle.rollout.specs.declared.fault.RolloutFault.TheVariants.{NoWeight, OtherTally}
+use Rattle.rollout.specs.declared.refining.Refining.{Refining}
 use Rattle.note_tallies.specs.Tally.{PageTally}
 
 refused : {X E : Type 0} {e : E} {x : X} → Err e ≡ Ok x → ⊥

@@ -18,12 +18,12 @@ use Rattle.kept_document.specs.declared.fault.KeepFault.TheVariants.{Differs}
 use Rattle.plan_text.specs.Answer.{Answer, emit, none_exists}
 use Rattle.price_core.specs.Request.{Asked, asked_of}
 use Rattle.price_core.specs.declared.fault.PriceFault.{PriceFault}
-use Rattle.rollout_checks.specs.Lawful.{and_then, by_price, place_of, problem_at}
-use Rattle.rollout_checks.specs.Tallied.{IsTallyOutcome, tally_problem_at}
-use Rattle.rollout_checks.specs.Verified.{IsOutcome, refining_for}
-use Rattle.rollout_checks.specs.declared.fault.RolloutFault.{RolloutFault}
-use Rattle.rollout_checks.specs.declared.refining.Refining.{Refining}
-use Rattle.rollout_checks.specs.declared.refining.Refining.TheVariants.{Times}
+use Rattle.rollout.specs.Lawful.{and_then, by_price, place_of, problem_at}
+use Rattle.rollout.specs.CheckedTally.{IsTallyOutcome, tally_problem_at}
+use Rattle.rollout.specs.Verified.{IsOutcome, refining_for}
+use Rattle.rollout.specs.declared.fault.RolloutFault.{RolloutFault}
+use Rattle.rollout.specs.declared.refining.Refining.{Refining}
+use Rattle.rollout.specs.declared.refining.Refining.TheVariants.{Times}
 use Rattle.kept_document.specs.Place.{SitePlace}
 use Rattle.note_tallies.specs.Tally.{PageTally}
 use Rattle.transport_core.specs.Certificate.{DualPrices}

@@ -14,7 +14,7 @@ use Rattle.bucket_core.specs.Rule.{Entries, total_weight}
 use Rattle.plan_text.specs.Answer.{Answer, emit}
 use Rattle.rollout.specs.Applied.{applied}
 use Rattle.rollout.specs.Change.{IsLocal}
-use Rattle.rollout_checks.specs.declared.fault.RolloutFault.{RolloutFault}
+use Rattle.rollout.specs.declared.fault.RolloutFault.{RolloutFault}
 use Rattle.transport_core.specs.Certificate.{DualPrices}
 use Rattle.flagops_shell.specs.Outcomes.{◌>>=◌, beside, done, refused_by}
 use Rattle.flagops_shell.specs.Report.{Report, outcome_view}

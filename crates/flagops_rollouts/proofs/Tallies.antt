@@ -22,16 +22,16 @@ use Rattle.plan_text.specs.declared.planned.Planned.{Planned}
 use Rattle.price_core.specs.Request.{Asked, asked_of}
 use Rattle.price_core.specs.declared.fault.PriceFault.{PriceFault}
 use Rattle.rollout.specs.Tallied.{PlansAreByCounts, TalliesAskAsBooks}
-use Rattle.rollout_checks.specs.Lawful.{Place, Problem, and_then, by_logic, by_price, or_refuse, place_in, problem_of}
-use Rattle.rollout_checks.specs.Plan.{IsPlanned, IsTallyPlanned}
-use Rattle.rollout_checks.specs.Tallied.{AreTallied, IsTallyOutcome, IsTallyShown, TallyProblem, tally_problem_of, with_inputs}
-use Rattle.rollout_checks.specs.Verified.{IsOutcome, IsShown, refining_for}
-use Rattle.rollout_checks.specs.declared.fault.RolloutFault.{RolloutFault}
-use Rattle.rollout_checks.specs.declared.fault.RolloutFault.TheVariants.{UnknownFlag, NoSite, OtherTally}
-use Rattle.rollout_checks.specs.declared.refining.Refining.{Refining}
-use Rattle.rollout_checks.specs.declared.refining.Refining.TheVariants.{Times}
-use Rattle.rollout_checks.specs.declared.verify_fault.VerifyFault.{VerifyFault}
-use Rattle.rollout_checks.specs.declared.verify_fault.VerifyFault.TheVariants.{Request, Check}
+use Rattle.rollout.specs.Lawful.{Place, Problem, and_then, by_logic, by_price, or_refuse, place_in, problem_of}
+use Rattle.rollout.specs.Plan.{IsPlanned, IsTallyPlanned}
+use Rattle.rollout.specs.CheckedTally.{AreTallied, IsTallyOutcome, IsTallyShown, TallyProblem, tally_problem_of, with_inputs}
+use Rattle.rollout.specs.Verified.{IsOutcome, IsShown, refining_for}
+use Rattle.rollout.specs.declared.fault.RolloutFault.{RolloutFault}
+use Rattle.rollout.specs.declared.fault.RolloutFault.TheVariants.{UnknownFlag, NoSite, OtherTally}
+use Rattle.rollout.specs.declared.refining.Refining.{Refining}
+use Rattle.rollout.specs.declared.refining.Refining.TheVariants.{Times}
+use Rattle.rollout.specs.declared.verify_fault.VerifyFault.{VerifyFault}
+use Rattle.rollout.specs.declared.verify_fault.VerifyFault.TheVariants.{Request, Check}
 use Rattle.note_tallies.proofs.Pages.{same_page}
 use Rattle.note_tallies.specs.JoinLaw.{IsTallyOf}
 use Rattle.note_tallies.specs.Tally.{PageTally}

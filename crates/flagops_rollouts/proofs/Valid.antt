@@ -20,18 +20,18 @@ use Rattle.price_core.specs.Request.{Asked, asked_of}
 use Rattle.plan_text.specs.Answer.{Answer, emit, none_exists, planned_view}
 use Rattle.transport_core.specs.Certificate.{DualPrices}
 use Rattle.plan_text.specs.declared.planned.Planned.{Planned}
-use Rattle.rollout_checks.specs.Lawful.{Place, Problem, and_then, by_price, factor, limits_for, place_of, problem_at, sized, weighed}
-use Rattle.rollout_checks.specs.Plan.{IsPlanned, IsTallyPlanned}
-use Rattle.rollout_checks.specs.Refined.{problem_checked, problem_refined}
-use Rattle.rollout_checks.specs.Tallied.{AreTallied, IsTallyOutcome, TallyProblem, tally_problem_of, with_inputs}
-use Rattle.rollout_checks.specs.Verified.{IsOutcome, Proves, refining_for}
-use Rattle.rollout_checks.specs.declared.refining.Refining.TheVariants.{Times}
+use Rattle.rollout.specs.Lawful.{Place, Problem, and_then, by_price, factor, limits_for, place_of, problem_at, sized, weighed}
+use Rattle.rollout.specs.Plan.{IsPlanned, IsTallyPlanned}
+use Rattle.rollout.specs.Refined.{problem_checked, problem_refined}
+use Rattle.rollout.specs.CheckedTally.{AreTallied, IsTallyOutcome, TallyProblem, tally_problem_of, with_inputs}
+use Rattle.rollout.specs.Verified.{IsOutcome, Proves, refining_for}
+use Rattle.rollout.specs.declared.refining.Refining.TheVariants.{Times}
 use Rattle.note_tallies.specs.Tally.{PageTally}
 use Rattle.flagops_rollouts.proofs.Asked.{IsPlaced, are_tallied, asked_by_again, asked_is, placed}
-use Rattle.rollout_checks.specs.declared.fault.RolloutFault.{RolloutFault}
-use Rattle.rollout_checks.specs.declared.fault.RolloutFault.TheVariants.{NoWeight}
-use Rattle.rollout_checks.specs.declared.verify_fault.VerifyFault.{VerifyFault}
-use Rattle.rollout_checks.specs.declared.verify_fault.VerifyFault.TheVariants.{Request, Check}
+use Rattle.rollout.specs.declared.fault.RolloutFault.{RolloutFault}
+use Rattle.rollout.specs.declared.fault.RolloutFault.TheVariants.{NoWeight}
+use Rattle.rollout.specs.declared.verify_fault.VerifyFault.{VerifyFault}
+use Rattle.rollout.specs.declared.verify_fault.VerifyFault.TheVariants.{Request, Check}
 use Rattle.transport_core.specs.declared.fault.CheckFault.TheVariants as check
 use Rattle.flagops_rollouts.specs.Plan.{Holds, IsPlanOf, IsPlannedOn, MayBePlanned, ReadsBack, report_planned}
 use Rattle.flagops_rollouts.specs.Valid.{IsOfInputs, IsValid, IsValidPlan}

@@ -2,10 +2,10 @@
 use Rattle.std.specs.Prelude.{ℕ, List, codes}
 use Rattle.kept_document.specs.declared.fault.KeepFault.{KeepFault}
 use Rattle.kept_document.specs.declared.fault.KeepFault.TheVariants.{WantOfMemory, Shared, TooLong, Differs}
-use Rattle.rollout_checks.specs.VerifyFault as verdicts
-use Rattle.rollout_checks.specs.declared.fault.RolloutFault.TheVariants.{OtherTally}
-use Rattle.rollout_checks.specs.declared.verify_fault.VerifyFault.{VerifyFault}
-use Rattle.rollout_checks.specs.declared.verify_fault.VerifyFault.TheVariants.{Request}
+use Rattle.rollout.specs.VerifyFault as verdicts
+use Rattle.rollout.specs.declared.fault.RolloutFault.TheVariants.{OtherTally}
+use Rattle.rollout.specs.declared.verify_fault.VerifyFault.{VerifyFault}
+use Rattle.rollout.specs.declared.verify_fault.VerifyFault.TheVariants.{Request}
 use Rattle.flagops_rollouts.specs.declared.keep_refusal.KeepRefusal.{KeepRefusal}
 use Rattle.flagops_rollouts.specs.declared.keep_refusal.KeepRefusal.TheVariants.{Verify, Document}
 

@@ -3,11 +3,11 @@ use Rattle.std.specs.Prelude.{ℕ, Bool, true, false, List, [], codes, decimal, 
 use Rattle.kept_document.specs.declared.fault.KeepFault.TheVariants as document
 use Rattle.plan_text.specs.Fault as plan_files
 use Rattle.plan_text.specs.declared.fault.PlanFileFault.TheVariants as plan
-use Rattle.rollout_checks.specs.Fault as rollouts
-use Rattle.rollout_checks.specs.VerifyFault as verdicts
-use Rattle.rollout_checks.specs.declared.fault.RolloutFault.{RolloutFault}
-use Rattle.rollout_checks.specs.declared.fault.RolloutFault.TheVariants as rollout
-use Rattle.rollout_checks.specs.declared.verify_fault.VerifyFault.{VerifyFault}
+use Rattle.rollout.specs.Fault as rollouts
+use Rattle.rollout.specs.VerifyFault as verdicts
+use Rattle.rollout.specs.declared.fault.RolloutFault.{RolloutFault}
+use Rattle.rollout.specs.declared.fault.RolloutFault.TheVariants as rollout
+use Rattle.rollout.specs.declared.verify_fault.VerifyFault.{VerifyFault}
 use Rattle.flagops_shell.specs.Diagnostic.{RemarksOf}
 use Rattle.flagops_shell.specs.Ending as shell
 use Rattle.flagops_shell.specs.Given as given

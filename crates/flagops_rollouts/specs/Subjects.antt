@@ -9,8 +9,8 @@ use Rattle.flagops_rollouts.specs.declared.refusal.RolloutRefusal.{RolloutRefusa
 use Rattle.flagops_rollouts.specs.declared.refusal.RolloutRefusal.TheVariants.{Plan, PrintPlanned, Verify, Apply, Keep, Omitted}
 use Rattle.file_diagnostics.specs.Named.{Names}
 use Rattle.flagops_rollouts.specs.Doubts.{doubt_subjects}
-use Rattle.rollout_checks.specs.declared.verify_fault.VerifyFault.{VerifyFault}
-use Rattle.rollout_checks.specs.declared.verify_fault.VerifyFault.TheVariants as verdict
+use Rattle.rollout.specs.declared.verify_fault.VerifyFault.{VerifyFault}
+use Rattle.rollout.specs.declared.verify_fault.VerifyFault.TheVariants as verdict
 
 -- a plan is refused as no answer to its request, or the request itself
 abbrev pub is_of_request : RolloutRefusal → Bool

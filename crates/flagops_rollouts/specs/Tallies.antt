@@ -4,9 +4,9 @@ use Rattle.book_core.specs.Book.{Contents, inputs_on}
 use Rattle.flag_defs.specs.Document.{Definitions}
 use Rattle.page_tally.specs.Foreign.{has_foreign}
 use Rattle.plan_text.specs.Answer.{Answer}
-use Rattle.rollout_checks.specs.Tallied.{tally_problem_of}
-use Rattle.rollout_checks.specs.declared.fault.RolloutFault.TheVariants.{OtherTally}
-use Rattle.rollout_checks.specs.declared.refining.Refining.TheVariants.{Times}
+use Rattle.rollout.specs.CheckedTally.{tally_problem_of}
+use Rattle.rollout.specs.declared.fault.RolloutFault.TheVariants.{OtherTally}
+use Rattle.rollout.specs.declared.refining.Refining.TheVariants.{Times}
 use Rattle.note_tallies.specs.JoinLaw.{IsTallyOf}
 use Rattle.note_tallies.specs.Tally.{PageTally}
 use Rattle.flagops_rollouts.specs.Plan.{IsPlanOf}

@@ -2,11 +2,11 @@
 use Rattle.std.specs.Prelude.{◌≡◌, ℕ, Bool, List, ◌++◌, codes, decimal, if◌then◌else◌, OnOk, Option, Result, Ok, Err}
 use Rattle.flag_defs.specs.Document.{Definitions}
 use Rattle.plan_text.specs.Answer.{Answer, emit, none_exists}
-use Rattle.rollout_checks.specs.Refined.{problem_checked, refining_checked}
-use Rattle.rollout_checks.specs.Tallied.{IsTallyOutcome, IsTallyShown, TallyProblem, tally_problem_of}
-use Rattle.rollout_checks.specs.Verified.{IsOutcome, IsShown}
-use Rattle.rollout_checks.specs.declared.fault.RolloutFault.{RolloutFault}
-use Rattle.rollout_checks.specs.declared.verify_fault.VerifyFault.{VerifyFault}
+use Rattle.rollout.specs.Refined.{problem_checked, refining_checked}
+use Rattle.rollout.specs.CheckedTally.{IsTallyOutcome, IsTallyShown, TallyProblem, tally_problem_of}
+use Rattle.rollout.specs.Verified.{IsOutcome, IsShown}
+use Rattle.rollout.specs.declared.fault.RolloutFault.{RolloutFault}
+use Rattle.rollout.specs.declared.verify_fault.VerifyFault.{VerifyFault}
 use Rattle.note_tallies.specs.Tally.{PageTally}
 use Rattle.flagops_shell.specs.Files.{Holding}
 use Rattle.flagops_shell.specs.Outcomes.{◌>>=◌, refused_by, beside, done}

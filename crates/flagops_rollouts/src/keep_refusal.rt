@@ -3,7 +3,7 @@ ghost use Rattle.std.specs.Prelude.{◌≡◌};
 ghost use Rattle.flagops_rollouts.specs.Keeping.{fault_name, fault_number, name_of, number_of, verdict_number};
 
 use kept_document::KeepFault;
-use rollout_checks::{RolloutFault, VerifyFault};
+use rollout::{RolloutFault, VerifyFault};
 
 /// Why the rule of a plan file is not put into a document.
 #[derive(Debug, Drop)]

@@ -15,7 +15,7 @@ use flag_text::{TextFault, Tree, read_tree};
 use flagops_files::TEXT_LIMIT;
 use flagops_shell::Remark;
 use member_names::{repeated_place, within};
-use rollout_checks::RequestFile;
+use rollout::RequestFile;
 use std::alloc::{AllocError, Global};
 use member_names::Reader;
 

@@ -3,7 +3,7 @@ ghost use Rattle.std.specs.Prelude.{◌≡◌, IfOk, string_bytes};
 ghost use Rattle.flagops_rollouts.specs.Payload.{check_items, pair_items, verify_items};
 
 use flagops_files::{number_item, quoted, rollout_items};
-use rollout_checks::VerifyFault;
+use rollout::VerifyFault;
 use std::alloc::{AllocError, Global};
 use transport_core::CheckFault;
 

@@ -1,7 +1,7 @@
 //! Why the commands on rollouts refuse, and the line that each refusal is written as.
 ghost use Rattle.std.specs.Prelude.{◌≡◌, IfOk, string_bytes};
 ghost use Rattle.flagops_shell.specs.declared.refused.Remark.TheVariants.{Short};
-ghost use Rattle.rollout_checks.specs.VerifyFault.{is_want as is_want_of_verify};
+ghost use Rattle.rollout.specs.VerifyFault.{is_want as is_want_of_verify};
 ghost use Rattle.flagops_rollouts.specs.FileLines.{file_line};
 ghost use Rattle.flagops_rollouts.specs.Refusal.{call_name, call_of, doubt_name, doubt_number, is_unread, is_want, keep_line, line_of, rollout_line, verify_line};
 ghost use Rattle.flagops_rollouts.specs.declared.refusal.RolloutRefusal.TheVariants.{Load};
@@ -12,7 +12,7 @@ use flagops_files::{Call, Refusal, fault_line, rollout_items};
 use flagops_shell::{CommandRefusal, Remark};
 use kept_document::KeepFault;
 use plan_text::PlanFileFault;
-use rollout_checks::{RolloutFault, VerifyFault};
+use rollout::{RolloutFault, VerifyFault};
 use std::alloc::{AllocError, Global};
 use transport_core::CheckFault;
 

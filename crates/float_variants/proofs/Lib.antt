@@ -1,6 +1,9 @@
 mod Counted
 mod Nothing
+mod Objects
 mod Readings
 mod Shallow
 mod Spelled
+mod Stays
 mod Unmarked
+mod Whole

@@ -1,5 +1,9 @@
 pub mod Floats
 pub mod Law
+pub mod Levels
 pub mod Marks
 pub mod Reading
+pub mod Sent
+pub mod SentLaw
+pub mod SentView
 pub mod View

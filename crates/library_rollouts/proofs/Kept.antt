@@ -19,13 +19,13 @@ use Rattle.plan_text.specs.Answer.{Answer, emit, none_exists}
 use Rattle.price_core.specs.Request.{Asked, asked_of}
 use Rattle.price_core.specs.declared.fault.PriceFault.{PriceFault}
 use Rattle.rollout.specs.Applied.{applied}
-use Rattle.rollout_checks.specs.Lawful.{and_then, by_price, place_of}
-use Rattle.rollout_checks.specs.Tallied.{IsTallyOutcome, IsTallyShown, tally_problem_at, tally_problem_of}
-use Rattle.rollout_checks.specs.Verified.{refining_for}
-use Rattle.rollout_checks.specs.declared.fault.RolloutFault.{RolloutFault}
-use Rattle.rollout_checks.specs.declared.fault.RolloutFault.TheVariants as rollout_fault
-use Rattle.rollout_checks.specs.declared.refining.Refining.{Refining}
-use Rattle.rollout_checks.specs.declared.verify_fault.VerifyFault.{VerifyFault}
+use Rattle.rollout.specs.Lawful.{and_then, by_price, place_of}
+use Rattle.rollout.specs.CheckedTally.{IsTallyOutcome, IsTallyShown, tally_problem_at, tally_problem_of}
+use Rattle.rollout.specs.Verified.{refining_for}
+use Rattle.rollout.specs.declared.fault.RolloutFault.{RolloutFault}
+use Rattle.rollout.specs.declared.fault.RolloutFault.TheVariants as rollout_fault
+use Rattle.rollout.specs.declared.refining.Refining.{Refining}
+use Rattle.rollout.specs.declared.verify_fault.VerifyFault.{VerifyFault}
 use Rattle.note_tallies.specs.Tally.{PageTally}
 use Rattle.transport_core.specs.Certificate.{DualPrices}
 use Rattle.transport_core.specs.declared.certificate.CutKind.{CutKind}

@@ -6,12 +6,12 @@ use Rattle.plan_text.specs.PlanFile.{IsWhole, answer_of, plan_line}
 use Rattle.plan_text.specs.declared.fault.PlanFileFault.{PlanFileFault}
 use Rattle.plan_text.specs.declared.fault.PlanFileFault.TheVariants as plan_fault
 use Rattle.plan_text.specs.declared.planned.Planned.{Planned}
-use Rattle.rollout_checks.specs.Plan.{IsTallyPlanned}
-use Rattle.rollout_checks.specs.Tallied.{IsTallyOutcome, IsTallyShown, tally_problem_of}
-use Rattle.rollout_checks.specs.Verified.{refining_for}
-use Rattle.rollout_checks.specs.declared.fault.RolloutFault.{RolloutFault}
-use Rattle.rollout_checks.specs.declared.refining.Refining.TheVariants.{Times}
-use Rattle.rollout_checks.specs.declared.verify_fault.VerifyFault.{VerifyFault}
+use Rattle.rollout.specs.Plan.{IsTallyPlanned}
+use Rattle.rollout.specs.CheckedTally.{IsTallyOutcome, IsTallyShown, tally_problem_of}
+use Rattle.rollout.specs.Verified.{refining_for}
+use Rattle.rollout.specs.declared.fault.RolloutFault.{RolloutFault}
+use Rattle.rollout.specs.declared.refining.Refining.TheVariants.{Times}
+use Rattle.rollout.specs.declared.verify_fault.VerifyFault.{VerifyFault}
 use Rattle.note_tallies.specs.Tally.{PageTally}
 use Rattle.library_rollouts.specs.Plan.{IsPlanOn, has_rule, line_report}
 use Rattle.library_rollouts.specs.Refusal.{of_plan, of_rollout, of_verdict}

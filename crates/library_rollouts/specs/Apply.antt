@@ -7,8 +7,8 @@ use Rattle.kept_document.specs.declared.fault.KeepFault.{KeepFault}
 use Rattle.plan_text.specs.Answer.{Answer, emit, none_exists}
 use Rattle.price_core.specs.Request.{Asked, asked_of}
 use Rattle.rollout.specs.Applied.{applied}
-use Rattle.rollout_checks.specs.declared.fault.RolloutFault.{RolloutFault}
-use Rattle.rollout_checks.specs.declared.verify_fault.VerifyFault.{VerifyFault}
+use Rattle.rollout.specs.declared.fault.RolloutFault.{RolloutFault}
+use Rattle.rollout.specs.declared.verify_fault.VerifyFault.{VerifyFault}
 use Rattle.kept_document.specs.Place.{SitePlace}
 use Rattle.note_tallies.specs.Tally.{PageTally}
 use Rattle.library_rollouts.specs.Reading.{OfAnswer, OfFlags, OfTally}

@@ -5,10 +5,10 @@ use Rattle.plan_text.specs.Answer.{Answer, emit, none_exists, IsOrdered, planned
 use Rattle.plan_text.specs.PlanFile.{IsWhole, answer_of, plan_line}
 use Rattle.plan_text.specs.declared.fault.PlanFileFault.{PlanFileFault}
 use Rattle.plan_text.specs.declared.planned.Planned.{Planned}
-use Rattle.rollout_checks.specs.Plan.{IsTallyPlanned}
-use Rattle.rollout_checks.specs.Tallied.{tally_problem_of}
-use Rattle.rollout_checks.specs.declared.fault.RolloutFault.{RolloutFault}
-use Rattle.rollout_checks.specs.declared.refining.Refining.TheVariants.{Times}
+use Rattle.rollout.specs.Plan.{IsTallyPlanned}
+use Rattle.rollout.specs.CheckedTally.{tally_problem_of}
+use Rattle.rollout.specs.declared.fault.RolloutFault.{RolloutFault}
+use Rattle.rollout.specs.declared.refining.Refining.TheVariants.{Times}
 use Rattle.note_tallies.specs.Tally.{PageTally}
 use Rattle.library_rollouts.specs.Reading.{OfFlags, OfTally}
 use Rattle.library_rollouts.specs.Refusal.{of_plan, of_rollout}

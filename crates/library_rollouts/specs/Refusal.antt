@@ -9,12 +9,12 @@ use Rattle.plan_text.specs.Fault.{number_of as plan_number}
 use Rattle.plan_text.specs.declared.fault.PlanFileFault.{PlanFileFault}
 use Rattle.plan_text.specs.declared.fault.PlanFileFault.TheVariants as plan_fault
 use Rattle.price_core.specs.declared.fault.PriceFault.{PriceFault}
-use Rattle.rollout_checks.specs.Fault.{number_of as rollout_number}
-use Rattle.rollout_checks.specs.Fault as rollouts
-use Rattle.rollout_checks.specs.declared.fault.RolloutFault.{RolloutFault}
-use Rattle.rollout_checks.specs.declared.fault.RolloutFault.TheVariants as rollout_fault
-use Rattle.rollout_checks.specs.declared.verify_fault.VerifyFault.{VerifyFault}
-use Rattle.rollout_checks.specs.declared.verify_fault.VerifyFault.TheVariants as verdict
+use Rattle.rollout.specs.Fault.{number_of as rollout_number}
+use Rattle.rollout.specs.Fault as rollouts
+use Rattle.rollout.specs.declared.fault.RolloutFault.{RolloutFault}
+use Rattle.rollout.specs.declared.fault.RolloutFault.TheVariants as rollout_fault
+use Rattle.rollout.specs.declared.verify_fault.VerifyFault.{VerifyFault}
+use Rattle.rollout.specs.declared.verify_fault.VerifyFault.TheVariants as verdict
 use Rattle.note_tallies.specs.FilterFault.{number_of as notes_number}
 use Rattle.note_tallies.specs.declared.filter_fault.FilterFault.{FilterFault}
 use Rattle.note_tallies.specs.declared.filter_fault.FilterFault.TheVariants as notes_fault

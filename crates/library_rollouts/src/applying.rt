@@ -17,7 +17,7 @@ use bucket_core::Rule;
 use flag_defs::{Flags, read_flags};
 use kept_document::{KeepFault, keep};
 use plan_text::{Planned, read_planned};
-use rollout_checks::{RequestFile, verify_file_on_tally};
+use rollout::{RequestFile, verify_file_on_tally};
 use std::alloc::Global;
 use std::str;
 use note_tallies::PageTally;

@@ -2,7 +2,7 @@
 ghost use Rattle.std.specs.Prelude.{◌≡◌, ◌<◌, ◌≤◌, IfOk};
 ghost use Rattle.flag_defs.specs.Flags.{flags_view};
 ghost use Rattle.flag_text.specs.Outcome.{GivesUnless};
-ghost use Rattle.rollout_checks.specs.Lawful.{place_of};
+ghost use Rattle.rollout.specs.Lawful.{place_of};
 ghost use Rattle.library_rollouts.specs.Target.{place_view, points_of, site_of, target_in, target_of, target_view};
 
 use crate::target::Target;
@@ -11,7 +11,7 @@ use bucket_core::total_weight;
 use flag_defs::Flags;
 use logic_ast::{Site, site};
 use price_core::Request;
-use rollout_checks::RolloutFault;
+use rollout::RolloutFault;
 use std::alloc::Global;
 use note_tallies::MOST_POINTS;
 

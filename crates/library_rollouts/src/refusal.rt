@@ -7,7 +7,7 @@ use flag_defs::DefFault;
 use kept_document::KeepFault;
 use plan_text::PlanFileFault;
 use price_core::PriceFault;
-use rollout_checks::{RolloutFault, VerifyFault};
+use rollout::{RolloutFault, VerifyFault};
 use std::alloc::{AllocError, AllocFailed};
 use note_tallies::FilterFault;
 use note_tallies::TallyFileFault;

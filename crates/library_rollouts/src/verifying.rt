@@ -13,7 +13,7 @@ ghost use Rattle.library_rollouts.specs.declared.refusal.RolloutRefusal.TheVaria
 use crate::refusal::RolloutRefusal;
 use flag_defs::{Flags, read_flags};
 use plan_text::{Planned, read_planned};
-use rollout_checks::verify_tally;
+use rollout::verify_tally;
 use std::alloc::Global;
 use note_tallies::PageTally;
 use note_tallies::read_tally;

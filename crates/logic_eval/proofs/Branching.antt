@@ -10,7 +10,7 @@ use Rattle.logic_values.specs.declared.fault.EvalFault.{EvalFault}
 use Rattle.logic_ast.specs.declared.operator.Operator.TheVariants as op
 use Rattle.logic_values.specs.Comparison.{bool_eq}
 use Rattle.logic_values.specs.Truth.{is_true}
-use Rattle.decimal_values.specs.Decimals.{is_readable}
+use Rattle.logic_values.specs.Decimals.{is_readable}
 use Rattle.logic_values.specs.declared.fault.EvalFault.TheVariants.{Arithmetic}
 use Rattle.logic_eval.specs.Evaluation.{pairs, bucket_meanings, meaning, meanings, operands, operand_meaning}
 use Rattle.logic_eval.specs.Fractional as buckets

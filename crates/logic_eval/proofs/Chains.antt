@@ -4,7 +4,7 @@ use Rattle.flag_text.specs.Shape.{Shape}
 use Rattle.logic_values.specs.declared.value.Value.{Value}
 use Rattle.logic_values.specs.declared.fault.EvalFault.{EvalFault}
 use Rattle.logic_values.specs.Comparison.{is_chain}
-use Rattle.decimal_values.specs.Decimals.{chain}
+use Rattle.logic_values.specs.Decimals.{chain}
 use Rattle.logic_values.specs.Views.{value_view}
 
 pub chain_short : (test : Shape → Shape → Bool) (vs : List Value) → length vs < 2 → is_chain test (map value_view vs) ≡ true

@@ -21,7 +21,7 @@ use Rattle.logic_ast.specs.declared.operator.Operator.TheVariants as op
 use Rattle.logic_values.specs.declared.fault.EvalFault.{EvalFault}
 use Rattle.logic_values.specs.declared.fault.EvalFault.TheVariants.{Arithmetic}
 use Rattle.logic_values.specs.Arithmetic.{if_number, step, folded, folded_from_first, difference, remainder, remainder_of}
-use Rattle.decimal_values.specs.Decimals.{has_value, is_decimal, is_readable, spelled_value, spelling_of}
+use Rattle.logic_values.specs.Decimals.{has_value, is_decimal, is_readable, spelled_value, spelling_of}
 use Rattle.logic_values.specs.Lists.{shapes_of, items_in, parts_of}
 use Rattle.logic_values.specs.Truth.{is_true}
 use Rattle.logic_values.specs.Number.{in_range, number_of, signed_value}

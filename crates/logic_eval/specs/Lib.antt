@@ -1,6 +1,6 @@
 pub use Rattle.logic_values.specs.Arithmetic
 pub use Rattle.logic_values.specs.Comparison
-pub use Rattle.decimal_values.specs.Decimals
+pub use Rattle.logic_values.specs.Decimals
 pub use Rattle.logic_values.specs.Fault
 pub use Rattle.logic_values.specs.Lists
 pub use Rattle.logic_values.specs.Number

@@ -8,7 +8,7 @@ use Rattle.logic_values.specs.declared.fault.EvalFault.{EvalFault}
 use Rattle.logic_values.specs.declared.fault.EvalFault.TheVariants.{Arithmetic}
 use Rattle.logic_values.specs.Arithmetic.{if_number, sum, product, difference, remainder, maximum, minimum}
 use Rattle.logic_values.specs.Comparison.{bool_eq, is_same, is_equal, is_less, is_at_most, is_chain}
-use Rattle.decimal_values.specs.Decimals.{is_decimal, is_readable, less, at_most, equal, same, chain}
+use Rattle.logic_values.specs.Decimals.{is_decimal, is_readable, less, at_most, equal, same, chain}
 use Rattle.logic_values.specs.Lists.{items_in, merged, is_in}
 use Rattle.logic_values.specs.Objects.{reduce_scope}
 use Rattle.logic_eval.specs.Run.{cost, Run, ends, gives, after, ◌>>=◌}

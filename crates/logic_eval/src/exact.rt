@@ -1,11 +1,11 @@
 //! The operators that compare or test values among which is a decimal: a number of the context that is not whole.
 ghost use Rattle.std.specs.Prelude.{◌≡◌, map};
 ghost use Rattle.logic_eval.specs.Operators.{exact_test, exact_test_of, has_decimal};
-ghost use Rattle.decimal_values.specs.Decimals.{at_most, chain, less};
+ghost use Rattle.logic_values.specs.Decimals.{at_most, chain, less};
 ghost use Rattle.logic_values.specs.Views.{seen_view, value_view};
 
 use crate::apply::argument;
-use decimal_values::{at_most, equal, is_decimal, less, same};
+use logic_values::{at_most, equal, is_decimal, less, same};
 use logic_ast::Operator;
 use logic_values::truth::is_true;
 use logic_values::{EvalFault, Seen, Value};

@@ -1,10 +1,17 @@
+pub mod Items
+mod Kept
 mod Leading
+pub mod Members
 mod Numbers
+mod Objects
 mod Occurring
+mod Orders
 mod Parts
 mod Ranges
-pub mod Items
-pub mod Members
+mod Rationals
+mod Signs
 pub mod Surfaces
 pub mod Tidy
 pub mod Truths
+mod Values
+mod Zeros

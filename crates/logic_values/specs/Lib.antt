@@ -1,10 +1,14 @@
 pub mod Arithmetic
 pub mod Comparison
+pub mod Decimal
+pub mod Decimals
 pub mod Fault
+pub mod Law
 pub mod Lists
 pub mod Number
 pub mod Objects
 pub mod Text
 pub mod Truth
 pub mod Version
+pub mod View
 pub mod Views

@@ -1,3 +1,4 @@
+mod Among
 pub mod Batches
 mod Behind
 pub mod Both
@@ -5,8 +6,17 @@ mod Counted
 pub mod Counting
 mod Counts
 pub mod Crossings
+mod Crowded
+pub mod Cut
 pub mod Ends
 pub mod Exits
 pub mod Folded
+mod Held
+mod LogCounted
+mod Members
+mod Once
 pub mod Parts
+mod Refusals
 pub mod Running
+mod Strays
+mod Taken

@@ -2,7 +2,7 @@
 use Rattle.std.specs.Prelude.{ℕ, Bool, ◌&&◌, ◌||◌, List, [], codes, drop, length, map, Option, Some, None, option_map, option_copied, unwrap_or, Result, Ok, Err, if◌then◌else◌, string_bytes}
 use Rattle.std.specs.List.{list_any}
 use Rattle.std.specs.Str.{bytes_eq}
-use Rattle.entity_tags.specs.Tag.{entity_tag, is_listed, opaque_tag}
+use Rattle.ofrep_requests.specs.Tag.{entity_tag, is_listed, opaque_tag}
 use Rattle.flag_resolve.specs.Floats.{Marked}
 use Rattle.flag_resolve.specs.Resolved.{Resolved}
 use Rattle.flag_resolve.specs.declared.code.Code.{Code}

@@ -21,7 +21,7 @@ use crate::one::without_context;
 use crate::reads::{read_by_flag, told_text};
 use crate::reasons::Reasons;
 use decimal_reads::DecimalRead;
-use entity_tags::{entity_tag, is_listed, opaque_tag};
+use ofrep_requests::{entity_tag, is_listed, opaque_tag};
 use flag_defs::Flags;
 use flag_metadata::Metadata;
 use flag_resolve::Resolution;

@@ -1,1 +1,2 @@
 pub mod Request
+pub mod Tag

@@ -15,11 +15,11 @@ use Rattle.price_core.specs.Pricing.{Pricing}
 use Rattle.price_core.specs.Request.{Asked, asked_of}
 use Rattle.plan_text.specs.Answer.{Answer, emit, none_exists, planned_view}
 use Rattle.plan_text.specs.declared.planned.Planned.{Planned}
-use Rattle.rollout_checks.specs.Lawful.{Place, Problem, and_then, by_price, limits_for, place_of, sized, weighed}
-use Rattle.rollout_checks.specs.Plan.{IsPlan, IsPlanned}
-use Rattle.rollout_checks.specs.Refined.{problem_refined}
-use Rattle.rollout_checks.specs.Verified.{Shows}
-use Rattle.rollout_checks.specs.declared.fault.RolloutFault.{RolloutFault}
+use Rattle.rollout.specs.Lawful.{Place, Problem, and_then, by_price, limits_for, place_of, sized, weighed}
+use Rattle.rollout.specs.Plan.{IsPlan, IsPlanned}
+use Rattle.rollout.specs.Refined.{problem_refined}
+use Rattle.rollout.specs.Verified.{Shows}
+use Rattle.rollout.specs.declared.fault.RolloutFault.{RolloutFault}
 use Rattle.product_laws.specs.Recorded.{HoldsOf, Record, of_keys}
 use Rattle.product_laws.proofs.Sums.{same_sum}
 

@@ -22,8 +22,8 @@ use Rattle.product_laws.specs.FloatKept.{IsWritable, WholeNumbersStay}
 use Rattle.logic_ast.specs.Expression.{Expression}
 use Rattle.plan_text.specs.Answer.{Answer, emit, none_exists}
 use Rattle.rollout.specs.Applied.{applied}
-use Rattle.rollout_checks.specs.declared.fault.RolloutFault.{RolloutFault}
-use Rattle.rollout_checks.specs.declared.verify_fault.VerifyFault.{VerifyFault}
+use Rattle.rollout.specs.declared.fault.RolloutFault.{RolloutFault}
+use Rattle.rollout.specs.declared.verify_fault.VerifyFault.{VerifyFault}
 use Rattle.kept_document.specs.Place.{SitePlace}
 use Rattle.product_laws.specs.Kept.{KeptStay}
 use Rattle.product_laws.specs.Rollouts.{Came}

@@ -14,7 +14,7 @@ use Rattle.flagops_ramps.specs.declared.refusal.RampRefusal.TheVariants as ramp
 use Rattle.flagops_shell.specs.Files.{Holding}
 use Rattle.flagops_shell.specs.Report.{Report}
 use Rattle.flagops_shell.specs.declared.refused.Remark.{Remark}
-use Rattle.rollout_checks.specs.declared.verify_fault.VerifyFault.TheVariants as verdict
+use Rattle.rollout.specs.declared.verify_fault.VerifyFault.TheVariants as verdict
 use Rattle.product_laws.specs.Documents.{MeaningsStay, TreesStay}
 use Rattle.product_laws.specs.Ramps.{verified_as}
 use Rattle.product_laws.specs.Whole.{IsWholeAt}

@@ -16,11 +16,11 @@ use Rattle.book_share.specs.Driven.{AreNoted}
 use Rattle.price_core.specs.Request.{asked_of}
 use Rattle.plan_text.specs.Answer.{Answer, planned_view}
 use Rattle.plan_text.specs.declared.planned.Planned.{Planned}
-use Rattle.rollout_checks.specs.Lawful.{Problem, and_then, by_price, place_of}
-use Rattle.rollout_checks.specs.Plan.{IsPlanned}
-use Rattle.rollout_checks.specs.Refined.{problem_refined}
-use Rattle.rollout_checks.specs.Verified.{Shows}
-use Rattle.rollout_checks.specs.declared.fault.RolloutFault.{RolloutFault}
+use Rattle.rollout.specs.Lawful.{Problem, and_then, by_price, place_of}
+use Rattle.rollout.specs.Plan.{IsPlanned}
+use Rattle.rollout.specs.Refined.{problem_refined}
+use Rattle.rollout.specs.Verified.{Shows}
+use Rattle.rollout.specs.declared.fault.RolloutFault.{RolloutFault}
 use Rattle.product_laws.specs.declared.planning.PlanRefused.{PlanRefused}
 use Rattle.product_laws.specs.declared.planning.PlanRefused.TheVariants.{Seal, Plan}
 

@@ -10,8 +10,8 @@ ghost use Rattle.plan_text.specs.PlanFile.{IsWhole};
 ghost use Rattle.price_core.specs.Request.{max_request};
 ghost use Rattle.price_core.specs.declared.fault.PriceFault.TheVariants.{BadRequest};
 ghost use Rattle.rollout.specs.Planned.{PrintsOrRefuses};
-ghost use Rattle.rollout_checks.specs.Plan.{IsPlanned};
-ghost use Rattle.rollout_checks.specs.Refined.{problem_refined};
+ghost use Rattle.rollout.specs.Plan.{IsPlanned};
+ghost use Rattle.rollout.specs.Refined.{problem_refined};
 ghost use Rattle.product_laws.specs.Recorded.{HoldsOf, IsPlannedOn, IsRefusedBy, told_to};
 
 use book_core::Book;

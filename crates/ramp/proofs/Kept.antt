@@ -37,13 +37,13 @@ use Rattle.transport_core.specs.Certificate.{DualPrices}
 use Rattle.rollout.proofs.Changed.{changed}
 use Rattle.rollout.proofs.Sites.{steps_of}
 use Rattle.rollout.specs.Applied.{applied}
-use Rattle.rollout_checks.proofs.Bounded.{came}
-use Rattle.rollout_checks.specs.Lawful.{Place, Problem, and_then, by_logic, by_price, names_are_variants, limits_for, or_refuse, place_in, place_of, problem_at, sized, weighed}
-use Rattle.rollout_checks.specs.Plan.{IsPlan}
-use Rattle.rollout_checks.specs.Refined.{problem_refined}
-use Rattle.rollout_checks.specs.declared.fault.RolloutFault.{RolloutFault}
-use Rattle.rollout_checks.specs.declared.fault.RolloutFault.TheVariants.{NoSite, NoWeight, UnknownFlag, UnknownVariant}
-use Rattle.rollout_checks.specs.declared.refining.Refining.TheVariants.{Times}
+use Rattle.rollout.proofs.Bounded.{came}
+use Rattle.rollout.specs.Lawful.{Place, Problem, and_then, by_logic, by_price, names_are_variants, limits_for, or_refuse, place_in, place_of, problem_at, sized, weighed}
+use Rattle.rollout.specs.Plan.{IsPlan}
+use Rattle.rollout.specs.Refined.{problem_refined}
+use Rattle.rollout.specs.declared.fault.RolloutFault.{RolloutFault}
+use Rattle.rollout.specs.declared.fault.RolloutFault.TheVariants.{NoSite, NoWeight, UnknownFlag, UnknownVariant}
+use Rattle.rollout.specs.declared.refining.Refining.TheVariants.{Times}
 use Rattle.book_core.specs.Site.{page_at}
 use Rattle.ramp.specs.Laws.{AsksAt, ForbidsLeaving, NeverLost, rules_of}
 use Rattle.ramp.specs.Ramp.{ArePlans, IsStep, Standing, in_book, with_rule}

@@ -6,13 +6,13 @@ use Rattle.flag_defs.specs.Flags.{AreFlags}
 use Rattle.flag_defs.specs.Document.{Definitions}
 use Rattle.plan_text.specs.Answer.{Answer}
 use Rattle.plan_text.specs.declared.planned.Planned.{Planned}
-use Rattle.rollout_checks.specs.Lawful.{Problem}
-use Rattle.rollout_checks.specs.Plan.{IsPlanned, IsTallyPlanned}
-use Rattle.rollout_checks.specs.Refined.{problem_refined}
-use Rattle.rollout_checks.specs.Tallied.{TallyProblem, tally_problem_of}
-use Rattle.rollout_checks.specs.declared.fault.RolloutFault.{RolloutFault}
-use Rattle.rollout_checks.specs.declared.refining.Refining.TheVariants.{Times}
-use Rattle.rollout_checks.specs.declared.verify_fault.VerifyFault.{VerifyFault}
+use Rattle.rollout.specs.Lawful.{Problem}
+use Rattle.rollout.specs.Plan.{IsPlanned, IsTallyPlanned}
+use Rattle.rollout.specs.Refined.{problem_refined}
+use Rattle.rollout.specs.CheckedTally.{TallyProblem, tally_problem_of}
+use Rattle.rollout.specs.declared.fault.RolloutFault.{RolloutFault}
+use Rattle.rollout.specs.declared.refining.Refining.TheVariants.{Times}
+use Rattle.rollout.specs.declared.verify_fault.VerifyFault.{VerifyFault}
 use Rattle.note_tallies.specs.Tally.{PageTally}
 use Rattle.ramp.specs.Ramp.{AnswersStep, Recorded, in_book, in_tally}
 use Rattle.ramp.specs.Right.{IsStepShown, IsStepTold, TellsStep}

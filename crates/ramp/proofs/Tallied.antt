@@ -14,18 +14,18 @@ use Rattle.plan_text.specs.Answer.{Answer, emit}
 use Rattle.price_core.specs.Limits.{Limits}
 use Rattle.price_core.specs.Request.{Asked, asked_of}
 use Rattle.rollout.specs.Tallied.{TalliesAskAsBooks}
-use Rattle.rollout_checks.specs.Lawful.{Place, Problem, and_then, by_price, factor, limits_for, place_of, problem_at, problem_of, sized, weighed}
-use Rattle.rollout_checks.specs.Plan.{IsPlan}
-use Rattle.rollout_checks.specs.Refined.{refining_checked}
-use Rattle.rollout_checks.specs.Tallied.{AreTallied, IsTallyOutcome, IsTallyShown, TallyProblem, tally_problem_at, tally_problem_of, with_counts, with_inputs}
-use Rattle.rollout_checks.specs.Verified.{IsOutcome, IsShown}
-use Rattle.rollout_checks.specs.VerifyFault.{is_want}
-use Rattle.rollout_checks.specs.declared.fault.RolloutFault.{RolloutFault}
-use Rattle.rollout_checks.specs.declared.fault.RolloutFault.TheVariants.{OtherTally}
-use Rattle.rollout_checks.specs.declared.refining.Refining.{Refining}
-use Rattle.rollout_checks.specs.declared.refining.Refining.TheVariants.{Times, ToTotal}
-use Rattle.rollout_checks.specs.declared.verify_fault.VerifyFault.{VerifyFault}
-use Rattle.rollout_checks.specs.declared.verify_fault.VerifyFault.TheVariants.{Request, Check}
+use Rattle.rollout.specs.Lawful.{Place, Problem, and_then, by_price, factor, limits_for, place_of, problem_at, problem_of, sized, weighed}
+use Rattle.rollout.specs.Plan.{IsPlan}
+use Rattle.rollout.specs.Refined.{refining_checked}
+use Rattle.rollout.specs.CheckedTally.{AreTallied, IsTallyOutcome, IsTallyShown, TallyProblem, tally_problem_at, tally_problem_of, with_counts, with_inputs}
+use Rattle.rollout.specs.Verified.{IsOutcome, IsShown}
+use Rattle.rollout.specs.VerifyFault.{is_want}
+use Rattle.rollout.specs.declared.fault.RolloutFault.{RolloutFault}
+use Rattle.rollout.specs.declared.fault.RolloutFault.TheVariants.{OtherTally}
+use Rattle.rollout.specs.declared.refining.Refining.{Refining}
+use Rattle.rollout.specs.declared.refining.Refining.TheVariants.{Times, ToTotal}
+use Rattle.rollout.specs.declared.verify_fault.VerifyFault.{VerifyFault}
+use Rattle.rollout.specs.declared.verify_fault.VerifyFault.TheVariants.{Request, Check}
 use Rattle.note_tallies.specs.Tally.{PageTally}
 use Rattle.transport_core.specs.Certificate.{DualPrices}
 use Rattle.ramp.specs.Laws.{IsOfInputs, TellsOtherTally}

@@ -4,7 +4,7 @@ use Rattle.std.proofs.lemmas.Bool.{eqb-true}
 use Rattle.std.proofs.lemmas.List.{length-map, map-append, take_all, take_more, take-append-drop}
 use Rattle.plan_text.specs.Answer.{planned_view}
 use Rattle.plan_text.specs.declared.planned.Planned.{Planned as Made}
-use Rattle.rollout_checks.specs.declared.verify_fault.VerifyFault.{VerifyFault}
+use Rattle.rollout.specs.declared.verify_fault.VerifyFault.{VerifyFault}
 use Rattle.ramp.specs.Ramp.{Recorded, Standing, left_by, requests_view, still}
 use Rattle.ramp.specs.Right.{AreMiscounted, AreRight, IsOfAnswered, IsRight, IsStepTold, IsTold, IsWrongAfter}
 use Rattle.ramp.specs.declared.fault.RampFault.{RampFault}

@@ -6,10 +6,10 @@ use Rattle.flag_defs.specs.Document.{Definitions}
 use Rattle.plan_text.specs.Answer.{Answer, emit, none_exists}
 use Rattle.rollout.proofs.Verifies.{valid_plain, valid_refined, valid_rule}
 use Rattle.rollout.specs.Tallied.{TalliesAskAsBooks}
-use Rattle.rollout_checks.specs.Tallied.{IsTallyOutcome, TallyProblem}
-use Rattle.rollout_checks.specs.VerifyFault.{is_want}
-use Rattle.rollout_checks.specs.declared.fault.RolloutFault.{RolloutFault}
-use Rattle.rollout_checks.specs.declared.verify_fault.VerifyFault.{VerifyFault}
+use Rattle.rollout.specs.CheckedTally.{IsTallyOutcome, TallyProblem}
+use Rattle.rollout.specs.VerifyFault.{is_want}
+use Rattle.rollout.specs.declared.fault.RolloutFault.{RolloutFault}
+use Rattle.rollout.specs.declared.verify_fault.VerifyFault.{VerifyFault}
 use Rattle.note_tallies.specs.Tally.{PageTally}
 use Rattle.transport_core.specs.Certificate.{DualPrices}
 use Rattle.ramp.specs.Laws.{IsOfInputs, IsValid}

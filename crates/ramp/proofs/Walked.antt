@@ -1,8 +1,8 @@
 -- A walk over the first steps, and what is told of those that are left.
 use Rattle.std.proofs.Common.{◌≡◌, ℕ, suc, ◌+◌, List, [], ◌∷◌, ◌++◌, length, Option, Some, ◌<◌, drop, get_or, add-one, drop-cons, Err, refl, sym, ap, ◌∙◌, subst}
 use Rattle.plan_text.specs.Answer.{Answer}
-use Rattle.rollout_checks.specs.declared.fault.RolloutFault.{RolloutFault}
-use Rattle.rollout_checks.specs.declared.verify_fault.VerifyFault.{VerifyFault}
+use Rattle.rollout.specs.declared.fault.RolloutFault.{RolloutFault}
+use Rattle.rollout.specs.declared.verify_fault.VerifyFault.{VerifyFault}
 use Rattle.ramp.specs.Ramp.{ArePlans, IsRefusedAfter, IsStep, IsStepRefused, Recorded, Standing, left_by, still}
 use Rattle.ramp.specs.Right.{AreMiscounted, AreRight, IsRight, IsStepTold, IsWrongAfter}
 

@@ -9,11 +9,11 @@ use Rattle.flag_defs.specs.Document.{Definitions}
 use Rattle.plan_text.specs.Answer.{Answer, emit, none_exists}
 use Rattle.price_core.specs.Pricing.{is_forbidden}
 use Rattle.price_core.specs.Request.{asked_of}
-use Rattle.rollout_checks.specs.Lawful.{Place, place_of}
-use Rattle.rollout_checks.specs.VerifyFault.{is_want}
+use Rattle.rollout.specs.Lawful.{Place, place_of}
+use Rattle.rollout.specs.VerifyFault.{is_want}
 use Rattle.transport_core.specs.Certificate.{DualPrices}
-use Rattle.rollout_checks.specs.declared.fault.RolloutFault.TheVariants.{OtherTally}
-use Rattle.rollout_checks.specs.declared.verify_fault.VerifyFault.TheVariants.{Request}
+use Rattle.rollout.specs.declared.fault.RolloutFault.TheVariants.{OtherTally}
+use Rattle.rollout.specs.declared.verify_fault.VerifyFault.TheVariants.{Request}
 use Rattle.note_tallies.specs.JoinLaw.{IsTallyOf}
 use Rattle.note_tallies.specs.Tally.{PageTally}
 use Rattle.ramp.specs.Ramp.{ArePlans, IsRefused, Recorded, in_book, in_tally, Standing}

@@ -9,13 +9,13 @@ use Rattle.price_core.specs.Request.{asked_of}
 use Rattle.plan_text.specs.Answer.{Answer, emit, none_exists, planned_view}
 use Rattle.plan_text.specs.declared.planned.Planned.{Planned}
 use Rattle.rollout.specs.Applied.{applied}
-use Rattle.rollout_checks.specs.Lawful.{Problem, and_then, by_price}
-use Rattle.rollout_checks.specs.Plan.{IsPlan}
-use Rattle.rollout_checks.specs.Refined.{problem_refined}
-use Rattle.rollout_checks.specs.Tallied.{AreTallied, TallyProblem, tally_problem_of, with_inputs}
-use Rattle.rollout_checks.specs.declared.fault.RolloutFault.{RolloutFault}
-use Rattle.rollout_checks.specs.declared.fault.RolloutFault.TheVariants.{WantOfMemory}
-use Rattle.rollout_checks.specs.declared.refining.Refining.TheVariants.{Times}
+use Rattle.rollout.specs.Lawful.{Problem, and_then, by_price}
+use Rattle.rollout.specs.Plan.{IsPlan}
+use Rattle.rollout.specs.Refined.{problem_refined}
+use Rattle.rollout.specs.CheckedTally.{AreTallied, TallyProblem, tally_problem_of, with_inputs}
+use Rattle.rollout.specs.declared.fault.RolloutFault.{RolloutFault}
+use Rattle.rollout.specs.declared.fault.RolloutFault.TheVariants.{WantOfMemory}
+use Rattle.rollout.specs.declared.refining.Refining.TheVariants.{Times}
 use Rattle.note_tallies.specs.Tally.{PageTally}
 use Rattle.ramp.specs.declared.fault.StepFault.{StepFault}
 

@@ -2,13 +2,13 @@
 use Rattle.std.specs.Prelude.{◌≡◌, ◌<◌, ◌≤◌, ℕ, zero, suc, ◌+◌, false, List, [], ◌∷◌, Option, Some, Result, Ok, Err}
 use Rattle.book_core.specs.Book.{Contents}
 use Rattle.plan_text.specs.Answer.{Answer}
-use Rattle.rollout_checks.specs.Lawful.{Problem, and_then}
-use Rattle.rollout_checks.specs.Refined.{problem_checked, refining_checked}
-use Rattle.rollout_checks.specs.Tallied.{IsTallyOutcome, IsTallyShown, TallyProblem, tally_problem_of}
-use Rattle.rollout_checks.specs.Verified.{IsOutcome, IsShown}
-use Rattle.rollout_checks.specs.VerifyFault.{is_want}
-use Rattle.rollout_checks.specs.declared.fault.RolloutFault.{RolloutFault}
-use Rattle.rollout_checks.specs.declared.verify_fault.VerifyFault.{VerifyFault}
+use Rattle.rollout.specs.Lawful.{Problem, and_then}
+use Rattle.rollout.specs.Refined.{problem_checked, refining_checked}
+use Rattle.rollout.specs.CheckedTally.{IsTallyOutcome, IsTallyShown, TallyProblem, tally_problem_of}
+use Rattle.rollout.specs.Verified.{IsOutcome, IsShown}
+use Rattle.rollout.specs.VerifyFault.{is_want}
+use Rattle.rollout.specs.declared.fault.RolloutFault.{RolloutFault}
+use Rattle.rollout.specs.declared.verify_fault.VerifyFault.{VerifyFault}
 use Rattle.note_tallies.specs.Tally.{PageTally}
 use Rattle.ramp.specs.Ramp.{Recorded, in_book, in_tally, Standing, left_by, still}
 use Rattle.ramp.specs.declared.fault.RampFault.{RampFault}

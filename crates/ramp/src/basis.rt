@@ -12,7 +12,7 @@ use plan_text::Planned;
 use rollout::{
     PageTally, plan_refined, plan_tally, verify, verify_refined, verify_tally, verify_tally_refined,
 };
-use rollout_checks::{RolloutFault, VerifyFault};
+use rollout::{RolloutFault, VerifyFault};
 use std::alloc::Global;
 use std::thread::Threads;
 

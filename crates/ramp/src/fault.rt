@@ -1,7 +1,7 @@
 ghost use Rattle.std.specs.Prelude.{◌≡◌};
-ghost use Rattle.rollout_checks.specs.declared.fault.RolloutFault.TheVariants.{WantOfMemory};
+ghost use Rattle.rollout.specs.declared.fault.RolloutFault.TheVariants.{WantOfMemory};
 
-use rollout_checks::{RolloutFault, VerifyFault};
+use rollout::{RolloutFault, VerifyFault};
 use std::alloc::{AllocError, AllocFailed};
 
 /// Why a step is refused: as `rollout::plan` refuses its request on the flags that it stands on, or as `rollout::apply`

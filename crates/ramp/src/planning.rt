@@ -14,7 +14,7 @@ use flag_defs::Flags;
 use page_tally::Recorded;
 use plan_text::Planned;
 use rollout::PageTally;
-use rollout_checks::RolloutFault;
+use rollout::RolloutFault;
 use std::alloc::Global;
 use std::thread::Threads;
 

@@ -9,7 +9,7 @@ use flag_defs::Flags;
 use plan_text::Planned;
 use price_core::Request;
 use rollout::apply;
-use rollout_checks::RolloutFault;
+use rollout::RolloutFault;
 use std::alloc::Global;
 
 /// A copy of the flags, on which the first step stands.

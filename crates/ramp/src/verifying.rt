@@ -13,7 +13,7 @@ use flag_defs::Flags;
 use page_tally::Recorded;
 use plan_text::Planned;
 use rollout::PageTally;
-use rollout_checks::{RolloutFault, VerifyFault};
+use rollout::{RolloutFault, VerifyFault};
 use std::alloc::Global;
 use std::thread::Threads;
 

@@ -3,8 +3,8 @@ use Rattle.std.proofs.Common.{◌≡◌, ◌+◌, ◌*◌, ◌≤◌, length, in
 use Rattle.bucket_core.specs.Rule.{total_weight}
 use Rattle.price_core.specs.Limits.{Limits}
 use Rattle.rollout.specs.Effort.{IsBounded, SpendsOn, Spends}
-use Rattle.rollout_checks.specs.Lawful.{Problem}
-use Rattle.rollout_checks.specs.declared.fault.RolloutFault.{RolloutFault}
+use Rattle.rollout.specs.Lawful.{Problem}
+use Rattle.rollout.specs.declared.fault.RolloutFault.{RolloutFault}
 use Rattle.min_cost_flow.specs.Spent.{Spent}
 use Rattle.transport_core.specs.Groups.{AreSizes}
 use Rattle.transport_core.specs.Instance.{TransportProblem}

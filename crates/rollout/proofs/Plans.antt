@@ -24,13 +24,13 @@ use Rattle.transport_plan.specs.Solved.{IsCut, IsNeverOver}
 use Rattle.transport_plan.specs.Solved.{IsPlan as IsSolved}
 use Rattle.plan_text.specs.Answer.{emit, none_exists, IsOrdered, planned_view}
 use Rattle.book_core.specs.Book.{Inputs}
-use Rattle.rollout_checks.specs.Lawful.{Problem}
-use Rattle.rollout_checks.specs.Plan.{IsUnderLast, IsPlan, IsPlanned, IsTallyPlanned}
-use Rattle.rollout_checks.specs.Tallied.{AreTallied, TallyProblem, with_inputs}
-use Rattle.rollout_checks.specs.declared.fault.RolloutFault.{RolloutFault}
-use Rattle.rollout_checks.specs.declared.fault.RolloutFault.TheVariants.{WantOfMemory}
+use Rattle.rollout.specs.Lawful.{Problem}
+use Rattle.rollout.specs.Plan.{IsUnderLast, IsPlan, IsPlanned, IsTallyPlanned}
+use Rattle.rollout.specs.CheckedTally.{AreTallied, TallyProblem, with_inputs}
+use Rattle.rollout.specs.declared.fault.RolloutFault.{RolloutFault}
+use Rattle.rollout.specs.declared.fault.RolloutFault.TheVariants.{WantOfMemory}
 use Rattle.plan_text.specs.declared.planned.Planned.{Planned}
-use Rattle.rollout_checks.proofs.Outcomes.{only_want}
+use Rattle.rollout.proofs.Outcomes.{only_want}
 
 -- ---- plans
 

@@ -10,9 +10,9 @@ use Rattle.flag_defs.specs.Flag.{is_broken}
 use Rattle.rollout.specs.Applied.{applied, by_document}
 use Rattle.flag_defs.specs.declared.fault.DefFault.{DefFault}
 use Rattle.logic_ast.specs.declared.fault.LogicFault.{LogicFault}
-use Rattle.rollout_checks.specs.Lawful.{and_then, by_logic, or_refuse, names_are_variants}
-use Rattle.rollout_checks.specs.declared.fault.RolloutFault.{RolloutFault}
-use Rattle.rollout_checks.specs.declared.fault.RolloutFault.TheVariants.{UnknownFlag, UnknownVariant}
+use Rattle.rollout.specs.Lawful.{and_then, by_logic, or_refuse, names_are_variants}
+use Rattle.rollout.specs.declared.fault.RolloutFault.{RolloutFault}
+use Rattle.rollout.specs.declared.fault.RolloutFault.TheVariants.{UnknownFlag, UnknownVariant}
 
 -- the flag is not broken
 pub site_good : (n : ℕ) (r : Entries) (flag changed : Definition) → with_site n r flag ≡ Ok changed → is_broken flag ≡ false

@@ -30,13 +30,13 @@ use Rattle.transport_core.proofs.Points.{length-points}
 use Rattle.transport_core.proofs.Ranges.{count-same}
 use Rattle.plan_text.specs.Answer.{Answer, emit, none_exists}
 use Rattle.plan_text.specs.declared.planned.Planned.{Planned}
-use Rattle.rollout_checks.specs.Lawful.{Place, Problem, and_then, by_price, factor, limits_for, place_of, problem_at, problem_of, problem_on, sized, weighed}
-use Rattle.rollout_checks.specs.Plan.{IsPlan, IsPlanned, IsTallyPlanned}
-use Rattle.rollout_checks.specs.Tallied.{AreTallied, TallyProblem, of_place, tally_problem_at, tally_problem_of, with_counts, with_inputs}
-use Rattle.rollout_checks.specs.declared.fault.RolloutFault.{RolloutFault}
-use Rattle.rollout_checks.specs.declared.fault.RolloutFault.TheVariants.{OtherTally}
-use Rattle.rollout_checks.specs.declared.refining.Refining.{Refining}
-use Rattle.rollout_checks.proofs.Bounded.{came}
+use Rattle.rollout.specs.Lawful.{Place, Problem, and_then, by_price, factor, limits_for, place_of, problem_at, problem_of, problem_on, sized, weighed}
+use Rattle.rollout.specs.Plan.{IsPlan, IsPlanned, IsTallyPlanned}
+use Rattle.rollout.specs.CheckedTally.{AreTallied, TallyProblem, of_place, tally_problem_at, tally_problem_of, with_counts, with_inputs}
+use Rattle.rollout.specs.declared.fault.RolloutFault.{RolloutFault}
+use Rattle.rollout.specs.declared.fault.RolloutFault.TheVariants.{OtherTally}
+use Rattle.rollout.specs.declared.refining.Refining.{Refining}
+use Rattle.rollout.proofs.Bounded.{came}
 
 -- ---- inputs of which equally many fall on each point
 

@@ -11,18 +11,18 @@ use Rattle.transport_core.specs.Certificate.{DualPrices}
 use Rattle.transport_core.specs.declared.fault.CheckFault.{CheckFault}
 use Rattle.transport_core.specs.declared.fault.CheckFault.TheVariants as check
 use Rattle.plan_text.specs.Answer.{Answer, emit, none_exists}
-use Rattle.rollout_checks.specs.Lawful.{Problem, Place, and_then, by_price, place_of, limits_for, factor, sized, weighed, problem_at, problem_of}
-use Rattle.rollout_checks.specs.Plan.{IsPlan}
-use Rattle.rollout_checks.specs.Refined.{problem_refined, problem_checked}
-use Rattle.rollout_checks.specs.Verified.{Proves, IsOutcome, IsValid}
-use Rattle.rollout_checks.specs.VerifyFault.{is_want}
-use Rattle.rollout_checks.specs.declared.fault.RolloutFault.{RolloutFault}
-use Rattle.rollout_checks.specs.declared.fault.RolloutFault.TheVariants as rollout
-use Rattle.rollout_checks.specs.declared.refining.Refining.{Refining}
-use Rattle.rollout_checks.specs.declared.refining.Refining.TheVariants.{Times, ToTotal}
-use Rattle.rollout_checks.specs.declared.verify_fault.VerifyFault.{VerifyFault}
-use Rattle.rollout_checks.specs.declared.verify_fault.VerifyFault.TheVariants.{Request, Check}
-use Rattle.rollout_checks.proofs.Bounded.{came}
+use Rattle.rollout.specs.Lawful.{Problem, Place, and_then, by_price, place_of, limits_for, factor, sized, weighed, problem_at, problem_of}
+use Rattle.rollout.specs.Plan.{IsPlan}
+use Rattle.rollout.specs.Refined.{problem_refined, problem_checked}
+use Rattle.rollout.specs.Verified.{Proves, IsOutcome, IsValid}
+use Rattle.rollout.specs.VerifyFault.{is_want}
+use Rattle.rollout.specs.declared.fault.RolloutFault.{RolloutFault}
+use Rattle.rollout.specs.declared.fault.RolloutFault.TheVariants as rollout
+use Rattle.rollout.specs.declared.refining.Refining.{Refining}
+use Rattle.rollout.specs.declared.refining.Refining.TheVariants.{Times, ToTotal}
+use Rattle.rollout.specs.declared.verify_fault.VerifyFault.{VerifyFault}
+use Rattle.rollout.specs.declared.verify_fault.VerifyFault.TheVariants.{Request, Check}
+use Rattle.rollout.proofs.Bounded.{came}
 
 -- ---- an answer that proves itself is told as valid
 

@@ -6,10 +6,10 @@ use Rattle.bucket_core.specs.Rule.{Entries}
 use Rattle.flag_defs.specs.Changes.{by_key, with_site}
 use Rattle.flag_defs.specs.Document.{Definitions, limited}
 use Rattle.flag_defs.specs.declared.fault.DefFault.{DefFault}
-use Rattle.rollout_checks.specs.Fault.{of_document}
-use Rattle.rollout_checks.specs.Lawful.{and_then, by_logic, or_refuse, names_are_variants}
-use Rattle.rollout_checks.specs.declared.fault.RolloutFault.{RolloutFault}
-use Rattle.rollout_checks.specs.declared.fault.RolloutFault.TheVariants.{UnknownFlag, UnknownVariant}
+use Rattle.rollout.specs.Fault.{of_document}
+use Rattle.rollout.specs.Lawful.{and_then, by_logic, or_refuse, names_are_variants}
+use Rattle.rollout.specs.declared.fault.RolloutFault.{RolloutFault}
+use Rattle.rollout.specs.declared.fault.RolloutFault.TheVariants.{UnknownFlag, UnknownVariant}
 
 abbrev pub by_document : {A : Type 0} → Result A DefFault → Result A RolloutFault
 by_document (Ok x) = Ok x

@@ -1,8 +1,8 @@
 -- What the planner spends on what is asked.
 use Rattle.std.specs.Prelude.{◌≡◌, ℕ, ◌+◌, ◌*◌, ◌≤◌, ◌⊎◌, List, length, Result, Ok, Err}
 use Rattle.bucket_core.specs.Rule.{total_weight}
-use Rattle.rollout_checks.specs.Lawful.{Problem}
-use Rattle.rollout_checks.specs.declared.fault.RolloutFault.{RolloutFault}
+use Rattle.rollout.specs.Lawful.{Problem}
+use Rattle.rollout.specs.declared.fault.RolloutFault.{RolloutFault}
 use Rattle.min_cost_flow.specs.Spent.{Spent}
 use Rattle.transport_core.specs.Groups.{GroupKey, AreSizes}
 

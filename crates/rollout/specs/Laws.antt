@@ -7,12 +7,12 @@ use Rattle.bucket_core.specs.Rule.{Entries, IsRuleTotal, total_weight}
 use Rattle.flag_defs.specs.Flags.{AreFlags}
 use Rattle.transport_core.specs.Certificate.{DualPrices}
 use Rattle.plan_text.specs.Answer.{Answer, emit}
-use Rattle.rollout_checks.specs.Lawful.{Problem}
-use Rattle.rollout_checks.specs.Plan.{IsPlan}
+use Rattle.rollout.specs.Lawful.{Problem}
+use Rattle.rollout.specs.Plan.{IsPlan}
 use Rattle.rollout.specs.Applied.{applied}
 use Rattle.rollout.specs.Change.{IsLocal}
-use Rattle.rollout_checks.specs.Refined.{problem_refined, problem_checked}
-use Rattle.rollout_checks.specs.Verified.{IsOutcome, IsValid, Told}
+use Rattle.rollout.specs.Refined.{problem_refined, problem_checked}
+use Rattle.rollout.specs.Verified.{IsOutcome, IsValid, Told}
 
 -- what is planned on the rule itself
 abbrev pub PlansAreValid : Type 0

@@ -11,10 +11,10 @@ use Rattle.transport_core.specs.Instance.{AreListed, MissTotal, TransportProblem
 use Rattle.plan_text.specs.Answer.{IsOrdered, planned_view}
 use Rattle.plan_text.specs.PlanFile.{IsWhole}
 use Rattle.plan_text.specs.declared.planned.Planned.{Planned}
-use Rattle.rollout_checks.specs.Lawful.{IsCounted}
-use Rattle.rollout_checks.specs.declared.fault.RolloutFault.{RolloutFault}
-use Rattle.rollout_checks.specs.declared.fault.RolloutFault.TheVariants.{Request}
-use Rattle.rollout_checks.specs.declared.problem.Problem as program_problem
+use Rattle.rollout.specs.Lawful.{IsCounted}
+use Rattle.rollout.specs.declared.fault.RolloutFault.{RolloutFault}
+use Rattle.rollout.specs.declared.fault.RolloutFault.TheVariants.{Request}
+use Rattle.rollout.specs.declared.problem.Problem as program_problem
 
 -- What is answered is sorted, and a file can hold it; a request that is too large or no text is refused at once.
 pub record PrintsOrRefuses (request : List ℕ) (result : Result Planned RolloutFault) : Type 0 where

@@ -4,10 +4,10 @@ use Rattle.book_core.specs.Book.{Contents, Inputs, inputs_on}
 use Rattle.flag_defs.specs.Document.{Definitions}
 use Rattle.plan_text.specs.Answer.{Answer}
 use Rattle.plan_text.specs.declared.planned.Planned.{Planned}
-use Rattle.rollout_checks.specs.Lawful.{problem_of}
-use Rattle.rollout_checks.specs.Plan.{IsPlan, IsPlanned, IsTallyPlanned}
-use Rattle.rollout_checks.specs.Tallied.{AreTallied, TallyProblem, tally_problem_of, with_inputs}
-use Rattle.rollout_checks.specs.declared.refining.Refining.{Refining}
+use Rattle.rollout.specs.Lawful.{problem_of}
+use Rattle.rollout.specs.Plan.{IsPlan, IsPlanned, IsTallyPlanned}
+use Rattle.rollout.specs.CheckedTally.{AreTallied, TallyProblem, tally_problem_of, with_inputs}
+use Rattle.rollout.specs.declared.refining.Refining.{Refining}
 use Rattle.note_tallies.specs.JoinLaw.{IsTallyOf}
 use Rattle.note_tallies.specs.Tally.{PageTally}
 

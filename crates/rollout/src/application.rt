@@ -10,13 +10,13 @@ ghost use Rattle.flag_defs.specs.Flag.{entries_view, flag_view, is_broken};
 ghost use Rattle.flag_defs.specs.Flags.{flags_view};
 ghost use Rattle.flag_defs.specs.Floats.{entries_floats, floats_of, floats_view, marks_by_key};
 ghost use Rattle.rollout.specs.Applied.{applied};
-ghost use Rattle.rollout_checks.specs.Lawful.{names_are_variants};
+ghost use Rattle.rollout.specs.Lawful.{names_are_variants};
 ghost use Rattle.rollout.specs.Change.{IsChanged, OthersStay, ResolveAsBefore};
 
 use bucket_core::Rule;
 use flag_defs::{DefFault, Flag, Flags};
 use logic_ast::LogicFault;
-use rollout_checks::RolloutFault;
+use crate::RolloutFault;
 use std::alloc::{AllocError, Global};
 
 /// The flags with the entries of the rule as the buckets of a site. The bucketing expression stays, and so do all other

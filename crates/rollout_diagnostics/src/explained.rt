@@ -9,7 +9,7 @@ use file_diagnostics::{Lines, Opening};
 use flag_defs::Flags;
 use plan_text::Planned;
 use price_core::{Limit, PriceFault, Prices, Request};
-use rollout_checks::RequestFile;
+use rollout::RequestFile;
 use std::alloc::{AllocError, Global};
 use transport_core::{Cut, CutKind};
 

@@ -8,7 +8,7 @@ use file_diagnostics::{
 use flag_text::{TextFault, Tree, read_doc, read_tree};
 use limits::TEXT_BYTES;
 use price_core::{Misfit, PriceFault, RequestError, change_in, limit_of};
-use rollout_checks::RequestFile;
+use rollout::RequestFile;
 use std::alloc::{AllocError, Global};
 
 /// What a request looks like.

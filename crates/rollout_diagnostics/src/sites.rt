@@ -11,7 +11,7 @@ use flag_defs::Flags;
 use flag_text::Tree;
 use logic_ast::sites;
 use price_core::{PriceFault, Request};
-use rollout_checks::{RequestFile, RolloutFault};
+use rollout::{RequestFile, RolloutFault};
 use std::alloc::{AllocError, Global};
 
 /// Explains why a request is refused over the flags of a document, where the rule of its site is refined by a factor.

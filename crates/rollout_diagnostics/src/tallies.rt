@@ -8,7 +8,7 @@ use book_core::Page;
 use file_diagnostics::{Lines, Opening};
 use flag_defs::Flags;
 use logic_ast::LogicFault;
-use rollout_checks::RequestFile;
+use rollout::RequestFile;
 use std::alloc::{AllocError, Global};
 use note_tallies::PageTally;
 

@@ -1,7 +1,7 @@
 use Rattle.std.proofs.Common.{◌≡◌, ◌∙◌, Err, ap, subst, rules, List, ℕ}
 use Rattle.std.proofs.lemmas.Result.{err_from_is_err_and}
 use Rattle.flag_defs.specs.Flags.{flags_view}
-use Rattle.log_tallies.specs.Lines.{files_view}
+use Rattle.note_streams.specs.LogLines.{files_view}
 use Rattle.plan_text.specs.Answer.{planned_view}
 use Rattle.control_answers.specs.Apply.{IsAppliedOf, IsAppliedOn, applied_view}
 use Rattle.control_answers.specs.Snapshot.{snapshot_view}

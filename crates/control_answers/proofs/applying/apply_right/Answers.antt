@@ -2,7 +2,7 @@ use Rattle.std.proofs.Common.{◌≡◌, ◌∙◌, ℕ, Ok, Err, ap, rules, sub
 use Rattle.std.proofs.lemmas.Result.{err_from_is_err_and}
 use Rattle.flag_defs.specs.Flags.{flags_view}
 use Rattle.plan_text.specs.Answer.{planned_view}
-use Rattle.rollout_checks.specs.Verified.{refining_for}
+use Rattle.rollout.specs.Verified.{refining_for}
 use Rattle.control_answers.specs.Apply.{IsApplied, applied_view}
 use Rattle.control_answers.specs.Snapshot.{snapshot_view}
 use Rattle.control_answers.specs.declared.refusal.ControlRefusal.TheVariants.{WantOfMemory}

@@ -1,7 +1,7 @@
 use Rattle.std.proofs.Common.{◌≡◌, Result, Err, String, Global, ap}
 use Rattle.std.specs.Prelude.{string_bytes}
 use Rattle.flag_defs.specs.Flags.{flags_view}
-use Rattle.log_tallies.specs.Lines.{files_view}
+use Rattle.note_streams.specs.LogLines.{files_view}
 use Rattle.plan_text.specs.Answer.{planned_view}
 use Rattle.control_answers.specs.Check.{IsVerdictOf}
 use Rattle.control_answers.specs.Refusal.{of_read}

@@ -2,7 +2,7 @@ use Rattle.std.proofs.Common.{◌≡◌, ◌∙◌, Err, ap, subst, rules, List,
 use Rattle.std.specs.Prelude.{string_bytes}
 use Rattle.std.proofs.lemmas.Result.{err_from_is_err_and}
 use Rattle.flag_defs.specs.Flags.{flags_view}
-use Rattle.log_tallies.specs.Lines.{files_view}
+use Rattle.note_streams.specs.LogLines.{files_view}
 use Rattle.plan_text.specs.Answer.{planned_view}
 use Rattle.control_answers.specs.Check.{IsVerdictOf, IsVerdictOn}
 use Rattle.control_answers.specs.Target.{target_of, target_view}

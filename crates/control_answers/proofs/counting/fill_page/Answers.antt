@@ -1,5 +1,5 @@
 use Rattle.std.proofs.Common.{◌≡◌, rules}
-use Rattle.log_tallies.specs.Counts.{counted_on}
+use Rattle.note_streams.specs.Counts.{counted_on}
 use Rattle.control_answers.proofs.Filled.{fills_one}
 use Rattle.control_answers.proofs.counting.fill_page.Goals as goal
 

@@ -1,5 +1,5 @@
 use Rattle.flag_defs.specs.Flags.{flags_view}
-use Rattle.log_tallies.specs.Lines.{files_view}
+use Rattle.note_streams.specs.LogLines.{files_view}
 use Rattle.control_answers.proofs.Filled.{site_counted}
 use Rattle.control_answers.proofs.counting.site_counts.Goals as goal
 

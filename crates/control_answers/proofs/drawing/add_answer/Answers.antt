@@ -4,7 +4,7 @@ use Rattle.bucket_core.specs.Rule.{names_view}
 use Rattle.picture.specs.Deficits.{none_height, none_told}
 use Rattle.plan_text.specs.Answer.{planned_view}
 use Rattle.plan_text.specs.declared.planned.Planned.{Planned}
-use Rattle.rollout_checks.specs.Tallied.{tally_view}
+use Rattle.rollout.specs.CheckedTally.{tally_view}
 use Rattle.control_answers.specs.Picture.{AddsAnswer}
 use Rattle.control_answers.proofs.Drawings.{if_both}
 use Rattle.control_answers.proofs.drawing.add_answer.Goals as goal

@@ -2,7 +2,7 @@ use denote.Ref.{Bor}
 use Rattle.std.proofs.Common.{◌∙◌, ◌++◌, List, ℕ, filter, sym, ap}
 use Rattle.std.proofs.lemmas.Result.{IfOk-weaker}
 use Rattle.byte_streams.specs.Lines.{lines_view}
-use Rattle.log_tallies.specs.Lines.{lines_in}
+use Rattle.note_streams.specs.LogLines.{lines_in}
 use Rattle.control_answers.specs.History.{is_row, rows_from}
 use Rattle.control_answers.proofs.Rows.{more_rows, no_more}
 use Rattle.control_answers.proofs.history.history_answer.Goals as goal

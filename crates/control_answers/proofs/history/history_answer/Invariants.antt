@@ -1,6 +1,6 @@
 use Rattle.std.proofs.Common.{◌≡◌, ◌++◌, filter, length}
 use Rattle.byte_streams.specs.Lines.{lines_view}
-use Rattle.log_tallies.specs.Lines.{lines_in}
+use Rattle.note_streams.specs.LogLines.{lines_in}
 use Rattle.control_answers.specs.History.{is_row}
 use Rattle.control_answers.proofs.history.history_answer.Given as goal
 

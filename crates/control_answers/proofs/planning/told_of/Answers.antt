@@ -1,7 +1,7 @@
 use Rattle.std.proofs.Common.{◌∙◌, ℕ, List, ap₂, refl, rules}
 use Rattle.std.specs.Prelude.{string_bytes}
 use Rattle.flag_defs.specs.Flags.{flags_view}
-use Rattle.rollout_checks.specs.Tallied.{tally_view}
+use Rattle.rollout.specs.CheckedTally.{tally_view}
 use Rattle.control_answers.specs.Token.{token_text}
 use Rattle.control_answers.proofs.Planned.{is_asked}
 use Rattle.control_answers.proofs.planning.told_of.Goals as goal

@@ -1,8 +1,8 @@
 use Rattle.std.proofs.Common.{◌≢◌, rules}
 use Rattle.flag_defs.specs.Flags.{flags_view}
-use Rattle.rollout_checks.specs.Tallied.{tally_problem_of}
-use Rattle.rollout_checks.specs.declared.fault.RolloutFault.TheVariants.{WantOfMemory}
-use Rattle.rollout_checks.specs.declared.refining.Refining.TheVariants.{Times}
+use Rattle.rollout.specs.CheckedTally.{tally_problem_of}
+use Rattle.rollout.specs.declared.fault.RolloutFault.TheVariants.{WantOfMemory}
+use Rattle.rollout.specs.declared.refining.Refining.TheVariants.{Times}
 use Rattle.control_answers.proofs.PlannedEffect.{not_refused}
 use Rattle.control_answers.proofs.posing.posed.Goals as goal
 

@@ -1,7 +1,7 @@
 use Rattle.std.proofs.Common.{◌≡◌, ◌∙◌, Ok, Err, ap, subst}
 use Rattle.std.specs.Prelude.{string_bytes}
 use Rattle.std.proofs.lemmas.Result.{err_from_is_err_and}
-use Rattle.log_tallies.specs.Lines.{files_view}
+use Rattle.note_streams.specs.LogLines.{files_view}
 use Rattle.note_tallies.specs.Reading.{ReadsAs}
 use Rattle.control_answers.specs.Record.{IsRecordOver, IsTallyText}
 use Rattle.control_answers.specs.Refusal.{of_logs}

@@ -1,5 +1,5 @@
 use Rattle.std.proofs.Common.{[], ◌∷◌, codes}
-use Rattle.entity_tags.specs.Tag.{opaque_tag}
+use Rattle.ofrep_requests.specs.Tag.{opaque_tag}
 use Rattle.control_answers.proofs.Parts.{in_parts}
 use Rattle.control_answers.proofs.token.token_text.Goals as goal
 

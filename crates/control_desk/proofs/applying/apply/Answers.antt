@@ -1,6 +1,6 @@
 use Rattle.std.proofs.Common.{Result, codes, refl, subst}
 use Rattle.std.proofs.lemmas.Result.{on_ok_weaker}
-use Rattle.log_tallies.specs.Lines.{files_view}
+use Rattle.note_streams.specs.LogLines.{files_view}
 use Rattle.control_answers.specs.Apply.{Applied, IsApplyAnswer, applied_view}
 use Rattle.control_answers.specs.Snapshot.{Snapshot, snapshot_view}
 use Rattle.control_answers.specs.declared.refusal.ControlRefusal.{ControlRefusal}

@@ -1,5 +1,5 @@
 use Rattle.std.proofs.Common.{◌≡◌, map, take}
-use Rattle.log_tallies.specs.Lines.{files_view}
+use Rattle.note_streams.specs.LogLines.{files_view}
 use Rattle.control_desk.proofs.logs.handed.Given as goal
 
 -- those that were met are handed over

@@ -1,6 +1,6 @@
 use Rattle.std.proofs.Common.{◌≡◌, ℕ, List, Result, codes, map, rules, string_bytes, subst}
 use Rattle.std.specs.Prelude.{OnOk}
-use Rattle.log_tallies.specs.Lines.{files_view}
+use Rattle.note_streams.specs.LogLines.{files_view}
 use Rattle.control_answers.specs.Plan.{IsPlanAnswer}
 use Rattle.control_answers.specs.Snapshot.{Snapshot, snapshot_view}
 use Rattle.control_answers.specs.View.{bytes_view}

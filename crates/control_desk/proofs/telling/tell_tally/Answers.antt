@@ -4,7 +4,7 @@ use Rattle.std.specs.declared.alloc.Global.{Global}
 use Rattle.flag_defs.specs.Document.{Definitions}
 use Rattle.flag_defs.specs.Flags.{flags_view}
 use Rattle.http_server.specs.Response.{fields_of}
-use Rattle.log_tallies.specs.Lines.{files_view}
+use Rattle.note_streams.specs.LogLines.{files_view}
 use Rattle.control_answers.specs.Record.{IsRecordAnswer}
 use Rattle.control_answers.specs.declared.refusal.ControlRefusal.{ControlRefusal}
 use Rattle.control_desk.specs.Bodies.{Tells}

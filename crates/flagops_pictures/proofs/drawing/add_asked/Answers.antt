@@ -2,8 +2,8 @@ use Rattle.std.proofs.Common.{sym, subst, string_bytes}
 use Rattle.std.specs.Prelude.{Result}
 use Rattle.flagops_pictures.specs.Pictured.{AddsTold}
 use Rattle.plan_text.specs.Answer.{planned_view}
-use Rattle.rollout_checks.specs.Tallied.{TallyProblem}
-use Rattle.rollout_checks.specs.declared.fault.RolloutFault.{RolloutFault}
+use Rattle.rollout.specs.CheckedTally.{TallyProblem}
+use Rattle.rollout.specs.declared.fault.RolloutFault.{RolloutFault}
 use Rattle.flagops_pictures.proofs.drawing.add_asked.Goals as goal
 
 pub returns : goal.returns

@@ -3,9 +3,9 @@ use Rattle.flag_defs.specs.Flags.{flags_view}
 use Rattle.flag_text.specs.Outcome.{GivesUnless}
 use Rattle.flagops_files.specs.declared.evidence.Evidence.{Evidence}
 use Rattle.flagops_ramps.specs.Ramp.{recorded}
-use Rattle.rollout_checks.specs.Lawful.{problem_asked}
-use Rattle.rollout_checks.specs.Tallied.{tally_view}
-use Rattle.rollout_checks.specs.declared.fault.RolloutFault.TheVariants.{WantOfMemory}
+use Rattle.rollout.specs.Lawful.{problem_asked}
+use Rattle.rollout.specs.CheckedTally.{tally_view}
+use Rattle.rollout.specs.declared.fault.RolloutFault.TheVariants.{WantOfMemory}
 use Rattle.flagops_pictures.specs.Asked.{asked_by}
 use Rattle.flagops_pictures.proofs.Posing.{gives, tallied}
 use Rattle.flagops_pictures.proofs.drawing.counted.Goals as goal

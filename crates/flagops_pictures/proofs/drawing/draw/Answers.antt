@@ -4,7 +4,7 @@ use Rattle.bucket_core.specs.Rule.{names_view}
 use Rattle.picture.specs.Deficits.{none_height, none_told}
 use Rattle.plan_text.specs.Answer.{planned_view}
 use Rattle.plan_text.specs.declared.planned.Planned.{Planned}
-use Rattle.rollout_checks.specs.Tallied.{tally_view}
+use Rattle.rollout.specs.CheckedTally.{tally_view}
 use Rattle.flagops_pictures.specs.Pictured.{AddsTold}
 use Rattle.flagops_pictures.proofs.Drawings.{if_both}
 use Rattle.flagops_pictures.proofs.drawing.draw.Goals as goal

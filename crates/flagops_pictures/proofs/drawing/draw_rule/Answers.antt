@@ -1,6 +1,6 @@
 use Rattle.std.proofs.Common.{◌∙◌, ap, arith, length, refl, sum}
 use Rattle.picture.specs.Changes.{change_height, change_told}
-use Rattle.rollout_checks.specs.Tallied.{tally_view}
+use Rattle.rollout.specs.CheckedTally.{tally_view}
 use Rattle.rule_switches.specs.Runs.{runs_view}
 use Rattle.transport_core.specs.Certificate.{certificate_view}
 use Rattle.flagops_pictures.specs.Pictured.{IsChangeTold}

@@ -2,8 +2,8 @@ use Rattle.std.proofs.Common.{◌≢◌, rules, ◌∙◌, ap, sym}
 use Rattle.flag_defs.specs.Flags.{flags_view}
 use Rattle.flagops_ramps.specs.Ramp.{recorded}
 use Rattle.plan_text.specs.Answer.{planned_view}
-use Rattle.rollout_checks.specs.declared.fault.RolloutFault.TheVariants.{WantOfMemory}
-use Rattle.rollout_checks.specs.declared.refining.Refining.{Refining}
+use Rattle.rollout.specs.declared.fault.RolloutFault.TheVariants.{WantOfMemory}
+use Rattle.rollout.specs.declared.refining.Refining.{Refining}
 use Rattle.flagops_pictures.specs.Asked.{asked_on}
 use Rattle.flagops_pictures.proofs.Posing.{not_refused, posed_as}
 use Rattle.flagops_pictures.proofs.drawing.posed.Goals as goal

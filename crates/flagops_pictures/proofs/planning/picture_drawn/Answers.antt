@@ -9,7 +9,7 @@ use Rattle.plan_text.specs.Answer.{planned_view}
 use Rattle.plan_text.specs.PlanFile.{answer_of}
 use Rattle.plan_text.specs.declared.fault.PlanFileFault.TheVariants.{WantOfMemory}
 use Rattle.ramp.specs.Right.{IsStepShown}
-use Rattle.rollout_checks.specs.declared.refining.Refining.TheVariants.{Times}
+use Rattle.rollout.specs.declared.refining.Refining.TheVariants.{Times}
 use Rattle.flagops_pictures.proofs.planning.picture_drawn.Goals as goal
 
 pub drawn-requires-clause-shown : goal.drawn-requires-clause-shown

@@ -5,8 +5,8 @@ use Rattle.picture.specs.Spelling.{Adds}
 use Rattle.picture.specs.Told.{step_told}
 use Rattle.plan_text.specs.Answer.{planned_view}
 use Rattle.ramp.specs.Ramp.{left_by}
-use Rattle.rollout_checks.specs.Refined.{refining_checked}
-use Rattle.rollout_checks.specs.declared.fault.RolloutFault.TheVariants.{WantOfMemory}
+use Rattle.rollout.specs.Refined.{refining_checked}
+use Rattle.rollout.specs.declared.fault.RolloutFault.TheVariants.{WantOfMemory}
 use Rattle.flagops_pictures.specs.Asked.{asked_on}
 use Rattle.flagops_pictures.specs.Pictured.{AddsTold}
 use Rattle.flagops_pictures.proofs.Steps.{all_told, if_well, last_told, not_left, others_right}

@@ -2,8 +2,8 @@ use Rattle.std.proofs.Common.{◌≡◌, ◌∙◌, ℕ, List, Err, ap, subst, r
 use Rattle.std.proofs.lemmas.Result.{err_from_is_err_and}
 use Rattle.flag_defs.specs.Flags.{flags_view}
 use Rattle.plan_text.specs.Answer.{planned_view}
-use Rattle.rollout_checks.specs.Tallied.{IsTallyOutcome, tally_problem_of}
-use Rattle.rollout_checks.specs.Verified.{refining_for}
+use Rattle.rollout.specs.CheckedTally.{IsTallyOutcome, tally_problem_of}
+use Rattle.rollout.specs.Verified.{refining_for}
 use Rattle.library_rollouts.specs.Apply.{IsKeptOn}
 use Rattle.library_rollouts.specs.Refusal.{of_verdict}
 use Rattle.library_rollouts.specs.declared.refusal.RolloutRefusal.TheVariants.{WantOfMemory}

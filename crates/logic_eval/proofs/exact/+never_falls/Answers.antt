@@ -1,5 +1,5 @@
 use Rattle.std.proofs.Common.{sym, arith}
-use Rattle.decimal_values.specs.Decimals.{at_most}
+use Rattle.logic_values.specs.Decimals.{at_most}
 use Rattle.logic_eval.proofs.Chains.{exact_chain_short}
 use Rattle.logic_eval.proofs.exact.+never_falls.Goals as goal
 

@@ -4,7 +4,7 @@ use Rattle.flag_text.specs.Outcome.{GivesUnless}
 use Rattle.flag_defs.specs.Flags.{flags_view}
 use Rattle.plan_text.specs.Answer.{IsOrdered, planned_view}
 use Rattle.plan_text.specs.PlanFile.{IsWhole}
-use Rattle.rollout_checks.specs.declared.fault.RolloutFault.TheVariants.{WantOfMemory}
+use Rattle.rollout.specs.declared.fault.RolloutFault.TheVariants.{WantOfMemory}
 use Rattle.ramp.specs.Ramp.{Standing, requests_view}
 use Rattle.ramp.proofs.Walked.{Planned, Walks}
 use Rattle.ramp.proofs.planning.plan_in_turn.Given as goal

@@ -3,8 +3,8 @@ use Rattle.flag_text.specs.Outcome.{GivesUnless}
 use Rattle.flag_defs.specs.Flags.{flags_view}
 use Rattle.flag_defs.specs.declared.flags.Flags.{Flags}
 use Rattle.plan_text.specs.Answer.{planned_view}
-use Rattle.rollout_checks.specs.declared.fault.RolloutFault.{RolloutFault}
-use Rattle.rollout_checks.specs.declared.fault.RolloutFault.TheVariants.{WantOfMemory}
+use Rattle.rollout.specs.declared.fault.RolloutFault.{RolloutFault}
+use Rattle.rollout.specs.declared.fault.RolloutFault.TheVariants.{WantOfMemory}
 use Rattle.ramp.specs.Ramp.{Standing}
 use Rattle.ramp.specs.Right.{TellsStep}
 use Rattle.ramp.proofs.verifying.verdict.Goals as goal

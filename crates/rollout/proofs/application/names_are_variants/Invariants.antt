@@ -1,6 +1,6 @@
 use Rattle.std.proofs.Common.{◌≡◌}
 use Rattle.flag_defs.specs.Flag.{flag_view}
-use Rattle.rollout_checks.specs.Lawful.{names_are_variants}
+use Rattle.rollout.specs.Lawful.{names_are_variants}
 use Rattle.rollout.proofs.application.names_are_variants.Given as goal
 
 -- the rest answers as the whole

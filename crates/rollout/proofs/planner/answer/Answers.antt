@@ -3,7 +3,7 @@ use Rattle.std.proofs.Common.{refl, ◌∙◌, subst, arith}
 use Rattle.bucket_core.specs.Rule.{IsRuleTotal, names_view}
 use Rattle.plan_text.proofs.WholeAnswers.{emit_whole, none_whole}
 use Rattle.transport_core.specs.Certificate.{certificate_view}
-use Rattle.rollout_checks.specs.Lawful.{problem_view}
+use Rattle.rollout.specs.Lawful.{problem_view}
 use Rattle.rollout.proofs.Plans.{deficient_of, emit_plan, none_plan, solved_plan, under_last_of}
 use Rattle.rollout.proofs.planner.answer.Goals as goal
 

@@ -1,10 +1,10 @@
 use Rattle.std.proofs.Common.{arith}
 use Rattle.bucket_core.specs.Rule.{total_weight}
 use Rattle.flag_defs.specs.Flags.{flags_view}
-use Rattle.rollout_checks.specs.Lawful.{problem_asked, problem_view}
-use Rattle.rollout_checks.specs.declared.refining.Refining.TheVariants.{Times}
+use Rattle.rollout.specs.Lawful.{problem_asked, problem_view}
+use Rattle.rollout.specs.declared.refining.Refining.TheVariants.{Times}
 use Rattle.transport_core.proofs.Costs.{tally_of}
-use Rattle.rollout_checks.proofs.Bounded.{lawful_small}
+use Rattle.rollout.proofs.Bounded.{lawful_small}
 use Rattle.rollout.proofs.Effort.{spends_none, spends_of}
 use Rattle.rollout.proofs.planner.plan_asked_counted.Goals as goal
 

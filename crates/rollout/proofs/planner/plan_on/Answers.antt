@@ -2,7 +2,7 @@
 use Rattle.std.proofs.Common.{inr, ◌∙◌, rules, subst}
 use Rattle.std.specs.List.{slice_index}
 use Rattle.transport_core.specs.Groups.{AreSizesBy}
-use Rattle.rollout_checks.specs.Lawful.{problem_view}
+use Rattle.rollout.specs.Lawful.{problem_view}
 use Rattle.rollout.proofs.Effort.{bounded}
 use Rattle.rollout.proofs.planner.plan_on.Goals as goal
 

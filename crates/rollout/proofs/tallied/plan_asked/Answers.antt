@@ -1,7 +1,7 @@
 use Rattle.flag_defs.specs.Flags.{flags_view}
-use Rattle.rollout_checks.specs.Tallied.{tally_view}
-use Rattle.rollout_checks.specs.declared.refining.Refining.TheVariants.{Times}
-use Rattle.rollout_checks.proofs.Bounded.{tally_small}
+use Rattle.rollout.specs.CheckedTally.{tally_view}
+use Rattle.rollout.specs.declared.refining.Refining.TheVariants.{Times}
+use Rattle.rollout.proofs.Bounded.{tally_small}
 use Rattle.rollout.proofs.tallied.plan_asked.Goals as goal
 
 pub plan_on-requires-clause-plannable : goal.plan_on-requires-clause-plannable

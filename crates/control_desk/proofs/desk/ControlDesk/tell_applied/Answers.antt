@@ -1,6 +1,6 @@
 use Rattle.std.proofs.Common.{◌≡◌, ◌∙◌, ℕ, List, Option, Some, ap, option_map, string_bytes, subst, sym}
 use Rattle.std.specs.Prelude.{OnOk}
-use Rattle.log_tallies.specs.Lines.{files_view}
+use Rattle.note_streams.specs.LogLines.{files_view}
 use Rattle.control_desk.specs.Apply.{TellsApply}
 use Rattle.control_desk.specs.Asked.{call_asked}
 use Rattle.control_desk.specs.Desk.{RespondsApplied, hindered, page_view}

@@ -3,7 +3,7 @@ use Rattle.std.specs.Prelude.{OnOk}
 use Rattle.std.proofs.lemmas.Result.{on_ok_weaker}
 use Rattle.control_flags.specs.declared.place.ControlPlace.{ControlPlace}
 use Rattle.control_flags.specs.declared.place.ControlPlace.TheVariants.{Flags, Plan, Check}
-use Rattle.log_tallies.specs.Lines.{files_view}
+use Rattle.note_streams.specs.LogLines.{files_view}
 use Rattle.control_desk.specs.Asked.{call_asked}
 use Rattle.control_desk.specs.Bodies.{TellsCheck, TellsFlagsOn, TellsPlan}
 use Rattle.control_desk.specs.Desk.{RespondsOn, hindered, page_view}

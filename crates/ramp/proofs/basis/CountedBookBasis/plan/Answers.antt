@@ -1,6 +1,6 @@
 use Rattle.std.proofs.Common.{refl}
 use Rattle.flag_defs.specs.Flags.{flags_view}
-use Rattle.rollout_checks.specs.Refined.{problem_refined}
+use Rattle.rollout.specs.Refined.{problem_refined}
 use Rattle.ramp.proofs.Steps.{planned_step}
 use Rattle.ramp.proofs.basis.CountedBookBasis.plan.Goals as goal
 

@@ -1,7 +1,0 @@
-mod Kept
-mod Objects
-mod Orders
-mod Rationals
-mod Signs
-mod Values
-mod Zeros

@@ -1,4 +1,0 @@
-pub mod Decimal
-pub mod Decimals
-pub mod Law
-pub mod View

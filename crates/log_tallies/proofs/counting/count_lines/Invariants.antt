@@ -1,8 +1,0 @@
-use Rattle.std.proofs.Common.{drop}
-use Rattle.byte_streams.specs.Lines.{lines_view}
-use Rattle.log_tallies.proofs.Counted.{Counted}
-use Rattle.log_tallies.proofs.counting.count_lines.Given as goal
-
--- the lines so far are counted
-abbrev pub invariant-loop-line : goal.invariant-loop-line
-invariant-loop-line l = Counted (lines_view l.lines) (lines_view (drop l.line-index l.lines)) l.counts.entries

@@ -1,7 +1,0 @@
-use Rattle.std.proofs.Common.{sym, subst}
-use Rattle.log_tallies.proofs.Strays.{input_told}
-use Rattle.log_tallies.specs.Stray.{SaysWhether}
-use Rattle.log_tallies.proofs.stray.is_input_note.Goals as goal
-
-pub returns : goal.returns
-returns c = subst (SaysWhether c.args.line.now) (sym c.is_some.ensures) (input_told c.args.line.now c.in_ok-note.note c.requires c.in_ok-note.ensures.exact)

@@ -1,3 +1,0 @@
-mod Objects
-mod Stays
-mod Whole

@@ -1,4 +1,0 @@
-pub mod Law
-pub mod Levels
-pub mod Sent
-pub mod View
