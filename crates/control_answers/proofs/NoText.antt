@@ -2,7 +2,7 @@
 use Rattle.std.proofs.Common.{◌≡◌, ℕ, Bool, true, false, List, Result, Ok, Err, length, nat_lt, refl, subst}
 use Rattle.std.specs.Str.{IsUtf8, is_utf8}
 use Rattle.std.proofs.lemmas.Str.{IsUtf8-from_is_utf8}
-use Rattle.float_variants.specs.Reading.{doc_with_floats}
+use Rattle.spelled_numbers.specs.Reading.{doc_with_floats}
 use Rattle.flag_defs.specs.Document.{Definitions, TextMeans, max_bytes}
 use Rattle.flag_defs.specs.Floats.{MeansAs}
 use Rattle.flag_text.specs.Shape.{Shape}

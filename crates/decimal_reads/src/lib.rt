@@ -9,7 +9,7 @@
 //! use flag_text::read_tree;
 //! use logic_ast::read_expr;
 //! use logic_eval::Context;
-//! use float_variants::read_sent;
+//! use spelled_numbers::read_sent;
 //!
 //! let targeting = br#"{"if":[{">":[{"var":"cart"},50]},{"in":[7,{"var":"scores"}]},{"+":[{"var":"cart"},1]}]}"#;
 //! let expr = read_expr(alloc, &read_tree(alloc, targeting, 1000)?)?;

@@ -7,7 +7,7 @@ use Rattle.flag_defs.specs.declared.definition_error.DefinitionError.TheVariants
 use Rattle.flag_text.specs.Reading.{doc_of}
 use Rattle.flag_text.specs.Shape.{Members, Shape, no_members, member}
 use Rattle.flag_text.specs.declared.fault.TextFault.{TextFault}
-use Rattle.float_variants.specs.Reading.{doc_with_floats}
+use Rattle.spelled_numbers.specs.Reading.{doc_with_floats}
 use Rattle.file_diagnostics.specs.Named.{step}
 
 -- the member of a flag's definition that a rule is about; nothing where it is about the definition

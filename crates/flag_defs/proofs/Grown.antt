@@ -8,7 +8,7 @@ use Rattle.json.specs.Print.{escape, escape_byte, escape_letter, print}
 use Rattle.json.specs.Tree.{json_tokens}
 use Rattle.flag_text.specs.Printing.{text_of}
 use Rattle.flag_text.specs.Shape.{text}
-use Rattle.float_variants.specs.Floats.{each_member, has_floats, in_object, of_document, of_flag, of_flags, of_variants, spelled, with_texts}
+use Rattle.spelled_numbers.specs.Floats.{each_member, has_floats, in_object, of_document, of_flag, of_flags, of_variants, spelled, with_texts}
 use Rattle.flag_defs.proofs.Joined.{first_member, later_member, members_printed, member_printed, none_printed, object_printed, string_printed}
 
 -- in how many bytes a value is printed

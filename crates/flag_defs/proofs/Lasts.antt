@@ -16,7 +16,7 @@ use Rattle.flag_text.specs.Grammar.{put, tree_from, items_from, members_from}
 use Rattle.flag_text.specs.Reading.{number_shape}
 use Rattle.flag_text.specs.Readers.{find_member}
 use Rattle.flag_text.specs.Shape.{Shape, whole, other, list, object, Items, Members, no_members, member, comes_first, is_in_range, names_rise}
-use Rattle.float_variants.specs.Floats.{each_member, in_object}
+use Rattle.spelled_numbers.specs.Floats.{each_member, in_object}
 
 -- ---- names
 

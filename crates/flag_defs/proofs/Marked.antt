@@ -11,8 +11,8 @@ use Rattle.std.specs.declared.alloc.Global.{Global}
 use Rattle.std.proofs.lemmas.List.{map-append}
 use Rattle.std.proofs.lemmas.List.Sums.{fold-append}
 use Rattle.flag_text.proofs.Bools.{both, left, right}
-use Rattle.float_variants.specs.View.{mark_view}
-use Rattle.float_variants.specs.declared.marks.Mark.{Mark}
+use Rattle.spelled_numbers.specs.View.{mark_view}
+use Rattle.spelled_numbers.specs.declared.marks.Mark.{Mark}
 use Rattle.flag_defs.specs.Definition.{Definition}
 use Rattle.flag_defs.specs.Document.{Definitions}
 use Rattle.flag_defs.specs.Flag.{entry_view, entries_view, is_broken}

@@ -20,9 +20,9 @@ use Rattle.flag_text.specs.Shape.{Shape, null, boolean, whole, other, text, list
 use Rattle.flag_text.specs.declared.fault.TextFault.{TextFault}
 use Rattle.flag_text.specs.declared.fault.TextFault.TheVariants as text_fault
 use Rattle.flag_text.specs.declared.fault.TextFault.TheVariants.{NotJson, TooLarge}
-use Rattle.float_variants.specs.Floats.{each_member, has_floats, in_object, of_document, of_flag, of_flags, of_variants, with_texts}
-use Rattle.float_variants.specs.Marks.{are_floats_in, if_flags, if_floats, marks_among, marks_in, marks_of, marks_of_text, marks_or_none}
-use Rattle.float_variants.specs.Reading.{doc_with_floats, if_tree, text_with_floats}
+use Rattle.spelled_numbers.specs.Floats.{each_member, has_floats, in_object, of_document, of_flag, of_flags, of_variants, with_texts}
+use Rattle.spelled_numbers.specs.Marks.{are_floats_in, if_flags, if_floats, marks_among, marks_in, marks_of, marks_of_text, marks_or_none}
+use Rattle.spelled_numbers.specs.Reading.{doc_with_floats, if_tree, text_with_floats}
 use Rattle.flag_defs.specs.Definition.{Definition, IsGood, Means, Rules, are_variants, broken, good, variants_of}
 use Rattle.flag_defs.specs.Document.{AllMean, Definitions, FlagsMean, TextMeans, evaluators_in, flags_in, max_bytes, max_flags, printed}
 use Rattle.flag_defs.specs.Entries.{AreMeant}

@@ -1,8 +1,8 @@
 -- A document has one meaning at most.
 use Rattle.std.proofs.Common.{◌≡◌, ℕ, List, [], ◌∷◌, Bool, Option, Some, None, Ok, Err, refl, sym, ap, ◌∙◌}
 use Rattle.std.specs.Prelude.{codes, Result}
-use Rattle.float_variants.specs.Marks.{marks_of_text}
-use Rattle.float_variants.specs.Reading.{doc_with_floats}
+use Rattle.spelled_numbers.specs.Marks.{marks_of_text}
+use Rattle.spelled_numbers.specs.Reading.{doc_with_floats}
 use Rattle.flag_text.specs.Reading.{doc_of}
 use Rattle.flag_text.specs.Readers.{find_member}
 use Rattle.flag_text.specs.Shape.{Shape, null, boolean, whole, other, text, list, object, Members, no_members, member}

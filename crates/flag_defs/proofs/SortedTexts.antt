@@ -17,7 +17,7 @@ use Rattle.flag_text.proofs.Bools.{Holds, both, left, right}
 use Rattle.flag_text.specs.Grammar.{put, members_from}
 use Rattle.flag_text.specs.Shape as shape
 use Rattle.flag_text.specs.Shape.{text, Members, comes_first, names_rise}
-use Rattle.float_variants.specs.Floats.{all_counting, are_within, each_member, has_floats, has_name, has_whole_numbers, is_number, is_object, member_count, of_variants}
+use Rattle.spelled_numbers.specs.Floats.{all_counting, are_within, each_member, has_floats, has_name, has_whole_numbers, is_number, is_object, member_count, of_variants}
 use Rattle.flag_defs.specs.SpelledLaw.{as_texts}
 use Rattle.flag_defs.proofs.Lasts.{is_less, not_both, one_name, same_name, swapped, twice}
 

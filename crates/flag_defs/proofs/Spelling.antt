@@ -7,8 +7,8 @@ use Rattle.flag_text.proofs.Bools.{both, left, right}
 use Rattle.flag_text.specs.Grammar.{tree_from, written, members_written}
 use Rattle.flag_text.specs.Readers.{as_whole}
 use Rattle.flag_text.specs.Shape.{Shape, null, boolean, whole, other, text, list, object, Items, no_items, item, Members, no_members, member, comes_first, is_whole, items_are_whole, members_are_whole}
-use Rattle.float_variants.specs.Floats.{all_counting, are_within, each_member, has_floats, has_name, has_whole_numbers, in_object, is_number, is_object, items_have_whole_numbers, members_have_whole_numbers, of_flag, of_flags, of_variants, spelled, with_texts}
-use Rattle.float_variants.specs.Marks.{are_floats_in, if_floats, marks_in, marks_of}
+use Rattle.spelled_numbers.specs.Floats.{all_counting, are_within, each_member, has_floats, has_name, has_whole_numbers, in_object, is_number, is_object, items_have_whole_numbers, members_have_whole_numbers, of_flag, of_flags, of_variants, spelled, with_texts}
+use Rattle.spelled_numbers.specs.Marks.{are_floats_in, if_floats, marks_in, marks_of}
 use Rattle.logic_ast.specs.Expression.{Expression}
 use Rattle.logic_ast.specs.Writing as writing
 use Rattle.flag_defs.specs.Definition.{Rules, Definition, broken, good}

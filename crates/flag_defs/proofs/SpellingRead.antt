@@ -25,9 +25,9 @@ use Rattle.flag_text.specs.Reading.{json_levels}
 use Rattle.flag_text.specs.Shape.{Shape, object, members_levels, levels, is_whole, members_are_whole}
 use Rattle.flag_text.specs.declared.fault.TextFault.{TextFault}
 use Rattle.flag_text.specs.declared.fault.TextFault.TheVariants.{NotJson, TooLarge}
-use Rattle.float_variants.specs.Floats.{all_counting, are_within, has_whole_numbers, is_number, is_object, member_count as json_count, with_texts}
-use Rattle.float_variants.specs.Marks.{marks_of_text, marks_or_none}
-use Rattle.float_variants.specs.Reading.{doc_with_floats, if_tree, text_with_floats}
+use Rattle.spelled_numbers.specs.Floats.{all_counting, are_within, has_whole_numbers, is_number, is_object, member_count as json_count, with_texts}
+use Rattle.spelled_numbers.specs.Marks.{marks_of_text, marks_or_none}
+use Rattle.spelled_numbers.specs.Reading.{doc_with_floats, if_tree, text_with_floats}
 use Rattle.logic_ast.specs.Expression.{Expression}
 use Rattle.logic_ast.specs.Size.{expression_size, is_too_big}
 use Rattle.logic_ast.specs.Formed.{is_formed}

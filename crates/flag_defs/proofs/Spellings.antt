@@ -10,7 +10,7 @@ use Rattle.flag_text.proofs.Bools.{left, right}
 use Rattle.flag_text.specs.Grammar.{value_in}
 use Rattle.flag_text.specs.Reading.{json_levels}
 use Rattle.flag_text.specs.Shape.{Shape, null, boolean, whole, other, text, list, object, Members, no_members, member}
-use Rattle.float_variants.specs.Floats.{all_counting, are_within, has_floats, has_whole_numbers, is_number, is_object, member_count}
+use Rattle.spelled_numbers.specs.Floats.{all_counting, are_within, has_floats, has_whole_numbers, is_number, is_object, member_count}
 use Rattle.flag_defs.specs.Definition.{Rules, broken, good}
 use Rattle.flag_defs.specs.Flag.{definition_of, entries_view, flag_view, rules_view}
 use Rattle.flag_defs.specs.Floats.{Marks, entries_floats, floats_in, floats_of, mark_of, marked_with}

@@ -9,8 +9,8 @@ use Rattle.std.specs.Ordering.{nat_cmp}
 use Rattle.std.specs.Str.{bytes_eq}
 use Rattle.std.specs.declared.alloc.Global.{Global}
 use Rattle.flag_text.specs.Shape.{Shape, text, Members, no_members, member}
-use Rattle.float_variants.specs.Marks.{marks_of_text}
-use Rattle.float_variants.specs.Reading.{doc_with_floats}
+use Rattle.spelled_numbers.specs.Marks.{marks_of_text}
+use Rattle.spelled_numbers.specs.Reading.{doc_with_floats}
 use Rattle.flag_defs.specs.Definition.{Definition}
 use Rattle.flag_defs.specs.Document.{Definitions, DocumentMeans, TextMeans, max_bytes}
 use Rattle.flag_defs.specs.Flag.{is_broken, variants_in}

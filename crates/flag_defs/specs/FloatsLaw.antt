@@ -2,8 +2,8 @@
 use Rattle.std.specs.Prelude.{◌≡◌, ◌↔◌, ℕ, true, List, Some, Result}
 use Rattle.json.specs.Json.{Json}
 use Rattle.flag_text.specs.Grammar.{value_in}
-use Rattle.float_variants.specs.Floats.{has_whole_numbers}
-use Rattle.float_variants.specs.Marks.{marks_of_text}
+use Rattle.spelled_numbers.specs.Floats.{has_whole_numbers}
+use Rattle.spelled_numbers.specs.Marks.{marks_of_text}
 use Rattle.flag_defs.specs.Document.{Definitions, DocumentMeans}
 use Rattle.flag_defs.specs.Floats.{MeansWithFloats, are_unmarked, marked}
 use Rattle.flag_defs.specs.declared.fault.DefFault.{DefFault}

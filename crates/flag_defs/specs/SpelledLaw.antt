@@ -7,8 +7,8 @@ use Rattle.json.specs.Print.{print}
 use Rattle.json.specs.Tree.{json_tokens, HasNumbers, MembersHaveNumbers}
 use Rattle.flag_text.specs.Grammar.{tree_from}
 use Rattle.flag_text.specs.Shape.{Shape, text, Members, no_members, member}
-use Rattle.float_variants.specs.Floats.{has_floats, with_texts}
-use Rattle.float_variants.specs.Marks.{marks_in, marks_of_text}
+use Rattle.spelled_numbers.specs.Floats.{has_floats, with_texts}
+use Rattle.spelled_numbers.specs.Marks.{marks_in, marks_of_text}
 use Rattle.flag_defs.specs.Definition.{Definition, broken, good}
 use Rattle.flag_defs.specs.Document.{Definitions}
 use Rattle.flag_defs.specs.Flags.{AreFlags}

@@ -6,7 +6,7 @@ use Rattle.json.specs.Print.{print}
 use Rattle.json.specs.Tree.{json_tokens}
 use Rattle.flag_text.specs.Grammar.{value_in}
 use Rattle.flag_text.specs.Shape.{Shape, text, Members, no_members, member}
-use Rattle.float_variants.specs.Floats.{has_floats}
+use Rattle.spelled_numbers.specs.Floats.{has_floats}
 
 -- the value that a text is read as, where it is the compact text of this value
 abbrev pub if_compact : List ℕ → Option json.Json → Option json.Json

@@ -1,7 +1,7 @@
 //! From the bytes of a document to its flags.
 ghost use Rattle.std.specs.Prelude.{◌≡◌, ◌<◌, ◌≤◌, true, false, length, IfOk, IsErrOf};
 ghost use Rattle.std.specs.Str.{is_utf8};
-ghost use Rattle.float_variants.specs.Marks.{marks_of_text};
+ghost use Rattle.spelled_numbers.specs.Marks.{marks_of_text};
 ghost use Rattle.flag_defs.specs.Document.{DocumentMeans, max_bytes};
 ghost use Rattle.flag_defs.specs.Flags.{HoldsUnless, flags_view};
 ghost use Rattle.flag_defs.specs.Floats.{AreMarkedAs, MeansAs, MeansWithFloats, are_unmarked, floats_view, marked};

@@ -3,7 +3,7 @@ ghost use Rattle.flag_defs.specs.Document.{HasOneMeaning};
 ghost use Rattle.flag_defs.specs.FloatsLaw.{FloatsChangeNothing, HasOneMeaningWithFloats, NoneHasFloats};
 ghost use Rattle.flag_defs.specs.SpelledLaw.{DocumentsAreMarked, PrintedWithFloatsReadsBack};
 
-use float_variants::whole_flags_have_no_floats;
+use spelled_numbers::whole_flags_have_no_floats;
 
 /// A document means one thing: its flags, or one refusal.
 pub fn a_document_has_one_meaning()
@@ -17,7 +17,7 @@ pub fn floats_change_nothing()
     ensures none { NoneHasFloats }
     ensures one { HasOneMeaningWithFloats }
 {
-    float_variants::floats_change_nothing();
+    spelled_numbers::floats_change_nothing();
     whole_flags_have_no_floats();
 }
 

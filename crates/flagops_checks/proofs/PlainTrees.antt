@@ -19,8 +19,8 @@ use Rattle.flag_text.specs.Readers.{as_object, find_member}
 use Rattle.flag_text.specs.Shape.{Shape, null, boolean, whole, other, text, list, object, Members, no_members, member}
 use Rattle.flag_text.specs.declared.fault.TextFault.{TextFault}
 use Rattle.flag_text.specs.declared.fault.TextFault.TheVariants.{NotJson, TooLarge}
-use Rattle.float_variants.specs.Floats.{with_texts}
-use Rattle.float_variants.specs.Reading.{if_tree, text_with_floats}
+use Rattle.spelled_numbers.specs.Floats.{with_texts}
+use Rattle.spelled_numbers.specs.Reading.{if_tree, text_with_floats}
 use Rattle.member_names.specs.Unread.{first_unread, reads, unread_of}
 use Rattle.member_names.specs.declared.reader.Reader.{Reader}
 use Rattle.member_names.specs.declared.reader.Reader.TheVariants as reader

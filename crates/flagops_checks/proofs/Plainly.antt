@@ -4,7 +4,7 @@ use Rattle.std.proofs.lemmas.Bool.{false≢true}
 use Rattle.std.specs.List.{list_all}
 use Rattle.std.specs.Str.{bytes_eq}
 use Rattle.json.specs.Json as json
-use Rattle.float_variants.specs.Floats.{each_member, in_object, of_document, of_flag, of_flags, with_texts}
+use Rattle.spelled_numbers.specs.Floats.{each_member, in_object, of_document, of_flag, of_flags, with_texts}
 use Rattle.member_names.specs.Unread.{reads}
 use Rattle.member_names.specs.declared.reader.Reader.{Reader}
 use Rattle.member_names.specs.declared.reader.Reader.TheVariants as reader

@@ -12,7 +12,7 @@ ghost use Rattle.flagops_checks.specs.Names.{AreKnown, HasUnread};
 
 use flag_doubts::Repeated;
 use flag_text::{TextFault, Tree, read_doc};
-use float_variants::read_with_floats;
+use spelled_numbers::read_with_floats;
 use limits::TEXT_BYTES;
 use std::alloc::{AllocError, Global};
 

@@ -8,7 +8,7 @@ use Rattle.std.proofs.lemmas.Slice.Eq.{bytes_eq-Decides}
 use Rattle.flag_text.specs.Shape.{Shape}
 use Rattle.flag_text.specs.declared.fault.TextFault.{TextFault}
 use Rattle.flag_text.specs.declared.fault.TextFault.TheVariants as text_fault
-use Rattle.float_variants.specs.Reading.{text_with_floats}
+use Rattle.spelled_numbers.specs.Reading.{text_with_floats}
 use Rattle.flag_defs.specs.Changes.{by_key}
 use Rattle.flag_defs.specs.Document.{Definitions, TextMeans, max_bytes}
 use Rattle.flag_defs.specs.Flags.{flags_view}

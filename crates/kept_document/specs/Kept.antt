@@ -3,7 +3,7 @@ use Rattle.std.specs.Prelude.{◌≡◌, ◌<◌, ◌≤◌, ◌+◌, ℕ, pos, 
 use Rattle.std.specs.Map.{lookup}
 use Rattle.std.specs.Str.{bytes_eq}
 use Rattle.bucket_core.specs.Rule.{Entries}
-use Rattle.float_variants.specs.Reading.{doc_with_floats}
+use Rattle.spelled_numbers.specs.Reading.{doc_with_floats}
 use Rattle.flag_text.specs.Printing.{text_of}
 use Rattle.flag_text.specs.Reading.{doc_of}
 use Rattle.flag_text.specs.Shape.{Shape, text, whole}

@@ -18,7 +18,7 @@ use crate::fault::KeepFault;
 use bucket_core::Rule;
 use flag_defs::Flags;
 use flag_text::{TextFault, Tree, read_doc};
-use float_variants::read_with_floats;
+use spelled_numbers::read_with_floats;
 use limits::TEXT_BYTES;
 use logic_ast::{Expr, write_expr};
 use crate::{SitePlace, place_of_site};
@@ -99,7 +99,7 @@ fn document_tree(alloc: Global, document: &str, floats: bool) -> Result<Tree, Ke
     }
 }
 
-/// The tree of bytes that may have floats, as `float_variants::read_with_floats` reads them, or may not, as `flag_text::read_doc` does;
+/// The tree of bytes that may have floats, as `spelled_numbers::read_with_floats` reads them, or may not, as `flag_text::read_doc` does;
 /// of at most 4,194,304 of them.
 pub fn tree_as(alloc: Global, bytes: &[u8], floats: bool) -> Result<Tree, TextFault>
     ensures { GivesUnless TextFault.WantOfMemory tree_view result (tree_as floats bytes.now) }

@@ -11,7 +11,7 @@ use Rattle.flag_resolve.specs.Resolved.{Resolved}
 use Rattle.library_seat.specs.Refusal.{of_default, of_context}
 use Rattle.library_seat.specs.declared.refusal.Refusal.{Refusal}
 use Rattle.library_seat.specs.declared.refusal.Refusal.TheVariants as refusal
-use Rattle.float_variants.specs.Sent.{sent_tree_of}
+use Rattle.spelled_numbers.specs.Sent.{sent_tree_of}
 
 -- the bytes of a flag's key, the number of a kind of value, the bytes of the default, and the moment in seconds since 1970
 pub record AskedBytes : Type 0 where

@@ -6,12 +6,12 @@ ghost use Rattle.flag_text.specs.Reading.{tree_of};
 ghost use Rattle.flag_text.specs.Shape.{is_tidy, is_whole};
 ghost use Rattle.flag_text.specs.View.{view};
 ghost use Rattle.library_seat.specs.Question.{max_text};
-ghost use Rattle.float_variants.specs.Sent.{sent_tree_of};
+ghost use Rattle.spelled_numbers.specs.Sent.{sent_tree_of};
 
 use flag_text::{TextFault, Tree, read_doc_with, read_tree, whole_tree};
 use json::Scratch;
 use limits::TEXT_BYTES;
-use float_variants::{read_sent_tree, read_sent_with, shallow};
+use spelled_numbers::{read_sent_tree, read_sent_with, shallow};
 use std::alloc::Global;
 
 /// Memory that a seat keeps from call to call, so that a call clears and takes less of it. What it holds makes no difference.

@@ -1,7 +1,7 @@
 //! Documents with floats: which variants become texts, and by what spelling.
 use crate::rows::each;
 use flag_text::{Tree, print_tree};
-use float_variants::{Mark, read_with_floats};
+use spelled_numbers::{Mark, read_with_floats};
 use std::alloc::Global;
 use std::test::Fail;
 

@@ -17,7 +17,7 @@ use Rattle.flag_defs.specs.declared.kind.Kind.TheVariants as kind
 use Rattle.book_core.specs.Page.{PageName}
 use Rattle.note_lines.specs.Note.{most_noted, note_line}
 use Rattle.site_pages.specs.Pages.{ArePages}
-use Rattle.float_variants.specs.Sent.{sent_tree_of}
+use Rattle.spelled_numbers.specs.Sent.{sent_tree_of}
 use Rattle.note_streams.specs.Outcomes.{Outcomes, both, no_outcomes, one_of, outcome_of}
 
 -- the flags, a key and a moment, and the pages of the sites of the key's flag

@@ -12,7 +12,7 @@ use crate::recorded::Recorded;
 use crate::scene::Recorder;
 use flag_text::{TextFault, Tree};
 use limits::TEXT_BYTES;
-use float_variants::read_sent_tree;
+use spelled_numbers::read_sent_tree;
 use std::alloc::{AllocError, Global};
 
 /// What is recorded of some lines, without their line feeds, up to the first that is no context. Want of memory is its one

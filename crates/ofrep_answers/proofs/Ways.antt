@@ -12,8 +12,8 @@ use Rattle.ofrep_answers.specs.ContextLaw.{HasWays}
 use Rattle.ofrep_answers.specs.Way.{first, way_to, way_in_items, way_in_members, way_in, way_of}
 use Rattle.ofrep_answers.specs.declared.fault.ContextFault.{ContextFault}
 use Rattle.ofrep_answers.specs.declared.fault.ContextFault.TheVariants as fault
-use Rattle.float_variants.specs.Levels.{sent_items_levels, sent_levels, sent_members_levels, stand_for_number, without_spelling}
-use Rattle.float_variants.specs.Sent.{if_shallow, respelled}
+use Rattle.spelled_numbers.specs.Levels.{sent_items_levels, sent_levels, sent_members_levels, stand_for_number, without_spelling}
+use Rattle.spelled_numbers.specs.Sent.{if_shallow, respelled}
 
 here : (f : List ℕ → List ℕ) (o later : Option (List ℕ)) → is_some o ≡ true → is_some (first (option_map f o) later) ≡ true
 here f None later h = cc

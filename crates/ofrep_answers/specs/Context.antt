@@ -6,8 +6,8 @@ use Rattle.flag_text.specs.Shape.{Shape, null, object, no_members}
 use Rattle.flag_text.specs.declared.fault.TextFault.{TextFault}
 use Rattle.flag_text.specs.declared.fault.TextFault.TheVariants as text_fault
 use Rattle.ofrep_answers.specs.Deep.{is_too_deep}
-use Rattle.float_variants.specs.Levels.{without_spelling}
-use Rattle.float_variants.specs.Sent.{if_shallow, sent_of}
+use Rattle.spelled_numbers.specs.Levels.{without_spelling}
+use Rattle.spelled_numbers.specs.Sent.{if_shallow, sent_of}
 use Rattle.ofrep_answers.specs.Fault.{of_text}
 use Rattle.ofrep_answers.specs.declared.fault.ContextFault.{ContextFault}
 use Rattle.ofrep_answers.specs.declared.fault.ContextFault.TheVariants.{BodyNotObject, BodyTooDeep, NotJson, NotObject}

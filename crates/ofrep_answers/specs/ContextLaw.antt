@@ -3,7 +3,7 @@ use Rattle.std.specs.Prelude.{◌≡◌, ℕ, true, List, Err, is_some}
 use Rattle.ofrep_answers.specs.Context.{context_of, max_body}
 use Rattle.ofrep_answers.specs.Way.{way_of}
 use Rattle.ofrep_answers.specs.declared.fault.ContextFault.TheVariants.{TooDeep}
-use Rattle.float_variants.specs.Sent.{sent_of}
+use Rattle.spelled_numbers.specs.Sent.{sent_of}
 
 -- A context that is refused for its levels has a way to the first place that is too deep, which the details then name.
 abbrev pub HasWays : Type 0

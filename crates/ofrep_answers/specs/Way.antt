@@ -8,8 +8,8 @@ use Rattle.ofrep_answers.specs.Context.{max_body}
 use Rattle.ofrep_answers.specs.Fault.{details_of}
 use Rattle.ofrep_answers.specs.declared.fault.ContextFault.{ContextFault}
 use Rattle.ofrep_answers.specs.declared.fault.ContextFault.TheVariants.{WantOfMemory, TooLarge, BodyTooDeep, NotJson, BodyNotObject, NotObject, TooDeep}
-use Rattle.float_variants.specs.Levels.{stand_for_number}
-use Rattle.float_variants.specs.Sent.{sent_of}
+use Rattle.spelled_numbers.specs.Levels.{stand_for_number}
+use Rattle.spelled_numbers.specs.Sent.{sent_of}
 
 -- the most bytes of a way
 abbrev pub max_way : ℕ

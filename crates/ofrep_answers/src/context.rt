@@ -12,7 +12,7 @@ use crate::deep::is_too_deep;
 use crate::fault::ContextFault;
 use flag_text::{TextFault, Tree, position_of};
 use json::Scratch;
-use float_variants::{read_sent_with, shallow, without_spelling};
+use spelled_numbers::{read_sent_with, shallow, without_spelling};
 use std::alloc::Global;
 
 /// The most bytes of a request's body.

@@ -5,13 +5,13 @@ ghost use Rattle.flag_text.specs.View.{view};
 ghost use Rattle.ofrep_answers.specs.Context.{max_body};
 ghost use Rattle.ofrep_answers.specs.Way.{deep_at, way_in, way_of};
 ghost use Rattle.ofrep_answers.specs.Way as spec;
-ghost use Rattle.float_variants.specs.Sent.{sent_of};
+ghost use Rattle.spelled_numbers.specs.Sent.{sent_of};
 
 use crate::context::{MAX_BODY, member_named};
 use crate::fault::ContextFault;
 use crate::way::way_to;
 use flag_text::{TREE_LEVELS, TextFault, Tree};
-use float_variants::read_sent;
+use spelled_numbers::read_sent;
 use std::alloc::{AllocError, Global};
 
 /// How many levels a context may have.

@@ -4,7 +4,7 @@ ghost use Rattle.flag_text.specs.View.{view, items_view, members_view};
 ghost use Rattle.ofrep_answers.specs.Way.{joined, way_in_items, way_in_members, way_to};
 
 use flag_text::Tree;
-use float_variants::stands_for_number;
+use spelled_numbers::stands_for_number;
 use std::alloc::{AllocError, Global};
 
 /// The most bytes of a way.

@@ -7,7 +7,7 @@ use Rattle.flag_defs.specs.Floats.{AreMarkedAs, Marks, are_unmarked, marked}
 use Rattle.flag_defs.specs.Spelled.{flags_spelled}
 use Rattle.flag_text.specs.Shape.{Shape}
 use Rattle.flag_text.specs.declared.fault.TextFault.{TextFault}
-use Rattle.float_variants.specs.Marks.{marks_of_text}
+use Rattle.spelled_numbers.specs.Marks.{marks_of_text}
 use Rattle.plan_text.specs.Answer.{Answer, emit, none_exists}
 use Rattle.rollout.specs.Applied.{applied}
 use Rattle.flagops_rollouts.specs.Apply.{IsLocalReport, IsToldReport, applied_report, document_line, printed_as, told_report}

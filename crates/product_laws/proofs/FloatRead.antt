@@ -14,9 +14,9 @@ use Rattle.flag_text.specs.Reading.{doc_of, if_json, json_of, shape_of}
 use Rattle.flag_text.specs.Shape.{Shape}
 use Rattle.flag_text.specs.declared.fault.TextFault.{TextFault}
 use Rattle.flag_text.specs.declared.fault.TextFault.TheVariants.{NotJson, TooLarge}
-use Rattle.float_variants.specs.Floats.{with_texts}
-use Rattle.float_variants.specs.Law.{FloatsChangeNothing}
-use Rattle.float_variants.specs.Reading.{doc_with_floats, if_tree}
+use Rattle.spelled_numbers.specs.Floats.{with_texts}
+use Rattle.spelled_numbers.specs.Law.{FloatsChangeNothing}
+use Rattle.spelled_numbers.specs.Reading.{doc_with_floats, if_tree}
 use Rattle.kept_document.specs.Kept.{tree_as}
 use Rattle.source_merge.specs.Sources.{SetsAs, SourceList, is_source, with_read}
 use Rattle.source_merge.specs.declared.fault.SourceFault.{SourceFault}

@@ -4,8 +4,8 @@ use Rattle.flag_defs.specs.Document.{DocumentMeans, printed}
 use Rattle.flag_defs.specs.Floats.{MeansWithFloats, are_unmarked, marked}
 use Rattle.flag_defs.specs.Spelled.{flags_spelled, printed_with_floats}
 use Rattle.flag_defs.specs.declared.fault.DefFault.{DefFault}
-use Rattle.float_variants.specs.Law.{FloatsChangeNothing, WholeFlagsHaveNoFloats}
-use Rattle.float_variants.specs.Marks.{marks_of_text}
+use Rattle.spelled_numbers.specs.Law.{FloatsChangeNothing, WholeFlagsHaveNoFloats}
+use Rattle.spelled_numbers.specs.Marks.{marks_of_text}
 use Rattle.sync_frames.specs.Framed.{IsFrameOf}
 use Rattle.sync_frames.specs.Frames.{IsDocumentOf, frame_of}
 use Rattle.sync_frames.specs.Snapshots.{Numbered}

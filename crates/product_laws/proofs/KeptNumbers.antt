@@ -14,7 +14,7 @@ use Rattle.flag_text.specs.Readers.{as_whole}
 use Rattle.flag_text.specs.Reading.{doc_of, if_json, json_of, number_shape, shape_of}
 use Rattle.flag_text.specs.Shape.{Shape}
 use Rattle.flag_text.specs.declared.fault.TextFault.TheVariants.{TooLarge}
-use Rattle.float_variants.specs.Floats.{has_whole_numbers, is_whole_number, items_have_whole_numbers, members_have_whole_numbers}
+use Rattle.spelled_numbers.specs.Floats.{has_whole_numbers, is_whole_number, items_have_whole_numbers, members_have_whole_numbers}
 use Rattle.json.specs.Json as json
 use Rattle.json.specs.Json.{Json}
 use Rattle.json.specs.Lex.{Mode, between, in_word, class, lex, punctuate, tokens}

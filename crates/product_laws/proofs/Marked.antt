@@ -8,8 +8,8 @@ use Rattle.flag_defs.specs.Document.{Definitions}
 use Rattle.flag_defs.specs.Floats.{AreMarkedAs, Marks, are_unmarked, mark_of, marked, marked_with}
 use Rattle.flag_text.proofs.Bools.{left, right}
 use Rattle.flag_text.specs.Grammar.{value_in}
-use Rattle.float_variants.specs.Law.{WholeFlagsHaveNoFloats}
-use Rattle.float_variants.specs.Marks.{marks_of_text, marks_or_none}
+use Rattle.spelled_numbers.specs.Law.{WholeFlagsHaveNoFloats}
+use Rattle.spelled_numbers.specs.Marks.{marks_of_text, marks_or_none}
 use Rattle.product_laws.specs.FloatWhole.{IsWholeText}
 
 -- the marks of the text say so of each

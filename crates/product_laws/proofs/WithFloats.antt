@@ -11,8 +11,8 @@ use Rattle.flag_text.specs.Grammar.{tree_from, value_in}
 use Rattle.flag_text.specs.Reading.{json_levels}
 use Rattle.flag_text.specs.Shape.{Shape, list, Items}
 use Rattle.flag_text.specs.declared.fault.TextFault.TheVariants.{NotJson, TooLarge}
-use Rattle.float_variants.specs.Floats.{each_member, has_floats, in_object, of_document, of_flag, of_flags, of_variants, with_texts}
-use Rattle.float_variants.specs.Reading.{doc_with_floats, if_tree}
+use Rattle.spelled_numbers.specs.Floats.{each_member, has_floats, in_object, of_document, of_flag, of_flags, of_variants, with_texts}
+use Rattle.spelled_numbers.specs.Reading.{doc_with_floats, if_tree}
 use Rattle.json.proofs.Nesting.{value-depth}
 use Rattle.json.proofs.Unique.Spelling.{value-json_tokens_back}
 use Rattle.json.specs.Json as json

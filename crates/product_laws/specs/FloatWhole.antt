@@ -1,7 +1,7 @@
 -- Texts whose numbers are all whole.
 use Rattle.std.specs.Prelude.{◌≡◌, ℕ, List, true, Some}
 use Rattle.flag_text.specs.Grammar.{value_in}
-use Rattle.float_variants.specs.Floats.{has_whole_numbers}
+use Rattle.spelled_numbers.specs.Floats.{has_whole_numbers}
 use Rattle.json.specs.Json.{Json}
 
 -- the numbers of a text are whole, if it is a value of JSON's

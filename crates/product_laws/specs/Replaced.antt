@@ -3,7 +3,7 @@ use Rattle.std.specs.Prelude.{◌≡◌, ◌<◌, ℕ, ◌-◌, List, ◌++◌, 
 use Rattle.bucket_core.specs.Rule.{Entries}
 use Rattle.flag_defs.specs.Document.{Definitions, max_bytes}
 use Rattle.flag_text.specs.Reading.{doc_of}
-use Rattle.float_variants.specs.Reading.{doc_with_floats}
+use Rattle.spelled_numbers.specs.Reading.{doc_with_floats}
 use Rattle.flag_text.specs.Shape.{Shape, list, Items}
 use Rattle.kept_document.specs.Kept.{KeptAt, entries_text, place_in}
 use Rattle.logic_ast.specs.FirstFault.{item_count}

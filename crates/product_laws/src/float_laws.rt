@@ -13,8 +13,8 @@ pub fn documents_stay()
     ensures none { NoneIsMarked }
     ensures sources { SourcesStay }
 {
-    float_variants::floats_change_nothing();
-    float_variants::whole_flags_have_no_floats();
+    spelled_numbers::floats_change_nothing();
+    spelled_numbers::whole_flags_have_no_floats();
 }
 
 /// A frame whose document has whole numbers alone carries what it would carry if documents were read without floats, and is
@@ -25,8 +25,8 @@ pub fn frames_stay()
     ensures refusals { RefusalsStay }
     ensures sent { PlainFlagsAreFramed }
 {
-    float_variants::floats_change_nothing();
-    float_variants::whole_flags_have_no_floats();
+    spelled_numbers::floats_change_nothing();
+    spelled_numbers::whole_flags_have_no_floats();
 }
 
 /// Where the numbers of a document are whole, so are those of the document with a rule in the place of a site's buckets, if the

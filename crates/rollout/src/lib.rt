@@ -74,10 +74,6 @@ pub use planner::{plan, plan_counted, plan_file, plan_refined};
 pub use problem::{Problem, problem_asked, problem_of, problem_of_tally, tally_problem_asked};
 pub use refining::Refining;
 pub use request_file::RequestFile;
-pub use crate::{
-    RequestFile, RolloutFault, VerifyFault, verify, verify_file, verify_file_on_tally,
-    verify_refined, verify_tally, verify_tally_refined,
-};
 pub use tallied::{plan_file_on_tally, plan_tally};
 pub use verification::{
     verify, verify_file, verify_file_on_tally, verify_refined, verify_tally, verify_tally_refined,

@@ -6,7 +6,7 @@ use Rattle.std.specs.Map.{set_value}
 use Rattle.std.specs.Ordering.{nat_cmp}
 use Rattle.std.specs.Str.{bytes_eq}
 use Rattle.std.specs.declared.alloc.Global.{Global}
-use Rattle.float_variants.specs.Marks.{marks_of_text}
+use Rattle.spelled_numbers.specs.Marks.{marks_of_text}
 use Rattle.flag_defs.specs.Document.{Definitions}
 use Rattle.flag_defs.specs.Floats.{Marks, MeansWithFloats, are_unmarked, floats_view, marked, marks_by_key}
 use Rattle.flag_defs.specs.declared.flags.Flags.{Flags}

@@ -1,6 +1,6 @@
 use Rattle.std.proofs.Common.{sym, ap, ◌∙◌}
 use Rattle.std.proofs.lemmas.Result.{IfOk-weaker}
-use Rattle.float_variants.specs.Marks.{marks_of_text}
+use Rattle.spelled_numbers.specs.Marks.{marks_of_text}
 use Rattle.flag_defs.specs.Flag.{entries_view}
 use Rattle.flag_defs.specs.Floats.{MeansWithFloats, entries_floats, marked}
 use Rattle.flag_defs.proofs.Limited.{holds_limited}

@@ -1,5 +1,5 @@
 use Rattle.std.proofs.Common.{sym, subst}
-use Rattle.float_variants.specs.Marks.{marks_of_text}
+use Rattle.spelled_numbers.specs.Marks.{marks_of_text}
 use Rattle.flag_defs.specs.Document.{TextMeans, max_bytes}
 use Rattle.flag_defs.proofs.Marked.{none_marked}
 use Rattle.flag_defs.proofs.Meanings.{one_meaning_with_floats}

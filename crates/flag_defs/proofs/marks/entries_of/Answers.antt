@@ -4,7 +4,7 @@ use Rattle.std.specs.List.Sorted.{IsStrictlySortedBy}
 use Rattle.std.specs.Map.{keys_of}
 use Rattle.std.specs.Ordering.{nat_cmp}
 use Rattle.flag_text.specs.View.{view}
-use Rattle.float_variants.specs.View.{mark_view}
+use Rattle.spelled_numbers.specs.View.{mark_view}
 use Rattle.flag_defs.specs.Document.{Definitions, FlagsMean, evaluators_in, flags_in, limited}
 use Rattle.flag_defs.specs.Flag.{entries_view}
 use Rattle.flag_defs.specs.Floats.{marked}

@@ -7,7 +7,7 @@ use Rattle.std.specs.Ordering.{nat_cmp}
 use Rattle.std.proofs.lemmas.List.{map-id}
 use Rattle.std.proofs.lemmas.Iterator.Adapters.{YieldsList-from_vec}
 use Rattle.std.proofs.lemmas.Iterator.Consumers.{YieldsList-end}
-use Rattle.float_variants.specs.View.{mark_view}
+use Rattle.spelled_numbers.specs.View.{mark_view}
 use Rattle.flag_defs.specs.Floats.{mark_of}
 use Rattle.flag_defs.proofs.Marked.{one_more_mark}
 use Rattle.flag_defs.proofs.marks.last_of_each.Goals as goal

@@ -1,7 +1,7 @@
 use Rattle.std.proofs.Common.{◌≡◌, ℕ, List, map, false}
 use Rattle.std.specs.Prelude.{unwrap_or}
 use Rattle.std.specs.BTreeMap.{get_by_text}
-use Rattle.float_variants.specs.View.{mark_view}
+use Rattle.spelled_numbers.specs.View.{mark_view}
 use Rattle.flag_defs.specs.Floats.{mark_of}
 use Rattle.flag_defs.proofs.marks.last_of_each.Given as goal
 

@@ -4,7 +4,7 @@ use Rattle.std.specs.BTreeMap.{get_by_text}
 use Rattle.std.proofs.lemmas.List.{map-id}
 use Rattle.std.proofs.lemmas.Iterator.Adapters.{YieldsList-from_vec}
 use Rattle.std.proofs.lemmas.Iterator.Consumers.{YieldsList-end, YieldsList-turn}
-use Rattle.float_variants.specs.View.{mark_view}
+use Rattle.spelled_numbers.specs.View.{mark_view}
 use Rattle.flag_defs.specs.Flag.{entries_view, flag_view}
 use Rattle.flag_defs.specs.Floats.{entries_floats, mark_of, marked, marked_with}
 use Rattle.flag_defs.specs.SpelledLaw.{IsSpelled}

@@ -1,5 +1,5 @@
 use Rattle.std.proofs.Common.{◌≡◌, map}
-use Rattle.float_variants.specs.View.{mark_view}
+use Rattle.spelled_numbers.specs.View.{mark_view}
 use Rattle.flag_defs.specs.Flag.{entries_view}
 use Rattle.flag_defs.specs.Floats.{entries_floats, marked}
 use Rattle.flag_defs.proofs.marks.mark_all.Given as goal

@@ -3,7 +3,7 @@ use Rattle.std.proofs.lemmas.Result.{IfOk-weaker}
 use Rattle.flag_text.specs.Shape.{Shape}
 use Rattle.flag_text.specs.View.{view}
 use Rattle.flag_text.specs.declared.fault.TextFault.{TextFault}
-use Rattle.float_variants.specs.Marks.{marks_or_none}
+use Rattle.spelled_numbers.specs.Marks.{marks_or_none}
 use Rattle.flag_defs.specs.Document.{TextMeans, max_bytes}
 use Rattle.flag_defs.specs.Entries.{HoldsLimited}
 use Rattle.flag_defs.specs.Flag.{entries_view}

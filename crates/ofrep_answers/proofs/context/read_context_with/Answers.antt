@@ -13,7 +13,7 @@ use Rattle.ofrep_answers.specs.Deep.{is_too_deep}
 use Rattle.ofrep_answers.specs.declared.fault.ContextFault.{ContextFault}
 use Rattle.ofrep_answers.specs.declared.fault.ContextFault.TheVariants as fault
 use Rattle.ofrep_answers.proofs.context.read_context_with.Goals as goal
-use Rattle.float_variants.specs.Levels.{sent_levels, without_spelling}
+use Rattle.spelled_numbers.specs.Levels.{sent_levels, without_spelling}
 
 -- an empty body is a text
 not_utf8 : (bytes : List ℕ) → (length bytes == 0) ≡ true → is_utf8 bytes ≡ false → ⊥

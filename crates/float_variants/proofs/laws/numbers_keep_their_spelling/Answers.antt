@@ -1,5 +1,0 @@
-use Rattle.float_variants.proofs.Spelled.{number_spelled}
-use Rattle.float_variants.proofs.laws.numbers_keep_their_spelling.Goals as goal
-
-pub returns : goal.returns
-returns c = λ s. number_spelled s

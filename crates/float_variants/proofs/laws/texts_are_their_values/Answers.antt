@@ -1,5 +1,0 @@
-use Rattle.float_variants.proofs.Spelled.{value_text}
-use Rattle.float_variants.proofs.laws.texts_are_their_values.Goals as goal
-
-pub returns : goal.returns
-returns c = λ j numbers shallow. value_text j numbers shallow

@@ -1,6 +1,0 @@
-use Rattle.std.proofs.Common.{sym}
-use Rattle.float_variants.proofs.Objects.{two_members}
-use Rattle.float_variants.proofs.levels.stand_for_number.Goals as goal
-
-pub returns-in-len2-up : goal.returns-in-len2-up
-returns-in-len2-up c = sym (two_members c.args.members.now c.in-len2-up.len_at_least)

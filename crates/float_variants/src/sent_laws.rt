@@ -1,7 +1,0 @@
-//! What the definitions amount to.
-ghost use Rattle.float_variants.specs.SentLaw.{WholeNumbersStay};
-
-/// A text whose numbers are all spelled as whole ones stands for what it always stood for.
-pub fn whole_numbers_stay()
-    ensures { WholeNumbersStay }
-{}
