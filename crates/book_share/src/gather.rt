@@ -10,10 +10,10 @@ ghost use Rattle.book_share.specs.declared.ask.Ask.{Ask};
 
 use crate::drive_fault::DriveFault;
 use crate::gate::Gate;
+use crate::map_vec;
 use crate::worker::{Job, Part, Round, work};
 use book_lock::{BookName, Seat};
 use flag_resolve::Resolution;
-use crate::map_vec;
 use std::alloc::{AllocError, Global};
 use std::collections::VecDeque;
 use std::sync::Wait;

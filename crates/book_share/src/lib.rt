@@ -20,7 +20,7 @@
 //! that borrows has a scope, whose end is waited for.
 //!
 //! ```rust
-//! use crate::map_vec;
+//! use book_share::map_vec;
 //!
 //! let lengths = map_vec(rt, names, &|name: String| name.len())?;
 //! ```

@@ -1,4 +1,4 @@
-//! Lines of a stream, in batches of bounded size.
+//! Streams of bytes: their lines in batches of bounded size, and calls that are made again after a signal.
 //!
 //! A stream is an [`Inlet`]: a reader, and whether a read of it has failed. [`fill`] reads on until a batch is full or the
 //! stream ends, and [`cut_lines`] cuts the lines that ended, and the bytes behind them; [`cut_line`] the first of them. So
@@ -7,9 +7,9 @@
 //! Proved, over the definitions of `specs/`: a batch grows by the bytes that the stream gives, and stops short of its size
 //! only where the stream ends (`Fill`); what is cut are the lines before each line feed, whatever follows (`Lines`).
 //!
-//! # Readers and writers whose calls are made again where a signal interrupts them, as they are when a process is stopped and goes on
+//! # Readers and writers whose calls are made again where a signal interrupts them
 //!
-//! A crate of its own, though it is small, since streams, the service and the program use it alike.
+//! Signals interrupt them when a process is stopped and goes on.
 //!
 //! Proved: what is left of such a reader, and what such a writer holds, is what the one inside has or holds.
 #![tactic(auto)]

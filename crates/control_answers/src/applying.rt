@@ -20,10 +20,10 @@ use crate::snapshot::Snapshot;
 use crate::target::Target;
 use crate::token::{Token, is_tag_of, token_in};
 use note_streams::{LogFile, tally_files};
+use note_tallies::PageTally;
 use plan_text::{Planned, read_planned};
 use rollout::{RequestFile, verify_file_on_tally};
 use std::alloc::Global;
-use note_tallies::PageTally;
 
 /// What is to be written, and what is told of it in the history.
 #[derive(Drop)]

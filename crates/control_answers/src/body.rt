@@ -5,9 +5,9 @@ ghost use Rattle.rule_switches.specs.Switches.{row_view, rows_view};
 ghost use Rattle.control_answers.specs.Body.{number_or_null, numbers_text, row_text, rows_text, switched_in, text_or_null, texts_text, told_text};
 ghost use Rattle.control_answers.specs.View.{told_view};
 
+use crate::Effect;
 use crate::texts::comma_if;
 use flag_text::push_string;
-use crate::Effect;
 use rule_switches::Switch;
 use std::alloc::{AllocError, Global};
 

@@ -15,8 +15,7 @@ use flag_defs::Flags;
 use kept_document::keep;
 use plan_text::Planned;
 use price_core::Request;
-use rollout::apply;
-use rollout::RequestFile;
+use rollout::{RequestFile, apply};
 use std::alloc::{AllocError, Global};
 
 /// The document with the rule of an answer at the site of its request, and all else as it was. The condition is a request that asks

@@ -16,10 +16,10 @@ use crate::refusal::{ControlRefusal, of_read};
 use crate::target::Target;
 use flag_defs::Flags;
 use note_streams::{LogFile, tally_files};
+use note_tallies::PageTally;
 use plan_text::{Planned, read_planned};
 use rollout::{RequestFile, verify_file_on_tally};
 use std::alloc::{AllocError, Global};
-use note_tallies::PageTally;
 
 /// That the answer of a plan file is right on what log files hold, with its cost, as JSON.
 ///

@@ -9,8 +9,8 @@ ghost use Rattle.control_answers.specs.SiteCounts.{AreSiteCounts, Fills, pages_o
 
 use book_core::Page;
 use flag_defs::{Flag, Flags};
-use note_streams::{LogFile, count_notes};
 use logic_ast::Expr;
+use note_streams::{LogFile, count_notes};
 use site_pages::pages_of;
 use std::alloc::{AllocError, Global};
 use std::collections::BTreeMap;

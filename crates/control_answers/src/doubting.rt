@@ -5,11 +5,10 @@ ghost use Rattle.price_core.specs.Request.{max_request};
 ghost use Rattle.control_answers.specs.Doubts.{doubt_of, has_unread, is_unread};
 
 use crate::refusal::ControlRefusal;
-use member_names::repeated_place;
+use member_names::{Reader, repeated_place};
+use note_tallies::PageTally;
 use rollout::RequestFile;
 use std::alloc::{AllocError, Global};
-use note_tallies::PageTally;
-use member_names::Reader;
 
 /// Why a right answer to a request is not applied: the request may not ask what was meant, or nobody is recorded.
 pub(crate) fn doubt_of(

@@ -11,8 +11,8 @@ use bucket_core::Rule;
 use picture::{Change, Deficit, Title, draw_change, draw_none, page};
 use plan_text::Planned;
 use rollout::Problem;
-use std::alloc::{AllocError, Global};
 use rule_switches::{runs, switch_table};
+use std::alloc::{AllocError, Global};
 use transport_core::Certificate;
 
 /// The picture of an answer to a problem, as SVG: what a rule moves and what it costs, or the set of names which shows that no rule

@@ -6,9 +6,9 @@ ghost use Rattle.byte_streams.specs.Lines.{lines_view};
 ghost use Rattle.control_answers.specs.History.{IsHistory, cost_text, is_row, row_text, row_view, rows_from, rules_text, who_text};
 
 use crate::texts::{comma_if, quoted};
+use byte_streams::cut_line;
 use control_flags::push_rule;
 use flag_text::{TextFault, read_tree};
-use byte_streams::cut_line;
 use std::alloc::{AllocError, Global};
 
 /// The most bytes of a row that is told.

@@ -1,8 +1,8 @@
 //! What the definitions amount to.
 ghost use Rattle.control_answers.specs.Law.{AnswersPlanTheRecord, AppliedPlansAreRight, ChecksAreOfTheRecord};
 
-use rollout::tallies_plan_as_books;
 use note_tallies::hashes_stand_for_inputs;
+use rollout::tallies_plan_as_books;
 
 /// What is answered to a request is a plan on just the inputs that the files hold, each counted once, or on all that have just the
 /// hashes which the files hold. A law: it computes nothing.

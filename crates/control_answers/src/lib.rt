@@ -26,8 +26,9 @@
 //! costs just the recorded inputs the least of all that fit ([`right_plans_are_of_the_record`]). Each site is told how many notes the
 //! files hold of its page (`SiteCounts`).
 //!
-//! # What a plan does, beside what it costs: which of the recorded inputs get another variant, how many the edit that comes to mind first
-//! would switch, and a picture of that.
+//! # What a plan does, beside what it costs
+//!
+//! Which of the recorded inputs get another variant, how many the edit that comes to mind first would switch, and a picture of that.
 //!
 //! [`posed`] gives again what was asked of a tally that has been planned, [`effect_of`] what the answer does to the inputs of the
 //! tally, and [`picture_of`] draws it.

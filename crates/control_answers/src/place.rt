@@ -14,9 +14,9 @@ use book_core::Page;
 use bucket_core::total_weight;
 use flag_defs::Flags;
 use logic_ast::{Site, site};
+use note_tallies::MOST_POINTS;
 use rollout::{RequestFile, RolloutFault};
 use std::alloc::Global;
-use note_tallies::MOST_POINTS;
 
 /// What is tallied for the file of a request.
 pub(crate) fn target_of(

@@ -25,14 +25,13 @@ use crate::refusal::{ControlRefusal, of_printed};
 use crate::snapshot::Snapshot;
 use crate::target::Target;
 use crate::token::token_text;
-use note_streams::{LogFile, tally_files};
 use crate::{Effect, effect_of, picture_of, posed};
+use note_streams::{LogFile, tally_files};
+use note_tallies::PageTally;
 use plan_text::{Planned, print_planned};
-use rollout::plan_file_on_tally;
-use rollout::RequestFile;
+use rollout::{RequestFile, plan_file_on_tally};
 use rollout_diagnostics::of_planned;
 use std::alloc::{AllocError, Global};
-use note_tallies::PageTally;
 
 /// The plan of a request on the flags of a snapshot and on what log files hold of the request's page, at the rule's total, as JSON:
 /// the plan file, how many of the recorded inputs switch, from which name to which, beside how many the edit that comes to mind

@@ -8,10 +8,10 @@ ghost use Rattle.rollout.specs.declared.refining.Refining.TheVariants.{Times};
 ghost use Rattle.transport_core.specs.Tally.{IsTally};
 
 use flag_defs::Flags;
+use note_tallies::PageTally;
 use plan_text::Planned;
 use rollout::{Problem, Refining, RequestFile, RolloutFault, problem_of_tally};
 use std::alloc::{AllocError, Global};
-use note_tallies::PageTally;
 
 /// What was asked of a tally and has been planned: the rule that a planned rule takes the place of, and how many inputs fall on each
 /// of its points. The condition is that this is planned.

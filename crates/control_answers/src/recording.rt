@@ -15,8 +15,8 @@ use crate::refusal::ControlRefusal;
 use crate::target::Target;
 use flag_defs::Flags;
 use note_streams::{LogFile, tally_files};
-use std::alloc::Global;
 use note_tallies::print_tally;
+use std::alloc::Global;
 
 /// The file of the tally of the inputs that log files hold of the page of a site, at the rule's total.
 ///

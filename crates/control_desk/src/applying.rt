@@ -23,8 +23,8 @@ use control_answers::{Applied, AppliedRow, ControlRefusal, apply_answer, history
 use flag_defs::Flags;
 use http::StatusCode;
 use http_server::Response;
-use note_streams::LogFile;
 use logic_ast::{LogicFault, site};
+use note_streams::LogFile;
 use plan_text::Planned;
 use price_core::Request;
 use std::alloc::{AllocError, Global};

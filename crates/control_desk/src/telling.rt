@@ -18,8 +18,7 @@ use control_answers::{
     ControlRefusal, check_answer, document_tag, history_answer, plan_answer, record_answer,
     site_counts,
 };
-use control_flags::{RecordAsked, record_asked};
-use control_flags::{FlagsAsked, flags_answer};
+use control_flags::{FlagsAsked, RecordAsked, flags_answer, record_asked};
 use flag_text::push_string;
 use http::StatusCode;
 use http_server::Response;

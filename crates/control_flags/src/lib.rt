@@ -15,8 +15,6 @@
 //!
 //! # What a listener for operations is asked of rollouts
 //!
-//! A crate of its own, as `ofrep_requests` is: it knows paths, methods and the one query, and nothing of flags.
-//!
 //! [`ControlPlace::of`] says what the path of a request leads to, [`ControlPlace::method`] the one method that is taken there, and
 //! [`record_asked`] which site's record a query asks for.
 //!

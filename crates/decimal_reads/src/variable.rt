@@ -9,11 +9,10 @@ ghost use Rattle.decimal_reads.specs.Reads.{path_in, read_at, read_by, read_view
 
 use crate::reading::DecimalRead;
 use crate::way::{first_spelling, way_of};
-use logic_values::is_readable;
 use flag_text::Tree;
 use logic_ast::Node;
 use logic_eval::{EvalFault, Inspection};
-use logic_values::seen_tree;
+use logic_values::{is_readable, seen_tree};
 use std::alloc::{AllocError, Global};
 
 /// What a variable of these arguments reads, each of which gives a value.

@@ -4,10 +4,9 @@ ghost use Rattle.decimal_reads.specs.Inside.{first_spelling, has_number, inside,
 ghost use Rattle.decimal_reads.specs.Inside as spec;
 ghost use Rattle.flag_text.specs.View.{items_view, members_view, view};
 
-use logic_values::spelling_of;
 use flag_text::Tree;
 use itoa::Buffer;
-use logic_values::seen_tree;
+use logic_values::{seen_tree, spelling_of};
 use std::alloc::{AllocError, Global};
 
 /// The spelling of the first number in a tree that is not whole: of the tree itself, or of one that stands in it.

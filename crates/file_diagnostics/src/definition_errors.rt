@@ -13,8 +13,8 @@ use crate::referred::Referred;
 use crate::search::Sought;
 use flag_defs::{DefinitionError, Kind, definition_errors};
 use flag_text::{TextFault, Tree, read_doc};
-use spelled_numbers::read_with_floats;
 use limits::TEXT_BYTES;
+use spelled_numbers::read_with_floats;
 use std::alloc::{AllocError, Global};
 use text_spans::Step;
 

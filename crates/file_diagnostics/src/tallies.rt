@@ -5,8 +5,8 @@ ghost use Rattle.file_diagnostics.specs.Named.{Names};
 use crate::books::put_misread;
 use crate::ends::Ends;
 use crate::lines::{Lines, Opening};
-use std::alloc::{AllocError, Global};
 use note_tallies::TallyFileFault;
+use std::alloc::{AllocError, Global};
 
 /// Explains why the file at `path`, which begins as a tally, is not one.
 pub fn of_tally(

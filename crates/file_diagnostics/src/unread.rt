@@ -6,8 +6,8 @@ ghost use Rattle.file_diagnostics.specs.Named.{Names};
 
 use crate::lines::{Lines, Opening};
 use flag_text::Tree;
-use std::alloc::{AllocError, Global};
 use member_names::Reader;
+use std::alloc::{AllocError, Global};
 
 /// The most members that are listed.
 const MOST_MEMBERS: usize = 10;

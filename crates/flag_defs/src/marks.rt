@@ -21,8 +21,8 @@ use crate::entries::{of_text, read_document};
 use crate::fault::DefFault;
 use crate::flag::Flag;
 use crate::rules::Rules;
-use spelled_numbers::{Document, Mark, read_with_floats};
 use limits::TEXT_BYTES;
+use spelled_numbers::{Document, Mark, read_with_floats};
 use std::alloc::{AllocError, Global};
 use std::collections::BTreeMap;
 

@@ -7,9 +7,8 @@ ghost use Rattle.member_names.specs.Passed.{Passes};
 ghost use Rattle.flag_doubts.specs.FoundFlags.{FindsDefinition};
 
 use json::Reader;
-use member_names::{Next, Stop, begin, twin_or, with_members};
+use member_names::{Next, Reader as Taker, Stop, begin, twin_or, with_members};
 use std::alloc::Global;
-use member_names::Reader as Taker;
 
 /// What is found of a definition.
 #[derive(Drop)]

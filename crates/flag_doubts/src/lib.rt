@@ -1,9 +1,9 @@
-//! What is doubted of a flag that is read and still hardly meant as it stands.
+//! What is doubted of a flag that is read and still hardly meant as it stands, and which flag a later version of its document breaks.
 //!
 //! A document may be read without a word though a bucket names no variant, weights give nobody a variant, a targeting can never
 //! give one, a member of a definition is misspelled, or a key or a member stands twice. [`doubts_of`] tells the first four of one
 //! flag, [`repeated_in`] the last of a document's bytes, since a tree keeps one member of a name alone: it walks the tokens by the
-//! steps of `repeated_names`. The same walk tells whether each member of a document and of its definitions is read, where none has
+//! steps of `member_names`. The same walk tells whether each member of a document and of its definitions is read, where none has
 //! to be looked for. [`read_with_names`] walks in a thread of its own while the flags are read.
 //!
 //! ```rust
@@ -29,8 +29,9 @@
 //! off, a targeting that is told of as one that never gives a variant matches for nobody, and each evaluation that reaches
 //! weights that are told of faults, or gives null where each is 0.
 //!
-//! # What a later version of a flag document does to the flags of the one that counts now: a regression, for whoever reads a document
-//! again while others ask for its flags.
+//! # Regressions: what a later version of a document does to the flags of the one that counts now
+//!
+//! They are for whoever reads a document again while others ask for its flags.
 //!
 //! [`regression_in`] gives the first flag that is good now and broken later; or else the first name among the members of the later
 //! text, however deep it stands, that is the key of a flag now and of none later. Such a text has the flag still, and in a place
@@ -39,7 +40,7 @@
 //!
 //! ```rust
 //! use flag_defs::read_flags;
-//! use crate::{Regression, regression_in};
+//! use flag_doubts::{Regression, regression_in};
 //!
 //! let now = read_flags(alloc, br#"{"flags":{"a":{"state":"ENABLED","variants":{"on":true}}}}"#)?;
 //! let text = br#"{"flags":{"a":{"state":"ENABLED","variants":{}}}}"#;

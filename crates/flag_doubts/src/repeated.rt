@@ -9,11 +9,10 @@ ghost use Rattle.flag_doubts.specs.Repeated.{Finds};
 use crate::definition::takes_each;
 use crate::flags::{RepeatedFlags, in_flags, none};
 use json::{Reader, Scratch};
-use member_names::{Next, Stop, begin, member_place, place_in, twin_or};
+use member_names::{Next, Reader as Taker, Stop, begin, member_place, place_in, twin_or};
 use simdutf8::basic;
 use std::alloc::{AllocError, Global};
 use std::collections::BTreeMap;
-use member_names::Reader as Taker;
 
 /// How deep lists and objects of a document nest at most.
 const MAX_DEPTH: usize = flag_text::JSON_LEVELS + 1;

@@ -7,6 +7,7 @@ ghost use Rattle.flagops_shell.specs.Console.{IsOpen};
 ghost use Rattle.flagops_shell.specs.Usage.{ShowsMistake, ShowsWordsWant};
 
 use crate::family::{Family, family_of};
+use byte_streams::Inlet;
 use flag_text::Outlet;
 use flagops_books::Uniting;
 use flagops_checks::Checking;
@@ -18,7 +19,6 @@ use flagops_ramps::{Applying, Keeping, Ramping, Verifying};
 use flagops_service::{Host, ofrep};
 use flagops_shell::{Console, FileSet, complain, run, want};
 use flagops_streams::{follow, serve};
-use byte_streams::Inlet;
 use std::convert::AsStr;
 use std::io;
 use std::process::ExitCode;

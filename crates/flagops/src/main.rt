@@ -15,14 +15,13 @@ mod stack;
 mod watching;
 mod words;
 
+use byte_streams::{PersistentInput, ReadInlet};
 use flag_text::WriteOutlet;
 use flagops_files::SystemFiles;
 use flagops_filters::OpenedInlet;
 use flagops_shell::{Console, want};
 use flagops_streams::open_standard;
-use byte_streams::ReadInlet;
 use outputs::{StandardOutput, tell_failure};
-use byte_streams::PersistentInput;
 use progress::{BesideLine, Counted, Progress, TerminalLine};
 use stack::on_stack;
 use stamped_lines::StampedLines;

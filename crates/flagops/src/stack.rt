@@ -3,12 +3,12 @@ ghost use Rattle.std.specs.Prelude.{◌≡◌, false};
 
 use crate::dispatch::flagops;
 use crate::watching::Watcher;
+use byte_streams::Inlet;
 use control_desk::DeskPaths;
 use flag_text::Outlet;
 use flagops_filters::Opening;
 use flagops_shell::{Console, FileSet};
 use limits::STACK_BYTES;
-use byte_streams::Inlet;
 use log_file::LogPaths;
 use std::convert::AsStr;
 use std::io;

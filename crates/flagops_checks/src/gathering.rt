@@ -22,10 +22,10 @@ use crate::remark_lines::RemarkLines;
 use flag_defs::Flags;
 use flag_doubts::Repeated;
 use flagops_shell::FileSet;
+use member_names::Reader;
 use std::alloc::{AllocError, Global};
 use std::mem;
 use std::thread::Threads;
-use member_names::Reader;
 
 /// What is printed and told of the documents so far.
 #[derive(Drop)]

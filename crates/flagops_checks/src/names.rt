@@ -12,8 +12,8 @@ ghost use Rattle.flagops_checks.specs.Names.{AreKnown, HasUnread};
 
 use flag_doubts::Repeated;
 use flag_text::{TextFault, Tree, read_doc};
-use spelled_numbers::read_with_floats;
 use limits::TEXT_BYTES;
+use spelled_numbers::read_with_floats;
 use std::alloc::{AllocError, Global};
 
 /// The members of a document that are not read, and what stands more than once in it.

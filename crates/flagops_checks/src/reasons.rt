@@ -9,9 +9,8 @@ use flag_defs::Flag;
 use flag_doubts::Doubt;
 use flag_text::Tree;
 use flagops_files::quoted;
-use member_names::within;
+use member_names::{Reader, within};
 use std::alloc::{AllocError, Global};
-use member_names::Reader;
 
 /// Why this is doubted of a flag, behind its key.
 pub(crate) fn reason(

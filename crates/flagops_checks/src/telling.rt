@@ -14,8 +14,8 @@ use file_diagnostics::{of_definition_errors, of_unread};
 use flag_doubts::Doubt;
 use flag_text::Tree;
 use flagops_files::quoted;
-use std::alloc::{AllocError, Global};
 use member_names::Reader;
+use std::alloc::{AllocError, Global};
 
 /// What is told of a document: nothing where nothing is wrong.
 #[tactic(auto, unfolding(crate::specs::Told::TellsDocument))]

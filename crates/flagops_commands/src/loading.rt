@@ -14,11 +14,10 @@ ghost use Rattle.rule_text.specs.Choosing.{choice_view};
 
 use crate::refusal::Refused;
 use book_core::Book;
-use flagops_files::losses_at;
 use bucket_core::Rule;
 use flag_defs::Flags;
 use flag_text::Tree;
-use flagops_files::{TEXT_LIMIT, load, load_flags_as};
+use flagops_files::{TEXT_LIMIT, load, load_flags_as, losses_at};
 use flagops_shell::FileSet;
 use rule_text::Choice;
 use std::alloc::Global;

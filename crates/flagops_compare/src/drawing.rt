@@ -8,9 +8,8 @@ ghost use Rattle.rule_switches.specs.Switches.{rows_view};
 ghost use Rattle.picture.specs.Spelling.{Continues, IsBody, IsPicture, Pictures, depth};
 
 use book_core::Page;
-use rule_switches::{Edit, Found, PageFound, Rules, rules_on};
 use picture::{EditedRule, Title, draw_edit, draw_no_page, page};
-use rule_switches::Switch;
+use rule_switches::{Edit, Found, PageFound, Rules, Switch, rules_on};
 use std::alloc::{AllocError, Global};
 
 /// The page that has the picture of each page of the book that was compared, one below the other, or that none was.

@@ -7,8 +7,7 @@ ghost use Rattle.rule_switches.specs.Switches.{row_view, rows_view};
 use crate::reasons::{reason_name, side_name};
 use book_core::Page;
 use flagops_files::quoted;
-use rule_switches::{Found, NoRule, PageFound, Side};
-use rule_switches::Switch;
+use rule_switches::{Found, NoRule, PageFound, Side, Switch};
 use std::alloc::{AllocError, Global};
 
 /// Adds the object of a page, with its line's end.

@@ -7,8 +7,7 @@ ghost use Rattle.rule_switches.specs.Switches.{row_view, rows_view};
 use crate::objects::{push_object, sum_object};
 use book_core::Page;
 use flagops_files::quoted;
-use rule_switches::{Comparison, Found, PageFound};
-use rule_switches::Switch;
+use rule_switches::{Comparison, Found, PageFound, Switch};
 use std::alloc::{AllocError, Global};
 
 /// The pages, and the sums.

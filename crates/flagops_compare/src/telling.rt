@@ -10,8 +10,7 @@ use crate::asked::Comparing;
 use crate::reasons::{reason_name, reason_words};
 use book_core::Page;
 use flag_defs::Flags;
-use flagops_files::quoted;
-use flagops_files::known_keys;
+use flagops_files::{known_keys, quoted};
 use rule_switches::{Found, NoRule, PageFound, Side};
 use std::alloc::{AllocError, Global};
 

@@ -5,8 +5,8 @@ ghost use Rattle.flagops_files.specs.LostLines.{IsCounted, has_line};
 ghost use Rattle.flagops_files.specs.Losses.{lost_inputs};
 
 use book_core::{Book, BookFileFault, Line, Page, cut_line, print_book, read_as_tree};
-use page_tally::next_page;
 use flag_text::plain_text;
+use page_tally::next_page;
 use std::alloc::{AllocError, Global};
 
 /// How many inputs of the old book do not stand on the same page of the new one. Want of memory is its one fault. Cost: the old

@@ -10,13 +10,12 @@ use crate::refusal::{Refusal, Refused};
 use file_diagnostics::{Ends, of_book, of_tally};
 use flag_defs::Flags;
 use flagops_shell::{FileSet, Remark};
+use note_tallies::{PageTally, read_tally};
 use page_tally::BookFile;
 use price_core::Request;
 use rollout::{Refining, read_book_asked};
 use std::alloc::Global;
 use std::thread::Threads;
-use note_tallies::PageTally;
-use note_tallies::read_tally;
 
 /// What the first line of a tally begins with, and that of no book.
 const TALLY_OPENING: &[u8] = b"{\"tally\":";

@@ -27,7 +27,7 @@
 //! # Diagnostics of a key that no flag of a document has
 //!
 //! ```rust
-//! use crate::known_keys;
+//! use flagops_files::known_keys;
 //!
 //! let words = known_keys(alloc, &flags, "checkout-buton")?;
 //! assert!(rt; words.as_str() == r#"similar keys: "checkout-button""#);
@@ -43,7 +43,7 @@
 //!
 //! ```rust
 //! use book_core::Book;
-//! use crate::losses_at;
+//! use flagops_files::losses_at;
 //! use flagops_files::SystemFiles;
 //!
 //! let book = Book::new(alloc);
@@ -59,11 +59,8 @@
 //!
 //! # Proof that the first 4,096 bytes of a file decide whether it can be a book or a tally
 //!
-//! A crate of its own, though it is small: its proofs are long, and only the commands on books cite them (`flagops_books`). In
-//! `flagops_files` every other command would wait for them.
-//!
 //! A book may be of any size, so a file is read up to its first 4,096 bytes, and no further where these may begin neither a
-//! book nor a tally (`flagops_files`). That this refuses no file which its whole would not, and none for another reason, is
+//! book nor a tally . That this refuses no file which its whole would not, and none for another reason, is
 //! proved here over the definitions that the commands answer by: [`records_are_told_by_their_first_piece`] of the bytes, and
 //! [`files_are_read_whole`] of the book and the evidence of a file at a path.
 #![tactic(auto)]

@@ -6,8 +6,8 @@ ghost use Rattle.flagops_files.specs.Refusal.{ComesFrom, GivesUnlessWant, TellsO
 ghost use Rattle.flagops_files.specs.Told.{file};
 
 use crate::counting::lost_inputs;
-use book_core::Book;
 use crate::{Call, Refused, load_book, out_of_memory};
+use book_core::Book;
 use flagops_shell::FileSet;
 use std::alloc::{AllocError, Global};
 

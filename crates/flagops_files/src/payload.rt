@@ -5,9 +5,9 @@ ghost use Rattle.flagops_files.specs.Refusal.{payload_of};
 
 use crate::refusal::Refusal;
 use book_core::BookFileFault;
+use note_tallies::TallyFileFault;
 use rollout::RolloutFault;
 use std::alloc::{AllocError, Global};
-use note_tallies::TallyFileFault;
 
 /// The items of a refusal's payload, a blank before each: numbers in decimal.
 pub fn payload(alloc: Global, refusal: &Refusal) -> Result<String, AllocError>

@@ -11,9 +11,9 @@ use bucket_core::RuleFault;
 use flag_defs::DefFault;
 use flag_text::TextFault;
 use flagops_shell::{CommandRefusal, LoadFault, Remark, StoreFault};
+use note_tallies::TallyFileFault;
 use plan_text::PlanFileFault;
 use std::alloc::{AllocError, Global};
-use note_tallies::TallyFileFault;
 
 /// A call by which a file is read or written, by the name that a refusal's line has.
 #[derive(Clone, Copy, Debug)]

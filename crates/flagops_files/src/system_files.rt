@@ -3,10 +3,10 @@ ghost use Rattle.std.specs.Prelude.{◌≡◌, ◌≤◌, ◌+◌, ◌||◌, Non
 ghost use Rattle.flagops_shell.specs.Files.{is_unreadable};
 
 use crate::replacing::{plain_file, replace};
+use byte_streams::cut_line;
 use flagops_shell::{
     FIRST_PIECE, FileSet, LoadFault, NOTES_PIECE, StoreFault, may_begin_record, may_note,
 };
-use byte_streams::cut_line;
 use note_lines::{begins_astray, begins_book};
 use progress::{Counted, Meter, Progress};
 use std::alloc::{AllocError, Global};

@@ -21,10 +21,9 @@ use crate::words::read_join;
 use file_diagnostics::{Ends, of_tally};
 use flagops_files::{Refusal, file_line, load, whole_line};
 use flagops_shell::{Command, FileSet, Outcome, Refused, Remark, Status};
+use note_tallies::{JoinFault, PageTally, TallyFileFault, join as joined, print_tally, read_tally};
 use std::alloc::{AllocError, Global};
 use std::convert::AsStr;
-use note_tallies::{JoinFault, PageTally, join as joined};
-use note_tallies::{TallyFileFault, print_tally, read_tally};
 
 /// The largest file of a tally, in bytes.
 const TALLY_LIMIT: u64 = limits::FILE_BYTES as u64;

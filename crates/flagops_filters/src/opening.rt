@@ -3,8 +3,8 @@ ghost use Rattle.std.specs.Prelude.{◌≡◌, ◌≤◌, ◌++◌, ℕ, List, [
 ghost use Rattle.file_diagnostics.specs.Ends.{ends_of};
 ghost use Rattle.flagops_filters.specs.Opening.{most_kept};
 
-use file_diagnostics::Ends;
 use byte_streams::Inlet;
+use file_diagnostics::Ends;
 use std::io;
 
 /// How many of the first bytes are kept.

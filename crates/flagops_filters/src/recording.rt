@@ -25,14 +25,13 @@ use crate::remarks::{
 };
 use crate::start::Start;
 use crate::words::read_record;
+use byte_streams::Inlet;
 use file_diagnostics::Ends as FileEnds;
 use flag_defs::Flags;
 use flag_text::Outlet;
 use flagops_files::load_flags_as;
 use flagops_shell::{Console, FileSet, Refused, Remark, refuse, report_usage, tell};
-use byte_streams::Inlet;
-use note_streams::{Counted, RecordStop, record_stream};
-use note_streams::{RecordFault, Recorder};
+use note_streams::{Counted, RecordFault, RecordStop, Recorder, record_stream};
 use rollout::RolloutFault;
 use std::alloc::{AllocError, Global};
 use std::convert::AsStr;

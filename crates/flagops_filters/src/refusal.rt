@@ -9,10 +9,9 @@ ghost use Rattle.flagops_filters.specs.declared.refusal.FilterRefusal.TheVariant
 use flagops_files::{Refusal, fault_line, number_item, rollout_items};
 use flagops_shell::CommandRefusal;
 use note_streams::{RecordStop, TallyStop};
+use note_tallies::{FilterFault, JoinFault};
 use rollout::RolloutFault;
 use std::alloc::{AllocError, Global};
-use note_tallies::JoinFault;
-use note_tallies::FilterFault;
 
 /// Why a filter refuses.
 #[derive(Debug, Drop)]

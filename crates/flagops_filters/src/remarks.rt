@@ -9,8 +9,7 @@ ghost use Rattle.note_streams.specs.View.{outcomes_view};
 use crate::start::Start;
 use crate::unrecorded::{is_unrecorded, why_line};
 use flag_defs::Flags;
-use flagops_files::quoted;
-use flagops_files::known_keys;
+use flagops_files::{known_keys, quoted};
 use note_streams::Counted;
 use std::alloc::{AllocError, Global};
 

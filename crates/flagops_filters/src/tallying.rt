@@ -28,6 +28,7 @@ use crate::target::Target;
 use crate::words::read_tally;
 use book_core::Page;
 use bucket_core::total_weight;
+use byte_streams::Inlet;
 use file_diagnostics::Ends as FileEnds;
 use flag_defs::Flags;
 use flag_text::Outlet;
@@ -36,15 +37,12 @@ use flagops_shell::{
     Console, FileSet, Outcome, Refused, Remark, Status, refuse, report, report_usage,
 };
 use flagops_words::factor_of;
-use byte_streams::Inlet;
 use logic_ast::{Site, site};
 use note_streams::{StreamTally, TallyStop, tally_stream};
+use note_tallies::{FilterFault, PageTally, print_tally};
 use rollout::RolloutFault;
 use std::alloc::{AllocError, Global};
 use std::convert::AsStr;
-use note_tallies::PageTally;
-use note_tallies::FilterFault;
-use note_tallies::print_tally;
 
 /// The most points of a tally.
 const MOST_POINTS: u128 = note_tallies::MOST_POINTS as u128;

@@ -4,8 +4,7 @@ ghost use Rattle.flagops_filters.specs.Beside.{cause, causes, is_unrecorded, why
 ghost use Rattle.note_streams.specs.View.{outcomes_view};
 
 use crate::start::Start;
-use note_streams::Counted;
-use note_streams::Outcomes;
+use note_streams::{Counted, Outcomes};
 use std::alloc::{AllocError, Global};
 
 /// Whether a site could have been reached and lines were given, but no note came of one.

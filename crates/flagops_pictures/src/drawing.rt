@@ -22,9 +22,9 @@ use picture::{Change, Deficit, Title, draw_change, draw_none, page};
 use plan_text::Planned;
 use price_core::{PriceFault, Request};
 use rollout::{Problem, Refining, RolloutFault, problem_asked, tally_problem_asked};
+use rule_switches::{runs, switch_table};
 use std::alloc::{AllocError, Global};
 use std::thread::Threads;
-use rule_switches::{runs, switch_table};
 use transport_core::Certificate;
 
 /// What an answer is to: a request over flags and what was recorded, on the site's rule refined by the factor where one is given.

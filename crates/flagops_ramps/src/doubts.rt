@@ -23,9 +23,9 @@ use flagops_rollouts::{
     Doubt, NotedDoubt, doubt_in_evidence, joined, remark_in, repeated, with_more,
 };
 use flagops_shell::{Refused, Remark};
+use member_names::Reader;
 use std::alloc::{AllocError, Global};
 use std::thread::Threads;
-use member_names::Reader;
 
 /// What a person is told beside the answers to the steps of a question, which was loaded for what is asked; or that the call
 /// refuses them, where they are doubted and that is to be refused.

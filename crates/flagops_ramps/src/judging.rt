@@ -28,8 +28,10 @@ use flagops_files::{Evidence, Question, file_line, load, load_question, whole_li
 use flagops_shell::{FileSet, Refused, Remark};
 use flagops_words::{factor_number, factor_of};
 use plan_text::Planned;
-use ramp::{RampFault, verify_steps, verify_steps_on_tally};
-use ramp::{RampFileFault, StepsFault, read_ramp, read_steps};
+use ramp::{
+    RampFault, RampFileFault, StepsFault, read_ramp, read_steps, verify_steps,
+    verify_steps_on_tally,
+};
 use rollout::{RolloutFault, VerifyFault};
 use std::alloc::{AllocError, Global};
 use std::thread::Threads;

@@ -14,10 +14,9 @@ use file_diagnostics::{Lines, Opening, of_unread};
 use flag_text::{TextFault, Tree, read_tree};
 use flagops_files::TEXT_LIMIT;
 use flagops_shell::Remark;
-use member_names::{repeated_place, within};
+use member_names::{Reader, repeated_place, within};
 use rollout::RequestFile;
 use std::alloc::{AllocError, Global};
-use member_names::Reader;
 
 /// What is told of members of a request that are not read, where there are any.
 pub fn unread(alloc: Global, path: &str, bytes: &[u8]) -> Result<Option<Remark>, AllocError>

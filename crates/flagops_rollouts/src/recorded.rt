@@ -22,12 +22,12 @@ use flag_defs::{Flag, Flags};
 use flagops_files::{Evidence, Question};
 use flagops_shell::Remark;
 use logic_ast::LogicFault;
+use note_tallies::PageTally;
 use page_tally::BookFile;
 use price_core::{PriceFault, Request};
 use rollout_diagnostics::{of_empty_tally, of_foreign, of_unrecorded};
 use std::alloc::{AllocError, Global};
 use std::thread::Threads;
-use note_tallies::PageTally;
 
 /// What is doubted of what was recorded for a request in the file at a path: its page has no input, or one that is none of
 /// its flag.

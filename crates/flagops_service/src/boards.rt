@@ -4,12 +4,12 @@ ghost use Rattle.flagops_service.specs.Words.{answering_view, applied_to, form_o
 
 use crate::asked::Answering;
 use crate::remembering::memory_of;
-use service_layers::AccessLines;
 use control_desk::DeskRules;
 use note_lines::NoteForm;
 use note_log::SharedMemory;
 use ofrep_guards::{Keys, Paths};
 use ofrep_service::{Board, ConnectionLimits};
+use service_layers::AccessLines;
 use std::alloc::{AllocError, Global};
 use std::hash::RandomState;
 use std::time::{Clock, SystemTime, UNIX_EPOCH};

@@ -75,7 +75,7 @@ const STATUSES: &str =
     "Run 'flagops COMMAND --help' for the arguments of a command, as 'flagops ramp --help'.\n\nStatus: 0 done, 1 refused, a broken or doubted flag at check --strict, or the output failed, 2 not a command, 3 no rule fits.\nStandard error says what was refused, where, and what to change; docs/REFUSALS.md explains each line\nthat begins with 'refused', docs/FORMATS.md has the files with examples, demo/README.md a first rollout.";
 
 /// The version of the program, and the kit that it is proved with (`rt version`), a line each.
-const VERSION: &str = "0.1.0\nproved with rattle-kit-13b logic dac8208d650f15bf";
+const VERSION: &str = "0.1.0\nproved with rattle-kit-13f logic dac8208d650f15bf";
 
 /// The program without its commands.
 fn program<'a>(alloc: Global) -> Result<Command<'a>, AllocError>

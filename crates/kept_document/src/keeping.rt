@@ -15,13 +15,13 @@ ghost use Rattle.kept_document.specs.Kept.{IsRefused, KeptAt, of_reading, of_tex
 use crate::checking::checked;
 use crate::editing::edited;
 use crate::fault::KeepFault;
+use crate::{SitePlace, place_of_site};
 use bucket_core::Rule;
 use flag_defs::Flags;
 use flag_text::{TextFault, Tree, read_doc};
-use spelled_numbers::read_with_floats;
 use limits::TEXT_BYTES;
 use logic_ast::{Expr, write_expr};
-use crate::{SitePlace, place_of_site};
+use spelled_numbers::read_with_floats;
 use std::alloc::Global;
 
 /// The bytes of the document with the rule's entries as the buckets of a site, and all else as it was. `flags` are those of

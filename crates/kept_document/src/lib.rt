@@ -1,4 +1,4 @@
-//! A rule put into a document in the place of a site's buckets, with all other bytes as they were.
+//! A rule put into a document in the place of a site's buckets, with all other bytes as they were, and where these buckets stand.
 //!
 //! [`keep`] gives the bytes of the document with the buckets of one site replaced. What is given was read again: it means
 //! the flags that were wanted of it. A document may have floats, or may not, and is read as it was.

@@ -16,12 +16,11 @@ use crate::writing::write;
 use bucket_core::Rule;
 use flag_defs::{Flags, read_flags};
 use kept_document::{KeepFault, keep};
+use note_tallies::{PageTally, read_tally};
 use plan_text::{Planned, read_planned};
 use rollout::{RequestFile, verify_file_on_tally};
 use std::alloc::Global;
 use std::str;
-use note_tallies::PageTally;
-use note_tallies::read_tally;
 
 /// Writes the document with the rule of a right answer at the site of its request, and all else as it was.
 ///

@@ -10,10 +10,10 @@ use book_core::Page;
 use bucket_core::total_weight;
 use flag_defs::Flags;
 use logic_ast::{Site, site};
+use note_tallies::MOST_POINTS;
 use price_core::Request;
 use rollout::RolloutFault;
 use std::alloc::Global;
-use note_tallies::MOST_POINTS;
 
 /// What is tallied for the bytes of a request.
 pub(crate) fn target_of(

@@ -13,11 +13,10 @@ ghost use Rattle.library_rollouts.specs.declared.refusal.RolloutRefusal.TheVaria
 use crate::refusal::RolloutRefusal;
 use crate::writing::write;
 use flag_defs::{Flags, read_flags};
+use note_tallies::{PageTally, read_tally};
 use plan_text::{Planned, print_planned_line};
 use rollout::plan_tally;
 use std::alloc::Global;
-use note_tallies::PageTally;
-use note_tallies::read_tally;
 
 /// Writes the plan file of the rule that fits a request and costs the inputs of a tally the least, or of a set of names which
 /// shows that no rule fits, as a line. It tells which of the two: true where a rule fits.

@@ -5,12 +5,11 @@ ghost use Rattle.library_rollouts.specs.declared.refusal.RolloutRefusal.TheVaria
 
 use flag_defs::DefFault;
 use kept_document::KeepFault;
+use note_tallies::{FilterFault, TallyFileFault};
 use plan_text::PlanFileFault;
 use price_core::PriceFault;
 use rollout::{RolloutFault, VerifyFault};
 use std::alloc::{AllocError, AllocFailed};
-use note_tallies::FilterFault;
-use note_tallies::TallyFileFault;
 use transport_core::CheckFault;
 
 /// Why a rollout is refused.

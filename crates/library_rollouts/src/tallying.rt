@@ -16,13 +16,11 @@ use crate::refusal::RolloutRefusal;
 use crate::target::Target;
 use crate::writing::write;
 use book_core::Page;
+use byte_streams::cut_line;
 use flag_defs::read_flags;
 use limits::TEXT_BYTES;
-use byte_streams::cut_line;
+use note_tallies::{FilterFault, PageTally, TallyFilter, print_tally};
 use std::alloc::Global;
-use note_tallies::PageTally;
-use note_tallies::{FilterFault, TallyFilter};
-use note_tallies::print_tally;
 
 /// Writes the tally of note lines, which rise strictly, at the site of a request: of its page, in as many points as the rule's
 /// weights sum to. Bytes behind the last line feed are passed over.

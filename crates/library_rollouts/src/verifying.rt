@@ -12,11 +12,10 @@ ghost use Rattle.library_rollouts.specs.declared.refusal.RolloutRefusal.TheVaria
 
 use crate::refusal::RolloutRefusal;
 use flag_defs::{Flags, read_flags};
+use note_tallies::{PageTally, read_tally};
 use plan_text::{Planned, read_planned};
 use rollout::verify_tally;
 use std::alloc::Global;
-use note_tallies::PageTally;
-use note_tallies::read_tally;
 
 /// Checks that the answer of a plan file is right for a request over a tally. Its rule may stand on the site's rule refined, and
 /// the tally then has as many points.

@@ -11,6 +11,7 @@ ghost use Rattle.library_seat.specs.Told.{Opening, Reading};
 ghost use Rattle.library_seat.specs.View.{seat_view};
 ghost use Rattle.library_seat.specs.declared.refusal.Refusal.TheVariants as refusal;
 
+use crate::KeptLines;
 use crate::asked::ReadContext;
 use crate::feeding::new_feed;
 use crate::held::{HeldFlags, shared};
@@ -19,7 +20,6 @@ use crate::question::context_of;
 use crate::refusal::Refusal;
 use crate::workspace::Workspace;
 use flag_defs::Flags;
-use crate::KeptLines;
 use std::alloc::Global;
 use sync_frames::Feed;
 

@@ -5,10 +5,9 @@ ghost use Rattle.logic_values.specs.Decimals.{at_most, chain, less};
 ghost use Rattle.logic_values.specs.Views.{seen_view, value_view};
 
 use crate::apply::argument;
-use logic_values::{at_most, equal, is_decimal, less, same};
 use logic_ast::Operator;
 use logic_values::truth::is_true;
-use logic_values::{EvalFault, Seen, Value};
+use logic_values::{EvalFault, Seen, Value, at_most, equal, is_decimal, less, same};
 
 /// Whether one of the values is a decimal.
 pub(crate) fn has_decimal(values: &[Value]) -> bool

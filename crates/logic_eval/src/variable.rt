@@ -10,8 +10,7 @@ use crate::find::{Found, Place, find};
 use crate::meter::{Meter, pay_for_place, pay_for_scope, pay_for_value};
 use crate::other::has_other;
 use crate::scope::Scope;
-use logic_values::is_readable;
-use logic_values::{EvalFault, Value, copy, fold};
+use logic_values::{EvalFault, Value, copy, fold, is_readable};
 use smallvec::SmallVec;
 use std::alloc::{AllocError, Global};
 

@@ -7,11 +7,10 @@ ghost use Rattle.flag_text.specs.View.{view, members_view};
 ghost use Rattle.logic_values.specs.Decimals.{at_most, behind_point, equal, exact_value, if_exact, is_before, is_decimal, is_level, is_not_behind, is_readable, less, order_of, same, spelled_value, spelling_in, spelling_of, whole_value};
 ghost use Rattle.logic_values.specs.Views.{seen_view};
 
-use crate::{Decimal, DecimalFault, order, read, read_text};
+use crate::comparison::{is_at_most, is_equal, is_less, is_same};
+use crate::{Decimal, DecimalFault, EvalFault, Seen, order, read, read_text};
 use flag_text::Tree;
 use itoa::Buffer;
-use crate::comparison::{is_at_most, is_equal, is_less, is_same};
-use crate::{EvalFault, Seen};
 use std::cmp::Ordering;
 
 /// Whether the value is a decimal: an object as a context has it for a number that is not whole.

@@ -11,12 +11,12 @@
 //!
 //! # Decimals: the numbers of an evaluation context that are not whole, as values of targeting expressions, and how they compare
 //!
-//! A context that `sent_numbers` has read has such a number as an object, by which it keeps its spelling. [`is_decimal`] tells whether a
+//! A context that `spelled_numbers` has read has such a number as an object, by which it keeps its spelling. [`is_decimal`] tells whether a
 //! value is one, and [`is_readable`] whether it is within the limits of exact numbers. [`less`], [`at_most`], [`equal`] and [`same`] are the
-//! comparisons of `logic_values`, but for decimals, which are compared by their exact values with each other, with whole numbers and
+//! comparisons of [`comparison`], but for decimals, which are compared by their exact values with each other, with whole numbers and
 //! booleans, and with texts of digits.
 //!
-//! Proved, over the definitions of `specs/Decimals`, which stand over those of `exact_decimals`: each gives what its definition gives, for
+//! Proved, over the definitions of `specs/Decimals`, which stand over those of `specs/Decimal`: each gives what its definition gives, for
 //! all values. Nothing takes memory, so no clause makes an exception.
 //!
 //! # Decimal numbers, exactly: no number is rounded, and no float is computed with
@@ -24,7 +24,7 @@
 //! [`read`] reads a number of JSON, [`read_text`] a text of digits and perhaps a point, and [`order`] compares two numbers.
 //!
 //! ```rust
-//! use crate::{order, read, read_text};
+//! use logic_values::{order, read, read_text};
 //! use std::cmp::Ordering;
 //!
 //! let cart = read(b"52.10")?;
@@ -41,26 +41,26 @@
 //! that the numerals spell (`Law`). Nothing takes memory, so no clause makes an exception.
 #![tactic(auto)]
 
+pub mod arithmetic;
+pub mod comparison;
 mod decimal;
 mod decimal_fault;
 mod decimal_laws;
 mod decimals;
 mod digits;
 mod fault;
+pub mod lists;
+pub mod number;
 mod numeral;
 mod ordering;
 mod part;
 mod root;
 mod seen;
 mod spelling;
-mod tree;
-mod value;
-pub mod arithmetic;
-pub mod comparison;
-pub mod lists;
-pub mod number;
 pub mod text;
+mod tree;
 pub mod truth;
+mod value;
 pub mod version;
 
 pub use decimal::Decimal;

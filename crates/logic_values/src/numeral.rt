@@ -6,8 +6,8 @@ ghost use Rattle.logic_values.specs.Decimal.{all_digits, numeral_number, signifi
 ghost use Rattle.logic_values.specs.View.{gives};
 
 use crate::decimal::Decimal;
-use crate::digits::{without_leading_zeros, without_trailing_zeros};
 use crate::decimal_fault::DecimalFault;
+use crate::digits::{without_leading_zeros, without_trailing_zeros};
 use arrayvec::ArrayVec;
 use fast_float::{Numeral, parse_u64};
 

@@ -1,12 +1,11 @@
 //! Note lines, and what is tallied of them.
 use crate::rows::each;
 use book_core::Page;
-use note_tallies::{LineTally, PageTally, join};
 use note_lines::{hashed_line, note_line, read_hashed_note, read_note};
+use note_tallies::{LineTally, PageTally, join, join_all};
 use std::alloc::{AllocError, Global};
 use std::sync::Arc;
 use std::test::Fail;
-use note_tallies::join_all;
 
 /// A line without its line feed, with it.
 fn ended(alloc: Global, line: &str) -> Result<Vec<u8>, AllocError> {

@@ -1,8 +1,8 @@
 //! Texts as character data of XML.
 use crate::rows::each;
+use picture::escaped;
 use std::alloc::Global;
 use std::test::Fail;
-use picture::escaped;
 
 /// Whether a text is escaped so.
 fn escapes(alloc: Global, text: &str, want: &str) -> bool {

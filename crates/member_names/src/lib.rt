@@ -1,4 +1,6 @@
-//! Members of JSON objects that nobody reads, which are mostly misspelled.
+//! Members of JSON objects by their names: those that nobody reads, those that stand twice, and the tree of those that are asked for.
+//!
+//! # Members that nobody reads, which are mostly misspelled
 //!
 //! A [`Reader`] is one of the calls that read an object by the names of its members; [`Reader::unread`] gives the first
 //! member that it passes over, and [`Reader::meant`] the member that it takes and whose name is near.
@@ -19,7 +21,7 @@
 //! somebody looks for it in the tokens of the text. [`repeated_place`] tells where such a name stands:
 //!
 //! ```rust
-//! use crate::repeated_place;
+//! use member_names::repeated_place;
 //!
 //! let place = repeated_place(alloc, br#"{"totals":{"on":5,"off":90,"on":10}}"#)?;
 //! assert!(rt; place.unwrap().as_str() == ".totals.on");
@@ -39,7 +41,7 @@
 //! tokens, so that they take no memory:
 //!
 //! ```rust
-//! use crate::read_named;
+//! use member_names::read_named;
 //!
 //! let tree = read_named(alloc, br#"{"plan":1,"note":["unread",{}]}"#, 1000, &["plan"])?;
 //! assert!(rt; tree.member("plan").and_then(Tree::as_whole) == Some(1));

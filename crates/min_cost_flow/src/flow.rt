@@ -4,11 +4,11 @@ ghost use Rattle.min_cost_flow.specs.Flow.{AreFlowTables, IsFlow, IsMove, IsMove
 ghost use Rattle.min_cost_flow.specs.Optimal.{IsOptimal};
 ghost use Rattle.min_cost_flow.specs.Problem.{IsFlowProblem};
 
+use crate::Arc;
 use crate::initial::begin;
 use crate::problem::FlowProblem;
 use crate::residual::{arrive, leave, rebuild_root_arcs};
 use crate::span::{Span, widen};
-use crate::Arc;
 use std::alloc::{AllocError, Global};
 
 /// How many points of each group are at each name, and the residual arcs along which they may move. Names are numbered from 0,

@@ -7,10 +7,10 @@ ghost use Rattle.min_cost_flow.specs.Residual.{AreRebuilt, HasNoArcs, MayStand};
 ghost use Rattle.min_cost_flow.specs.Spans.{AreSpans, HasNoSpans, IsIn, span_at};
 ghost use Rattle.min_cost_flow.specs.Initial.{AreBlank, HasNoPoints, at_home};
 
+use crate::Arc;
 use crate::problem::{FlowProblem, Group};
 use crate::residual::{rebuild_from, rebuild_root_arcs};
 use crate::span::{Span, widen};
-use crate::Arc;
 
 /// The flow in which each point keeps its old variant.
 pub(crate) fn begin(

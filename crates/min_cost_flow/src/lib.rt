@@ -4,7 +4,7 @@
 //!
 //! ```rust
 //! use min_cost_flow::{FlowProblem, Outcome, cheapest_flow};
-//! use crate::Effort;
+//! use min_cost_flow::Effort;
 //!
 //! /// How many points each name has at the least cost, nothing where no flow is within the limits.
 //! fn totals<L: Ledger>(
@@ -34,11 +34,12 @@
 //!   (`IsCheapest`), or a search that failed in the first pass (`IsStuckAbove`) or in the second (`IsStuckBelow`). At W points it
 //!   makes at most 2 W augmentations, and one search more, each of which settles each node at most once.
 //!
-//! # Shortest paths in a residual network, by reduced costs, and the potentials that they leave (Dijkstra's algorithm with
-//! potentials; Ahuja, Magnanti, Orlin, Network Flows, section 9.7).
+//! # Shortest paths in a residual network, by reduced costs, and the potentials that they leave
+//!
+//! Dijkstra's algorithm with potentials (Ahuja, Magnanti, Orlin, Network Flows, section 9.7).
 //!
 //! ```rust
-//! use crate::{Arc, Effort, Search};
+//! use min_cost_flow::{Arc, Effort, Search};
 //!
 //! fn nearest<L: Ledger>(alloc: Global, effort: &mut Effort<L>) -> Result<Option<usize>, AllocError> {
 //!     // Of two nodes, by rows of the nodes that they leave: one arc, from node 0 to node 1.

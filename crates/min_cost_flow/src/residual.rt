@@ -7,9 +7,9 @@ ghost use Rattle.min_cost_flow.specs.Residual.{TakesMovesOfBothIn, IsRowOf, Take
 ghost use Rattle.min_cost_flow.specs.Spans.{ArePlaced, AreSpans, HasEnds};
 ghost use Rattle.min_cost_flow.specs.Network.{arc_at};
 
+use crate::Arc;
 use crate::problem::{FlowProblem, Group};
 use crate::span::{Span, narrowed};
-use crate::Arc;
 
 /// The arcs from a name, by the points that are there. A move costs `count * (cost(to) - cost(name))`, where `cost` is that of the
 /// switch from the old variant, so of the groups of an old variant the first or the last with points there has the cheapest. These

@@ -28,7 +28,7 @@
 //!
 //! ```rust
 //! use book_core::Book;
-//! use crate::take_notes;
+//! use note_lines::take_notes;
 //!
 //! let lines = b"[\"color\",0,null,\"test\"]\n[\"color\",0,null,\"test\"]\n";
 //! let taken = take_notes(alloc, Book::new(alloc), lines, false)?;

@@ -4,8 +4,8 @@ ghost use Rattle.byte_streams.specs.Lines.{parts_of};
 ghost use Rattle.note_lines.specs.Astray.{IsAstray, IsTold};
 
 use crate::blank::is_blank;
-use byte_streams::cut_line;
 use crate::read_note;
+use byte_streams::cut_line;
 use std::alloc::{AllocError, Global};
 
 /// Whether one of the first `most` lines of bytes is neither blank nor the line of a note, so that [`take_notes`](crate::take_notes)

@@ -10,9 +10,9 @@ ghost use Rattle.note_lines.specs.declared.fault.NotesFault.TheVariants.{Line, P
 
 use crate::blank::is_blank;
 use crate::fault::{NotesFault, of_note};
+use crate::read_note;
 use book_core::{Book, Page};
 use byte_streams::cut_line;
-use crate::read_note;
 use std::alloc::Global;
 
 /// The notes of a file, with those of a book.

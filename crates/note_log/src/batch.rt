@@ -4,11 +4,11 @@ ghost use Rattle.std.specs.List.{flat_map};
 ghost use Rattle.note_log.specs.Batch.{Adds, ArePrinted, IsBatch, items_of};
 ghost use Rattle.note_log.specs.Recalled.{joined};
 
+use crate::{Files, SharedMemory};
 use bytes::BytesMut;
 use http_server::Log;
 use limits::INPUT_BYTES;
 use note_lines::{Note, NoteForm, line_as};
-use crate::{Files, SharedMemory};
 use std::alloc::{AllocError, Global};
 
 /// The lines of notes, and the same one after the other.

@@ -5,9 +5,9 @@ ghost use Rattle.log_file.specs.Handed.{handed_in};
 ghost use Rattle.note_log.specs.Sound.{IsCounted};
 ghost use Rattle.note_log.specs.Handing.{Moves};
 
+use crate::NumberedJournal;
 use bytes::{Buf, BytesMut};
 use log_file::{LogFile, lines_in};
-use crate::NumberedJournal;
 
 /// Hands over the bytes that wait, as far as the log takes them, and says whether it took all. It takes all unless it is lost or a
 /// write fails. The lines of which it took the end are counted.

@@ -7,11 +7,11 @@ ghost use Rattle.note_log.specs.Sound.{IsCounted, earlier_in};
 use crate::batch::{Batch, batch_of};
 use crate::handing::hand_over;
 use crate::trouble::Trouble;
+use crate::{Files, NumberedJournal, SharedMemory};
 use bytes::BytesMut;
 use http_server::Log;
 use log_file::{Handed, LogFile, LogPaths, Look};
 use note_lines::{Note, NoteForm};
-use crate::{Files, NumberedJournal, SharedMemory};
 use std::alloc::{AllocError, Global};
 use std::sync::Wait;
 

@@ -1,8 +1,7 @@
 //! What the definitions amount to.
 ghost use Rattle.note_streams.specs.Law.{StreamIsOfItsInputs, StreamIsOfItsLines};
 
-use note_tallies::{a_tally_is_in_any_order, hashes_stand_for_inputs};
-use note_tallies::a_stream_is_tallied;
+use note_tallies::{a_stream_is_tallied, a_tally_is_in_any_order, hashes_stand_for_inputs};
 
 /// Where no line of a stream was refused, its note lines rise strictly, all with inputs or all with hashes, and what was tallied is
 /// the tally of the page's inputs, or hashes, among them, each there once.

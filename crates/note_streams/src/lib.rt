@@ -26,7 +26,7 @@
 //! of all pages in the same way.
 //!
 //! ```rust
-//! use crate::{LogFile, tally_files};
+//! use note_streams::{LogFile, tally_files};
 //!
 //! let files = [LogFile { name: "worker-1.log", bytes: b"[\"color\",0,null,\"test\"]\n" }];
 //! let tally = tally_files(alloc, page, 100, files.as_slice())?;

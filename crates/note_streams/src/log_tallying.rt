@@ -9,13 +9,12 @@ ghost use Rattle.note_streams.specs.Sorted.{TalliesLines};
 ghost use Rattle.note_streams.specs.Tallies.{TalliesFiles};
 
 use crate::distinct::distinct_lines;
-use crate::log_fault::LogTallyFault;
 use crate::file::LogFile;
+use crate::log_fault::LogTallyFault;
 use crate::refusal::fault_of;
 use book_core::Page;
+use note_tallies::{FilterFault, PageTally, TallyFilter, a_stream_is_tallied};
 use std::alloc::Global;
-use note_tallies::PageTally;
-use note_tallies::{FilterFault, TallyFilter, a_stream_is_tallied};
 
 /// The tally of the hash inputs of a page that files hold, each counted once, in so many points; or of the hashes, where the notes
 /// are without inputs. Blank lines are passed over, and so is what stands behind the last line feed of a file. The condition is a

@@ -9,10 +9,10 @@ ghost use Rattle.note_streams.specs.Stop.{is_output_fault};
 
 use crate::runs::{record_runs, write_runs};
 use crate::stop::RecordStop;
+use crate::{Outcomes, Recorder};
+use byte_streams::{Inlet, cut_lines, fill};
 use flag_text::Outlet;
 use limits::TEXT_BYTES;
-use byte_streams::{Inlet, cut_lines, fill};
-use crate::{Outcomes, Recorder};
 use std::alloc::Global;
 use std::thread::Threads;
 

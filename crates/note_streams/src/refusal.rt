@@ -5,12 +5,12 @@ ghost use Rattle.byte_streams.specs.Lines.{lines_view};
 ghost use Rattle.note_streams.specs.LogLines.{files_view};
 ghost use Rattle.note_streams.specs.Sorted.{AreDistinct, IsRefusedFor, IsWhy, is_hash_line, is_input_line};
 
-use crate::log_fault::LogTallyFault;
 use crate::file::LogFile;
+use crate::log_fault::LogTallyFault;
 use crate::stray::{first_stray, is_blank};
 use note_lines::has_hash;
-use std::alloc::{AllocError, Global};
 use note_tallies::FilterFault;
+use std::alloc::{AllocError, Global};
 
 /// Why files have no tally, where their lines, each once, are refused for this: a stray line before notes of both kinds, and these
 /// before too many inputs.

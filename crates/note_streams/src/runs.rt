@@ -8,8 +8,8 @@ ghost use Rattle.note_streams.specs.View.{outcomes_view};
 ghost use Rattle.note_streams.specs.Runs.{WritesRuns, runs_view};
 ghost use denote.Param.Send.{IsSync};
 
-use flag_text::{Outlet, write_whole};
 use crate::{Outcomes, Recorded, Recorder, record_lines};
+use flag_text::{Outlet, write_whole};
 use std::alloc::{AllocError, Global};
 use std::thread::{Threads, join};
 

@@ -6,8 +6,8 @@ ghost use Rattle.note_streams.specs.declared.stop.TallyStop.TheVariants as tally
 ghost use Rattle.note_tallies.specs.declared.filter_fault.FilterFault.TheVariants as filter;
 
 use byte_streams::FillFault;
-use std::alloc::AllocError;
 use note_tallies::FilterFault;
+use std::alloc::AllocError;
 use thiserror::Error;
 
 /// Why contexts are not recorded to the end of their stream, in the order of the numbers, with the number of the line at fault,

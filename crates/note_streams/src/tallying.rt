@@ -8,11 +8,10 @@ ghost use Rattle.note_streams.specs.Tallied.{TalliesStream};
 use crate::recording::{BATCH, MOST_BYTES, PIECE};
 use crate::stop::TallyStop;
 use book_core::Page;
-use limits::TEXT_BYTES;
 use byte_streams::{Inlet, cut_line, fill};
+use limits::TEXT_BYTES;
+use note_tallies::{FilterFault, PageTally, TallyFilter};
 use std::alloc::Global;
-use note_tallies::PageTally;
-use note_tallies::{FilterFault, TallyFilter};
 
 /// The tally of a stream.
 #[derive(Debug, Drop)]

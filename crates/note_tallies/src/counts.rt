@@ -7,9 +7,8 @@ ghost use Rattle.note_tallies.specs.File.{points_text, point_text};
 ghost use Rattle.note_tallies.specs.Reading.{AreSmall, BeginNoPoint, IsPointBelow};
 
 use crate::file_fault::TallyFileFault;
-use crate::{PointCount, push_point, take_point};
+use crate::{MOST_AT_POINT, MOST_IN_ALL, PointCount, push_point, take_point};
 use std::alloc::{AllocError, Global};
-use crate::{MOST_AT_POINT, MOST_IN_ALL};
 
 /// Adds the lines of the points that have inputs.
 pub(crate) fn push_points(text: &mut String, counts: &[u32]) -> Result<(), AllocError>

@@ -5,12 +5,12 @@ ghost use Rattle.note_tallies.specs.File.{header_shape};
 ghost use Rattle.note_tallies.specs.Counts.{AddsCounts, ReadsCounts};
 ghost use Rattle.note_tallies.specs.Reading.{IsHead, ReadsTally};
 
+use crate::PageTally;
 use crate::counts::{add_up, read_counts};
 use crate::file_fault::TallyFileFault;
 use crate::head::{Head, take_head};
 use crate::print::HEADER;
 use std::alloc::Global;
-use crate::PageTally;
 
 /// The tally whose file these bytes are. Only what [`print_tally`](crate::print_tally) gives is the file of a tally: with
 /// a blank, another escape or another order of members it is none.

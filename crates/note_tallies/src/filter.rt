@@ -6,8 +6,8 @@ ghost use Rattle.note_tallies.specs.Blank.{is_blank};
 ghost use Rattle.note_tallies.specs.Filter.{TakesLine, numbered, numbered_answer};
 
 use crate::filter_fault::FilterFault;
-use book_core::Page;
 use crate::{LineTally, LineTallyFault, PageTally};
+use book_core::Page;
 use std::alloc::{AllocError, Global};
 use std::marker::Model;
 

@@ -3,9 +3,9 @@ ghost use Rattle.note_tallies.specs.Filter.{StreamIsTallied};
 ghost use Rattle.note_tallies.specs.Joined.{JoinsAllHashes, JoinsAllSets};
 
 use crate::{
-    a_tally_is_of_its_hashes, a_tally_is_of_its_lines, tallied_lines_are_of_one_kind,
+    a_join_is_the_tally_of_both, a_join_of_hashes_is_the_tally_of_both, a_tally_is_of_its_hashes,
+    a_tally_is_of_its_lines, tallied_lines_are_of_one_kind,
 };
-use crate::{a_join_is_the_tally_of_both, a_join_of_hashes_is_the_tally_of_both};
 
 /// Where no line of a stream was refused, its note lines rise strictly, and either all have inputs, and what was tallied is the tally
 /// of the page's inputs among them, each there once; or all have hashes, and it is the tally of the page's hashes, each there once.

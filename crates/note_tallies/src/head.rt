@@ -9,6 +9,7 @@ ghost use Rattle.note_tallies.specs.Ends.{IsTextLine};
 ghost use Rattle.note_tallies.specs.File.{Head, head_shape, object_of};
 ghost use Rattle.note_tallies.specs.Reading.{IsAllowed, IsBounded, IsHead};
 
+use crate::MOST_POINTS;
 use crate::cut::cut;
 use crate::ends::{are_ends, end_tree};
 use crate::members::tree_head;
@@ -16,7 +17,6 @@ use book_core::Page;
 use flag_text::{TextFault, Tree, print_tree, read_tree};
 use std::alloc::{AllocError, Global};
 use std::marker::Model;
-use crate::MOST_POINTS;
 
 /// What the second line says.
 #[derive(Drop)]

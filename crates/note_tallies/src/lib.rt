@@ -1,4 +1,6 @@
-//! The tally of one page of note lines that come in rising order, each once: how many of its inputs fall on each point.
+//! Tallies: how many inputs of one page fall on each point, made of note lines, joined, and as files.
+//!
+//! # The tally of one page of note lines that come in rising order, each once
 //!
 //! It is fed a line at a time and keeps three lines and a count for each point, however many lines there are. That the
 //! lines rise shows that each is there once, so no input is counted twice, whoever sorted them.
@@ -88,7 +90,9 @@ pub use file_reading::read_tally;
 pub use filter::TallyFilter;
 pub use filter_fault::FilterFault;
 pub use filter_join::join_all;
-pub use filter_laws::{a_stream_is_tallied, joined_tallies_are_of_all, joined_tallies_are_of_all_hashes};
+pub use filter_laws::{
+    a_stream_is_tallied, joined_tallies_are_of_all, joined_tallies_are_of_all_hashes,
+};
 pub use join_laws::{
     a_join_is_the_tally_of_both, a_join_of_hashes_is_the_tally_of_both, a_tally_is_in_any_order,
     hashes_stand_for_inputs,

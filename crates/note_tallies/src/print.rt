@@ -3,10 +3,10 @@ ghost use Rattle.std.specs.Prelude.{◌≡◌, string_bytes, IfOk};
 ghost use Rattle.note_tallies.specs.File.{tally_text};
 ghost use Rattle.note_tallies.specs.Reading.{ReadsAs};
 
+use crate::PageTally;
 use crate::counts::push_points;
 use crate::head::head_text;
 use std::alloc::{AllocError, Global};
-use crate::PageTally;
 
 /// The first line of a tally.
 pub(crate) const HEADER: &str = "{\"tally\":1}\n";

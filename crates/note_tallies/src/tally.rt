@@ -12,13 +12,13 @@ ghost use Rattle.note_tallies.specs.Refusals.{Refuses, SaysNothing, TakesSaid};
 use crate::fault::LineTallyFault;
 use crate::page_lines::PageLines;
 use crate::place::Place;
+use crate::{MOST_AT_POINT, MOST_IN_ALL, PageTally};
 use book_core::Page;
 use bucket_core::{point, scale};
 use note_lines::{has_hash, read_hashed_note, read_note};
 use std::alloc::{AllocError, Global};
 use std::marker::Model;
 use std::mem;
-use crate::{MOST_AT_POINT, MOST_IN_ALL, PageTally};
 
 /// How many inputs of one page fall on each of so many points, of the note lines so far.
 #[derive(Drop)]

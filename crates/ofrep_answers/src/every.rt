@@ -20,16 +20,15 @@ use crate::evaluation::{evaluate, is_spelled};
 use crate::one::without_context;
 use crate::reads::{read_by_flag, told_text};
 use crate::reasons::Reasons;
+use crate::{ContextFault, flags_text, read_context_with, status_of};
 use decimal_reads::DecimalRead;
-use ofrep_requests::{entity_tag, is_listed, opaque_tag};
 use flag_defs::Flags;
 use flag_metadata::Metadata;
 use flag_resolve::Resolution;
 use flag_text::Tree;
 use http::StatusCode;
 use json::Scratch;
-use crate::{flags_text, status_of};
-use crate::{ContextFault, read_context_with};
+use ofrep_requests::{entity_tag, is_listed, opaque_tag};
 use std::alloc::{AllocError, Global};
 
 /// The texts of the bodies of the flags that there are for the caller, and what the evaluations of all flags reached and how they ended.

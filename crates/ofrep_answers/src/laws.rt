@@ -1,8 +1,8 @@
 //! What the definitions amount to.
 ghost use Rattle.ofrep_answers.specs.Law.{FloatsChangeNothing, MetadataChangesNothing, NeverMismatches, ValuesAreSpelled};
 
-use flag_metadata::bare_documents_have_no_metadata;
 use crate::texts_are_of_bodies;
+use flag_metadata::bare_documents_have_no_metadata;
 
 /// No flag is evaluated for another kind than that of its variants.
 pub fn no_evaluation_mismatches()

@@ -25,7 +25,7 @@
 //! ```rust
 //! use flag_resolve::Code;
 //! use flag_text::print_tree;
-//! use crate::failure_body;
+//! use ofrep_answers::failure_body;
 //!
 //! let body = failure_body(alloc, None, Code::ParseError, "the body is not valid JSON")?;
 //! assert!(rt; print_tree(alloc, &body)?.as_str()

@@ -12,13 +12,13 @@ ghost use Rattle.flag_text.specs.View.{view};
 ghost use Rattle.ofrep_answers.specs.Evaluation.{ended_in, read_by_flag, read_details, read_failure, text_told};
 
 use crate::one::text_or;
+use crate::{evaluation_text, failure_body};
 use decimal_reads::{DecimalRead, ended_at};
 use flag_defs::{Flag, Flags};
 use flag_metadata::Metadata;
 use flag_resolve::{Code, Resolution};
 use flag_text::{Tree, print_tree};
 use logic_eval::Context;
-use crate::{evaluation_text, failure_body};
 use std::alloc::{AllocError, Global};
 
 /// The number that is not whole at which the evaluation of the flag of a key ended, where it ended at one.

@@ -9,11 +9,10 @@ use crate::work::Making;
 use http_server::Connection;
 use mio::Registry;
 use mio::net::{TcpListener, TcpStream};
-use service_layers::Recording;
+use service_layers::{Closing, Recording};
 use slab::Slab;
 use std::io::{Error, ErrorKind};
 use std::time::Instant;
-use service_layers::Closing;
 
 /// The most connections of a worker. For a further one the one is closed that has had nothing to do for the longest time.
 pub(crate) const MAX_PEERS: usize = 1024;

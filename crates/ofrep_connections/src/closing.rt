@@ -12,11 +12,10 @@ use crate::work::Making;
 use http_server::Refusal;
 use httpdate::HttpDate;
 use mio::Registry;
-use service_layers::Recording;
+use service_layers::{Closing, Recording};
 use slab::Slab;
 use std::alloc::Global;
 use std::time::Instant;
-use service_layers::Closing;
 
 /// Once a request was refused, its client has so many seconds to read the refusal.
 const DROPPING_SECONDS: u64 = 2;

@@ -1,6 +1,6 @@
 //! How the workers of a listener share the connections that come.
-use std::sync::atomic::{AtomicUsize, Ordering};
 use service_layers::Traffic;
+use std::sync::atomic::{AtomicUsize, Ordering};
 
 /// How many workers take the connections of a listener, and how many connections they hold together.
 #[derive(Drop)]

@@ -1,6 +1,6 @@
 //! When something happens.
-use service_layers::{date_at, second_of};
 use httpdate::HttpDate;
+use service_layers::{date_at, second_of};
 use std::io;
 use std::time::{Clock, Instant};
 

@@ -16,7 +16,7 @@ use http_server::Config;
 use mio::event::Event;
 use mio::net::{TcpListener, TcpStream};
 use mio::{Events, Interest, Poll, Registry, Token};
-use service_layers::Recording;
+use service_layers::{Recording, Traffic};
 use slab::Slab;
 use std::alloc::Global;
 use std::hash::RandomState;
@@ -24,7 +24,6 @@ use std::net::Net;
 use std::sync::atomic::{AtomicBool, Ordering};
 use std::time::{Clock, Duration, Instant};
 use std::{io, net};
-use service_layers::Traffic;
 
 /// The token of the listener; those of the peers are below.
 const LISTENER: usize = MAX_PEERS;

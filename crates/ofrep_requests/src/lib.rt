@@ -1,7 +1,4 @@
-//! What a request of the OpenFeature Remote Evaluation Protocol asks for.
-//!
-//! A crate of its own, though it is small: it knows paths and methods and nothing of flags, and `ofrep_answers`, which uses it,
-//! need not know how a path is encoded.
+//! What a request of the OpenFeature Remote Evaluation Protocol asks for, and the entity tags that it names.
 //!
 //! [`Place::of`] says what the path of a request leads to, and [`Place::method`] the one method that is taken there;
 //! [`key_in`] reads the key of the flag that a path asks for.
@@ -9,9 +6,6 @@
 //! Proved, over the definitions of `specs/Request`: all three answers are exact, the key's unless memory runs out; the others take none.
 //!
 //! # Entity tags of HTTP (RFC 9110, 8.8.3), made of the bytes that they stand for
-//!
-//! A crate of its own, though it is small: it knows HTTP and a hash and nothing of flags, and `ofrep_answers`, which uses it,
-//! need not know how a tag is made or listed.
 //!
 //! [`opaque_tag`] makes the tag of a representation, [`entity_tag`] spells it as the field `ETag` has it, and [`is_listed`] says
 //! whether a field `If-None-Match` names it.

@@ -2,15 +2,14 @@
 ghost use Rattle.std.specs.Prelude.{◌≡◌, IfSome, Some, is_some, option_map};
 ghost use Rattle.std.specs.Sync.Mutex.{mutex_guard_value};
 
-use service_layers::{AccessLines, WaitingLines};
 use control_desk::{DeskPost, DeskRules};
 use log_file::Loss;
 use note_lines::NoteForm;
-use note_log::Trouble;
-use note_log::SharedMemory;
+use note_log::{SharedMemory, Trouble};
 use ofrep_connections::Load;
 use ofrep_guards::{KeyRing, Keys, LaterKeys, Paths};
 use ofrep_worker::{Counts, WithoutRecord};
+use service_layers::{AccessLines, WaitingLines};
 use std::sync::atomic::{AtomicBool, AtomicU64, Ordering};
 use std::sync::{MutexGuard, Wait};
 

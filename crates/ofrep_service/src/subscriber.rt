@@ -2,8 +2,8 @@
 ghost use Rattle.std.specs.Prelude.{◌≡◌, ◌<◌, false, IfSome};
 
 use crate::board::Board;
-use flag_text::WriteOutlet;
 use byte_streams::PersistentOutput;
+use flag_text::WriteOutlet;
 use snap_share::{Current, ReadSeat, ShareName};
 use std::io;
 use std::io::{ErrorKind, Read, Write};

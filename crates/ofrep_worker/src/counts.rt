@@ -3,8 +3,8 @@ use http::StatusCode;
 use log_file::{Look, Loss};
 use note_log::Trouble;
 use ofrep_answers::Reasons;
-use std::sync::atomic::{AtomicU64, Ordering};
 use service_layers::Traffic;
+use std::sync::atomic::{AtomicU64, Ordering};
 
 /// The requests and the connections, how many evaluations ended with each reason, how many notes were written, how
 /// often a log was opened anew after each kind of loss, and how many logs can't be written now.

@@ -3,9 +3,9 @@ ghost use Rattle.std.specs.Prelude.{◌≡◌, ◌++◌, IfOk, OnOk, string_byte
 ghost use Rattle.ofrep_worker.specs.Counted.{EndsWithSizes, gauge_text, sizes_text};
 
 use crate::counts::{Counts, bit_of};
+use service_layers::{Kind, begin_family};
 use std::alloc::{AllocError, Global};
 use std::sync::atomic::{AtomicU64, Ordering};
-use service_layers::{Kind, begin_family};
 
 /// The most documents that are told of.
 const MOST_DOCUMENTS: u64 = 64;

@@ -1,4 +1,4 @@
-//! How many inputs of one page of a book file fall on each point, with no text for each input.
+//! The inputs of a book file without a text for each: how many of one page fall on each point, and the lines that they stand on.
 //!
 //! Proved, over the definitions of `specs/`: [`read_tally`] gives what `counts` of `book_core` gives of the page's
 //! exposure in the book of the file, or that file's first fault (`Tally`). It is a fold over the lines that keeps of

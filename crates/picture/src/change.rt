@@ -17,8 +17,8 @@ use crate::variants::add_variants;
 use crate::words::{Style, Word};
 use bucket_core::Rule;
 use price_core::{Limit, Prices, Totals};
-use std::alloc::{AllocError, Global};
 use rule_switches::{Run, SwitchTable};
+use std::alloc::{AllocError, Global};
 use transport_core::Certificate;
 
 /// What is drawn of a rule that replaces another.

@@ -1,4 +1,4 @@
-//! Pictures of rollouts, as SVG (Scalable Vector Graphics 2): what a new rule moves, and what it costs.
+//! Pictures of rollouts, as SVG (Scalable Vector Graphics 2): what a new rule moves, and what it costs; and texts as XML takes them.
 //!
 //! [`draw_change`] draws a rule that replaces another: both as bars over the points, between them what moves, then the variants
 //! and the switches between them, with their numbers. [`draw_none`] draws a set of variants which shows that no rule fits, and
@@ -15,14 +15,11 @@
 //!
 //! # Texts in XML: any text is put where XML takes character data, and reads back as itself
 //!
-//! A crate of its own, though it is small: it knows XML and nothing of flags, and `picture`, which uses it, need not know what
-//! XML escapes.
-//!
 //! [`push_escaped`] and [`escaped`] write the five characters that mean something to XML as entities, and U+FFFD for the
 //! characters that no document may have; [`push_start`] writes the first characters alone.
 //!
 //! ```rust
-//! use crate::escaped;
+//! use picture::escaped;
 //!
 //! assert!(rt; escaped(alloc, "<a & b>")?.as_str() == "&lt;a &amp; b&gt;");
 //! ```

@@ -6,8 +6,8 @@ ghost use Rattle.picture.specs.Spelling.{IsBody, IsPicture, Pictures, at, band_t
 
 use crate::element::{Band, Content, Element, Extent, Look, Piece, Place};
 use crate::words::{Style, Title, Word};
-use std::alloc::{AllocError, Global};
 use crate::{push_escaped, push_start};
+use std::alloc::{AllocError, Global};
 
 /// The page of a title that has pictures, one below the other, as the calls that draw them wrote them, and ends this far below
 /// its top.

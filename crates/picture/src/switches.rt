@@ -11,8 +11,8 @@ use crate::element::{Content, Element, Place, add};
 use crate::rows::{NAMES, ROW, add_headings, number_at, size_for};
 use crate::words::{Style, Word};
 use price_core::{Limit, Prices};
-use std::alloc::AllocError;
 use rule_switches::PairSwitches;
+use std::alloc::AllocError;
 
 const HEADINGS: &[(Style, u64, Word)] = &[
     (Style::Heading, NAMES, Word::From),

@@ -10,9 +10,9 @@ ghost use Rattle.ramp.specs.Right.{TellsStep};
 use flag_defs::Flags;
 use plan_text::Planned;
 use rollout::{
-    PageTally, plan_refined, plan_tally, verify, verify_refined, verify_tally, verify_tally_refined,
+    PageTally, RolloutFault, VerifyFault, plan_refined, plan_tally, verify, verify_refined,
+    verify_tally, verify_tally_refined,
 };
-use rollout::{RolloutFault, VerifyFault};
 use std::alloc::Global;
 use std::thread::Threads;
 

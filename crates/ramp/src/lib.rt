@@ -3,7 +3,7 @@
 //! ```rust
 //! use ramp::{plan_steps, verify_steps};
 //!
-//! let steps = crate::read_steps(alloc, request)?;
+//! let steps = ramp::read_steps(alloc, request)?;
 //! let answers = plan_steps(&rt, alloc, &flags, steps.as_slice(), &book, 1)?;
 //! verify_steps(&rt, alloc, &flags, steps.as_slice(), &book, None, answers.as_slice())?;
 //! ```
@@ -26,7 +26,7 @@
 //! request for each of them. The answers stand one a line, `{"plan":PLAN,"step":N}` with N from 1.
 //!
 //! ```rust
-//! use crate::{print_ramp, read_ramp, read_steps};
+//! use ramp::{print_ramp, read_ramp, read_steps};
 //!
 //! let request = br#"{"plan":1,"flag":"color","steps":[{"red":5,"blue":5},{"blue":10}]}"#;
 //! let steps = read_steps(alloc, request)?;

@@ -8,8 +8,7 @@ ghost use Rattle.ramp.specs.Ramp.{Standing, goes_on, left_by};
 use flag_defs::Flags;
 use plan_text::Planned;
 use price_core::Request;
-use rollout::apply;
-use rollout::RolloutFault;
+use rollout::{RolloutFault, apply};
 use std::alloc::Global;
 
 /// A copy of the flags, on which the first step stands.

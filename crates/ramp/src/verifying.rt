@@ -12,8 +12,7 @@ use crate::standing::{behind, first, goes_on};
 use flag_defs::Flags;
 use page_tally::Recorded;
 use plan_text::Planned;
-use rollout::PageTally;
-use rollout::{RolloutFault, VerifyFault};
+use rollout::{PageTally, RolloutFault, VerifyFault};
 use std::alloc::Global;
 use std::thread::Threads;
 

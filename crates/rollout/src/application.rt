@@ -13,10 +13,10 @@ ghost use Rattle.rollout.specs.Applied.{applied};
 ghost use Rattle.rollout.specs.Lawful.{names_are_variants};
 ghost use Rattle.rollout.specs.Change.{IsChanged, OthersStay, ResolveAsBefore};
 
+use crate::RolloutFault;
 use bucket_core::Rule;
 use flag_defs::{DefFault, Flag, Flags};
 use logic_ast::LogicFault;
-use crate::RolloutFault;
 use std::alloc::{AllocError, Global};
 
 /// The flags with the entries of the rule as the buckets of a site. The bucketing expression stays, and so do all other

@@ -21,7 +21,7 @@
 //! }
 //! ```
 //!
-//! Proved, over the definitions of `specs/` and of rollout_checks, which has [`verify`] and [`verify_refined`]:
+//! Proved, over the definitions of `specs/`:
 //! - [`apply`] gives the flags with a rule at a site, or its first refusal (`Applied`): one flag changes, all others stay, and
 //!   what chooses alike under both rules resolves as before (`Change`).
 //! - [`plan`] and [`plan_refined`] answer a lawful request with a canonical rule that costs the recorded inputs the least of
@@ -37,7 +37,7 @@
 //!
 //! [`RequestFile`] is the file of a request, read once. [`problem_of`] looks up the flag, its site and the page of its inputs,
 //! and refuses what is no lawful request; [`verify_file`] checks an answer on it, [`verify`] and [`verify_refined`] do on the
-//! bytes of a request. The planner, and what puts a rule at a site, stand above, in the crate rollout.
+//! bytes of a request.
 //!
 //! Proved, over the definitions of `specs/`:
 //! - [`RequestFile`] holds what reading its bytes gives (`RequestFile`), so that whoever is handed it answers as the bytes say.

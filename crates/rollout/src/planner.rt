@@ -14,12 +14,12 @@ ghost use Rattle.transport_plan.specs.Solved.{IsSolution};
 ghost use Rattle.rollout.specs.declared.fault.RolloutFault.TheVariants.{WantOfMemory};
 ghost use Rattle.rollout.specs.declared.refining.Refining.TheVariants.{Times};
 
+use crate::{Problem, Refining, RequestFile, RolloutFault, problem_asked};
 use flag_defs::Flags;
+use min_cost_flow::Effort;
 use page_tally::Recorded;
 use plan_text::Planned;
 use price_core::Request;
-use crate::{Problem, Refining, RequestFile, RolloutFault, problem_asked};
-use min_cost_flow::Effort;
 use std::alloc::{AllocError, Global};
 use std::marker::Brand;
 use std::sync::ledger::{Blank, Ledger};

@@ -20,11 +20,11 @@ use crate::request_file::RequestFile;
 use book_core::Page;
 use bucket_core::{Rule, total_weight};
 use flag_defs::Flags;
+use note_tallies::PageTally;
 use page_tally::Recorded;
 use price_core::{Request, Totals};
 use std::alloc::Global;
 use std::thread::Threads;
-use note_tallies::PageTally;
 
 /// The largest total that is planned on: no tally has more points.
 pub(crate) const MAX_PLANNED: u128 = limits::PLANNED_TOTAL as u128;

@@ -9,15 +9,15 @@ ghost use Rattle.rollout.specs.Planned.{PrintsOrRefuses};
 ghost use Rattle.rollout.specs.declared.refining.Refining.TheVariants.{Times};
 
 use crate::planner::plan_on;
+use crate::{Refining, RequestFile, RolloutFault, tally_problem_asked};
 use flag_defs::Flags;
+use min_cost_flow::Effort;
+use note_tallies::PageTally;
 use plan_text::Planned;
 use price_core::Request;
-use crate::{Refining, RequestFile, RolloutFault, tally_problem_asked};
-use min_cost_flow::Effort;
 use std::alloc::Global;
 use std::marker::Brand;
 use std::sync::ledger::{Blank, Ledger};
-use note_tallies::PageTally;
 
 /// As [`crate::plan_refined`], on a tally of the request's page: up to 67,108,864 inputs on a point and 8,589,934,592 in all. The
 /// rule that is answered costs all inputs of which so many fall on each point the least. The condition is m from 1.

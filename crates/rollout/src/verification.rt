@@ -20,12 +20,12 @@ use crate::refining::Refining;
 use crate::request_file::RequestFile;
 use crate::verify_fault::VerifyFault;
 use flag_defs::Flags;
+use note_tallies::PageTally;
 use page_tally::Recorded;
 use plan_text::Planned;
 use price_core::Request;
 use std::alloc::Global;
 use std::thread::Threads;
-use note_tallies::PageTally;
 use transport_core::{CheckFault, check_cut, check_plan};
 
 /// Checks that a request is lawful and that an answer is right for it. A rule is checked against the site's rule, refined

@@ -6,10 +6,9 @@ use crate::place::Place;
 use file_diagnostics::{Lines, Opening, quoted_name, tree_or_none};
 use flag_defs::Flags;
 use flag_text::read_doc;
-use kept_document::KeepFault;
+use kept_document::{KeepFault, SitePlace, place_of_site};
 use limits::TEXT_BYTES;
 use logic_ast::write_expr;
-use kept_document::{SitePlace, place_of_site};
 use std::alloc::{AllocError, Global};
 
 /// Explains why the document at `path` can't keep its bytes where the rule of a site is replaced.

@@ -8,9 +8,9 @@ use book_core::Page;
 use file_diagnostics::{Lines, Opening};
 use flag_defs::Flags;
 use logic_ast::LogicFault;
+use note_tallies::PageTally;
 use rollout::RequestFile;
 use std::alloc::{AllocError, Global};
-use note_tallies::PageTally;
 
 /// Says that the tally at `path` has no input.
 pub fn of_empty_tally(alloc: Global, path: &str, page: &Page) -> Result<String, AllocError>

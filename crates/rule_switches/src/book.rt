@@ -10,8 +10,7 @@ use crate::page_counting::switched_first;
 use crate::page_edit::Edit;
 use crate::rules::{Rules, rules_on};
 use book_core::{Page, cut_line};
-use page_tally::next_page;
-use page_tally::BookFile;
+use page_tally::{BookFile, next_page};
 use std::alloc::{AllocError, Global};
 
 /// What an edit does on each page of a book, or on those of one flag, in their order. Want of memory is its one fault. Cost: a

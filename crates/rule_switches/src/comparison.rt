@@ -2,10 +2,10 @@
 ghost use Rattle.std.specs.Prelude.{◌≡◌, ◌+◌, ◌<◌, ◌≤◌, ◌^◌, ◌++◌, [], ◌∷◌, OnOk, if◌then◌else◌};
 ghost use Rattle.rule_switches.specs.Found.{AreSums, found_view, inputs_in, is_left, pages_view, switches_in};
 
-use crate::page_edit::Side;
-use crate::fault::NoRule;
-use book_core::Page;
 use crate::Switch;
+use crate::fault::NoRule;
+use crate::page_edit::Side;
+use book_core::Page;
 use std::alloc::{AllocError, Global};
 
 /// What an edit does to the inputs of a page.

@@ -1,4 +1,4 @@
-//! How many inputs an edit of a rule gives another name.
+//! How many inputs an edit of a rule gives another name: of two rules, of two documents, and as a table.
 //!
 //! A switch is an input that two rules give different names. [`Counting`] counts the inputs of two rules in one pass, whatever
 //! their totals, and says how many go from each name to each other one; [`tally_switches`] says the same by how many inputs fall

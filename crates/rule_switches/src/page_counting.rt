@@ -5,9 +5,9 @@ ghost use Rattle.rule_switches.specs.Counted.{IsCounted, Reads};
 ghost use Rattle.rule_switches.specs.Found.{users_in};
 ghost use Rattle.rule_switches.specs.Switches.{AreSwitches, rows_view};
 
-use page_tally::first_line;
-use bucket_core::Rule;
 use crate::{Counting, Switch};
+use bucket_core::Rule;
+use page_tally::first_line;
 use std::alloc::{AllocError, Global};
 
 /// The inputs that stand first among the bytes, and the changes that they make; with the bytes behind them.

@@ -7,8 +7,8 @@ ghost use Rattle.flag_defs.specs.Flags.{flags_view};
 ghost use Rattle.logic_ast.specs.Expr.{view};
 ghost use Rattle.rule_switches.specs.Rules.{by_weight, none, rule_in, rule_on, rules_on, rules_view};
 
-use crate::page_edit::{Edit, Side};
 use crate::fault::NoRule;
+use crate::page_edit::{Edit, Side};
 use book_core::Page;
 use bucket_core::Rule;
 use flag_defs::Flags;

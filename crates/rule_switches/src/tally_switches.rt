@@ -9,14 +9,14 @@ ghost use Rattle.note_tallies.specs.Tally.{IsPageTally};
 
 use crate::book::is_asked;
 use crate::comparison::{Comparison, Found};
+use crate::fault::TallyFault;
 use crate::page_counting::users_in;
 use crate::page_edit::Edit;
-use crate::fault::TallyFault;
 use crate::rules::{Rules, rules_on};
-use bucket_core::Rule;
 use crate::tally_switches;
-use std::alloc::Global;
+use bucket_core::Rule;
 use note_tallies::PageTally;
+use std::alloc::Global;
 
 /// What an edit does on the page of a tally, where it is asked for. It is refused with `OtherTally` where both documents have a
 /// rule there, and the total of one does not divide the number of points of the tally.

@@ -5,14 +5,13 @@ ghost use Rattle.service_layers.specs.Date.{Dates, fields_in};
 ghost use Rattle.service_layers.specs.Dated.{Stands, dated, dated_stays, looked_stays};
 
 use crate::date::{DateField, second_of};
+use crate::{Recording, Times, Traffic};
 use bytes::Bytes;
 use http::Request;
 use http_server::{Response, Service};
-use crate::Recording;
 use std::alloc::{AllocError, Global};
 use std::io;
 use std::time::{Clock, Instant};
-use crate::{Times, Traffic};
 
 /// A service whose answers have their date, and of which is counted how long they take.
 #[derive(Drop)]

@@ -1,4 +1,6 @@
-//! A service whose answers have their date, and of which is counted how long they take.
+//! What stands around a service: the date of its answers, counts of its requests, and a line for each.
+//!
+//! # Answers that have their date, and of which is counted how long they take
 //!
 //! A [`Dated`] stands before a service and adds the field `Date` to each of its answers (RFC 9110, 6.6.1). The date is that of the
 //! second in which it last looked, so that it is made at most once a second and no answer reads the calendar. It counts how long
@@ -8,9 +10,6 @@
 //! is held (`Dates`), and what the service's answers rest on stands as before (`Stands`).
 //!
 //! # Services whose answers rest on something that stands before they are given
-//!
-//! A crate of its own, though it is small: the service (`ofrep_worker`) implements the trait and the server (`ofrep_connections`)
-//! calls it, and neither knows of the other.
 //!
 //! A [`Recording`] service says of each of its answers what it rests on, such as a record of it in a log. That stands once it
 //! answers, and whatever it answers later. Proved (`proofs/Standing.antt`): after any calls, it stands for each of them.
@@ -30,8 +29,10 @@
 //!
 //! Proved: that this is safe and takes no memory but for the text. The numbers are for people, and no clause says what they are.
 //!
-//! # A line of JSON for each request that was answered: when it came, its method and path, the status of its answer, how long that took,
-//! and the trace that it belongs to, where it names one.
+//! # A line of JSON for each request that was answered
+//!
+//! It says when the request came, its method and path, the status of its answer, how long that took, and the trace that it belongs to,
+//! where it names one.
 //!
 //! A [`LoggedService`] stands around a service and answers just as it does. It keeps the lines of its own until it looks, and then
 //! hands them to the [`AccessLines`] of all workers, whose [`WaitingLines`] the program takes and writes. So no answer waits for an

@@ -6,6 +6,7 @@ ghost use Rattle.service_layers.specs.Line.{Seen, line_of};
 ghost use Rattle.service_layers.specs.Asked.{IsOf, trace_given, trace_of, value_of};
 ghost use Rattle.service_layers.specs.View.{access_view};
 
+use crate::Recording;
 use crate::access::Access;
 use crate::line::line_of;
 use crate::lines::AccessLines;
@@ -14,7 +15,6 @@ use bytes::{BufMut, Bytes};
 use http::{HeaderName, HeaderValue, Request, StatusCode};
 use http_server::{Response, Service};
 use httpdate::HttpDate;
-use crate::Recording;
 use std::alloc::{AllocError, Global};
 use std::time::{Clock, Instant, SystemTime, UNIX_EPOCH};
 

@@ -1,4 +1,4 @@
-//! Documents whose variants may be any numbers of JSON.
+//! Numbers that keep their spelling: in documents whose variants may be any numbers of JSON, and in what applications send.
 //!
 //! [`read_with_floats`] reads the text of a flag document as `flag_text` does, but for variants with a number that is not whole:
 //! each value of these stands as a text, which is its spelling. So every definition above speaks of flags with text values, and
@@ -26,7 +26,7 @@
 //!
 //! ```rust
 //! use flag_text::Tree;
-//! use crate::read_sent;
+//! use spelled_numbers::read_sent;
 //!
 //! let tree = read_sent(alloc, br#"{"age":5.0,"latitude":52.10}"#, 1000)?;
 //! assert!(rt; tree.member("age").and_then(Tree::as_whole) == Some(5));

@@ -27,9 +27,9 @@ mod read;
 mod serve;
 mod sink;
 
+pub use byte_streams::{Inlet, ReadInlet};
 pub use end::{ReadEnd, StreamEnd};
 pub use follow::follow_stream;
-pub use byte_streams::{Inlet, ReadInlet};
 pub use next::NextNumber;
 pub use read::read_stream;
 pub use serve::serve_stream;

@@ -3,11 +3,11 @@ ghost use Rattle.std.specs.Prelude.{◌≡◌, ◌≤◌, drop, length, IfOk, If
 ghost use Rattle.text_spans.specs.Path.{place_of};
 ghost use Rattle.text_spans.specs.View.{IsFound, path_of};
 
+use crate::Cursor;
 use crate::places::value_place;
 use crate::steps::Step;
 use json::{Scratch, is_valid};
 use std::alloc::{AllocError, Global};
-use crate::Cursor;
 
 /// The bytes that a value takes in its text, from `start` up to `end`, in bytes from the text's first one.
 #[derive(Clone, Copy, Debug, Drop, PartialEq, Eq)]

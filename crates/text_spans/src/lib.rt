@@ -1,4 +1,4 @@
-//! Where a value stands in the text that it was read from.
+//! Where a value stands in the text that it was read from, and the tokens of a text with their places.
 //!
 //! A path leads from the value of a JSON text to a part of it, by the names of members and the indices of items. [`find`]
 //! gives the bytes that the part takes, so that it can be told of, or replaced while all else stays as it is:

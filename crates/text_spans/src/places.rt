@@ -6,9 +6,9 @@ ghost use Rattle.text_spans.specs.Place.{GoOn, Stand, closed};
 ghost use Rattle.text_spans.specs.Path.{item_place, member_place, place};
 ghost use Rattle.text_spans.specs.View.{ends_view, path_of, step_of};
 
+use crate::Cursor;
 use crate::steps::Step;
 use json::Token;
-use crate::Cursor;
 
 /// A value in a text.
 #[derive(Clone, Copy, Drop)]

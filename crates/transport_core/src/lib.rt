@@ -1,18 +1,19 @@
 //! Whether a plan is right, whoever made it: the check of a new rule with the certificate of its cost.
 //!
-//! Proved, over the definitions of transport_instance: `check_plan` accepts a rule exactly where it fits (`Fits`) and the
+//! Proved, over the definitions of `specs/`: `check_plan` accepts a rule exactly where it fits (`Fits`) and the
 //! certificate's numbers, one for each group and name, are dual prices (`Dual`, `Certificate`) that prove its cost, and then no
-//! rule of any shape that fits costs the inputs less; each refusal comes first in its order (`Refusals`). The types, the check
-//! of a cut and the laws that both rest on are transport_instance's, and are handed on here.
+//! rule of any shape that fits costs the inputs less; each refusal comes first in its order (`Refusals`).
 //!
-//! # What a rollout's answers are about, whoever makes them: instances, assignments, certificates and cuts, with the
-//! definitions of a rule that fits and costs the least, the checks of a certificate's numbers, and the check of a cut.
+//! # What a rollout's answers are about, whoever makes them
+//!
+//! Instances, assignments, certificates and cuts, with the definitions of a rule that fits and costs the least, the checks of a
+//! certificate's numbers, and the check of a cut.
 //!
 //! ```rust
 //! use bucket_core::read_rule;
 //! use flag_text::read_tree;
 //! use price_core::Request;
-//! use crate::{Cut, CutKind, check_cut};
+//! use transport_core::{Cut, CutKind, check_cut};
 //!
 //! let old = read_rule(alloc, &read_tree(alloc, br#"[["red",5],["blue",5]]"#, 1000)?)?;
 //! let request = br#"{"plan":1,"flag":"color","totals":{"red":3,"blue":1,"green":6},"forbid":[["red","green"]]}"#;
@@ -29,7 +30,7 @@
 //! then no rule fits. Whether a rule keeps its limits (`keeps_limits`), which groups its points fall into (`groups`), and
 //! whether a certificate's numbers are those of the groups and names (`are_groups`, `are_names`), leave each reduced cost at 0
 //! or above (`first_broken`) and sum to the cost (`sums_to`): each answers what its definition says (`Refusals`, `Certificate`).
-//! The check of a plan, which stands on them, is the crate transport_core. What it rests on are two laws, `weak_duality` and
+//! The check of a plan stands on them, and on two laws, `weak_duality` and
 //! `deficient_sets_fit_none`. Of the recorded inputs only how many fall on each point is asked for (`Tally`): what is proved
 //! holds of all inputs of which so many do, and so does their cost (`tallies_cost`).
 //!

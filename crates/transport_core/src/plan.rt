@@ -7,12 +7,12 @@ ghost use Rattle.transport_core.specs.Fits.{Fits, IsLeast};
 ghost use Rattle.transport_core.specs.Refusals.{Refuses, RefusesRule, ChecksDuals};
 ghost use Rattle.transport_core.specs.Tally.{IsTally};
 
-use bucket_core::Rule;
-use price_core::{Prices, Switching, Totals};
-use std::alloc::Global;
 use crate::{
     Certificate, CheckFault, are_groups, are_names, first_broken, groups, keeps_limits, sums_to,
 };
+use bucket_core::Rule;
+use price_core::{Prices, Switching, Totals};
+use std::alloc::Global;
 
 /// Checks that a new rule fits the request and that a certificate proves its cost for the inputs, of which so many fall on
 /// each point, so that no rule which fits costs less. It refuses, in this order, with `Weight` (the rules differ in their

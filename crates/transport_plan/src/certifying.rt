@@ -12,9 +12,8 @@ ghost use Rattle.transport_plan.specs.Numbered.{IsFlowOf};
 
 use crate::cost::cost_of;
 use crate::dual_prices::{group_dual_prices, name_dual_prices};
-use min_cost_flow::{Flow, FlowProblem};
+use min_cost_flow::{Flow, FlowProblem, Search};
 use price_core::Limit;
-use min_cost_flow::Search;
 use std::alloc::{AllocError, Global};
 use transport_core::{Certificate, Instance};
 

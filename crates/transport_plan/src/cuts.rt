@@ -12,8 +12,7 @@ ghost use Rattle.transport_plan.specs.Numbered.{IsFlowOf};
 ghost use Rattle.transport_plan.specs.Solved.{IsNeverOver};
 
 use crate::marks::{mark_held, mark_unsettled, marked};
-use min_cost_flow::{Flow, FlowProblem};
-use min_cost_flow::Search;
+use min_cost_flow::{Flow, FlowProblem, Search};
 use std::alloc::{AllocError, Global};
 use transport_core::Instance;
 

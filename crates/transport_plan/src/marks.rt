@@ -10,9 +10,8 @@ ghost use Rattle.min_cost_flow.specs.Found.{HasSize};
 ghost use Rattle.transport_plan.specs.Chosen.{chosen};
 ghost use Rattle.transport_plan.specs.Marked.{AreHeld, AreUnsettled, StandsInside, StandsOutside};
 
-use min_cost_flow::{Flow, FlowProblem};
+use min_cost_flow::{Flow, FlowProblem, Search};
 use price_core::Limit;
-use min_cost_flow::Search;
 use std::alloc::{AllocError, Global};
 
 /// Marks the old names of the groups that have points at settled names.

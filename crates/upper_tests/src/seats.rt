@@ -2,11 +2,10 @@
 ghost use Rattle.std.specs.Prelude.{◌≡◌};
 
 use book_lock::{Blanks, BookName, Seat, SharedBook};
-use book_share::Ask;
+use book_share::{Ask, map_vec};
 use flag_defs::Flags;
 use flag_resolve::resolve;
 use site_pages::{page_at, targeting_of};
-use book_share::map_vec;
 use std::alloc::Global;
 use std::sync::Wait;
 use std::thread::Threads;

@@ -9,8 +9,8 @@ use file_diagnostics::{Lines, Opening, put_meant, quoted_name};
 use flag_text::Tree;
 use flagops_drive::{DriveRefusal, Endings, Misfit, Tally};
 use limits::SEATS;
-use std::alloc::{AllocError, Global};
 use member_names::Reader;
+use std::alloc::{AllocError, Global};
 
 /// The asks for each input from which on a line says how many there are.
 const MANY: u128 = 20;

@@ -8,8 +8,8 @@ ghost use Rattle.flagops_shell.specs.Diagnostic.{Says};
 use file_diagnostics::{Lines, Opening};
 use flag_defs::{Flag, Flags};
 use flag_resolve::{Code, Kind};
-use flagops_shell::Remark;
 use flagops_files::known_keys;
+use flagops_shell::Remark;
 use std::alloc::{AllocError, Global};
 
 /// What a person is told of a resolution with this code, among the flags of the document at a path: that no flag has the key, or of
