@@ -1,5 +1,5 @@
 #!/usr/bin/env python3
-"""Makes the two files that embed the console, `src/source.rt` and `specs/Page.antt` of `crates/console_page`, of `console/console.html`;
+"""Makes the two files that embed the console, `src/source.rt` and `specs/Page.antt` of `crates/ofrep_service`, of `console/console.html`;
 with `--check`, says whether they are those already. The policy beside the page names its own style and script by their digests, and
 lets nothing else in."""
 import base64
@@ -10,7 +10,7 @@ import sys
 
 ROOT = os.path.dirname(os.path.dirname(os.path.abspath(__file__)))
 PAGE = os.path.join(ROOT, "console", "console.html")
-CRATE = os.path.join(ROOT, "crates", "console_page")
+CRATE = os.path.join(ROOT, "crates", "ofrep_service")
 MOST_LINES = 900
 
 
@@ -34,7 +34,7 @@ def source_of(page):
     assert '"##' not in page
     return f"""//! The page and its policy, made of `console/console.html` by `tools/embed_console.py`.
 ghost use Rattle.std.specs.Prelude.{{◌≡◌}};
-ghost use Rattle.console_page.specs.Page.{{page_text, policy_text}};
+ghost use Rattle.ofrep_service.specs.Page.{{page_text, policy_text}};
 
 /// The page: HTML, in ASCII.
 pub fn page_html() -> &'static str

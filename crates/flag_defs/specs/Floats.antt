@@ -1,4 +1,4 @@
--- Which flags have floats: the values of their variants stand as texts, which are their spelling (`float_variants`).
+-- Which flags have floats: the values of their variants stand as texts, which are their spelling (`spelled_numbers`).
 use denote.Ref.{Bor}
 use Rattle.std.specs.Prelude.{◌≡◌, ℕ, List, [], map, slice_index, Bool, true, false, not, ◌&&◌, ◌==◌, if◌then◌else◌, Option, Some, None, option_and_then, unwrap_or, Result, Ok, String, string_bytes}
 use Rattle.std.specs.BTreeMap.{insert_entry}

@@ -3,8 +3,7 @@
 //!
 //! [`record()`] and [`tally()`] are filters: they read the standard input and hold one batch of it, however long it is. They take the
 //! words after the program's name, of which their own name is the first, the files and the console. [`Joining`] is the command
-//! `join` with its words, which `flagops_shell::run` reads, answers and reports. What they then do is `note_streams`, `tally_text`
-//! and `tally_core`.
+//! `join` with its words, which `flagops_shell::run` reads, answers and reports. What they then do is `note_streams` and `note_tallies`.
 //!
 //! ```rust
 //! use flag_text::WriteOutlet;

@@ -3,7 +3,7 @@
 //! else of its text is changed, and the answers from that step on have to be right for the document.
 //!
 //! [`Ramping`], [`Verifying`], [`Applying`] and [`Keeping`] are commands with their words, which `flagops_shell::run` reads by `clap`, does and
-//! reports. What they do with the files that they load is `ramp_steps` and `ramp`. [`load_answers`] loads and judges the answers
+//! reports. What they do with the files that they load is `ramp`. [`load_answers`] loads and judges the answers
 //! that a command takes, also one that draws them.
 //!
 //! ```rust

@@ -18,7 +18,7 @@
 //!
 //! It walks the nodes (`nodes`), looks paths up in their scope (`find`), pays from the `meter`, and lets each site choose
 //! (`choice`, and `literal` where its buckets are). The values, and the operators on values alone, are `logic_values`'s; a number of the
-//! context that is not whole is a value only on its way to an operator that compares or tests it (`exact`, by `decimal_values`).
+//! context that is not whole is a value only on its way to an operator that compares or tests it (`exact`, by `logic_values`).
 //!
 //! Proved, over the definitions in `specs/`: value, reached list and fault are those of `evaluation_of` (`Evaluation`,
 //! `Operators`, `Scope`, `Fractional`, `Run`), for every expression and context; the value is whole; what is reached is of the

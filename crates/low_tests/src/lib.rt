@@ -1,4 +1,4 @@
-//! Tests of the libraries from `xml_text` and `murmur_core` to `tally_filters` by what no command shows, in a crate of their own, so that each of those
+//! Tests of the libraries from `murmur_core` to `note_tallies` and `picture` by what no command shows, in a crate of their own, so that each of those
 //! is proved once. `tests/` shows all else on the built program.
 #![tactic(auto)]
 

@@ -26,6 +26,3 @@ pub use Rattle.bucket_core.specs.Rule
 pub use Rattle.flag_text.specs.Shape
 pub use Rattle.note_lines.specs.Hashed
 pub use Rattle.note_lines.specs.Note
-pub use Rattle.point_lines.specs.Point
-pub use Rattle.tally_core.specs.Join
-pub use Rattle.tally_core.specs.Tally

@@ -20,7 +20,7 @@ pub const MAX_BODY: usize = limits::TEXT_BYTES;
 
 /// The evaluation context that the body of a request carries: the object that is its member `context`. Where that is absent or
 /// null, or the body is empty, it is the empty object. The body's other members are passed over. A number whose value is whole and in
-/// range is that whole number however it is spelled; any other is in nobody's way until it is read (`sent_numbers`).
+/// range is that whole number however it is spelled; any other is in nobody's way until it is read (`spelled_numbers`).
 ///
 /// Refusals, in this order: `TooLarge`, before anything is read; `BodyTooDeep`; `NotJson`; `BodyNotObject`; `NotObject`; `TooDeep`. The
 /// first, the third of bytes that are not UTF-8, and the context of an empty body take no memory.

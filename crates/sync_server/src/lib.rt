@@ -1,7 +1,7 @@
 //! Writes and reads streams of snapshots.
 //!
 //! [`serve_stream`] writes frames of the current snapshot to an [`flag_text::Outlet`] as numbers come; [`follow_stream`]
-//! reads frames from an [`Inlet`], that of `line_batches`, and hands each snapshot to a [`Sink`] when its last byte has come; [`read_stream`] is the
+//! reads frames from an [`Inlet`], that of `byte_streams`, and hands each snapshot to a [`Sink`] when its last byte has come; [`read_stream`] is the
 //! case with a list. None of them knows of sockets or threads.
 //!
 //! ```rust

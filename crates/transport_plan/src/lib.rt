@@ -17,7 +17,7 @@
 //! }
 //! ```
 //!
-//! Proved, over the definitions of `specs/Solved` and of `transport_instance`: [`solve`] always decides, unless memory runs out. It
+//! Proved, over the definitions of `specs/Solved` and of `transport_core`: [`solve`] always decides, unless memory runs out. It
 //! answers a plan with an assignment and a certificate such that each new rule with this assignment passes the check of the
 //! certificate and no rule that fits costs the recorded inputs less, or a cut that is deficient by its kind, one under the low
 //! limits only where no set of names is over the high ones. No answer is tested before it is given: the flow is proved to be the
