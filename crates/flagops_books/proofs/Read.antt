@@ -27,7 +27,7 @@ use Rattle.note_lines.specs.Notes.{Notes}
 use Rattle.note_lines.specs.declared.fault.NotesFault.{NotesFault}
 use Rattle.note_lines.specs.declared.fault.NotesFault.TheVariants as lines
 use Rattle.note_lines.specs.Note.{Noted, note_line}
-use Rattle.flagops_files.proofs.Books.{no_book}
+use Rattle.flagops_files.proofs.BookBeginnings.{no_book}
 
 not_both : {X E Y : Type 0} {x : X} {e : E} → Ok x ≡ Err e → Y
 not_both h = cc

@@ -1,6 +1,6 @@
 mod Asked
 mod Blanks
-pub mod Books
+pub mod BookBeginnings
 mod Counted
 mod Lexed
 mod Loaded
@@ -9,7 +9,7 @@ mod Members
 mod Pieces
 mod Recorded
 pub mod Succeeded
-mod Tallies
+mod TallyBeginnings
 mod Tokens
 pub mod Told
 mod Wholes

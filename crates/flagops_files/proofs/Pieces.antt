@@ -9,8 +9,8 @@ use Rattle.flagops_files.specs.Evidence.{begins_tally}
 use Rattle.flagops_shell.specs.Files.{first_piece}
 use Rattle.flagops_files.specs.Law.{IsNoRecord}
 use Rattle.flagops_files.proofs.Blanks.{may_begin-take}
-use Rattle.flagops_files.proofs.Books.{no_book}
-use Rattle.flagops_files.proofs.Tallies.{tally_may_begin}
+use Rattle.flagops_files.proofs.BookBeginnings.{no_book}
+use Rattle.flagops_files.proofs.TallyBeginnings.{tally_may_begin}
 
 -- what may begin no record by its first piece may begin none by all of it
 by_piece : (bytes : List ℕ) → may_begin_record (first_piece bytes) ≡ false → may_begin_record bytes ≡ false

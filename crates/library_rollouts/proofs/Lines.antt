@@ -2,7 +2,7 @@
 use Rattle.std.proofs.Common.{◌≤◌, ℕ, List, [], ◌++◌, length, append-nil, Result, Ok, Err, subst}
 use Rattle.byte_streams.specs.Lines.{HasNoFeed, parts_of}
 use Rattle.note_tallies.specs.Lines.{Tallied}
-use Rattle.note_streams.proofs.Counting.{ends_rest}
+use Rattle.note_streams.proofs.StreamCounting.{ends_rest}
 use Rattle.note_streams.specs.Batch.{Goes}
 use Rattle.note_streams.specs.Tallied.{Tallies, behind}
 use Rattle.note_streams.specs.Record.{most_line}

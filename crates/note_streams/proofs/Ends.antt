@@ -17,8 +17,8 @@ use Rattle.note_streams.specs.Tallied.{Tallies, TalliesStream}
 use Rattle.note_streams.specs.declared.stop.TallyStop.{TallyStop}
 use Rattle.note_streams.specs.declared.stop.TallyStop.TheVariants.{Filter, Unreadable, TooLong}
 use Rattle.note_streams.specs.declared.tallying.StreamTally.{StreamTally}
-use Rattle.note_streams.proofs.Counting.{Known, grown, left_so, long, rest_so, stopped}
-use Rattle.note_streams.proofs.Counting.{ended as ended_so}
+use Rattle.note_streams.proofs.StreamCounting.{Known, grown, left_so, long, rest_so, stopped}
+use Rattle.note_streams.proofs.StreamCounting.{ended as ended_so}
 
 module _ (start : Tallied) (is_cut : Bool) where
   -- what a stream comes to, where its bytes are known

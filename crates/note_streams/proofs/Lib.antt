@@ -3,7 +3,6 @@ pub mod Batches
 mod Behind
 pub mod Both
 mod Counted
-pub mod Counting
 mod Counts
 pub mod Crossings
 mod Crowded
@@ -19,4 +18,5 @@ pub mod Parts
 mod Refusals
 pub mod Running
 mod Strays
+pub mod StreamCounting
 mod Taken

@@ -10,7 +10,7 @@ use Rattle.book_core.specs.Page.{PageName, bytes_cmp}
 use Rattle.page_tally.specs.Folding.{is_above_last}
 use Rattle.note_lines.specs.Hashed.{has_hash}
 use Rattle.note_tallies.specs.Tally.{IsTallyTotal, AreEnds, IsLineOn, most_at_point, most_in_all}
-use Rattle.note_tallies.proofs.Ends.{le_from_lt, le_trans, le_itself}
+use Rattle.note_tallies.proofs.JoinEnds.{le_from_lt, le_trans, le_itself}
 use Rattle.note_tallies.proofs.Zeros.{none_is}
 use Rattle.note_tallies.specs.Lines.{Tallied, untallied, passed, tallied, has_room, is_alike, IsWithin, IsTally}
 

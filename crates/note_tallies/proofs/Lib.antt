@@ -1,11 +1,11 @@
 mod Counted
 pub mod Counting
-pub mod Ends
 pub mod Fed
 pub mod FileHeads
 mod Filtering
 mod Hashes
 mod Heads
+pub mod JoinEnds
 mod Kept
 pub mod Lined
 pub mod Numbers

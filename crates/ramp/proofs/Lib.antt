@@ -3,10 +3,10 @@ mod Alike
 mod Kept
 mod Levels
 mod Parts
+mod RampSteps
 mod Requests
 mod Sites
 mod StepTexts
-mod Steps
 mod Tallied
 mod Told
 mod Valid

@@ -1,4 +1,3 @@
-mod Counting
 mod Counts
 mod Edits
 mod Going
@@ -10,6 +9,7 @@ mod Placed
 pub mod Placing
 pub mod Reading
 pub mod Sums
+mod TableCounting
 pub mod TablePlacing
 mod Tables
 mod Tallied

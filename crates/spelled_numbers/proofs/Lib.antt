@@ -2,7 +2,7 @@ mod Counted
 mod Nothing
 mod Objects
 mod Readings
-mod Shallow
+mod ShallowDocuments
 mod Spelled
 mod Stays
 mod Unmarked

@@ -20,7 +20,7 @@ use Rattle.flag_text.proofs.Trees.{tree_reads}
 use Rattle.spelled_numbers.specs.Floats.{has_whole_numbers, with_texts}
 use Rattle.spelled_numbers.specs.Reading.{doc_with_floats, if_tree, if_value, text_with_floats}
 use Rattle.spelled_numbers.proofs.Nothing.{texts_same}
-use Rattle.spelled_numbers.proofs.Shallow.{texts_nest}
+use Rattle.spelled_numbers.proofs.ShallowDocuments.{texts_nest}
 
 -- ---- the tree of a text
 

@@ -6,7 +6,7 @@ use Rattle.note_tallies.specs.Filter.{Filtered, RefusesLine, Takes}
 use Rattle.note_tallies.specs.declared.filter_fault.FilterFault.TheVariants.{Line}
 use Rattle.note_streams.specs.Batch.{Goes}
 use Rattle.note_streams.specs.Tallied.{Tallies, behind}
-use Rattle.note_streams.proofs.Counting.{goes_line, goes_more, goes_none, stops_line, stops_long, stops_rest}
+use Rattle.note_streams.proofs.StreamCounting.{goes_line, goes_more, goes_none, stops_line, stops_long, stops_rest}
 use Rattle.library_rollouts.specs.Tally.{TalliesLines}
 use Rattle.library_rollouts.proofs.Lines.{ended, stopped}
 use Rattle.library_rollouts.proofs.tallying.tally_of.Goals as goal

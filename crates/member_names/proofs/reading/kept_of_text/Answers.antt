@@ -2,7 +2,7 @@ use Rattle.std.proofs.Common.{◌≡◌, [], ◌∷◌, Some, sym, ap, ◌∙◌
 use Rattle.json.specs.Token.{Token}
 use Rattle.flag_text.specs.Shape.{object}
 use Rattle.flag_text.specs.View.{members_view}
-use Rattle.member_names.proofs.Texts.{object_read, object_of}
+use Rattle.member_names.proofs.NamedTexts.{object_read, object_of}
 use Rattle.member_names.proofs.reading.kept_of_text.Goals as goal
 
 pub returns : goal.returns

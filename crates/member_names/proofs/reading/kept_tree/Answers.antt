@@ -3,7 +3,7 @@ use Rattle.serde_json.specs.Read.{read}
 use Rattle.flag_text.specs.Reading.{if_json, if_whole, tree_of}
 use Rattle.flag_text.proofs.Readings.{doc_of-utf8, no_utf8}
 use Rattle.member_names.specs.Kept.{IsKeptOf}
-use Rattle.member_names.proofs.Texts.{carried}
+use Rattle.member_names.proofs.NamedTexts.{carried}
 use Rattle.member_names.proofs.reading.kept_tree.Goals as goal
 use Rattle.member_names.proofs.reading.kept_tree.Goals.{After-if_kept}
 

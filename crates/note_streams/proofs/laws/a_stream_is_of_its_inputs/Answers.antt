@@ -1,4 +1,4 @@
-use Rattle.note_streams.proofs.Counting.{of_inputs}
+use Rattle.note_streams.proofs.StreamCounting.{of_inputs}
 use Rattle.note_streams.proofs.laws.a_stream_is_of_its_inputs.Goals as goal
 
 pub returns : goal.returns

@@ -1,4 +1,4 @@
-use Rattle.note_streams.proofs.Counting.{of_lines}
+use Rattle.note_streams.proofs.StreamCounting.{of_lines}
 use Rattle.note_streams.proofs.laws.a_stream_is_of_its_lines.Goals as goal
 
 pub returns : goal.returns

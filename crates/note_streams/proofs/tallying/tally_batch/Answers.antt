@@ -7,7 +7,7 @@ use Rattle.note_streams.specs.Batch.{TalliesBatch}
 use Rattle.note_streams.specs.Tallied.{Tallies}
 use Rattle.note_streams.specs.declared.stop.TallyStop.TheVariants.{Filter}
 use Rattle.note_streams.proofs.Behind.{keeps_all, keeps_more}
-use Rattle.note_streams.proofs.Counting.{goes_line, goes_more, goes_none, keeps_line, stops_all, stops_line, stops_long, stops_rest}
+use Rattle.note_streams.proofs.StreamCounting.{goes_line, goes_more, goes_none, keeps_line, stops_all, stops_line, stops_long, stops_rest}
 use Rattle.note_streams.proofs.tallying.tally_batch.Goals as goal
 
 pub lines-init : goal.lines-init

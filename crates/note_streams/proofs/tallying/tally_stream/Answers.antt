@@ -8,7 +8,7 @@ use Rattle.note_streams.specs.Batch.{LeavesLines, TalliesBatch}
 use Rattle.note_streams.specs.Stop.{tallied_fill}
 use Rattle.note_streams.specs.declared.tallying.StreamTally.{StreamTally}
 use Rattle.note_streams.specs.declared.stop.TallyStop.{TallyStop}
-use Rattle.note_streams.proofs.Counting.{Known, begun}
+use Rattle.note_streams.proofs.StreamCounting.{Known, begun}
 use Rattle.note_streams.proofs.Ends.{Comes, ended, failed, next_batch, too_long, unfilled, wanted}
 use Rattle.note_streams.proofs.tallying.tally_stream.Goals as goal
 

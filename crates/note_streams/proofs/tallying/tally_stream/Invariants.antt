@@ -1,7 +1,7 @@
 use Rattle.std.proofs.Common.{◌≡◌, ◌≤◌, ◌+◌, ◌-◌, false, length}
 use Rattle.note_tallies.specs.Lines.{untallied}
 use Rattle.note_streams.specs.Record.{most_line}
-use Rattle.note_streams.proofs.Counting.{Known}
+use Rattle.note_streams.proofs.StreamCounting.{Known}
 use Rattle.note_streams.proofs.tallying.tally_stream.Given as goal
 
 abbrev pub invariant-batches : goal.invariant-batches

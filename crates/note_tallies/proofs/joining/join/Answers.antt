@@ -2,7 +2,7 @@ use Rattle.std.proofs.Common.{◌≡◌, ◌≤◌, ◌+◌, ℕ, List, get_or, 
 use Rattle.std.specs.declared.alloc.Global.{Global}
 use Rattle.note_tallies.specs.Join.{are_alike, IsSum}
 use Rattle.note_tallies.specs.Tally.{PageTally, most_at_point}
-use Rattle.note_tallies.proofs.Ends.{joined_is, option_map-or}
+use Rattle.note_tallies.proofs.JoinEnds.{joined_is, option_map-or}
 use Rattle.note_tallies.proofs.joining.join.Goals as goal
 
 pub invariant_of-both : goal.invariant_of-both

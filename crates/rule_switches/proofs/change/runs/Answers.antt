@@ -1,7 +1,7 @@
 use Rattle.std.proofs.Common.{◌+◌, ◌∷◌, [], List, sym, ap, ◌∙◌, subst}
 use Rattle.std.proofs.lemmas.List.{map-append}
 use Rattle.rule_switches.specs.Runs.{Run, AreRuns, run_view, runs_view}
-use Rattle.rule_switches.proofs.Counting.{runs_more}
+use Rattle.rule_switches.proofs.TableCounting.{runs_more}
 use Rattle.rule_switches.proofs.change.runs.Goals as goal
 
 pub loop-point-preserved : goal.loop-point-preserved

@@ -1,7 +1,7 @@
 use Rattle.std.proofs.Common.{refl}
 use Rattle.flag_defs.specs.Flags.{flags_view}
 use Rattle.rollout.specs.Refined.{problem_refined}
-use Rattle.ramp.proofs.Steps.{planned_step}
+use Rattle.ramp.proofs.RampSteps.{planned_step}
 use Rattle.ramp.proofs.basis.CountedBookBasis.plan.Goals as goal
 
 pub returns-clause-exact : goal.returns-clause-exact

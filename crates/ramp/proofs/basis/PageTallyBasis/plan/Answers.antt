@@ -2,7 +2,7 @@ use Rattle.std.proofs.Common.{refl}
 use Rattle.flag_defs.specs.Flags.{flags_view}
 use Rattle.rollout.specs.CheckedTally.{tally_problem_of}
 use Rattle.rollout.specs.declared.refining.Refining.TheVariants.{Times}
-use Rattle.ramp.proofs.Steps.{tally_step}
+use Rattle.ramp.proofs.RampSteps.{tally_step}
 use Rattle.ramp.proofs.basis.PageTallyBasis.plan.Goals as goal
 
 pub returns-clause-exact : goal.returns-clause-exact
