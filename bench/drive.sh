@@ -87,7 +87,7 @@ copied() {
 
 mkdir -p "$folder/lock/crates/drive_bench/src"
 cp "$here/HANDLES" "$folder/lock/HANDLES"
-for crate in limits murmur_core flag_text bucket_core logic_ast logic_values logic_eval flag_references flag_defs flag_resolve book_core site_pages book_lock book_share flagops_drive; do
+for crate in limits flag_text member_names spelled_numbers flag_metadata progress murmur_core bucket_core logic_ast logic_values logic_eval flag_references flag_defs flag_resolve exposures book_core site_pages book_lock book_share flagops_drive; do
     copied "$crate"
     grep "^$crate[ :]" "$here/crates.txt" >> "$folder/lock/crates.txt"
 done

@@ -20,7 +20,7 @@ ROWS = [
     ["Tests"],
     ["The program"],
     ["The service", "The library", "Rollouts"],
-    ["Streams", None, "The planner"],
+    [None, "Streams", "The planner"],
     ["Records", None, "Plans"],
     *(["Books"], ["Flags"], ["Targetings"], ["Rules"], ["Texts"]),
 ]
@@ -142,6 +142,8 @@ def arrow(upper, lower):
         return line(f"M{middle} {y + height}V{to_y}", f"M{middle - 6} {to_y - 9}h12l-6 9z")
     if to_y == y:
         return line(f"M{x + width} {y + height // 2}H{to_x}", f"M{to_x - 9} {y + height // 2 - 6}v12l9 -6z")
+    if x < to_x:
+        return line(f"M{x + width - 20} {y + height}V{to_y + 20}H{to_x}", f"M{to_x - 9} {to_y + 14}v12l9 -6z")
     start = f"M{x + 20} {y + height}" if to_x + to_width + GAP == x else f"M{x} {y + height - 30}H{x - GAP // 2}"
     return line(f"{start}V{to_y + 20}H{to_x + to_width}", f"M{to_x + to_width + 9} {to_y + 14}v12l-9 -6z")
 

@@ -9,7 +9,7 @@ root=$(cd "$(dirname "$0")/.." && pwd)
 work=$(mktemp -d)
 trap 'rm -rf "$work"' EXIT
 mkdir -p "$work/crates/plan_bench/src" "$work/crates/plan_bench/proofs/run" "$work/crates/plan_bench/proofs/solve_uncounted"
-line='plan_bench: bucket_core book_core price_core transport_instance shortest_path transport_plan anyhow'
+line='plan_bench: bucket_core book_core price_core transport_core min_cost_flow transport_plan anyhow'
 printf '%s\n' "$line" > "$work/crates.txt"
 # The crates that it stands on: crates.txt has them lowest first, so they are found from its end on.
 python3 - "$line" "$root/crates.txt" > "$work/below" <<'END'

@@ -9,7 +9,7 @@ root=$(cd "$(dirname "$0")/.." && pwd)
 work=$(mktemp -d)
 trap 'rm -rf "$work"' EXIT
 mkdir -p "$work/crates/resolve_bench/src"
-for crate in limits murmur_core flag_text bucket_core logic_ast logic_values logic_eval flag_references flag_defs flag_resolve; do
+for crate in limits flag_text spelled_numbers flag_metadata murmur_core bucket_core logic_ast logic_values logic_eval flag_references flag_defs flag_resolve; do
     cp -r "$root/crates/$crate" "$work/crates/$crate"
     grep "^$crate:" "$root/crates.txt" >> "$work/crates.txt"
 done

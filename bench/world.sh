@@ -8,7 +8,7 @@ root=$(cd "$(dirname "$0")/.." && pwd)
 work=$(mktemp -d)
 trap 'rm -rf "$work"' EXIT
 mkdir -p "$work/crates/world_bench/src"
-for crate in limits murmur_core flag_text bucket_core logic_ast flag_references flag_defs book_core source_merge snap_core; do
+for crate in limits flag_text spelled_numbers flag_metadata murmur_core bucket_core logic_ast flag_references flag_defs source_merge exposures book_core snap_core; do
     cp -r "$root/crates/$crate" "$work/crates/$crate"
     grep "^$crate:" "$root/crates.txt" >> "$work/crates.txt"
 done

@@ -49,7 +49,7 @@ class SourcesTest(unittest.TestCase):
     def test_nothing_is_forgotten(self):
         """No clause refuses a body that loses memory, so no body calls what does. One takes a box apart, which another makes again."""
         found = []
-        for crate in ("held_box", "kept_lines", "library_seat", "library_rollouts", "flagops_c"):
+        for crate in ("held_box", "library_seat", "library_rollouts", "flagops_c"):
             folder = os.path.join(ROOT, "crates", crate, "src")
             for name in sorted(os.listdir(folder)):
                 with open(os.path.join(folder, name), encoding="utf-8") as file:
