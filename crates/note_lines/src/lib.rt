@@ -38,7 +38,7 @@
 //! Proved, over the definitions of `specs/`: the book has what it had and the notes of the lines, and nothing else (`Notes`);
 //! how many lines were passed over, and the number of the first that is refused (`Lines`); `PageFull` comes only where no book
 //! has the notes up to a line. What is noted in a file that is not refused is just what has its line there ([`a_file_notes_its_lines`],
-//! `Law`).
+//! `BookLaw`).
 #![tactic(auto)]
 
 mod blank;

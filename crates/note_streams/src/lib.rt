@@ -34,7 +34,7 @@
 //! ```
 //!
 //! Proved, over the definitions of `specs/`: the tally is that of exactly the inputs whose note lines are in the files, each once, or
-//! of exactly the hashes, where the notes have no inputs (`Recorded`), and then each line is blank or that of a note, all of one
+//! of exactly the hashes, where the notes have no inputs (`LogRecorded`), and then each line is blank or that of a note, all of one
 //! kind. Else a line that is neither is named by its file and its number, the first of all (`Stray`), or it is said that there are
 //! notes of both kinds, or that there are too many, in this order (`Tallies`).
 #![tactic(auto)]

@@ -21,7 +21,7 @@
 //! Proved, over the definitions of `specs/`: each [`PageTally`] has a count for each point, counts that add up to its
 //! inputs, and a least and a greatest line exactly where it has inputs (`Tally`). [`join`] gives the sum of two tallies
 //! of which the second one's lines follow the first one's, and refuses only where there is none (`Join`). Where both are
-//! tallies of sets of inputs, the sum is the tally of the union ([`a_join_is_the_tally_of_both`], `Law`), and a tally of
+//! tallies of sets of inputs, the sum is the tally of the union ([`a_join_is_the_tally_of_both`], `JoinLaw`), and a tally of
 //! inputs is one of them in any order ([`a_tally_is_in_any_order`]).
 //!
 //! Its lines may have the hashes of inputs in the place of the inputs. Then it is the tally of the set of these hashes, which is

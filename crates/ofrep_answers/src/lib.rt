@@ -32,7 +32,7 @@
 //!     == r#"{"errorCode":"PARSE_ERROR","errorDetails":"the body is not valid JSON"}"#);
 //! ```
 //!
-//! Proved, over the definitions of `specs/`: each body is the tree or text that its definition gives (`Bodies`, `Evaluation`), unless
+//! Proved, over the definitions of `specs/`: each body is the tree or text that its definition gives (`Bodies`, `EvaluationBody`), unless
 //! memory runs out; a status is exact and takes no memory. Where no value stands as a text that is its spelling, and
 //! there is no metadata, the texts are the compact texts of the bodies ([`texts_are_of_bodies`]).
 #![tactic(auto)]

@@ -16,7 +16,7 @@
 //!
 //! [`documents_stay`] says, over the definitions of `specs/`, that such a document has one tree and one meaning however it is read,
 //! that none of its flags has floats, and that a source takes it alike. [`frames_stay`] says the same of the documents in frames,
-//! and [`whole_numbers_stay`] that a rule which is put into such a document makes another one. [`what_is_replaced_is_read`] is
+//! and [`whole_numbers_stay`] that a rule which is put into such a document makes another one. [`what_is_replaced_with_floats_is_read`] is
 //! about documents that do have floats: what a rule takes the place of there reads as items of a list of the document's tree.
 //!
 //! # What a reader of a stream resolves is what the flags resolve that were sent

@@ -45,9 +45,9 @@
 //!   checks accept the answer (`Verified`): then the rule costs the recorded inputs the least of all rules that fit, or none
 //!   fits. Each refusal comes first in its order.
 //! - [`verify_tally`], [`verify_tally_refined`] and [`verify_file_on_tally`] do the same on a tally, for all inputs of which so
-//!   many fall on each point (`Tallied`).
+//!   many fall on each point (`CheckedTally`).
 //! - [`problem_of`] gives what a lawful request asks, or its first refusal (`Lawful`, `Refined`), and [`problem_of_tally`] what
-//!   it asks of a tally (`Tallied`).
+//!   it asks of a tally (`CheckedTally`).
 //! - [`read_book_asked`] gives the book of a file, or that file's first fault, and has counted what a request asks of it.
 #![tactic(auto)]
 

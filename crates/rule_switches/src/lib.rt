@@ -24,7 +24,7 @@
 //! says for each pair of variants how many points and how many users go from the one to the other.
 //!
 //! Proved, over the definitions of `specs/`: the runs are those of the points, one behind the other, each with the inputs that
-//! fall on it (`Runs`); each entry of the table is the number of the points and that of the users of its pair (`Switches`),
+//! fall on it (`Runs`); each entry of the table is the number of the points and that of the users of its pair (`Table`),
 //! and [`tallies_tell_users`] says that it is the number of the recorded inputs which the two rules give these names.
 #![tactic(auto)]
 
