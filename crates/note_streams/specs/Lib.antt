@@ -22,6 +22,5 @@ pub use Rattle.bucket_core.specs.Rule
 pub use Rattle.flag_text.specs.Shape
 pub use Rattle.note_lines.specs.Note
 pub use Rattle.note_tallies.specs.Filter
-pub use Rattle.note_tallies.specs.Lines
 pub use Rattle.note_tallies.specs.Tally
 pub use Rattle.site_pages.specs.Pages

@@ -24,5 +24,3 @@ pub use Rattle.book_core.specs.Note
 pub use Rattle.book_core.specs.Page
 pub use Rattle.bucket_core.specs.Rule
 pub use Rattle.flag_text.specs.Shape
-pub use Rattle.note_lines.specs.Hashed
-pub use Rattle.note_lines.specs.Note
