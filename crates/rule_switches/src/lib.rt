@@ -43,7 +43,7 @@ mod switch;
 mod table;
 mod table_laws;
 mod tally;
-mod tally_switches;
+mod tally_comparison;
 
 pub use book::compare_book;
 pub use change::{Run, runs};
@@ -58,4 +58,4 @@ pub use switch::Switch;
 pub use table::{PairSwitches, SwitchTable, switch_table};
 pub use table_laws::tallies_tell_users;
 pub use tally::tally_switches;
-pub use tally_switches::compare_tally;
+pub use tally_comparison::compare_tally;
