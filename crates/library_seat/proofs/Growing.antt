@@ -9,7 +9,7 @@ use Rattle.std.proofs.lemmas.Map.Keys.{IsDistinct-push}
 use Rattle.std.proofs.lemmas.Map.Views.{Contains-from_any}
 use Rattle.std.proofs.lemmas.Slice.Eq.{bytes_eq-Decides}
 use Rattle.library_seat.specs.Kept.{Kept, IsOneOf, with_line, with_lines}
-use Rattle.library_seat.proofs.KeptLines.{concat-push}
+use Rattle.library_seat.proofs.LinesKept.{concat-push}
 
 -- what a line more does
 record Grown (line : List ℕ) (old new : Kept) : Type 0 where

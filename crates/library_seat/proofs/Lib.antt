@@ -3,8 +3,8 @@ mod EarlyTexts
 mod Feeds
 mod Growing
 mod Idle
-pub mod KeptLines
 mod KeyTexts
+pub mod LinesKept
 mod Loops
 mod NotEarly
 mod Values

@@ -2,7 +2,7 @@ mod Among
 pub mod Batches
 mod Behind
 pub mod Both
-mod Counted
+mod CountedStreams
 mod Counts
 pub mod Crossings
 mod Crowded

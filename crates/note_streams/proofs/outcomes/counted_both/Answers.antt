@@ -1,4 +1,4 @@
-use Rattle.note_streams.proofs.Counted.{counted}
+use Rattle.note_streams.proofs.CountedStreams.{counted}
 use Rattle.note_streams.proofs.outcomes.counted_both.Goals as goal
 
 pub returns : goal.returns

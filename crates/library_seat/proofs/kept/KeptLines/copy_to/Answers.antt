@@ -1,7 +1,7 @@
 use Rattle.std.proofs.Common.{◌≡◌, ℕ, ◌+◌, suc, List, ◌++◌, length, take, drop, subst, sym, ap, ◌∙◌, arith}
 use Rattle.std.specs.List.{concat}
 use Rattle.library_seat.specs.LinesView.{lines_view}
-use Rattle.library_seat.proofs.KeptLines.{IsCopied, line_copied}
+use Rattle.library_seat.proofs.LinesKept.{IsCopied, line_copied}
 use Rattle.library_seat.proofs.kept.KeptLines.copy_to.Goals as goal
 
 pub loop-line-preserved : goal.loop-line-preserved

@@ -1,5 +1,5 @@
 use Rattle.std.proofs.Common.{◌∙◌}
-use Rattle.library_seat.proofs.KeptLines.{any_seen}
+use Rattle.library_seat.proofs.LinesKept.{any_seen}
 use Rattle.library_seat.proofs.kept.KeptLines.has.Goals as goal
 
 pub returns : goal.returns

@@ -3,7 +3,7 @@ use Rattle.std.specs.List.{concat, list_any}
 use Rattle.std.specs.Str.{bytes_eq}
 use Rattle.std.specs.declared.alloc.Global.{Global}
 use Rattle.library_seat.specs.LinesView.{lines_view}
-use Rattle.library_seat.proofs.KeptLines.{any_seen, lines_view-push, concat-push}
+use Rattle.library_seat.proofs.LinesKept.{any_seen, lines_view-push, concat-push}
 use Rattle.library_seat.proofs.kept.KeptLines.push.Goals as goal
 
 -- the lines with a new one
