@@ -6,5 +6,5 @@ ghost use Rattle.flagops_c.specs.About.{about_text};
 pub(crate) fn about() -> &'static str
     ensures { result.now ≡ about_text }
 {
-    "libflagops 0.1.0\nproved with rattle-kit-13f logic dac8208d650f15bf\nsources 22aa0db924682de14d6cf5bcc32a1df646946f7d480d79060782685a57a31310\n"
+    "libflagops 0.1.0\nproved with rattle-kit-13f logic dac8208d650f15bf\nsources 2a41ef8f3f2a3a800783f9c3036f82d1840ebc8f1422597707151fc0322a295a\n"
 }
