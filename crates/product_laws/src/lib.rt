@@ -60,14 +60,14 @@ mod planning;
 mod sealed_plans;
 mod stream_laws;
 
-pub use crate::{
-    documents_stay, frames_stay, plans_hold_of_what_was_recorded, streams_resolve_as_sent,
-    the_bytes_of_a_part_read_as_it, what_is_replaced_is_read, what_is_replaced_with_floats_is_read,
-    whole_numbers_stay,
-};
+pub use float_laws::{documents_stay, frames_stay, whole_numbers_stay};
+pub use kept_laws::{what_is_replaced_is_read, what_is_replaced_with_floats_is_read};
 pub use laws::{
     floats_change_no_command, floats_change_no_evaluation, floats_change_no_filter,
     floats_change_no_kept_rule, floats_change_no_picture, floats_change_no_ramp,
     floats_change_no_ramp_remark, floats_change_no_remark, floats_change_no_rollout,
 };
+pub use part_texts::the_bytes_of_a_part_read_as_it;
 pub use planning::{PlanRefused, plan_sealed};
+pub use sealed_plans::plans_hold_of_what_was_recorded;
+pub use stream_laws::streams_resolve_as_sent;
